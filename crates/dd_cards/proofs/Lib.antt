@@ -1,0 +1,11 @@
+pub mod Masks
+pub mod RankLists
+pub mod CardLists
+pub mod HandLists
+pub mod Firsts
+pub mod Sets
+pub mod Lanes
+pub mod SetLaws
+pub mod Counts
+pub mod HandsLaws
+pub mod Codes

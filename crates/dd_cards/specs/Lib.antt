@@ -1,0 +1,12 @@
+pub mod Ranks
+pub mod Masks
+pub mod MaskLaws
+pub mod Suits
+pub mod Strains
+pub mod Seats
+pub mod Sides
+pub mod PlayingCard
+pub mod Cards
+pub mod HandMasks
+pub mod HandMaskLaws
+pub mod Hands

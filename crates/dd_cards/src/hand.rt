@@ -1,0 +1,84 @@
+ghost use Rattle.std.specs.Prelude.{◌≡◌, ◌∷◌, [], ◌↔◌, IsTrue, MatchOption, filter, length};
+ghost use Rattle.dd_cards.specs.Cards.{is_of, has_card};
+
+use crate::card::Card;
+use crate::rank::Rank;
+use crate::suit::Suit;
+use std::marker::Model;
+
+/// A set of cards, seen as their list: suit by suit from the spades on, and in a suit from the highest card down.
+// 64 bits, sixteen for each suit, the spades on top, so that the bits from the top are the cards in order.
+#[derive(Clone, Copy, Debug, PartialEq, Eq, Hash)]
+pub struct Hand {
+    mask: u64,
+}
+
+impl Model for Hand {
+    ghost use Rattle.std.specs.Prelude.{List};
+    ghost use Rattle.dd_cards.specs.PlayingCard.{PlayingCard};
+    ghost use Rattle.dd_cards.specs.HandMasks.{cards_of, IsHandMask, hand_mask_of};
+    ghost use Rattle.dd_cards.specs.HandMaskLaws.{hand_mask_of-cards_of};
+
+    ghost Value = { List PlayingCard };
+
+    ghost view = { λ h. cards_of h.mask };
+
+    ghost invariant = { λ h. IsHandMask h.mask };
+
+    ghost inverse = { λ cards. record { mask = hand_mask_of cards } };
+
+    ghost inverse_ok = { λ h valid. hand_mask_of-cards_of h valid };
+}
+
+impl Hand {
+    ghost use Rattle.dd_cards.specs.HandMasks.{cards_of, IsHandMask};
+
+    pub(crate) fn of_mask(mask: u64) -> Hand
+        requires { IsHandMask mask }
+        ensures { result ≡ cards_of mask }
+    {
+        Hand { mask }
+    }
+
+    /// Is there no card?
+    pub fn is_empty(&self) -> bool
+        ensures { IsTrue result ↔ (self.now ≡ []) }
+    {
+        self.mask == 0
+    }
+
+    /// The number of cards, 0 to 52.
+    pub fn len(&self) -> u8
+        ensures { result ≡ length self.now }
+    {
+        self.mask.count_ones() as u8
+    }
+
+    /// Is the card in the hand?
+    pub fn has(&self, card: Card) -> bool
+        ensures { result ≡ has_card self.now card }
+    {
+        self.mask & (1 << card.place()) != 0
+    }
+
+    /// The cards of this suit.
+    pub fn of_suit(&self, suit: Suit) -> Hand
+        ensures { result ≡ filter (is_of suit) self.now }
+    {
+        Hand {
+            mask: self.mask & (0xffff << suit.shift()),
+        }
+    }
+
+    /// Takes the first card out: the highest of the first suit. None where no card is left.
+    pub fn pop_first(&mut self) -> Option<Card>
+        ensures { MatchOption result ((self.old ≡ []) × (self.new ≡ [])) (λ card. self.old ≡ card ∷ self.new) }
+    {
+        if self.mask == 0 {
+            return None;
+        }
+        let place = 63 - self.mask.leading_zeros() as u8;
+        self.mask &= !(1 << place);
+        Some(Card::at(place))
+    }
+}

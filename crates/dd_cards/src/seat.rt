@@ -1,0 +1,75 @@
+ghost use Rattle.std.specs.Prelude.{◌≡◌, ◌<◌, ◌↔◌, IsSome, IfSome};
+ghost use Rattle.dd_cards.specs.Seats.{seat_code, next_seat, is_north_south};
+ghost use Rattle.dd_cards.specs.Sides.{side_of};
+
+use crate::side::Side;
+
+/// A hand's place at the table. The four stand clockwise in this order.
+#[derive(Clone, Copy, Debug, PartialEq, Eq, Hash)]
+pub enum Seat {
+    North,
+    East,
+    South,
+    West,
+}
+
+impl Seat {
+    /// The DDS code of the hand: 0 North, 1 East, 2 South, 3 West.
+    pub fn code(self) -> u8
+        ensures value { result ≡ seat_code self }
+        ensures bound { result < 4 }
+    {
+        match self {
+            Seat::North => 0,
+            Seat::East => 1,
+            Seat::South => 2,
+            Seat::West => 3,
+        }
+    }
+
+    /// The seat of a DDS code, 0 to 3.
+    pub fn from_code(code: u8) -> Option<Seat>
+        ensures valid { IsSome result ↔ (code < 4) }
+        ensures value { IfSome result (λ seat. seat_code seat ≡ code) }
+    {
+        match code {
+            0 => Some(Seat::North),
+            1 => Some(Seat::East),
+            2 => Some(Seat::South),
+            3 => Some(Seat::West),
+            _ => None,
+        }
+    }
+
+    /// The next seat clockwise, whose turn it is next (Laws of Duplicate Bridge 2017, Law 44B).
+    pub fn next(self) -> Seat
+        ensures { result ≡ next_seat self }
+    {
+        match self {
+            Seat::North => Seat::East,
+            Seat::East => Seat::South,
+            Seat::South => Seat::West,
+            Seat::West => Seat::North,
+        }
+    }
+
+    /// The side that the seat plays for.
+    pub fn side(self) -> Side
+        ensures { result ≡ side_of self }
+    {
+        match self {
+            Seat::North | Seat::South => Side::NorthSouth,
+            Seat::East | Seat::West => Side::EastWest,
+        }
+    }
+
+    /// Is it North or South?
+    pub fn is_north_south(self) -> bool
+        ensures { result ≡ is_north_south self }
+    {
+        match self {
+            Seat::North | Seat::South => true,
+            Seat::East | Seat::West => false,
+        }
+    }
+}

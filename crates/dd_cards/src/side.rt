@@ -1,0 +1,6 @@
+/// Two partners against the other two.
+#[derive(Clone, Copy, Debug, PartialEq, Eq)]
+pub enum Side {
+    NorthSouth,
+    EastWest,
+}
