@@ -1,0 +1,10 @@
+pub mod Steps
+pub mod Letters
+pub mod CardSets
+pub mod Suits
+pub mod Growing
+pub mod SuitTexts
+pub mod HandTexts
+pub mod DealTexts
+pub mod Faults
+pub mod Decided
