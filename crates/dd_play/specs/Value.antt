@@ -1,0 +1,48 @@
+-- The tricks that a side takes from here on when both sides play as well as can be, by playing every legal card.
+use Rattle.std.specs.Prelude.{ℕ, zero, suc, ◌+◌, ◌-◌, Bool, true, false, List, [], ◌∷◌, map, fold, max, min, ◌&&◌, if◌then◌else◌, Option, None, Some}
+use Rattle.dd_cards.specs.declared.seat.Seat.{Seat}
+use Rattle.dd_cards.specs.PlayingCard.{PlayingCard}
+use Rattle.dd_cards.specs.Seats.{is_north_south}
+use Rattle.dd_play.specs.Board.{Board, cards_left, left, mover}
+use Rattle.dd_play.specs.Tricks.{winner_of}
+use Rattle.dd_play.specs.Play.{legal, completes, trick_with, after}
+
+-- the greater, or the lesser
+abbrev pub better : Bool → ℕ → ℕ → ℕ
+better true a b = max a b
+better false a b = min a b
+
+-- the greatest of the numbers, or the least
+abbrev pub best : Bool → List ℕ → ℕ
+best greatest [] = 0
+best greatest (x ∷ xs) = fold (better greatest) x xs
+
+-- a trick that this seat won
+abbrev pub point_of : Option Seat → ℕ
+point_of None = 0
+point_of (Some seat) = (if is_north_south seat then 1 else 0)
+
+-- 1 where c completes a trick that North or South wins
+abbrev pub gain : Board → PlayingCard → ℕ
+gain p c = (if completes p && is_north_south (winner_of (trick_with p c) p.first p.strain) then 1 else 0)
+
+-- North and South play for the greatest number, East and West for the least; at most n cards are looked ahead
+unfoldable pub ns_within : ℕ → Board → ℕ
+ns_within zero p = 0
+ns_within (suc n) p = best (is_north_south (mover p)) (map (λ c. gain p c + ns_within n (after p c)) (legal p))
+
+-- the tricks that North and South take from here on
+abbrev pub ns : Board → ℕ
+ns p = ns_within (cards_left p) p
+
+-- the tricks that North and South take when c is played
+abbrev pub ns_with : Board → PlayingCard → ℕ
+ns_with p c = gain p c + ns (after p c)
+
+-- the tricks that the side of the mover takes when c is played (DDS: the score of a card)
+abbrev pub score : Board → PlayingCard → ℕ
+score p c = (if is_north_south (mover p) then ns_with p c else (left p - ns_with p c))
+
+-- at an empty trick, the tricks that the leader's side takes
+abbrev pub lead : Board → ℕ
+lead p = (if is_north_south p.first then ns p else (left p - ns p))

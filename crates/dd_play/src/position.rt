@@ -1,0 +1,273 @@
+ghost use Rattle.std.specs.Prelude.{◌≡◌, ◌+◌, ◌<◌, ◌≤◌, ◌↔◌, ℕ, true, false, IsTrue, IsOk, IfOk, Some, None, Err, nat_lt, length, take, if◌then◌else◌};
+ghost use Rattle.std.specs.Bool.{OnTrue, OnFalse};
+ghost use Rattle.dd_cards.specs.PlayingCard.{PlayingCard};
+ghost use Rattle.dd_cards.specs.Cards.{has_card};
+ghost use Rattle.dd_cards.specs.Ranks.{IsRank};
+ghost use Rattle.dd_cards.specs.Seats.{seat_after};
+ghost use Rattle.dd_cards.specs.Hands.{hand_of, times, AreHands};
+ghost use Rattle.dd_play.specs.Board.{board_of, IsBoard, mover, left, times_in};
+ghost use Rattle.dd_play.specs.Tricks.{winner_of};
+ghost use Rattle.dd_play.specs.Play.{legal, completes, trick_with, after};
+
+use crate::play_fault::PlayFault;
+use crate::turn::seat_after;
+use crate::winner::winner;
+use arrayvec::ArrayVec;
+use dd_cards::card::Card;
+use dd_cards::hand::Hand;
+use dd_cards::hands::Hands;
+use dd_cards::seat::Seat;
+use dd_cards::strain::Strain;
+use std::marker::Model;
+
+/// A legal state of play: four hands, the strain, the seat that leads, and up to three cards on the trick.
+#[derive(Drop)]
+pub struct Position {
+    hands: Hands,
+    strain: Strain,
+    first: Seat,
+    trick: [Card; 3],
+    played: u8,
+}
+
+impl Model for Position {
+    ghost use Rattle.std.specs.Prelude.{take, length, ◌≡◌, ◌≤◌};
+    ghost use Rattle.dd_play.specs.Board.{Board, board_of, IsBoard};
+
+    ghost Value = { Board };
+
+    ghost view = { λ p. board_of p.hands p.strain p.first (take p.played p.trick) };
+
+    ghost invariant = { λ p. (p.played ≤ 3) × (length p.trick ≡ 3)
+        × IsBoard (board_of p.hands p.strain p.first (take p.played p.trick)) };
+}
+
+impl Position {
+    ghost use Rattle.dd_play.specs.Positions.{CanPlay, IsFirstFault};
+
+    /// The position of these hands, with the cards of `trick` played in order, the first of them by `first`, who leads
+    /// where there is none. Refused, in this order: more than three cards on the trick (`Played`), a card that stands
+    /// twice (`Twice`), numbers of cards that do not fit (`Uneven`), a hand to play without a card (`Empty`).
+    pub fn new(
+        hands: Hands,
+        strain: Strain,
+        first: Seat,
+        trick: &[Card],
+    ) -> Result<Position, PlayFault>
+        ensures legal { IsOk result ↔ CanPlay (board_of hands strain first trick.now) }
+        ensures board { IfOk result (λ p. p ≡ board_of hands strain first trick.now) }
+        ensures faults { (fault : PlayFault) →
+            (result ≡ Err fault) ↔ IsFirstFault fault (board_of hands strain first trick.now) }
+    {
+        if trick.len() > 3 {
+            return Err(PlayFault::Played);
+        }
+        let played = trick.len() as u8;
+        let left = hands.hand(seat_after(first, played)).len();
+        if stands_twice(&hands, trick) {
+            return Err(PlayFault::Twice);
+        }
+        if !is_even(&hands, first, played, left) {
+            return Err(PlayFault::Uneven);
+        }
+        if left == 0 {
+            return Err(PlayFault::Empty);
+        }
+        Ok(Position {
+            hands,
+            strain,
+            first,
+            trick: three_places(trick),
+            played,
+        })
+    }
+
+    /// An equal position.
+    pub fn copy(&self) -> Position
+        ensures same { result ≡ self.now }
+        ensures board { IsBoard self.now }
+    {
+        Position {
+            hands: self.hands.copy(),
+            strain: self.strain,
+            first: self.first,
+            trick: self.trick,
+            played: self.played,
+        }
+    }
+
+    pub fn hands(&self) -> &Hands
+        ensures hands { result.now ≡ self.now.hands }
+        ensures board { IsBoard self.now }
+    {
+        &self.hands
+    }
+
+    pub fn strain(&self) -> Strain
+        ensures { result ≡ self.now.strain }
+    {
+        self.strain
+    }
+
+    /// The seat that leads, or led, to the current trick.
+    pub fn first(&self) -> Seat
+        ensures { result ≡ self.now.first }
+    {
+        self.first
+    }
+
+    /// The cards on the current trick, in the order of play.
+    pub fn trick(&self) -> &[Card]
+        ensures cards { result.now ≡ self.now.trick }
+        ensures bound { length result.now ≤ 3 }
+        ensures board { IsBoard self.now }
+    {
+        &self.trick[..self.played as usize]
+    }
+
+    /// The seat to play.
+    pub fn mover(&self) -> Seat
+        ensures seat { result ≡ mover self.now }
+        ensures board { IsBoard self.now }
+    {
+        seat_after(self.first, self.played)
+    }
+
+    /// The tricks left, the current one included: 0 to 13.
+    pub fn tricks_left(&self) -> u8
+        ensures tricks { result ≡ left self.now }
+        ensures bound { result ≤ 13 }
+        ensures board { IsBoard self.now }
+    {
+        self.hands.len(self.mover())
+    }
+
+    /// The cards that may be played, as a set.
+    pub fn choices(&self) -> Hand
+        ensures cards { result ≡ legal self.now }
+        ensures bound { length result ≤ 13 }
+        ensures board { IsBoard self.now }
+    {
+        let hand = self.hands.hand(self.mover());
+        if self.played == 0 {
+            return hand;
+        }
+        let led = self.trick[0];
+        let same = hand.of_suit(led.suit);
+        if same.is_empty() { hand } else { same }
+    }
+
+    /// The cards that may be played: spades, hearts, diamonds, clubs, and in a suit from the highest down.
+    pub fn legal(&self) -> ArrayVec<Card, 13>
+        ensures cards { result.items ≡ legal self.now }
+        ensures bound { length result.items ≤ 13 }
+        ensures board { IsBoard self.now }
+    {
+        let mut cards = ArrayVec::new();
+        let mut rest = self.choices();
+        'cards: while let Some(card) = rest.pop_first() {
+            cards.push(card);
+        }
+        cards
+    }
+
+    /// May the seat to play choose this card?
+    pub fn is_legal(&self, card: Card) -> bool
+        ensures { result ≡ has_card (legal self.now) card }
+    {
+        let mover = self.mover();
+        if !self.hands.has(mover, card) {
+            return false;
+        }
+        if self.played == 0 {
+            return true;
+        }
+        let led = self.trick[0];
+        led.suit == card.suit || self.hands.hand(mover).of_suit(led.suit).is_empty()
+    }
+
+    /// The position after this legal card, and the winner of the trick where the card completes it.
+    pub fn play(&self, card: Card) -> (Position, Option<Seat>)
+        requires { has_card (legal self.now) card ≡ true }
+        ensures next { result.0 ≡ after self.now card }
+        ensures wins { result.1 ≡ (if completes self.now
+            then Some (winner_of (trick_with self.now card) self.now.first self.now.strain) else None) }
+        ensures board { IsBoard self.now }
+        ensures legal { IsBoard result.0 }
+    {
+        let mut hands = self.hands.copy();
+        hands.remove(self.mover(), card);
+        if self.played == 3 {
+            let trick = [self.trick[0], self.trick[1], self.trick[2], card];
+            let seat = winner(&trick, self.first, self.strain);
+            let next = Position {
+                hands,
+                strain: self.strain,
+                first: seat,
+                trick: self.trick,
+                played: 0,
+            };
+            (next, Some(seat))
+        } else {
+            let mut trick = self.trick;
+            trick[self.played as usize] = card;
+            let next = Position {
+                hands,
+                strain: self.strain,
+                first: self.first,
+                trick,
+                played: self.played + 1,
+            };
+            (next, None)
+        }
+    }
+}
+
+// Does a card stand twice among the hands and the trick?
+fn stands_twice(hands: &Hands, trick: &[Card]) -> bool
+    requires { AreHands hands.now }
+    ensures twice { OnTrue result (¬ ((c : PlayingCard) → times_in hands.now c + times trick.now c ≤ 1)) }
+    ensures once { OnFalse result ((c : PlayingCard) → times_in hands.now c + times trick.now c ≤ 1) }
+    ensures real { OnFalse result ((c : PlayingCard) → has_card trick.now c ≡ true → IsRank c.rank) }
+{
+    let mut seen = hands.copy();
+    for card in trick {
+        let card = *card;
+        let _rank = card.rank.code();
+        if !seen.insert(Seat::North, card) {
+            return true;
+        }
+    }
+    false
+}
+
+// Does the hand of each seat that has played to the trick have one card fewer than `left`, and each other hand `left`?
+fn is_even(hands: &Hands, first: Seat, played: u8, left: u8) -> bool
+    requires { AreHands hands.now }
+    ensures { IsTrue result ↔ ((k : ℕ) → k < 4 →
+        length (hand_of hands.now (seat_after first k)) + (if nat_lt k played then 1 else 0) ≡ left) }
+{
+    for k in 0..4 {
+        let has_played = if k < played { 1 } else { 0 };
+        if hands.len(seat_after(first, k)) + has_played != left {
+            return false;
+        }
+    }
+    true
+}
+
+// The cards of a trick in an array, which is filled up with any card.
+fn three_places(trick: &[Card]) -> [Card; 3]
+    requires { length trick.now ≤ 3 }
+    ensures cards { take (length trick.now) result ≡ trick.now }
+    ensures length { length result ≡ 3 }
+{
+    let filler = Card::default();
+    match trick {
+        [] => [filler, filler, filler],
+        [a] => [*a, filler, filler],
+        [a, b] => [*a, *b, filler],
+        [a, b, c] => [*a, *b, *c],
+        _ => unreachable!(),
+    }
+}
