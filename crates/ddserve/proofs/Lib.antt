@@ -1,0 +1,17 @@
+pub mod Answered
+pub mod ByScore
+pub mod Cuts
+pub mod EqualCards
+pub mod Examples
+pub mod Kept
+pub mod Keys
+pub mod Meanings
+pub mod Objects
+pub mod Pieces
+pub mod Replied
+pub mod Scores
+pub mod Serving
+pub mod Starts
+pub mod Texts
+pub mod Writing
+pub mod Failing

@@ -1,0 +1,19 @@
+use Rattle.std.proofs.Common.{◌≡◌, ◌∙◌, sym, ap, arith}
+use Rattle.std.specs.Prelude.{Some, Err, option_map}
+use Rattle.std.proofs.lemmas.Result.{IfErr-weaker}
+use Rattle.serde_json.specs.View.{members_view}
+use Rattle.ddserve.specs.Reading.{fields_of}
+use Rattle.ddserve.specs.Requests.{Means, solve_fields}
+use Rattle.ddserve.proofs.Meanings.{means-fields, at-ok, at-err}
+use Rattle.ddserve.proofs.request.read_request.Goals as goal
+
+pub returns-clause-ok : goal.returns-clause-ok
+returns-clause-ok c =
+    let has : solve_fields (members_view c.in_ok-object.object.entries) ≡ Some (fields_of c.in_ok-fields.fields) = sym c.solve_fields.ensures ∙ ap (option_map fields_of) c.in_ok-fields.ensures.ok_part in
+    at-ok c.position_of.result (Means c.args.line.now) (means-fields c.args.line.now _ _ _ (omega arith) c.in_ok-object.ensures.ok has c.position_of.ensures)
+
+pub returns-clause-err : goal.returns-clause-err
+returns-clause-err c =
+    let has : solve_fields (members_view c.in_ok-object.object.entries) ≡ Some (fields_of c.in_ok-fields.fields) = sym c.solve_fields.ensures ∙ ap (option_map fields_of) c.in_ok-fields.ensures.ok_part in
+    IfErr-weaker c.position_of.result (λ fault. Means c.args.line.now (Err fault)) _ (λ fault means _. means)
+    (at-err c.position_of.result (Means c.args.line.now) (means-fields c.args.line.now _ _ _ (omega arith) c.in_ok-object.ensures.ok has c.position_of.ensures))
