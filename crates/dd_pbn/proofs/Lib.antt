@@ -8,3 +8,4 @@ pub mod HandTexts
 pub mod DealTexts
 pub mod Faults
 pub mod Decided
+pub mod Examples

@@ -14,6 +14,7 @@ use Rattle.dd_play.specs.Value.{ns_within}
 use Rattle.ddserve.specs.declared.fault.Fault.TheVariants.{NoCard}
 use Rattle.ddserve.specs.Answers.{ScoredClass, answer, all_scores}
 use Rattle.ddserve.specs.Replies.{class_text, reply_text}
+use Rattle.ddserve.specs.Lines.{lines}
 
 -- four hands, from North clockwise, the strain, the seat that leads, and the trick
 abbrev board : List PlayingCard → List PlayingCard → List PlayingCard → List PlayingCard → Strain → Seat → List PlayingCard → Board
@@ -83,3 +84,11 @@ fault-spelled = refl
 answer-spelled : reply_text (Ok (board (spade 14 ∷ []) (spade 13 ∷ []) (spade 12 ∷ []) (spade 11 ∷ []) Notrump North [])) ≡ codes "{\"cards\":[{\"equals\":0,\"rank\":14,\"score\":1,\"suit\":0}]}"
 unfolding ns_within all_scores digits
 answer-spelled = refl
+
+-- a line feed ends a line, and a last part without one is a line
+lines-cut : lines (codes "a\n\nbc") ≡ codes "a" ∷ [] ∷ codes "bc" ∷ []
+lines-cut = refl
+
+-- nothing follows the last line feed
+no-last-line : lines (codes "a\n") ≡ codes "a" ∷ []
+no-last-line = refl
