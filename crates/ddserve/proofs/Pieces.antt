@@ -1,5 +1,5 @@
 -- What one further byte of a piece does to the lines that are ended and to the one that has begun.
-use Rattle.std.proofs.Common.{◌≡◌, ◌≢◌, ℕ, ◌+◌, ◌<◌, List, [], ◌∷◌, ◌++◌, Option, true, false, length, get_or, take, drop, refl, sym, ap, ◌∙◌, subst, arith, append-nil, take-append-drop}
+use Rattle.std.proofs.Common.{◌≡◌, ◌≢◌, ℕ, ◌+◌, ◌<◌, List, [], ◌∷◌, ◌++◌, Option, false, length, get_or, take, drop, sym, ap, ◌∙◌, subst, arith, append-nil, take-append-drop}
 use Rattle.std.specs.Prelude.{◌==◌, if◌then◌else◌}
 use Rattle.std.proofs.lemmas.List.{take_more}
 use Rattle.std.proofs.lemmas.Bool.Decides.{nat_tests}

@@ -1,13 +1,10 @@
 -- Replies to lists of lines, one list after another.
-use Rattle.std.proofs.Common.{◌≡◌, ℕ, ◌<◌, List, [], ◌∷◌, ◌++◌, length, Result, Err, true, arith, inl, Option, refl, sym, ap, ◌∙◌, subst, append_assoc, append-nil}
-use Rattle.std.specs.Io.KnownBytes.{Appends}
+use Rattle.std.proofs.Common.{◌≡◌, ℕ, ◌<◌, List, [], ◌∷◌, ◌++◌, length, Err, true, arith, inl, Option, refl, sym, ap, ◌∙◌, subst, append_assoc, append-nil}
 use Rattle.std.proofs.KnownBytes.{Appends-nil, Appends-trans}
-use Rattle.dd_play.specs.Board.{Board}
-use Rattle.ddserve.specs.declared.fault.Fault.{Fault}
 use Rattle.ddserve.specs.declared.fault.Fault.TheVariants.{LineTooLong}
 use Rattle.std.specs.Prelude.{nat_lt}
 use Rattle.std.proofs.lemmas.Bool.Decides.{nat_tests}
-use Rattle.ddserve.specs.Requests.{Means, longest_line}
+use Rattle.ddserve.specs.Requests.{longest_line}
 use Rattle.ddserve.specs.Replies.{reply_text, fault_text}
 use Rattle.ddserve.specs.Lines.{line_feed, lines, IsReply, AreReplies, Answers}
 use Rattle.ddserve.specs.Served.{ended_lines, begun_line, last_line, BeginsReplies, WroteText, WroteReplies, WroteBeginning}

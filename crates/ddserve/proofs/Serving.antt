@@ -1,6 +1,6 @@
 -- How far a stream has been served, and how the serving of it ends.
-use Rattle.std.proofs.Common.{◌≡◌, ℕ, List, [], ◌++◌, Option, take, refl, sym, subst, append-nil}
-use Rattle.std.specs.Io.KnownBytes.{Consumes, Keeps, Appends, IsAtEnd}
+use Rattle.std.proofs.Common.{◌≡◌, ℕ, List, [], ◌++◌, Option, take, sym, subst, append-nil}
+use Rattle.std.specs.Io.KnownBytes.{Consumes, Keeps, IsAtEnd}
 use Rattle.std.proofs.KnownBytes.{Consumes-nil, Consumes-trans, Consumes-kept}
 use Rattle.ddserve.specs.declared.line.Line.{Line}
 use Rattle.ddserve.specs.Line.{StandsFor}

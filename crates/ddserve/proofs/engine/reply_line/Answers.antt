@@ -1,4 +1,4 @@
-use Rattle.std.proofs.Common.{List, ℕ, [], ◌∷◌, ◌++◌, arith, ap, ◌∙◌, subst}
+use Rattle.std.proofs.Common.{[], ◌∷◌, ◌++◌, arith, ap, ◌∙◌, subst}
 use Rattle.ddserve.specs.Lines.{line_feed, IsReply}
 use Rattle.ddserve.proofs.Replied.{reply-too_long}
 use Rattle.ddserve.proofs.engine.reply_line.Goals as goal

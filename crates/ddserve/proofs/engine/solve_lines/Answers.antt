@@ -1,4 +1,4 @@
-use Rattle.std.proofs.Common.{◌<◌, ◌∙◌, length, refl, rules, arith}
+use Rattle.std.proofs.Common.{◌<◌, ◌∙◌, length, rules, arith}
 use Rattle.std.proofs.lemmas.Result.{on_ok_weaker, on_err_weaker, err_from_is_err_and}
 use Rattle.ddserve.proofs.Serving.{Serving-further, Serving-ended, Serving-read_failed, Serving-piece_failed, Serving-last_failed, nothing_read}
 use Rattle.ddserve.proofs.engine.solve_lines.Goals as goal

@@ -1,4 +1,4 @@
-use Rattle.std.proofs.Common.{◌≡◌, ◌<◌, ◌∙◌, length, get_or, refl, rules}
+use Rattle.std.proofs.Common.{◌<◌, ◌∙◌, length, refl, rules}
 use Rattle.std.proofs.lemmas.Result.{err_from_is_err_and}
 use Rattle.ddserve.proofs.Pieces.{StandsFor-line_feed, StandsFor-other, WroteReplies-line_feed, WroteReplies-other, WroteBeginning-line_feed}
 use Rattle.ddserve.proofs.engine.take_piece.Goals.{then-byte-eq-LINE_FEED+in_ok-answer_line, else-byte-eq-LINE_FEED}

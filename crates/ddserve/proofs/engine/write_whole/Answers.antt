@@ -1,4 +1,4 @@
-use Rattle.std.proofs.Common.{◌≡◌, ◌≢◌, List, ℕ, [], length, arith, rules, refl, drop_of_length-le}
+use Rattle.std.proofs.Common.{rules, refl, drop_of_length-le}
 use Rattle.ddserve.proofs.Failing.{FailedOnce-since}
 use Rattle.ddserve.proofs.Writing.{Writing-begun, Writing-further, Writing-whole, Writing-failed, Writing-shorter}
 use Rattle.ddserve.proofs.engine.write_whole.Goals as goal
