@@ -58,6 +58,10 @@ IsMask-or m r low high h =
     let small : 2 ^ r < 2 ^ 15 = pow_below r 15 (omega arith) in
     rw (one_shl r 16 within) (or_lt 15 m (2 ^ r) h.0 small, or_mod m (2 ^ r) 2 ∙ ap (bit_or (m % 4)) (mod4_pow r low) ∙ rw h.1 refl)
 
+-- the bits of two masks may be set together
+pub IsMask-both : (m n : ℕ) → IsMask m → IsMask n → IsMask (bit_or m n)
+IsMask-both m n h k = (or_lt 15 m n h.0 k.0, or_mod m n 2 ∙ ap (bit_or (m % 4)) k.1 ∙ rw h.1 refl)
+
 -- bits may be cleared
 pub IsMask-and : (m n : ℕ) → IsMask m → IsMask (bit_and m n)
 IsMask-and m n h =

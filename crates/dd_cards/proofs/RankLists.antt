@@ -1,12 +1,12 @@
 -- what a mask's operations do to the list of its ranks
-use Rattle.std.proofs.Common.{◌≡◌, ℕ, zero, suc, ◌+◌, ◌-◌, ◌*◌, ◌%◌, ◌^◌, ◌<◌, ◌≤◌, Bool, true, false, cond, refl, sym, ap, ◌∙◌, arith, List, [], ◌∷◌, length, Some, nat_eq, bit_and, bit_or, w16, inl, inr, ◌⊎◌, eq-eqb, zero-add}
+use Rattle.std.proofs.Common.{◌≡◌, ℕ, zero, suc, ◌+◌, ◌-◌, ◌*◌, ◌%◌, ◌^◌, ◌<◌, ◌≤◌, Bool, true, false, cond, refl, sym, ap, ◌∙◌, arith, List, [], ◌∷◌, length, Some, nat_eq, max, bit_and, bit_or, w16, inl, inr, ◌⊎◌, eq-eqb, zero-add}
 use Rattle.std.specs.Prelude.{filter, map, find, slice_get, ◌==◌, ◌||◌, ◌&&◌, nat_lt, count_ones}
 use mathlib.Core.Bool.{not}
 use Rattle.std.specs.Int.{bit_at, bit_not}
 use Rattle.std.proofs.lemmas.Nat.{ones_cat, mod_below, pow_pos}
 use Rattle.std.proofs.Math.Nat.{mod-eq_of_lt}
 use Rattle.dd_cards.specs.MaskLaws.{digit}
-use Rattle.std.proofs.lemmas.Nat.Bits.{bit_at-lt}
+use Rattle.std.proofs.lemmas.Nat.Bits.{bit_at-lt, bit_at_or}
 use Rattle.std.proofs.lemmas.Bool.{cases_lt, eqb-true, lt-ltb, le-ltb}
 use Rattle.std.proofs.lemmas.Bool.Decides.{eqb_tells}
 use Rattle.std.proofs.lemmas.Map.Views.{any-filter_same}
@@ -123,6 +123,20 @@ ranks_of-above m r h valid =
       | inl above ↦ inl (lt-ltb r q above, part.high q above)
       | inr low ↦ inr (le-ltb r q low, part.low q low)
     ])
+
+-- the bits of either mask are the ranks of either
+pub ranks_of-or : (m n : ℕ) → IsMask m → IsMask n → ranks_of (bit_or m n) ≡ filter (λ q. has_rank (ranks_of m) q || has_rank (ranks_of n) q) all_ranks
+unfolding ranks_of
+ranks_of-or m n valid valid' =
+    filter-same (in_mask (bit_or m n)) (λ q. has_rank (ranks_of m) q || has_rank (ranks_of n) q) (λ q. rw (has_rank-ranks_of m q valid, has_rank-ranks_of n q valid', bit_at_or m n q) (either (bit_at m q) (bit_at n q) (bit_at-lt m q) (bit_at-lt n q))) all_ranks
+  where
+    either : (a b : ℕ) → a < 2 → b < 2 → (max a b == 1) ≡ ((a == 1) || (b == 1))
+    either zero zero h k = refl
+    either zero (suc zero) h k = refl
+    either (suc zero) zero h k = refl
+    either (suc zero) (suc zero) h k = refl
+    either (suc (suc a)) b h k = absurd (omega arith)
+    either a (suc (suc b)) h k = absurd (omega arith)
 
 -- the highest rank that passes is the first found
 find_first : (k : ℕ) (p : ℕ → Bool) (j : ℕ) → 2 ≤ j → j < k + 2 → p j ≡ true → ((q : ℕ) → j < q → p q ≡ false) → find p (lowest_ranks k) ≡ Some j

@@ -1,6 +1,6 @@
-ghost use Rattle.std.specs.Prelude.{◌≡◌, ℕ, ◌<◌, ◌≤◌, ◌↔◌, ◌==◌, [], List, length, filter, find, IsTrue, nat_lt, slice_get};
+ghost use Rattle.std.specs.Prelude.{◌≡◌, ℕ, ◌<◌, ◌≤◌, ◌↔◌, ◌==◌, ◌||◌, [], List, length, filter, find, IsTrue, nat_lt, slice_get};
 ghost use mathlib.Core.Bool.{not};
-ghost use Rattle.dd_cards.specs.Ranks.{has_rank, with_rank};
+ghost use Rattle.dd_cards.specs.Ranks.{all_ranks, has_rank, with_rank};
 ghost use Rattle.dd_cards.specs.Masks.{mask_of};
 
 use crate::rank::Rank;
@@ -100,6 +100,24 @@ impl Holding {
     {
         Holding {
             mask: self.mask & (u16::MAX << (rank.code() + 1)),
+        }
+    }
+
+    /// The ranks below this one.
+    pub fn below(self, rank: Rank) -> Holding
+        ensures { result ≡ filter (λ q. nat_lt q rank) self }
+    {
+        Holding {
+            mask: self.mask & ((1u16 << rank.code()) - 1),
+        }
+    }
+
+    /// The ranks of either set.
+    pub fn union(self, other: Holding) -> Holding
+        ensures { result ≡ filter (λ q. has_rank self q || has_rank other q) all_ranks }
+    {
+        Holding {
+            mask: self.mask | other.mask,
         }
     }
 

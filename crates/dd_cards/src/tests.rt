@@ -58,6 +58,11 @@ fn ace_queen_two_runs_down_from_the_ace(rt: HostRuntime) {
     assert_eq!(rt; holding.next_below(Rank::of(12)), Some(Rank::of(2)));
     assert_eq!(rt; holding.next_below(Rank::of(2)), None);
     assert_eq!(rt; holding.above(Rank::of(2)), holding_of(&[14, 12]));
+    assert_eq!(rt; holding.below(Rank::of(14)), holding_of(&[12, 2]));
+    assert_eq!(rt;
+        holding.union(holding_of(&[12, 7])),
+        holding_of(&[14, 12, 7, 2])
+    );
 }
 
 #[test]

@@ -4,3 +4,10 @@ pub mod Strengths
 pub mod Lengths
 pub mod Choices
 pub mod Twice
+pub mod Rules
+pub mod Simulate
+pub mod Counts
+pub mod Plays
+pub mod Winners
+pub mod Steps
+pub mod Twins

@@ -6,3 +6,6 @@ pub mod Positions
 pub mod Value
 pub mod Intervals
 pub mod Deals
+pub mod Won
+pub mod Simulations
+pub mod Covers

@@ -1,9 +1,7 @@
 pub mod Answered
 pub mod ByScore
 pub mod Cuts
-pub mod EqualCards
 pub mod Examples
-pub mod Kept
 pub mod Keys
 pub mod Meanings
 pub mod Objects

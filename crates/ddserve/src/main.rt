@@ -7,7 +7,6 @@
 ghost use Rattle.std.specs.Prelude.{◌≡◌, ◌↔◌, option_map, string_bytes, codes, None, Some, IsTrue};
 
 mod answer;
-mod classes;
 mod counting;
 mod engine;
 mod exhaustive;

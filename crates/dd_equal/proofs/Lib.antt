@@ -1,0 +1,5 @@
+pub mod EqualCards
+pub mod Suits
+pub mod Walks
+pub mod Swaps
+pub mod Equal

@@ -1,0 +1,2 @@
+pub mod EqualCards
+pub mod SuitClasses

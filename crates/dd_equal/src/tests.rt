@@ -1,0 +1,89 @@
+use crate::class::Class;
+use crate::classes::classes;
+use arrayvec::ArrayVec;
+use dd_cards::card::Card;
+use dd_cards::hands::Hands;
+use dd_cards::seat::Seat;
+use dd_cards::strain::Strain;
+use dd_play::position::Position;
+
+// The classes of a deal at notrump; none where it is no position. Cards are given by their codes, 16 times the suit's
+// code (spades 0) plus the rank.
+fn classes_at(cards: &[(Seat, u8)], first: Seat, trick: &[Card]) -> ArrayVec<Class, 13> {
+    let mut hands = Hands::new();
+    for (seat, code) in cards {
+        if let Some(card) = Card::from_code(*code) {
+            hands.insert(*seat, card);
+        }
+    }
+    match Position::new(hands, Strain::Notrump, first, trick) {
+        Ok(position) => classes(&position),
+        Err(_) => ArrayVec::new(),
+    }
+}
+
+// The code of a class's highest card, and the mask of the others. (0, 0) where there is no such class.
+fn class_at(classes: &ArrayVec<Class, 13>, place: usize) -> (u8, u16) {
+    match classes.as_slice().get(place) {
+        Some(class) => (class.top.code(), class.equals),
+        None => (0, 0),
+    }
+}
+
+#[test]
+fn the_knave_on_the_trick_separates_the_queen_and_the_ten(rt: HostRuntime) {
+    let cards = [
+        (Seat::North, 16 + 6),
+        (Seat::North, 16 + 5),
+        (Seat::East, 16 + 2),
+        (Seat::South, 12),
+        (Seat::South, 10),
+        (Seat::West, 16 + 4),
+        (Seat::West, 16 + 3),
+    ];
+    let Some(knave) = Card::from_code(11) else {
+        return;
+    };
+    let found = classes_at(&cards, Seat::East, &[knave]);
+    assert_eq!(rt; found.len(), 2);
+    assert_eq!(rt; class_at(&found, 0), (12, 0));
+    assert_eq!(rt; class_at(&found, 1), (10, 0));
+}
+
+#[test]
+fn cards_that_are_out_of_play_separate_nothing(rt: HostRuntime) {
+    let cards = [
+        (Seat::North, 14),
+        (Seat::North, 11),
+        (Seat::East, 16 + 14),
+        (Seat::East, 16 + 13),
+        (Seat::South, 16 + 12),
+        (Seat::South, 16 + 11),
+        (Seat::West, 16 + 10),
+        (Seat::West, 16 + 9),
+    ];
+    let found = classes_at(&cards, Seat::North, &[]);
+    assert_eq!(rt; found.len(), 1);
+    assert_eq!(rt; class_at(&found, 0), (14, 2048));
+}
+
+#[test]
+fn the_thirteen_spades_are_one_class(rt: HostRuntime) {
+    let mut hands = Hands::new();
+    for suit in 0..4u8 {
+        let Some(seat) = Seat::from_code(suit) else {
+            return;
+        };
+        for rank in 2..15u8 {
+            if let Some(card) = Card::from_code(16 * suit + rank) {
+                hands.insert(seat, card);
+            }
+        }
+    }
+    let Ok(position) = Position::new(hands, Strain::Notrump, Seat::North, &[]) else {
+        return;
+    };
+    let found = classes(&position);
+    assert_eq!(rt; found.len(), 1);
+    assert_eq!(rt; class_at(&found, 0), (14, 16380));
+}

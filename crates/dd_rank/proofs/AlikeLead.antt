@@ -1,0 +1,95 @@
+-- alike positions have one value, also with the seats turned
+use Rattle.std.proofs.Common.{◌≡◌, ◌≢◌, ℕ, zero, suc, ◌-◌, ◌≤◌, Bool, true, false, refl, sym, ap, ◌∙◌, subst, arith, List, []}
+use Rattle.std.specs.Prelude.{if◌then◌else◌}
+use mathlib.Core.Bool.{not, beq}
+use Rattle.dd_cards.specs.declared.seat.Seat.{Seat}
+use Rattle.dd_cards.specs.declared.seat.Seat.TheVariants.{North, East, South, West}
+use Rattle.dd_cards.specs.declared.suit.Suit.{Suit}
+use Rattle.dd_cards.specs.PlayingCard.{PlayingCard}
+use Rattle.dd_cards.specs.Cards.{is_of, has_card}
+use Rattle.dd_cards.specs.Seats.{seat_after, next_seat, is_north_south}
+use Rattle.dd_play.specs.Board.{Board, IsBoard, cards_at, left}
+use Rattle.dd_play.specs.Value.{ns, lead}
+use Rattle.dd_play.specs.Won.{is_side, won}
+use Rattle.dd_play.specs.Covers.{ForMet, Keeps, IsOver, AllAnswer, count_of, IsCover, any_card}
+use Rattle.dd_play.proofs.Counts.{inject}
+use Rattle.dd_play.proofs.Plays.{once-in, suit-of, of-suit'}
+use Rattle.dd_play.proofs.Twins.{twins-won}
+use Rattle.dd_rank.specs.Alike.{IsAlikeBy, AreAlike, IsAlike}
+
+-- the next seat is of the other side
+next-side : (x : Seat) → is_north_south (next_seat x) ≡ not (is_north_south x)
+next-side North = refl
+next-side East = refl
+next-side South = refl
+next-side West = refl
+
+-- two tests turned agree as before
+not-beq : (a b : Bool) → beq (not a) (not b) ≡ beq a b
+not-beq true true = refl
+not-beq true false = refl
+not-beq false true = refl
+not-beq false false = refl
+
+-- two seats of one side, one of them turned with the side, stay of one side
+pub turned-sides : (k : ℕ) (x y : Seat) → is_side (is_north_south (seat_after y k)) (seat_after x k) ≡ is_side (is_north_south y) x
+turned-sides zero x y = refl
+turned-sides (suc k) x y = rw (next-side (seat_after x k), next-side (seat_after y k)) (not-beq _ _ ∙ turned-sides k x y)
+
+-- an empty trick has no card
+no-card : (trick : List PlayingCard) (c : PlayingCard) → trick ≡ [] → has_card trick c ≡ true → ⊥
+no-card trick c e h = (let k : false ≡ true = ap (λ cards. has_card cards c) (sym e) ∙ h in cc)
+
+-- at an empty trick only the hands count
+pub met-start : (p : Board) (P : PlayingCard → PlayingCard → Type 0) → p.trick ≡ [] → ((x y : Seat) (c d : PlayingCard) → x ≢ y → has_card (cards_at p x) c ≡ true → has_card (cards_at p y) d ≡ true → P c d) → ForMet p P
+met-start p P e each = record {
+  hands = each;
+  trick = λ c d h k. absurd (no-card p.trick c e h);
+  coming = λ k c d low high h g. absurd (no-card p.trick c e h);
+}
+
+-- alike positions are related with all cards as top cards
+pub alike-cover : (k : ℕ) (to from : PlayingCard → PlayingCard) (p q : Board) → IsBoard p → IsBoard q → IsAlikeBy k to from p q → IsCover any_card k to from (is_north_south p.first) p (is_north_south q.first) q
+alike-cover k to from p q valid_p valid_q a =
+    record {
+      valid_p = valid_p;
+      valid_q = valid_q;
+      sides = λ x. ap (λ y. is_side (is_north_south y) (seat_after x k)) a.first ∙ turned-sides k x p.first;
+      strain = a.strain;
+      first = a.first;
+      to_suit = a.to_suit;
+      from_suit = a.from_suit;
+      forth = λ x c h t. a.forth x c h;
+      back = λ x d h t. a.back x d h;
+      lengths = lengths;
+      trick = subst (λ cs. AllAnswer to from any_card cs q.trick) (sym a.start_p) (subst (λ ds. AllAnswer to from any_card [] ds) (sym a.start_q) tt);
+      keeps = met-start p (Keeps to any_card) a.start_p (λ x y c d n h g t u e. a.order x y c d h g e);
+      over_p = met-start p (IsOver any_card) a.start_p (λ x y c d n h g t u e. absurd (cc));
+      over_q = met-start q (IsOver any_card) a.start_q (λ x y c d n h g t u e. absurd (cc));
+    }
+  where
+    lengths : (x : Seat) (u : Suit) → count_of u (cards_at q (seat_after x k)) ≡ count_of u (cards_at p x)
+    lengths x u =
+        let forth : count_of u (cards_at p x) ≤ count_of u (cards_at q (seat_after x k)) =
+        inject to from (is_of u) (is_of u) (cards_at p x) (cards_at q (seat_after x k)) (once-in p valid_p x) (λ c h i.
+        let f = a.forth x c h in (f.0, of-suit' u (to c) (a.to_suit c ∙ suit-of u c i), f.1)) in
+        let back : count_of u (cards_at q (seat_after x k)) ≤ count_of u (cards_at p x) =
+        inject from to (is_of u) (is_of u) (cards_at q (seat_after x k)) (cards_at p x) (once-in q valid_q (seat_after x k)) (λ d h i.
+        let f = a.back x d h in (f.0, of-suit' u (from d) (a.from_suit d ∙ suit-of u d i), f.1)) in
+        omega (arith, forth, back)
+
+-- the leader's tricks are those of the leader's side
+pub won-lead : (b : Bool) (p : Board) → (if b then ns p else (left p - ns p)) ≡ won b p
+won-lead true p = refl
+won-lead false p = refl
+
+-- Alike positions have one value.
+pub alike-lead : (p q : Board) → IsBoard p → IsBoard q → AreAlike p q → lead q ≡ lead p
+alike-lead p q valid_p valid_q a =
+    won-lead (is_north_south q.first) q
+    ∙ twins-won (is_north_south p.first) p (is_north_south q.first) q (a.0, a.1, a.2, alike-cover a.0 a.1 a.2 p q valid_p valid_q a.3)
+    ∙ sym (won-lead (is_north_south p.first) p)
+
+-- And so have those that are alike without a turn.
+pub is-alike-lead : (p q : Board) → IsBoard p → IsBoard q → IsAlike p q → lead q ≡ lead p
+is-alike-lead p q valid_p valid_q a = alike-lead p q valid_p valid_q (0, a.0, a.1, a.2)
