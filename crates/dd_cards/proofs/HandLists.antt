@@ -226,3 +226,39 @@ hand-set masks s v cards e = map-set cards_of masks (seat_code s) v ∙ ap (λ x
 pub none_of : {X : Type 0} (o : Option X) (P : Type 0) → is_some o ≡ false → IfNone o P → P
 none_of None P e h = h
 none_of (Some x) P e h = absurd (cc)
+
+-- ---- a card out of all hands
+-- the four masks with the same bits kept in each
+abbrev pub kept_bits : List ℕ → ℕ → List ℕ
+kept_bits masks n = bit_and (get_or masks 0 0) n ∷ bit_and (get_or masks 1 0) n ∷ bit_and (get_or masks 2 0) n ∷ bit_and (get_or masks 3 0) n ∷ []
+
+-- each seat's mask is kept so
+mask_at-kept : (masks : List ℕ) (n : ℕ) (s : Seat) → mask_at (kept_bits masks n) s ≡ bit_and (mask_at masks s) n
+mask_at-kept masks n North = refl
+mask_at-kept masks n East = refl
+mask_at-kept masks n South = refl
+mask_at-kept masks n West = refl
+
+-- bits may be cleared in all hands at once
+pub AreHandMasks-kept : (masks : List ℕ) (n : ℕ) → AreHandMasks masks → AreHandMasks (kept_bits masks n)
+AreHandMasks-kept masks n valid =
+    record {
+      cards_only = λ s i h. valid.cards_only s i (bit_of-and (mask_at masks s) n i (rw (mask_at-kept masks n s) at h));
+      one_holder = λ i s t h k. valid.one_holder i s t (bit_of-and (mask_at masks s) n i (rw (mask_at-kept masks n s) at h)) (bit_of-and (mask_at masks t) n i (rw (mask_at-kept masks n t) at k));
+    }
+
+-- four numbers, one by one
+four-places : (masks : List ℕ) → length masks ≡ 4 → masks ≡ get_or masks 0 0 ∷ get_or masks 1 0 ∷ get_or masks 2 0 ∷ get_or masks 3 0 ∷ []
+four-places [] four = absurd (omega (arith, four))
+four-places (a ∷ []) four = absurd (omega (arith, four))
+four-places (a ∷ b ∷ []) four = absurd (omega (arith, four))
+four-places (a ∷ b ∷ c ∷ []) four = absurd (omega (arith, four))
+four-places (a ∷ b ∷ c ∷ d ∷ []) four = refl
+four-places (a ∷ b ∷ c ∷ d ∷ e ∷ rest) four = absurd (omega (arith, four))
+
+-- clearing a card's bit in all hands takes the card out of each
+pub cards_of-kept : (masks : List ℕ) (c : PlayingCard) → length masks ≡ 4 → IsRank c.rank → place_of c < 64
+    → map cards_of (kept_bits masks (bit_not w64 (1 * 2 ^ place_of c % 2 ^ 64))) ≡ map (λ cards. without cards c) (map cards_of masks)
+cards_of-kept masks c four real within =
+    let out = λ (k : ℕ). cards_of-remove (get_or masks k 0) c real within in
+    rw (out 0, out 1, out 2, out 3) (ap (λ ms. map (λ cards. without cards c) (map cards_of ms)) (sym (four-places masks four)))

@@ -12,6 +12,7 @@ use Rattle.dd_cards.specs.declared.suit.Suit.TheVariants.{Spades, Hearts, Diamon
 use Rattle.dd_cards.specs.Suits.{suit_code}
 use Rattle.dd_cards.specs.PlayingCard.{PlayingCard}
 use Rattle.dd_cards.specs.Ranks.{IsRank, is_rank, has_rank, all_ranks, lowest_ranks}
+use Rattle.dd_cards.specs.Masks.{in_mask, ranks_of}
 use Rattle.dd_cards.specs.Cards.{is_of, same_card, card_of, suit_cards, deck, has_card, with_card, without}
 use Rattle.dd_cards.specs.Hands.{hand_of, times, IsSet, AreHands}
 use Rattle.dd_cards.proofs.RankLists.{filter-same, filter-filter, filter-map, and_true}
@@ -233,3 +234,8 @@ length-with_card cards c set real absent =
     let has : has_card (with_card cards c) c ≡ true = has_card-with_card cards c c real ∙ ap (λ b. b || has_card cards c) (same_card-self c) in
     let one : length (without (with_card cards c) c) + 1 ≡ length (with_card cards c) = length-without (with_card cards c) c (IsSet-with_card cards c) has in
     sym one ∙ ap (λ xs. length xs + 1) (without-with_card cards c set absent)
+
+-- a set has at most thirteen ranks
+pub at-most-13 : (m : ℕ) → length (ranks_of m) ≤ 13
+unfolding ranks_of all_ranks lowest_ranks
+at-most-13 m = length-filter-le (in_mask m) all_ranks

@@ -115,4 +115,17 @@ impl Hands {
         self.masks[seat.code() as usize] &= !(1 << card.place());
         had
     }
+
+    /// The hands when the card is in none of them.
+    // All four in registers: a hand that was changed in place would be read again before its write is done.
+    #[inline]
+    pub fn without(&self, card: Card) -> Hands
+        ensures { result ≡ map (λ cards. without cards card) self.now }
+    {
+        let kept = !(1 << card.place());
+        let [north, east, south, west] = self.masks;
+        Hands {
+            masks: [north & kept, east & kept, south & kept, west & kept],
+        }
+    }
 }

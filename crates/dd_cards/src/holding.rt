@@ -68,7 +68,8 @@ impl Holding {
 
     /// The number of ranks, 0 to 13.
     pub fn len(self) -> u8
-        ensures { result ≡ length self }
+        ensures len { result ≡ length self }
+        ensures bound { result ≤ 13 }
     {
         self.mask.count_ones() as u8
     }

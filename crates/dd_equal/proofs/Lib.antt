@@ -3,3 +3,4 @@ pub mod Suits
 pub mod Walks
 pub mod Swaps
 pub mod Equal
+pub mod Tops

@@ -1,14 +1,25 @@
 //! What equal cards have in common, for every board.
 
-ghost use Rattle.std.specs.Prelude.{◌≡◌, true};
+ghost use Rattle.std.specs.Prelude.{◌≡◌, ℕ, ◌+◌, ◌≤◌, Bool, true, false};
 ghost use Rattle.dd_cards.specs.PlayingCard.{PlayingCard};
-ghost use Rattle.dd_play.specs.Board.{Board, IsBoard};
+ghost use Rattle.dd_cards.specs.Cards.{has_card};
+ghost use Rattle.dd_play.specs.Board.{Board, IsBoard, mover, left};
+ghost use Rattle.dd_play.specs.Play.{after};
 ghost use Rattle.dd_play.specs.Simulations.{IsLegal};
 ghost use Rattle.dd_play.specs.Value.{score};
-ghost use Rattle.dd_equal.specs.EqualCards.{are_equal};
+ghost use Rattle.dd_play.specs.Won.{is_side, point};
+ghost use Rattle.dd_play.specs.Claims.{Takes};
+ghost use Rattle.dd_equal.specs.EqualCards.{are_equal, tops};
 
 /// Equal cards have one score, whatever other cards of the hand lie between them.
 pub fn equal_cards_score_alike()
     ensures { (p : Board) (c d : PlayingCard) → IsBoard p → IsLegal p c → IsLegal p d → are_equal p c d ≡ true
         → score p d ≡ score p c }
+{}
+
+/// Where the other side is to play, it is enough that one card of each class, its highest, leaves the side as many.
+pub fn one_card_of_each_class()
+    ensures { (side : Bool) (p : Board) (n : ℕ) → IsBoard p → is_side side (mover p) ≡ false → 1 ≤ left p
+        → ((c : PlayingCard) → has_card (tops p) c ≡ true → (m : ℕ) × Takes side (after p c) m × (n ≤ m + point side p c))
+        → Takes side p n }
 {}

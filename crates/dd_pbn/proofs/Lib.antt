@@ -1,11 +1,10 @@
 pub mod Steps
-pub mod Letters
-pub mod CardSets
-pub mod Suits
-pub mod Growing
-pub mod SuitTexts
+pub mod Bytes
+pub mod Blanks
 pub mod HandTexts
-pub mod DealTexts
-pub mod Faults
+pub mod ValueTexts
+pub mod Noting
+pub mod Meanings
 pub mod Decided
+pub mod Written
 pub mod Examples

@@ -1,7 +1,6 @@
--- the steps of reading a suit
-use Rattle.std.proofs.Common.{◌≡◌, ◌↔◌, ℕ, ◌-◌, ◌<◌, ◌≤◌, Bool, true, false, IsTrue, refl, sym, arith, List, [], ◌∷◌, length, get_or, take, drop, Some, None, Ok, Err}
-use Rattle.std.specs.Prelude.{nat_lt, ◌&&◌, ◌||◌}
-use Rattle.std.proofs.lemmas.Bool.{lt-ltb, le-ltb}
+-- the steps of reading, at the first byte of a slice
+use Rattle.std.proofs.Common.{◌≡◌, ◌↔◌, ℕ, ◌-◌, ◌<◌, ◌≤◌, Bool, true, false, IsTrue, refl, arith, List, [], ◌∷◌, length, get_or, take, drop, Some, None}
+use Rattle.std.specs.Prelude.{◌||◌}
 use Rattle.std.proofs.lemmas.List.{take_all}
 use mathlib.Core.Bool.{not}
 use Rattle.dd_cards.specs.declared.seat.Seat.{Seat}
@@ -10,56 +9,54 @@ use Rattle.dd_cards.specs.declared.suit.Suit.{Suit}
 use Rattle.dd_cards.specs.PlayingCard.{PlayingCard}
 use Rattle.dd_cards.specs.Cards.{card_of, has_card}
 use Rattle.dd_cards.specs.Hands.{hand_of}
-use Rattle.dd_pbn.specs.declared.fault.PbnFault.TheVariants.{Grammar}
-use Rattle.dd_pbn.specs.Reading.{rank_of, is_free, put_card, suit_at}
+use Rattle.dd_pbn.specs.declared.seen.Seen.{Seen}
+use Rattle.dd_pbn.specs.Letters.{rank_of, is_blank}
+use Rattle.dd_pbn.specs.Reading.{is_free, note, after_blanks, suit_at}
 
--- a byte that is no rank ends the suit
-pub suit_at-none : (seat : Seat) (suit : Suit) (below : ℕ) (hands : List (List PlayingCard)) (text : List ℕ) → 1 ≤ length text → rank_of (get_or text 0 0) ≡ None
-    → suit_at seat suit below hands text ≡ Ok (hands, text)
+-- ---- blanks
+-- a blank is passed over
+pub after_blanks-blank : (text : List ℕ) → 1 ≤ length text → is_blank (get_or text 0 0) ≡ true → after_blanks text ≡ after_blanks (take (length text - 1) (drop 1 text))
+unfolding after_blanks
+after_blanks-blank [] some_left blank = absurd (omega arith)
+after_blanks-blank (byte ∷ text) some_left blank =
+    let e : take (length (byte ∷ text) - 1) text ≡ text = take_all (length (byte ∷ text) - 1) text (omega arith) in
+    rw (e, blank, after_blanks) refl
+
+-- another byte is where the blanks end
+pub after_blanks-other : (text : List ℕ) → is_blank (get_or text 0 0) ≡ false → after_blanks text ≡ text
+unfolding after_blanks
+after_blanks-other [] other = refl
+after_blanks-other (byte ∷ text) other = rw (other, after_blanks) refl
+
+-- and so is the end of the text
+pub after_blanks-end : (text : List ℕ) → length text < 1 → after_blanks text ≡ text
+unfolding after_blanks
+after_blanks-end [] none_left = refl
+after_blanks-end (byte ∷ text) none_left = absurd (omega arith)
+
+-- ---- a suit
+-- a rank is noted
+pub suit_at-rank : (seat : Seat) (suit : Suit) (seen : Seen) (text : List ℕ) (rank : ℕ) → 1 ≤ length text → rank_of (get_or text 0 0) ≡ Some rank
+    → suit_at seat suit seen text ≡ suit_at seat suit (note seat (card_of suit rank) seen) (take (length text - 1) (drop 1 text))
 unfolding suit_at
-suit_at-none seat suit below hands [] some_left none = absurd (omega arith)
-suit_at-none seat suit below hands (letter ∷ text) some_left none = rw (none, suit_at) refl
+suit_at-rank seat suit seen [] rank some_left some = absurd (omega arith)
+suit_at-rank seat suit seen (byte ∷ text) rank some_left some =
+    let e : take (length (byte ∷ text) - 1) text ≡ text = take_all (length (byte ∷ text) - 1) text (omega arith) in
+    rw e (rw (some, suit_at) refl)
 
--- the end of the text ends the suit
-pub suit_at-end : (seat : Seat) (suit : Suit) (below : ℕ) (hands : List (List PlayingCard)) (text : List ℕ) → length text < 1 → suit_at seat suit below hands text ≡ Ok (hands, text)
+-- another byte ends the suit
+pub suit_at-other : (seat : Seat) (suit : Suit) (seen : Seen) (text : List ℕ) → rank_of (get_or text 0 0) ≡ None → suit_at seat suit seen text ≡ (seen, text)
 unfolding suit_at
-suit_at-end seat suit below hands [] none_left = refl
-suit_at-end seat suit below hands (letter ∷ text) none_left = absurd (omega arith)
+suit_at-other seat suit seen [] none = refl
+suit_at-other seat suit seen (byte ∷ text) none = rw (none, suit_at) refl
 
--- a lower rank whose card is free is put into the hand
-pub suit_at-next : (seat : Seat) (suit : Suit) (below : ℕ) (hands : List (List PlayingCard)) (letter : ℕ) (text : List ℕ) (rank : ℕ) → rank_of letter ≡ Some rank → rank < below
-    → is_free hands (card_of suit rank) ≡ true → suit_at seat suit below hands (letter ∷ text) ≡ suit_at seat suit rank (put_card hands seat (card_of suit rank)) text
+-- and so does the end of the text
+pub suit_at-end : (seat : Seat) (suit : Suit) (seen : Seen) (text : List ℕ) → length text < 1 → suit_at seat suit seen text ≡ (seen, text)
 unfolding suit_at
-suit_at-next seat suit below hands letter text rank some less free = rw (some, suit_at) (rw (lt-ltb rank below less, free) refl)
+suit_at-end seat suit seen [] none_left = refl
+suit_at-end seat suit seen (byte ∷ text) none_left = absurd (omega arith)
 
--- the same of the first byte of a slice
-pub suit_at-some : (seat : Seat) (suit : Suit) (below : ℕ) (hands : List (List PlayingCard)) (text : List ℕ) (rank : ℕ) → 1 ≤ length text → rank_of (get_or text 0 0) ≡ Some rank → rank < below
-    → is_free hands (card_of suit rank) ≡ true
-    → suit_at seat suit below hands text ≡ suit_at seat suit rank (put_card hands seat (card_of suit rank)) (take (length text - 1) (drop 1 text))
-suit_at-some seat suit below hands [] rank some_left some less free = absurd (omega arith)
-suit_at-some seat suit below hands (letter ∷ text) rank some_left some less free =
-    let e : take (length (letter ∷ text) - 1) text ≡ text = take_all (length (letter ∷ text) - 1) text (omega arith) in
-    rw e (suit_at-next seat suit below hands letter text rank some less free)
-
--- a rank that isn't lower is a fault
-pub suit_at-high : (seat : Seat) (suit : Suit) (below : ℕ) (hands : List (List PlayingCard)) (text : List ℕ) (rank : ℕ) → 1 ≤ length text → rank_of (get_or text 0 0) ≡ Some rank → below ≤ rank
-    → suit_at seat suit below hands text ≡ Err Grammar
-unfolding suit_at
-suit_at-high seat suit below hands [] rank some_left some high = absurd (omega arith)
-suit_at-high seat suit below hands (letter ∷ text) rank some_left some high = rw (some, suit_at) (rw (le-ltb rank below high) refl)
-
--- one test that fails is enough
-and_false : (b : Bool) → (b && false) ≡ false
-and_false true = refl
-and_false false = refl
-
--- a card that a hand has already is a fault
-pub suit_at-taken : (seat : Seat) (suit : Suit) (below : ℕ) (hands : List (List PlayingCard)) (text : List ℕ) (rank : ℕ) → 1 ≤ length text → rank_of (get_or text 0 0) ≡ Some rank
-    → is_free hands (card_of suit rank) ≡ false → suit_at seat suit below hands text ≡ Err Grammar
-unfolding suit_at
-suit_at-taken seat suit below hands [] rank some_left some taken = absurd (omega arith)
-suit_at-taken seat suit below hands (letter ∷ text) rank some_left some taken = rw (some, suit_at) (rw (taken, and_false (nat_lt rank below)) refl)
-
+-- ---- a card
 -- a card is free where each hand lacks it
 pub free : (hands : List (List PlayingCard)) (card : PlayingCard) → ((seat : Seat) → has_card (hand_of hands seat) card ≡ false) → is_free hands card ≡ true
 free hands card none = rw (none North, none East, none South, none West) refl
@@ -85,5 +82,5 @@ is_free-by true hands card h = free hands card (h.0 refl)
 is_free-by false hands card h = go (is_free hands card) refl
   where
     go : (b : Bool) → is_free hands card ≡ b → b ≡ false
-    go true e = sym (h.1 (lacks hands card e))
+    go true e = absurd (let t = h.1 (lacks hands card e) in cc)
     go false e = refl

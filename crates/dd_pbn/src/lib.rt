@@ -3,11 +3,15 @@
 
 mod fault;
 mod laws;
+mod letters;
 mod reading;
+mod seen;
+mod writing;
 
 pub use fault::PbnFault;
-pub use laws::one_deal;
-pub use reading::read_deal;
+pub use laws::{one_deal, one_deal_of_a_tag, worked_texts, written_is_read};
+pub use reading::{read_deal, read_tag};
+pub use writing::write_deal;
 
 #[cfg(test)]
 mod tests;

@@ -1,113 +1,221 @@
-ghost use Rattle.std.specs.Prelude.{◌≡◌, List, Ok, IfOk, IfErr};
+ghost use Rattle.std.specs.Prelude.{◌≡◌, ◌↔◌, List, Ok, Err, IfOk, if◌then◌else◌};
 ghost use Rattle.dd_cards.specs.PlayingCard.{PlayingCard};
 ghost use Rattle.dd_cards.specs.Hands.{AreHands};
-ghost use Rattle.dd_pbn.specs.Deals.{DealText};
-ghost use Rattle.dd_pbn.specs.Reading.{Gives, rank_of, byte_at, suit_at, hand_at, deal_at};
+ghost use Rattle.dd_pbn.specs.Deals.{DealText, DealFault, TagText, TagFault};
+ghost use Rattle.dd_pbn.specs.Reading.{Gives, after_blanks, gap_at, byte_at, letter_at, name_at, seat_at, suit_at, next_suit, hand_at, next_hand, hands_at, value_at, value_of, quoted_at, tag_of};
 
 use crate::fault::PbnFault;
+use crate::letters::{is_blank, rank_of, seat_of};
+use crate::seen::{Seen, outcome};
 use dd_cards::card::Card;
 use dd_cards::hands::Hands;
-use dd_cards::rank::Rank;
 use dd_cards::seat::Seat;
 use dd_cards::suit::Suit;
 
-// A bound that no rank reaches.
-const ABOVE_ACE: u8 = 15;
-
-/// The hands of a deal's written form: `N:`, and the hands of North, East, South and West with one space between each
-/// two. A hand is its spades, hearts, diamonds and clubs with a point between each two, ranks falling, in upper case
-/// (PBN 2.1, tag Deal). `Grammar` where the text is the written form of no hands.
+/// The hands that the value of a tag Deal spells (PBN 2.1, tag Deal): blanks, one of W, N, E, S, a colon, blanks, four
+/// hands with one or more blanks between each two, and blanks. The first hand is that of the letter's seat, the others
+/// follow clockwise. A hand is its spades, hearts, diamonds and clubs with a point between each two, or a dash; a suit
+/// is zero or more of A K Q J T 9 8 7 6 5 4 3 2 in any order. Letters count in either case, and a hand may have any
+/// number of cards. It takes no memory.
+///
+/// `Grammar` where the text has not this form, else `Absent` where a hand is a dash, else `Twice` where a card stands
+/// twice, in one hand or in two.
 pub fn read_deal(text: &[u8]) -> Result<Hands, PbnFault>
-    ensures read { IfOk result (λ hands. DealText text.now hands) }
-    ensures hands { IfOk result (λ hands. AreHands hands) }
-    ensures only { (hands : List (List PlayingCard)) → AreHands hands → DealText text.now hands → result ≡ Ok hands }
-    ensures fault { IfErr result (λ fault. fault ≡ PbnFault.Grammar) }
+    ensures read { IfOk result (λ deal. DealText text.now deal) }
+    ensures hands { IfOk result (λ deal. AreHands deal) }
+    ensures only { (deal : List (List PlayingCard)) → AreHands deal → DealText text.now deal → result ≡ Ok deal }
+    ensures fault { (fault : PbnFault) → (result ≡ Err fault) ↔ DealFault text.now fault }
 {
-    read_value(text)
+    outcome(seen_in_value(text))
 }
 
-// The whole text. Here and below, a contract names the function on lists that does the same.
-#[tactic(auto, unfolding(crate::specs::Reading::deal_at))]
-fn read_value(text: &[u8]) -> Result<Hands, PbnFault>
-    ensures { Gives (λ hands. hands) result (deal_at text.now) }
+/// The hands that a tag Deal spells: blanks, `[`, blanks, `Deal` with letters in either case, blanks, `"`, a value as
+/// `read_deal` reads it, `"`, blanks, `]`, blanks. It takes no memory, and its faults are those of `read_deal`.
+pub fn read_tag(text: &[u8]) -> Result<Hands, PbnFault>
+    ensures read { IfOk result (λ deal. TagText text.now deal) }
+    ensures hands { IfOk result (λ deal. AreHands deal) }
+    ensures only { (deal : List (List PlayingCard)) → AreHands deal → TagText text.now deal → result ≡ Ok deal }
+    ensures fault { (fault : PbnFault) → (result ≡ Err fault) ↔ TagFault text.now fault }
 {
-    let mut hands = Hands::new();
-    let rest = expect(b'N', text)?;
-    let rest = expect(b':', rest)?;
-    let rest = read_hand(&mut hands, Seat::North, rest)?;
-    let rest = expect(b' ', rest)?;
-    let rest = read_hand(&mut hands, Seat::East, rest)?;
-    let rest = expect(b' ', rest)?;
-    let rest = read_hand(&mut hands, Seat::South, rest)?;
-    let rest = expect(b' ', rest)?;
-    let rest = read_hand(&mut hands, Seat::West, rest)?;
-    if rest.is_empty() {
-        Ok(hands)
+    outcome(seen_in_tag(text))
+}
+
+// ---- Each reader answers the text after what it read, or None where the text has not the form. Its contract names the
+// function on lists that does the same.
+
+// A value and nothing after it.
+#[tactic(auto, unfolding(crate::specs::Reading::value_of, crate::specs::Reading::at_end))]
+fn seen_in_value(text: &[u8]) -> Option<Seen>
+    ensures { result ≡ value_of text.now }
+{
+    let (seen, rest) = read_value(text)?;
+    if rest.is_empty() { Some(seen) } else { None }
+}
+
+// A tag and nothing after it.
+#[tactic(auto, unfolding(crate::specs::Reading::tag_of, crate::specs::Reading::at_end))]
+fn seen_in_tag(text: &[u8]) -> Option<Seen>
+    ensures { result ≡ tag_of text.now }
+{
+    let rest = after_byte(b'[', after_blanks(text))?;
+    let rest = after_name(after_blanks(rest))?;
+    let (seen, rest) = read_quoted(after_blanks(rest))?;
+    let rest = after_byte(b']', after_blanks(rest))?;
+    if after_blanks(rest).is_empty() {
+        Some(seen)
     } else {
-        Err(PbnFault::Grammar)
+        None
     }
 }
 
-// Puts the cards of a hand into the hands, and answers the text after them.
-#[tactic(auto, unfolding(crate::specs::Reading::hand_at))]
-fn read_hand<'a>(hands: &mut Hands, seat: Seat, text: &'a [u8]) -> Result<&'a [u8], PbnFault>
-    ensures { Gives (λ rest. (hands.new, rest.now)) result (hand_at seat hands.old text.now) }
+// A value in quotes.
+#[tactic(auto, unfolding(crate::specs::Reading::quoted_at))]
+fn read_quoted(text: &[u8]) -> Option<(Seen, &[u8])>
+    ensures { Gives (λ read. (read.0, read.1.now)) result (quoted_at text.now) }
 {
-    let rest = read_suit(hands, seat, Suit::Spades, text)?;
-    let rest = expect(b'.', rest)?;
-    let rest = read_suit(hands, seat, Suit::Hearts, rest)?;
-    let rest = expect(b'.', rest)?;
-    let rest = read_suit(hands, seat, Suit::Diamonds, rest)?;
-    let rest = expect(b'.', rest)?;
-    read_suit(hands, seat, Suit::Clubs, rest)
+    let rest = after_byte(b'"', text)?;
+    let (seen, rest) = read_value(rest)?;
+    let rest = after_byte(b'"', rest)?;
+    Some((seen, rest))
 }
 
-// The same for one suit, which ends before the first byte that is no rank.
-fn read_suit<'a>(
-    hands: &mut Hands,
-    seat: Seat,
-    suit: Suit,
-    text: &'a [u8],
-) -> Result<&'a [u8], PbnFault>
-    ensures { Gives (λ rest. (hands.new, rest.now)) result (suit_at seat suit 15 hands.old text.now) }
+// A value, from its first blanks to its last.
+#[tactic(auto, unfolding(crate::specs::Reading::value_at))]
+fn read_value(text: &[u8]) -> Option<(Seen, &[u8])>
+    ensures { Gives (λ read. (read.0, read.1.now)) result (value_at text.now) }
+{
+    let (first, rest) = read_seat(after_blanks(text))?;
+    let rest = after_byte(b':', rest)?;
+    let (seen, rest) = read_hands(first, after_blanks(rest))?;
+    Some((seen, after_blanks(rest)))
+}
+
+// Four hands, from this seat clockwise.
+#[tactic(auto, unfolding(crate::specs::Reading::hands_at))]
+fn read_hands(first: Seat, text: &[u8]) -> Option<(Seen, &[u8])>
+    ensures { Gives (λ read. (read.0, read.1.now)) result (hands_at first text.now) }
+{
+    let mut seen = Seen::new();
+    let rest = read_hand(&mut seen, first, text)?;
+    let rest = read_next_hand(&mut seen, first.next(), rest)?;
+    let rest = read_next_hand(&mut seen, first.next().next(), rest)?;
+    let rest = read_next_hand(&mut seen, first.next().next().next(), rest)?;
+    Some((seen, rest))
+}
+
+// The letter of a seat.
+#[tactic(auto, unfolding(crate::specs::Reading::seat_at))]
+fn read_seat(text: &[u8]) -> Option<(Seat, &[u8])>
+    ensures { Gives (λ read. (read.0, read.1.now)) result (seat_at text.now) }
+{
+    match text {
+        [letter, rest @ ..] => Some((seat_of(*letter)?, rest)),
+        [] => None,
+    }
+}
+
+// One or more blanks, and a hand.
+#[tactic(auto, unfolding(crate::specs::Reading::next_hand))]
+fn read_next_hand<'a>(seen: &mut Seen, seat: Seat, text: &'a [u8]) -> Option<&'a [u8]>
+    ensures { Gives (λ rest. (seen.new, rest.now)) result (next_hand seat (seen.old, text.now)) }
+{
+    let rest = after_gap(text)?;
+    read_hand(seen, seat, rest)
+}
+
+// A hand: four suits with a point between each two, or a dash.
+#[tactic(auto, unfolding(crate::specs::Reading::hand_at))]
+fn read_hand<'a>(seen: &mut Seen, seat: Seat, text: &'a [u8]) -> Option<&'a [u8]>
+    ensures { Gives (λ rest. (seen.new, rest.now)) result (hand_at seat seen.old text.now) }
+{
+    if let Some(rest) = after_byte(b'-', text) {
+        seen.absent = true;
+        return Some(rest);
+    }
+    let rest = read_suit(seen, seat, Suit::Spades, text);
+    let rest = read_next_suit(seen, seat, Suit::Hearts, rest)?;
+    let rest = read_next_suit(seen, seat, Suit::Diamonds, rest)?;
+    read_next_suit(seen, seat, Suit::Clubs, rest)
+}
+
+// A point, and a suit.
+#[tactic(auto, unfolding(crate::specs::Reading::next_suit))]
+fn read_next_suit<'a>(seen: &mut Seen, seat: Seat, suit: Suit, text: &'a [u8]) -> Option<&'a [u8]>
+    ensures { Gives (λ rest. (seen.new, rest.now)) result (next_suit seat suit (seen.old, text.now)) }
+{
+    let rest = after_byte(b'.', text)?;
+    Some(read_suit(seen, seat, suit, rest))
+}
+
+// The ranks of a suit, up to the first byte that is none.
+fn read_suit<'a>(seen: &mut Seen, seat: Seat, suit: Suit, text: &'a [u8]) -> &'a [u8]
+    ensures { suit_at seat suit seen.old text.now ≡ (seen.new, result.now) }
 {
     let mut rest = text;
-    let mut below = ABOVE_ACE;
     while let [letter, tail @ ..] = rest {
         let Some(rank) = rank_of(*letter) else {
-            return Ok(rest);
+            return rest;
         };
-        if rank.code() >= below || !hands.insert(seat, Card { suit, rank }) {
-            return Err(PbnFault::Grammar);
-        }
-        below = rank.code();
+        seen.note(seat, Card { suit, rank });
         rest = tail;
     }
-    Ok(rest)
+    rest
 }
 
-#[tactic(auto, unfolding(crate::specs::Reading::rank_of, dd_cards::specs::Ranks::all_ranks, dd_cards::specs::Ranks::lowest_ranks))]
-fn rank_of(letter: u8) -> Option<Rank>
-    ensures { result ≡ rank_of letter }
+// The text after the name Deal.
+#[tactic(auto, unfolding(crate::specs::Reading::name_at))]
+fn after_name(text: &[u8]) -> Option<&[u8]>
+    ensures { Gives (λ rest. rest.now) result (name_at text.now) }
 {
-    match letter {
-        b'2'..=b'9' => Some(Rank::of(letter - b'0')),
-        b'T' => Some(Rank::of(10)),
-        b'J' => Some(Rank::of(11)),
-        b'Q' => Some(Rank::of(12)),
-        b'K' => Some(Rank::of(13)),
-        b'A' => Some(Rank::of(14)),
+    let rest = after_letter(b'D', text)?;
+    let rest = after_letter(b'E', rest)?;
+    let rest = after_letter(b'A', rest)?;
+    after_letter(b'L', rest)
+}
+
+// The text after this letter, in either case.
+#[tactic(auto, unfolding(crate::specs::Reading::letter_at))]
+fn after_letter(letter: u8, text: &[u8]) -> Option<&[u8]>
+    ensures { Gives (λ rest. rest.now) result (letter_at letter text.now) }
+{
+    match text {
+        [first, rest @ ..] if first.to_ascii_uppercase() == letter => Some(rest),
         _ => None,
     }
 }
 
 // The text after this byte.
 #[tactic(auto, unfolding(crate::specs::Reading::byte_at))]
-fn expect(byte: u8, text: &[u8]) -> Result<&[u8], PbnFault>
+fn after_byte(byte: u8, text: &[u8]) -> Option<&[u8]>
     ensures { Gives (λ rest. rest.now) result (byte_at byte text.now) }
 {
     match text {
-        [first, rest @ ..] if *first == byte => Ok(rest),
-        _ => Err(PbnFault::Grammar),
+        [first, rest @ ..] if *first == byte => Some(rest),
+        _ => None,
     }
+}
+
+// The text after one or more blanks.
+#[tactic(auto, unfolding(crate::specs::Reading::gap_at))]
+fn after_gap(text: &[u8]) -> Option<&[u8]>
+    ensures { Gives (λ rest. rest.now) result (gap_at text.now) }
+{
+    match text {
+        [first, rest @ ..] if is_blank(*first) => Some(after_blanks(rest)),
+        _ => None,
+    }
+}
+
+// The text after its blanks.
+fn after_blanks(text: &[u8]) -> &[u8]
+    ensures { result.now ≡ after_blanks text.now }
+{
+    let mut rest = text;
+    while let [first, tail @ ..] = rest {
+        if !is_blank(*first) {
+            break;
+        }
+        rest = tail;
+    }
+    rest
 }

@@ -11,3 +11,5 @@ pub mod Plays
 pub mod Winners
 pub mod Steps
 pub mod Twins
+pub mod Claims
+pub mod HandsAfter

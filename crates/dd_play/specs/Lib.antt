@@ -9,3 +9,4 @@ pub mod Deals
 pub mod Won
 pub mod Simulations
 pub mod Covers
+pub mod Claims

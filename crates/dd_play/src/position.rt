@@ -1,4 +1,4 @@
-ghost use Rattle.std.specs.Prelude.{◌≡◌, ◌+◌, ◌<◌, ◌≤◌, ◌↔◌, ℕ, true, false, IsTrue, IsOk, IfOk, Some, None, Err, nat_lt, length, take, if◌then◌else◌};
+ghost use Rattle.std.specs.Prelude.{◌≡◌, ◌+◌, ◌<◌, ◌≤◌, ◌↔◌, ℕ, true, false, IsTrue, IsOk, IfOk, Some, None, Err, nat_lt, length, take, slice_set, if◌then◌else◌};
 ghost use Rattle.std.specs.Bool.{OnTrue, OnFalse};
 ghost use Rattle.dd_cards.specs.PlayingCard.{PlayingCard};
 ghost use Rattle.dd_cards.specs.Cards.{has_card};
@@ -7,7 +7,7 @@ ghost use Rattle.dd_cards.specs.Seats.{seat_after};
 ghost use Rattle.dd_cards.specs.Hands.{hand_of, times, AreHands};
 ghost use Rattle.dd_play.specs.Board.{board_of, IsBoard, mover, left, times_in};
 ghost use Rattle.dd_play.specs.Tricks.{winner_of};
-ghost use Rattle.dd_play.specs.Play.{legal, completes, trick_with, after};
+ghost use Rattle.dd_play.specs.Play.{legal, completes, trick_with, after, hands_after};
 
 use crate::play_fault::PlayFault;
 use crate::turn::seat_after;
@@ -187,6 +187,7 @@ impl Position {
     }
 
     /// The position after this legal card, and the winner of the trick where the card completes it.
+    #[inline(always)]
     pub fn play(&self, card: Card) -> (Position, Option<Seat>)
         requires { has_card (legal self.now) card ≡ true }
         ensures next { result.0 ≡ after self.now card }
@@ -195,8 +196,7 @@ impl Position {
         ensures board { IsBoard self.now }
         ensures legal { IsBoard result.0 }
     {
-        let mut hands = self.hands.copy();
-        hands.remove(self.mover(), card);
+        let hands = self.hands_without(card);
         if self.played == 3 {
             let trick = [self.trick[0], self.trick[1], self.trick[2], card];
             let seat = winner(&trick, self.first, self.strain);
@@ -209,17 +209,40 @@ impl Position {
             };
             (next, Some(seat))
         } else {
-            let mut trick = self.trick;
-            trick[self.played as usize] = card;
             let next = Position {
                 hands,
                 strain: self.strain,
                 first: self.first,
-                trick,
+                trick: with_place(self.trick, self.played, card),
                 played: self.played + 1,
             };
             (next, None)
         }
+    }
+
+    // The hands when the mover has played this card. No other hand has it.
+    #[inline]
+    fn hands_without(&self, card: Card) -> Hands
+        requires { has_card (legal self.now) card ≡ true }
+        ensures hands { result ≡ hands_after self.now card }
+        ensures board { IsBoard self.now }
+    {
+        self.hands.without(card)
+    }
+}
+
+// The three places with the card at this one, by choice and not by address: a place that was written would be read again
+// before its write is done.
+#[inline]
+fn with_place(trick: [Card; 3], place: u8, card: Card) -> [Card; 3]
+    requires { place < 3 }
+    ensures { result ≡ slice_set trick place card }
+{
+    let [first, second, third] = trick;
+    match place {
+        0 => [card, second, third],
+        1 => [first, card, third],
+        _ => [first, second, card],
     }
 }
 

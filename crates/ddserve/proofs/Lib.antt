@@ -1,15 +1,9 @@
-pub mod Answered
-pub mod ByScore
-pub mod Cuts
-pub mod Examples
-pub mod Keys
-pub mod Meanings
-pub mod Objects
-pub mod Pieces
-pub mod Replied
-pub mod Scores
-pub mod Serving
-pub mod Starts
-pub mod Texts
-pub mod Writing
-pub mod Failing
+mod Asked
+mod Given
+mod Lines
+mod Numbers
+mod Options
+mod Programs
+mod Runs
+mod Steps
+mod Words

@@ -1,10 +1,3 @@
-pub mod Faults
-pub mod Requests
-pub mod Reading
-pub mod Answers
-pub mod Classes
-pub mod Replies
-pub mod Lines
-pub mod Line
-pub mod Counting
-pub mod Served
+pub mod CommandLine
+pub mod Program
+pub mod Status

@@ -1,62 +1,93 @@
 //! The line tool: `ddserve solve` answers the request lines of the standard input on the standard output.
 //!
-//! It ends with status 0 at the end of the input, 1 where a device failed or memory ran out outside a line, and 2 at
-//! any other words.
+//! It ends with status 0 at the end of the input and after help, 1 where a device failed or memory ran out outside a
+//! line, and 2 at a bad line of arguments.
 #![tactic(auto)]
 
-ghost use Rattle.std.specs.Prelude.{◌≡◌, ◌↔◌, option_map, string_bytes, codes, None, Some, IsTrue};
+ghost use Rattle.std.specs.Prelude.{◌≡◌, ◌≤◌, IfOk};
+ghost use Rattle.std.specs.Process.{exit_status};
+ghost use Rattle.clap.specs.Words.{kind_of};
+ghost use Rattle.ddserve.specs.CommandLine.{IsInRange};
+ghost use Rattle.ddserve.specs.Status.{status_of, EndsWith};
 
-mod answer;
-mod counting;
-mod engine;
-mod exhaustive;
-mod fault;
-mod line;
-mod reply;
-mod request;
-#[cfg(test)]
-mod tests;
+mod command_line;
+mod one_shard;
 
-use crate::counting::Counting;
-use crate::engine::solve_lines;
-use std::alloc::Global;
-use std::io::ErrorKind;
+use clap::error::ErrorKind;
+use command_line::{Args, not_text, read_args};
+use dd_reply::counting::Counting;
+use dd_reply::engine::solve_lines;
+use one_shard::OneShard;
+use std::alloc::AllocError;
+use std::fmt::Display;
 use std::process::ExitCode;
 use std::rt::Env;
 use std::{env, io};
 
 fn main(rt: HostRuntime) -> ExitCode {
-    match is_solve(&rt) {
-        Ok(true) => solve(&rt),
-        Ok(false) => ExitCode::from(2),
-        Err(error) if error.kind() == ErrorKind::OutOfMemory => ExitCode::FAILURE,
-        Err(_) => ExitCode::from(2),
+    match given_args(&rt) {
+        Ok(Args::Solve { budget, entries }) => solve(&rt, budget, entries),
+        Err(error) => show(&rt, &error),
     }
 }
 
-/// Whether the words after the program's name are the one word `solve`. The error says that memory ran out, or that a
-/// word is no text.
-fn is_solve(rt: &(impl Env + AllocGlobal)) -> io::Result<bool> {
-    let mut words = env::args(rt)?;
-    words.next();
-    Ok(are_solve(words.next(), words.next()))
-}
-
-/// Whether the first two words are `solve` and no other.
-fn are_solve(first: Option<String>, second: Option<String>) -> bool
-    ensures { IsTrue result ↔ (option_map string_bytes first ≡ Some (codes "solve")) × (second ≡ None) }
+/// Reads the words that the program was started with.
+fn given_args(rt: &(impl Env + AllocGlobal)) -> Result<Args, clap::Error>
+    ensures { IfOk result IsInRange }
 {
-    match (first, second) {
-        (Some(word), None) => word.as_str() == "solve",
-        _ => false,
+    match env::args(rt) {
+        Ok(words) => {
+            let words: Vec<String> = words.collect(rt.alloc())?;
+            read_args(rt.alloc(), words.as_slice())
+        }
+        Err(error) if error.kind() == io::ErrorKind::OutOfMemory => Err(clap::Error::from(
+            AllocError,
+        )),
+        Err(_) => Err(not_text(rt.alloc())),
     }
 }
 
-fn solve(rt: &(impl Input + Print + AllocGlobal)) -> ExitCode {
+/// Shows help on the standard output, and any other error on the standard error.
+fn show(rt: &(impl Print + Eprint), error: &clap::Error) -> ExitCode
+    ensures { EndsWith (status_of (kind_of error.now)) (exit_status result) }
+{
+    if error.kind() == ErrorKind::OutOfMemory {
+        return fail(rt, "out of memory");
+    }
+    match error.print(rt) {
+        Ok(()) => ExitCode::from(error.exit_code() as u8),
+        Err(_) => fail(rt, "write failed"),
+    }
+}
+
+/// Answers the lines of the standard input, each within the budget, over one table of so many entries.
+fn solve(
+    rt: &(impl Input + Print + Eprint + AllocGlobal),
+    budget: Option<u64>,
+    entries: u32,
+) -> ExitCode
+    requires { (1 ≤ entries) × (entries ≤ 65536) }
+    ensures { EndsWith 0 (exit_status result) }
+{
+    let Ok(mut table) = OneShard::new(rt.alloc(), entries) else {
+        return fail(rt, "out of memory");
+    };
     let mut reader = Counting::new(rt.reader());
     let mut writer = Counting::new(io::writer(rt));
-    match solve_lines(rt.alloc(), &mut reader, &mut writer) {
+    match solve_lines(rt.alloc(), &mut reader, &mut writer, &mut table, budget) {
         Ok(()) => ExitCode::SUCCESS,
-        Err(_) => ExitCode::FAILURE,
+        Err(fault) => fail(rt, fault),
     }
 }
+
+/// Says on the standard error why the program ends before its work is done.
+fn fail(rt: &impl Eprint, reason: impl Display + Drop) -> ExitCode
+    ensures { exit_status result ≡ 1 }
+{
+    // Where the standard error fails too, there is no place left to say so.
+    let _ = eprintln!(rt; "ddserve: {reason}");
+    ExitCode::FAILURE
+}
+
+#[cfg(test)]
+mod tests;

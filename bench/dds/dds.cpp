@@ -1,0 +1,68 @@
+// The same lines by DDS: reads request lines in the written form, with no card played, and prints the reply lines of
+// `ddserve solve`. SolveBoard with target -1, mode 1, one thread. It takes good input for granted.
+#include <dds/dll.h>
+
+#include <algorithm>
+#include <cstdio>
+#include <cstdlib>
+#include <iostream>
+#include <string>
+#include <vector>
+
+static std::string field(const std::string &line, const std::string &name) {
+    std::string key = "\"" + name + "\":";
+    size_t from = line.find(key) + key.size();
+    if (line[from] == '"')
+        return line.substr(from + 1, line.find('"', from + 1) - from - 1);
+    return line.substr(from, line.find_first_of(",}", from) - from);
+}
+
+static void deal_of(const std::string &line, deal &d) {
+    const std::string ranks = "..23456789TJQKA";
+    std::string text = field(line, "deal");
+    d = deal{};
+    d.trump = atoi(field(line, "trump").c_str());
+    d.first = atoi(field(line, "first").c_str());
+    int hand = 0, suit = 0;
+    for (size_t i = 2; i < text.size(); i++) {
+        if (text[i] == ' ') {
+            hand++;
+            suit = 0;
+        } else if (text[i] == '.') {
+            suit++;
+        } else {
+            d.remainCards[hand][suit] |= 1u << ranks.find(text[i], 2);
+        }
+    }
+}
+
+struct Scored {
+    int equals, rank, score, suit;
+};
+
+int main() {
+    SetMaxThreads(1);
+    std::string line;
+    while (std::getline(std::cin, line)) {
+        deal d;
+        deal_of(line, d);
+        futureTricks found;
+        int status = SolveBoard(d, -1, atoi(field(line, "solutions").c_str()), 1, &found, 0);
+        if (status != RETURN_NO_FAULT) {
+            std::printf("DDS: %d\n", status);
+            continue;
+        }
+        std::vector<Scored> cards;
+        for (int i = 0; i < found.cards; i++)
+            cards.push_back({found.equals[i], found.rank[i], found.score[i], found.suit[i]});
+        std::stable_sort(cards.begin(), cards.end(), [](const Scored &a, const Scored &b) {
+            if (a.score != b.score)
+                return a.score > b.score;
+            return a.suit != b.suit ? a.suit < b.suit : a.rank > b.rank;
+        });
+        std::printf("{\"cards\":[");
+        for (size_t i = 0; i < cards.size(); i++)
+            std::printf("%s{\"equals\":%d,\"rank\":%d,\"score\":%d,\"suit\":%d}", i ? "," : "", cards[i].equals, cards[i].rank, cards[i].score, cards[i].suit);
+        std::printf("]}\n");
+    }
+}

@@ -1,0 +1,10 @@
+use Rattle.dd_pbn.specs.Deals.{written}
+use Rattle.dd_pbn.proofs.Decided.{one-deal}
+use Rattle.dd_pbn.proofs.Written.{written-spells}
+use Rattle.dd_pbn.proofs.laws.written_is_read.Goals as goal
+
+pub returns-clause-spells : goal.returns-clause-spells
+returns-clause-spells c = written-spells
+
+pub returns-clause-only : goal.returns-clause-only
+returns-clause-only c deal other are others spells = one-deal (written deal) other deal others are spells (written-spells deal are)

@@ -1,0 +1,95 @@
+-- which cards no other hand can beat
+use Rattle.std.proofs.Common.{◌≡◌, ◌≢◌, ℕ, zero, suc, ◌+◌, ◌-◌, ◌%◌, ◌<◌, ◌≤◌, Bool, true, false, refl, sym, ap, ◌∙◌, subst, arith, List, [], ◌∷◌}
+use Rattle.std.specs.Prelude.{nat_lt, ◌&&◌, ◌||◌}
+use Rattle.std.specs.List.{list_any}
+use mathlib.Core.Bool.{not}
+use mathlib.Core.Path.{ap₂}
+use Rattle.std.proofs.lemmas.Bool.Decides.{nat_tests}
+use Rattle.dd_cards.specs.declared.seat.Seat.{Seat}
+use Rattle.dd_cards.specs.PlayingCard.{PlayingCard}
+use Rattle.dd_cards.specs.Cards.{is_of, same_card, card_of, has_card}
+use Rattle.dd_cards.specs.Seats.{seat_code, seat_after}
+use Rattle.dd_cards.specs.Hands.{hand_of, with_hand, times}
+use Rattle.dd_cards.proofs.CardLists.{same_card-eq}
+use Rattle.dd_cards.proofs.HandLists.{seat_code-injective}
+use Rattle.dd_play.specs.Board.{Board, IsBoard, cards_at, times_in}
+use Rattle.dd_play.proofs.Values.{times-has}
+use Rattle.dd_play.proofs.Boards.{after-code, code-lt, hand-other, times_in-with_hand}
+use Rattle.dd_play.proofs.Plays.{times-hand, of-suit'}
+use Rattle.dd_quick.specs.QuickTricks.{beats, is_winner}
+
+-- a card of one hand is in no other hand
+pub one-hand : (p : Board) → IsBoard p → (x h : Seat) (c : PlayingCard) → seat_code x ≢ seat_code h → has_card (cards_at p x) c ≡ true → has_card (cards_at p h) c ≡ true → ⊥
+one-hand p valid x h c apart hx hh =
+    let taken : List (List PlayingCard) = with_hand p.hands x [] in
+    let moved = times_in-with_hand p.hands x [] c valid.four in
+    let rest : times (hand_of taken h) c ≤ times_in taken c = times-hand taken h c in
+    let same : times (hand_of taken h) c ≡ times (cards_at p h) c = ap (λ cards. times cards c) (hand-other p.hands x h [] (λ e. apart (sym e))) in
+    let one = times-has (cards_at p x) c hx in
+    let two = times-has (cards_at p h) c hh in
+    let once = valid.once c in
+    omega (arith, moved, rest, same, one, two, once)
+
+-- every other seat is one, two or three places after a seat
+pub places-on : (h x : Seat) → seat_code x ≢ seat_code h → (i : ℕ) × (1 ≤ i) × (i < 4) × (x ≡ seat_after h i)
+places-on h x apart =
+    let a = code-lt h in
+    let b = code-lt x in
+    let i : ℕ = (4 + seat_code x - seat_code h) % 4 in
+    let on = after-code h i in
+    (i, omega (arith, apart), omega arith, sym (seat_code-injective (seat_after h i) x (omega (arith, on))))
+
+-- what is not true of a list is true of none of its cards
+none-of : (test : PlayingCard → Bool) (cards : List PlayingCard) (c : PlayingCard) → list_any test cards ≡ false → has_card cards c ≡ true → test c ≡ false
+none-of test [] c none has = absurd (cc)
+none-of test (d ∷ cards) c none has = go (test d) (same_card d c) refl refl (λ n h. none-of test cards c n h)
+  where
+    go : (a b : Bool) → test d ≡ a → same_card d c ≡ b → (list_any test cards ≡ false → has_card cards c ≡ true → test c ≡ false) → test c ≡ false
+    go true b e f ih = absurd (let k : true ≡ false = rw e at none in cc)
+    go false true e f ih = ap test (sym (same_card-eq d c f)) ∙ e
+    go false false e f ih = ih (rw e at none) (rw f at has)
+
+-- a card that none of three seats beats is beaten by none of them
+three : (a b c : Bool) → not (a || b || c) ≡ true → (a ≡ false) × (b ≡ false) × (c ≡ false)
+three false false false h = (refl, refl, refl)
+three true b c h = absurd (cc)
+three false true c h = absurd (cc)
+three false false true h = absurd (cc)
+
+-- a winner is beaten by no other seat
+unbeaten : (p : Board) (h x : Seat) (c : PlayingCard) → seat_code x ≢ seat_code h → is_winner p h c ≡ true → beats p x c ≡ false
+unbeaten p h x c apart winner = go (places-on h x apart)
+  where
+    at : (beats p (seat_after h 1) c ≡ false) × (beats p (seat_after h 2) c ≡ false) × (beats p (seat_after h 3) c ≡ false)
+    at = three (beats p (seat_after h 1) c) (beats p (seat_after h 2) c) (beats p (seat_after h 3) c) winner
+
+    by : (i : ℕ) → 1 ≤ i → i < 4 → beats p (seat_after h i) c ≡ false
+    by zero l m = absurd (omega (arith, l))
+    by (suc zero) l m = at.0
+    by (suc (suc zero)) l m = at.1
+    by (suc (suc (suc zero))) l m = at.2
+    by (suc (suc (suc (suc i)))) l m = absurd (omega (arith, m))
+
+    go : (i : ℕ) × (1 ≤ i) × (i < 4) × (x ≡ seat_after h i) → beats p x c ≡ false
+    go r = ap (λ y. beats p y c) r.3 ∙ by r.0 r.1 r.2
+
+-- what does not pass one of two tests, and passes the first, fails the second
+and-fails : (a b : Bool) → a ≡ true → (a && b) ≡ false → b ≡ false
+and-fails true b e h = h
+and-fails false b e h = absurd (cc)
+
+-- a winner in a hand is higher than each card of its suit in another hand
+pub no-higher : (p : Board) → IsBoard p → (h x : Seat) (c e : PlayingCard) → seat_code x ≢ seat_code h → is_winner p h c ≡ true → has_card (cards_at p h) c ≡ true
+    → has_card (cards_at p x) e ≡ true → e.suit ≡ c.suit → e.rank < c.rank
+no-higher p valid h x c e apart winner own his suit =
+    let fails : (is_of c.suit e && nat_lt c.rank e.rank) ≡ false = none-of (λ d. is_of c.suit d && nat_lt c.rank d.rank) (cards_at p x) e (unbeaten p h x c apart winner) his in
+    let under : nat_lt c.rank e.rank ≡ false = and-fails (is_of c.suit e) (nat_lt c.rank e.rank) (of-suit' c.suit e suit) fails in
+    let least : e.rank ≤ c.rank = not-over c.rank e.rank under in
+    let differs : e.rank ≢ c.rank = λ ranks. one-hand p valid x h c apart (subst (λ (y : PlayingCard). has_card (cards_at p x) y ≡ true) (same suit ranks) his) own in
+    omega (arith, least, differs)
+  where
+    not-over : (a b : ℕ) → nat_lt a b ≡ false → b ≤ a
+    not-over a b h = grind (arith, nat_tests)
+
+    same : e.suit ≡ c.suit → e.rank ≡ c.rank → e ≡ c
+    same suits ranks = ap₂ card_of suits ranks

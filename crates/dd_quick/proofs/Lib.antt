@@ -1,0 +1,6 @@
+pub mod Hands
+pub mod Plays
+pub mod TopTrumps
+pub mod Cashing
+pub mod Sound
+pub mod Runs

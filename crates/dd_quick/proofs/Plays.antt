@@ -1,0 +1,106 @@
+-- what a play does to counts, and bounds that hold whoever is to play
+use Rattle.std.proofs.Common.{◌≡◌, ℕ, suc, ◌+◌, ◌*◌, ◌<◌, ◌≤◌, Bool, true, false, refl, ap, ◌∙◌, subst, arith, List, [], ◌∷◌, ◌++◌, length, length-append, get_or, inl, inr, ◌⊎◌, zero-le}
+use Rattle.std.proofs.Math.ListN.{get_or-append}
+use Rattle.std.proofs.Math.Seq.{get_or-append_seam}
+use Rattle.std.proofs.lemmas.Bool.{cases_lt}
+use Rattle.dd_cards.specs.PlayingCard.{PlayingCard}
+use Rattle.dd_cards.specs.Cards.{has_card, without}
+use Rattle.dd_cards.specs.Hands.{times}
+use Rattle.dd_play.specs.Board.{Board, IsBoard, cards_at, mover, left}
+use Rattle.dd_play.specs.Play.{legal, after}
+use Rattle.dd_play.specs.Simulations.{IsLegal}
+use Rattle.dd_play.specs.Won.{is_side, won}
+use Rattle.dd_play.proofs.Values.{times-has}
+use Rattle.dd_play.proofs.Boards.{flag_of, has-first, in-rest}
+use Rattle.dd_play.proofs.Counts.{count, count-cons, count-without}
+use Rattle.dd_play.proofs.Rules.{won_with, can, least, no-legal}
+use Rattle.dd_play.proofs.Plays.{own-card, hand-own, once-in}
+
+-- what each legal card leaves the side, it takes, whoever is to play
+pub whoever : (s : Bool) (p : Board) (b : ℕ) → IsBoard p → 1 ≤ left p → ((c : PlayingCard) → IsLegal p c → b ≤ won_with s p c) → b ≤ won s p
+whoever s p b valid some each = go (is_side s (mover p)) refl (legal p) refl
+  where
+    go : (a : Bool) → is_side s (mover p) ≡ a → (cards : List PlayingCard) → legal p ≡ cards → b ≤ won s p
+    go a e [] l = absurd (let z : left p ≡ 0 = no-legal p l in omega (arith, z, some))
+    go true e (x ∷ cards) l =
+        let has : IsLegal p x = ap (λ l. has_card l x) l ∙ has-first x cards in
+        let reach : won_with s p x ≤ won s p = can s p x valid e has in
+        let enough : b ≤ won_with s p x = each x has in
+        omega (arith, reach, enough)
+    go false e (x ∷ cards) l = least s p b valid e x (ap (λ l. has_card l x) l ∙ has-first x cards) each
+
+-- the mover's hand has one card fewer of those that pass, if the card played passes
+pub count-own : (test : PlayingCard → Bool) (p : Board) (c : PlayingCard) → IsBoard p → IsLegal p c → count test (cards_at (after p c) (mover p)) + flag_of (test c) ≡ count test (cards_at p (mover p))
+count-own test p c valid has =
+    let hand : count test (cards_at (after p c) (mover p)) ≡ count test (without (cards_at p (mover p)) c) = ap (count test) (hand-own p c valid) in
+    let taken : count test (without (cards_at p (mover p)) c) + times (cards_at p (mover p)) c * flag_of (test c) ≡ count test (cards_at p (mover p)) = count-without test (cards_at p (mover p)) c in
+    let most : times (cards_at p (mover p)) c ≤ 1 = once-in p valid (mover p) c in
+    let some : 1 ≤ times (cards_at p (mover p)) c = times-has (cards_at p (mover p)) c (own-card p c has) in
+    let one : times (cards_at p (mover p)) c ≡ 1 = omega (arith, most, some) in
+    let taken1 : count test (without (cards_at p (mover p)) c) + 1 * flag_of (test c) ≡ count test (cards_at p (mover p)) = subst (λ (m : ℕ). count test (without (cards_at p (mover p)) c) + m * flag_of (test c) ≡ count test (cards_at p (mover p))) one taken in
+    omega (arith, hand, taken1)
+
+-- a card put last is counted where it passes
+pub count-push : (test : PlayingCard → Bool) (cards : List PlayingCard) (c : PlayingCard) → count test (cards ++ c ∷ []) ≡ count test cards + flag_of (test c)
+count-push test [] c = count-cons test c [] ∙ omega arith
+count-push test (x ∷ cards) c =
+    let one = count-cons test x cards in
+    let two = count-cons test x (cards ++ c ∷ []) in
+    let ih = count-push test cards c in
+    omega (arith, one, two, ih)
+
+-- where each card that passes the one test passes the other, no fewer pass the other
+pub count-where : (test tested : PlayingCard → Bool) (cards : List PlayingCard) → ((c : PlayingCard) → has_card cards c ≡ true → test c ≡ true → tested c ≡ true) → count test cards ≤ count tested cards
+count-where test tested [] each = zero-le
+count-where test tested (x ∷ cards) each =
+    let one = count-cons test x cards in
+    let two = count-cons tested x cards in
+    let ih = count-where test tested cards (λ c has t. each c (in-rest x c cards has) t) in
+    let here : flag_of (test x) ≤ flag_of (tested x) = flags (test x) (tested x) (each x (has-first x cards)) in
+    omega (arith, one, two, ih, here)
+  where
+    flags : (a b : Bool) → (a ≡ true → b ≡ true) → flag_of a ≤ flag_of b
+    flags true b h = (let k : flag_of b ≡ 1 = ap flag_of (h refl) in omega (arith, k))
+    flags false b h = zero-le
+
+-- where no place passes, none is counted
+count-none : (test : PlayingCard → Bool) (cards : List PlayingCard) (d : PlayingCard) → ((i : ℕ) → i < length cards → test (get_or cards i d) ≡ true → ⊥) → count test cards ≡ 0
+count-none test [] d none = refl
+count-none test (x ∷ cards) d none = go (test x) refl (count-none test cards d (λ i h t. none (suc i) (omega (arith, h)) t))
+  where
+    go : (b : Bool) → test x ≡ b → count test cards ≡ 0 → count test (x ∷ cards) ≡ 0
+    go true e rest = absurd (none 0 (omega arith) e)
+    go false e rest =
+        let one = count-cons test x cards in
+        let k : flag_of (test x) ≡ 0 = ap flag_of e in
+        omega (arith, one, rest, k)
+
+-- where at most one place passes, at most one is counted
+pub count-one : (test : PlayingCard → Bool) (cards : List PlayingCard) (d : PlayingCard)
+    → ((i j : ℕ) → i < length cards → j < length cards → test (get_or cards i d) ≡ true → test (get_or cards j d) ≡ true → i ≡ j) → count test cards ≤ 1
+count-one test [] d one = zero-le
+count-one test (x ∷ cards) d one =
+    go (test x) refl (count-one test cards d (λ i j h l t u. (let k : suc i ≡ suc j = one (suc i) (suc j) (omega (arith, h)) (omega (arith, l)) t u in omega (arith, k))))
+  where
+    first : count test (x ∷ cards) ≡ flag_of (test x) + count test cards
+    first = count-cons test x cards
+
+    go : (b : Bool) → test x ≡ b → count test cards ≤ 1 → count test (x ∷ cards) ≤ 1
+    go true e few =
+        let rest : count test cards ≡ 0 = count-none test cards d (λ i h t. (let k : 0 ≡ suc i = one 0 (suc i) (omega arith) (omega (arith, h)) e t in omega (arith, k))) in
+        let k : flag_of (test x) ≡ 1 = ap flag_of e in
+        omega (arith, first, rest, k)
+    go false e few =
+        let k : flag_of (test x) ≡ 0 = ap flag_of e in
+        omega (arith, first, few, k)
+
+-- a place of a list with a last card is one of the list, or that of the last card
+pub place-push : (cards : List PlayingCard) (c d : PlayingCard) (i : ℕ) → i < length (cards ++ c ∷ [])
+    → ((i < length cards) × (get_or (cards ++ c ∷ []) i d ≡ get_or cards i d)) ⊎ ((i ≡ length cards) × (get_or (cards ++ c ∷ []) i d ≡ c))
+place-push cards c d i h = elim (cases_lt i (length cards)) [
+  | inl l ↦ inl (l, get_or-append cards (c ∷ []) d i l)
+  | inr l ↦ (
+      let long : length (cards ++ c ∷ []) ≡ length cards + 1 = length-append cards (c ∷ []) in
+      let same : i ≡ length cards = omega (arith, long, h, l) in
+      inr (same, ap (λ n. get_or (cards ++ c ∷ []) n d) same ∙ get_or-append_seam cards c [] d))
+]

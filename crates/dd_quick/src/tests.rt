@@ -1,0 +1,105 @@
+use crate::bounds::bounds;
+use dd_cards::card::Card;
+use dd_cards::hands::Hands;
+use dd_cards::seat::Seat;
+use dd_cards::strain::Strain;
+use dd_cards::suit::Suit;
+use dd_play::position::Position;
+use dd_play::trick_start::TrickStart;
+
+// A position before a trick: the cards by their codes, 16 times the suit's code (spades 0, hearts 1) plus the rank.
+fn start(cards: &[(Seat, u8)], strain: Strain, first: Seat) -> Option<TrickStart> {
+    let mut hands = Hands::new();
+    for (seat, code) in cards {
+        let card = Card::from_code(*code)?;
+        hands.insert(*seat, card);
+    }
+    let position = Position::new(hands, strain, first, &[]).ok()?;
+    TrickStart::of(&position)
+}
+
+// The start of a trick after the first card of each hand, in the order of play.
+fn after_a_trick(start: &TrickStart) -> Option<TrickStart> {
+    let (second, _) = first_played(start.position())?;
+    let (third, _) = first_played(&second)?;
+    let (fourth, _) = first_played(&third)?;
+    let (next, _) = first_played(&fourth)?;
+    TrickStart::of(&next)
+}
+
+fn first_played(position: &Position) -> Option<(Position, Option<Seat>)> {
+    let card = position.choices().pop_first()?;
+    if position.is_legal(card) {
+        Some(position.play(card))
+    } else {
+        None
+    }
+}
+
+#[test]
+fn quick_tricks_of_both_sides_are_the_bounds(rt: HostRuntime) {
+    let one_each = [
+        (Seat::North, 14),
+        (Seat::East, 13),
+        (Seat::South, 12),
+        (Seat::West, 11),
+    ];
+    let tenace = [
+        (Seat::North, 3),
+        (Seat::North, 2),
+        (Seat::East, 13),
+        (Seat::East, 4),
+        (Seat::South, 14),
+        (Seat::South, 12),
+        (Seat::West, 6),
+        (Seat::West, 5),
+    ];
+    let short = [
+        (Seat::North, 14),
+        (Seat::North, 13),
+        (Seat::East, 2),
+        (Seat::East, 16 + 2),
+        (Seat::South, 4),
+        (Seat::South, 3),
+        (Seat::West, 6),
+        (Seat::West, 5),
+    ];
+    let trumps = [
+        (Seat::North, 3),
+        (Seat::North, 2),
+        (Seat::East, 5),
+        (Seat::East, 4),
+        (Seat::South, 16 + 14),
+        (Seat::South, 16 + 13),
+        (Seat::West, 7),
+        (Seat::West, 16 + 12),
+    ];
+    let hearts = Strain::Trump(Suit::Hearts);
+    let notrump = Strain::Notrump;
+    let table = [
+        (one_each.as_slice(), notrump, (1, 1), "the ace"),
+        (tenace.as_slice(), notrump, (0, 2), "no winner leads"),
+        (short.as_slice(), hearts, (1, 1), "East ruffs the king"),
+        (trumps.as_slice(), hearts, (2, 2), "the partner's trumps"),
+        (trumps.as_slice(), notrump, (0, 2), "no trumps"),
+    ];
+    for (cards, strain, (lo, hi), what) in table {
+        let start = start(cards, strain, Seat::North).expect(&rt, "even hands");
+        let found = bounds(&start);
+        assert_eq!(rt; (found.lo, found.hi), (lo, hi), "{what}");
+    }
+}
+
+#[test]
+fn without_cards_no_trick_is_taken(rt: HostRuntime) {
+    let cards = [
+        (Seat::North, 14),
+        (Seat::East, 13),
+        (Seat::South, 12),
+        (Seat::West, 11),
+    ];
+    let start = start(&cards, Strain::Trump(Suit::Spades), Seat::North).expect(&rt, "even hands");
+    let end = after_a_trick(&start).expect(&rt, "each hand has a card");
+    let found = bounds(&end);
+    assert_eq!(rt; (found.lo, found.hi), (0, 0));
+}

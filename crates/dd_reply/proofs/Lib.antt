@@ -1,0 +1,17 @@
+pub mod Answered
+pub mod Best
+pub mod ByScore
+pub mod Cuts
+pub mod Examples
+pub mod Failing
+pub mod Keys
+pub mod Meanings
+pub mod Objects
+pub mod Pairs
+pub mod Pieces
+pub mod Replied
+pub mod Serving
+pub mod Starts
+pub mod Tags
+pub mod Texts
+pub mod Writing

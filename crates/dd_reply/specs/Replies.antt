@@ -1,0 +1,31 @@
+-- The text of a reply: JSON without spaces, keys in the order of their bytes.
+use Rattle.std.specs.Prelude.{ℕ, List, ◌++◌, map, codes, decimal, Result, Ok, Err}
+use Rattle.std.specs.List.{join_with_byte}
+use Rattle.dd_cards.specs.Suits.{suit_code}
+use Rattle.dd_reply.specs.declared.fault.Fault.{Fault}
+use Rattle.dd_reply.specs.Faults.{fault_number}
+use Rattle.dd_reply.specs.Requests.{Asked}
+use Rattle.dd_reply.specs.Answers.{ScoredClass, answer}
+
+-- {"equals":e,"rank":r,"score":n,"suit":s}
+abbrev pub class_text : ScoredClass → List ℕ
+class_text class =
+    codes "{\"equals\":" ++ decimal class.equals ++ codes ",\"rank\":" ++ decimal class.card.rank
+    ++ codes ",\"score\":" ++ decimal class.score ++ codes ",\"suit\":" ++ decimal (suit_code class.card.suit) ++ codes "}"
+
+-- {"cards":[C,C,..]}
+abbrev pub answer_text : List ScoredClass → List ℕ
+answer_text classes = codes "{\"cards\":[" ++ join_with_byte 44 (map class_text classes) ++ codes "]}"
+
+-- {"fault":n}
+abbrev pub fault_text : Fault → List ℕ
+fault_text fault = codes "{\"fault\":" ++ decimal (fault_number fault) ++ codes "}"
+
+-- the budget was spent before there was an answer
+abbrev pub spent_text : List ℕ
+spent_text = codes "{\"state\":\"spent\"}"
+
+-- the reply to a line of this meaning
+abbrev pub reply_text : Result Asked Fault → List ℕ
+reply_text (Ok asked) = answer_text (answer asked.board asked.solutions)
+reply_text (Err fault) = fault_text fault

@@ -1,0 +1,106 @@
+//! The texts of replies: JSON without spaces, keys in the order of their bytes.
+ghost use Rattle.std.specs.Prelude.{◌≡◌, ◌+◌, ◌≤◌, ◌++◌, decimal};
+ghost use Rattle.arrayvec.specs.ArrayString.{array_string_len};
+ghost use Rattle.dd_reply.specs.Replies.{class_text, answer_text, fault_text, spent_text};
+
+use crate::answer::{Answer, Scored};
+use crate::fault::Fault;
+use arrayvec::ArrayString;
+use itoa::Buffer;
+
+/// The most bytes of a reply without its line feed.
+pub const LONGEST_REPLY: usize = 1_024;
+
+/// The reply to a request that has no answer: `{"fault":n}`.
+pub fn write_fault(fault: Fault) -> ArrayString<LONGEST_REPLY>
+    ensures { result.bytes ≡ fault_text fault }
+{
+    let mut text = ArrayString::new();
+    text.push_str("{\"fault\":");
+    push_number(&mut text, fault.number() as u16);
+    text.push_str("}");
+    text
+}
+
+/// The reply to a request whose budget was spent before there was an answer: `{"state":"spent"}`.
+pub fn write_spent() -> ArrayString<LONGEST_REPLY>
+    ensures { result.bytes ≡ spent_text }
+{
+    let mut text = ArrayString::new();
+    text.push_str("{\"state\":\"spent\"}");
+    text
+}
+
+/// The reply to a request that has an answer: `{"cards":[C,C,..]}`, each class C as
+/// `{"equals":mask,"rank":rank,"score":tricks,"suit":suit}`, in the order of the answer.
+pub fn write_answer(answer: &Answer) -> ArrayString<LONGEST_REPLY>
+    ensures { result.bytes ≡ answer_text answer.now.items }
+{
+    let mut text = ArrayString::new();
+    text.push_str("{\"cards\":[");
+    for (place, scored) in answer.as_slice().iter().enumerate() {
+        if place > 0 {
+            text.push_str(",");
+        }
+        push_class(&mut text, scored);
+    }
+    text.push_str("]}");
+    text
+}
+
+// Appends the text of a class.
+fn push_class(text: &mut ArrayString<LONGEST_REPLY>, scored: &Scored)
+    requires { array_string_len text.old + 56 ≤ 1024 }
+    ensures bytes { text.new.bytes ≡ text.old.bytes ++ class_text scored.now }
+    ensures bound { array_string_len text.new ≤ array_string_len text.old + 56 }
+{
+    let top = scored.class.top;
+    text.push_str("{\"equals\":");
+    push_number(text, scored.class.equals);
+    text.push_str(",\"rank\":");
+    push_number(text, top.rank.code() as u16);
+    text.push_str(",\"score\":");
+    push_number(text, scored.score as u16);
+    text.push_str(",\"suit\":");
+    push_number(text, top.suit.code() as u16);
+    text.push_str("}");
+}
+
+// Appends a number in decimal.
+fn push_number(text: &mut ArrayString<LONGEST_REPLY>, number: u16)
+    requires { array_string_len text.old + 5 ≤ 1024 }
+    ensures bytes { text.new.bytes ≡ text.old.bytes ++ decimal number }
+    ensures bound { array_string_len text.new ≤ array_string_len text.old + 5 }
+{
+    let mut buffer = Buffer::new();
+    text.push_str(buffer.format(number));
+}
+
+#[cfg(test)]
+mod tests {
+    use super::*;
+
+    #[test]
+    fn a_spent_budget_is_told(rt: HostRuntime) {
+        assert_eq!(rt; write_spent().as_str(), "{\"state\":\"spent\"}");
+    }
+
+    #[test]
+    fn a_fault_is_spelled_by_its_number(rt: HostRuntime) {
+        let rows = [
+            (Fault::NotAnObject, "{\"fault\":1}"),
+            (Fault::LineTooLong, "{\"fault\":2}"),
+            (Fault::WrongField, "{\"fault\":3}"),
+            (Fault::DealText, "{\"fault\":4}"),
+            (Fault::UnevenHands, "{\"fault\":7}"),
+            (Fault::NoCard, "{\"fault\":8}"),
+            (Fault::WrongTrump, "{\"fault\":9}"),
+            (Fault::WrongFirst, "{\"fault\":10}"),
+            (Fault::WrongSolutions, "{\"fault\":12}"),
+            (Fault::OutOfMemory, "{\"fault\":19}"),
+        ];
+        for (fault, text) in rows {
+            assert_eq!(rt; write_fault(fault).as_str(), text);
+        }
+    }
+}

@@ -1,0 +1,4 @@
+pub mod Orders
+pub mod Questions
+pub mod Scores
+pub mod Greatest

@@ -1,0 +1,24 @@
+-- The one question of the search: do North and South take at least `need` of the tricks that are left?
+use Rattle.std.specs.Prelude.{ℕ, ◌+◌, ◌-◌, Bool, true, false, List, ◌≡◌, if◌then◌else◌}
+use Rattle.dd_cards.specs.PlayingCard.{PlayingCard}
+use Rattle.dd_cards.specs.Hands.{times}
+use Rattle.dd_cards.specs.Seats.{is_north_south}
+use Rattle.dd_play.specs.Board.{Board, left}
+use Rattle.dd_play.specs.Claims.{Takes}
+
+-- yes: they take them; no: East and West take so many that they cannot
+abbrev pub IsAnswer : Board → ℕ → Bool → Type 0
+IsAnswer p need true = Takes true p need
+IsAnswer p need false = Takes false p (left p + 1 - need)
+
+-- North and South take lo to hi of them
+abbrev pub IsWindow : Board → ℕ → ℕ → Type 0
+IsWindow p lo hi = Takes true p lo × Takes false p (left p - hi)
+
+-- at an empty trick, the tricks of North and South where the leader's side takes n
+abbrev pub north_souths : Board → ℕ → ℕ
+north_souths p n = (if is_north_south p.first then n else (left p - n))
+
+-- the same cards, each as often, in any order
+abbrev pub IsReordering : List PlayingCard → List PlayingCard → Type 0
+IsReordering cards others = (c : PlayingCard) → times cards c ≡ times others c

@@ -1,0 +1,18 @@
+//! How many tricks a card wins when both sides play as well as can be. It takes no memory of its own.
+#![tactic(auto)]
+
+pub mod bounds;
+mod follow;
+mod guess;
+mod known;
+pub mod laws;
+mod lead;
+pub mod meter;
+mod order;
+pub mod reaches;
+pub mod score;
+mod strength;
+mod takes;
+#[cfg(test)]
+mod tests;
+pub mod value;

@@ -1,0 +1,141 @@
+//! How long a search may go on.
+ghost use Rattle.std.specs.Prelude.{◌≡◌, ◌+◌, ◌<◌, ◌≤◌, ◌↔◌, Err, OnOk};
+
+use std::marker::Model;
+
+/// What a meter says at a position that the search comes to.
+#[derive(Clone, Copy, Debug, PartialEq, Eq)]
+pub enum Tick {
+    /// The search goes on.
+    Go,
+    /// The budget is spent.
+    Spent,
+    /// The search is to stop.
+    Stop,
+}
+
+/// Why a search ended without an answer.
+#[derive(Clone, Copy, Debug, PartialEq, Eq)]
+pub enum Halt {
+    /// The budget was spent.
+    Spent,
+    /// The search was stopped.
+    Stopped,
+}
+
+/// Asked once at each position that a search comes to, before anything else is done there.
+pub trait Meter {
+    ghost use Rattle.dd_search.specs.declared.meter.Tick.{Tick};
+
+    /// the second meter is what became of the first after one tick that went, or more
+    ghost ticked: { Self → Self → Type 0 };
+    /// what the meter, as it stands, may have said
+    ghost says: { Self → Tick → Type 0 };
+
+    fn tick(&mut self) -> Tick
+        ensures says { says self.new result }
+        ensures went { result ≡ Tick.Go → ticked self.old self.new };
+
+    /// more ticks after ticks are ticks
+    ghost later: { (a b c : Self) → ticked a b → ticked b c → ticked a c };
+}
+
+// One tick, which is an error where the search may not go on.
+#[inline]
+pub(crate) fn go_on<M: Meter>(meter: &mut M) -> Result<(), Halt>
+    ensures ticked { OnOk result (M.ticked meter.old meter.new) }
+    ensures spent { result ≡ Err Halt.Spent → M.says meter.new Tick.Spent }
+    ensures stopped { result ≡ Err Halt.Stopped → M.says meter.new Tick.Stop }
+{
+    match meter.tick() {
+        Tick::Go => Ok(()),
+        Tick::Spent => Err(Halt::Spent),
+        Tick::Stop => Err(Halt::Stopped),
+    }
+}
+
+/// Lets every search go on to its end.
+#[derive(Clone, Copy, Debug, Drop)]
+pub struct Endless;
+
+impl Meter for Endless {
+    ghost use Rattle.dd_search.specs.declared.meter.Tick.{Tick};
+
+    ghost ticked = { λ a b. Unit {0} };
+
+    ghost says = { λ m tick. tick ≡ Tick.Go };
+
+    ghost later = { λ a b c x y. tt };
+
+    fn tick(&mut self) -> Tick {
+        Tick::Go
+    }
+}
+
+/// Lets a number of ticks go, seen as that limit and the number that have gone.
+#[derive(Drop)]
+pub struct Budget {
+    limit: u64,
+    count: u64,
+}
+
+impl Model for Budget {
+    ghost use Rattle.std.specs.Prelude.{◌≤◌};
+    ghost use Rattle.dd_search.specs.Budgets.{Counted};
+
+    ghost Value = { Counted };
+
+    ghost view = { λ b. record { limit = b.limit; count = b.count } };
+
+    ghost invariant = { λ b. b.count ≤ b.limit };
+}
+
+impl Budget {
+    /// A budget of this many ticks, of which none has gone.
+    pub fn new(limit: u64) -> Budget
+        ensures { result ≡ record { limit = limit; count = 0 } }
+    {
+        Budget { limit, count: 0 }
+    }
+
+    pub fn limit(&self) -> u64
+        ensures { result ≡ self.now.limit }
+    {
+        self.limit
+    }
+
+    /// How many ticks have gone, 0 to the limit.
+    pub fn ticks(&self) -> u64
+        ensures value { result ≡ self.now.count }
+        ensures bound { result ≤ self.now.limit }
+    {
+        self.count
+    }
+}
+
+impl Meter for Budget {
+    ghost use Rattle.dd_search.specs.declared.meter.Tick.{Tick};
+    ghost use Rattle.dd_search.specs.Budgets.{later-budget};
+
+    ghost ticked = { λ a b. (a.limit ≡ b.limit) × (a.count < b.count) };
+
+    ghost says = { λ b tick. (tick ≡ Tick.Spent → b.count ≡ b.limit) × (tick ≡ Tick.Stop → ⊥) };
+
+    ghost later = { λ a b c first second. later-budget a b c first second };
+
+    /// Goes as long as fewer than the limit have gone, and is spent from then on.
+    #[inline]
+    fn tick(&mut self) -> Tick
+        ensures says { (result ≡ Tick.Spent → self.new.count ≡ self.new.limit) × (result ≡ Tick.Stop → ⊥) }
+        ensures went { result ≡ Tick.Go → (self.old.limit ≡ self.new.limit) × (self.old.count < self.new.count) }
+        ensures spent { (result ≡ Tick.Spent) ↔ (self.old.count ≡ self.old.limit) }
+        ensures stays { result ≡ Tick.Spent → self.new ≡ self.old }
+        ensures counts { result ≡ Tick.Go → self.new ≡ record { limit = self.old.limit; count = self.old.count + 1 } }
+    {
+        if self.count < self.limit {
+            self.count += 1;
+            return Tick::Go;
+        }
+        Tick::Spent
+    }
+}

@@ -1,0 +1,97 @@
+//! The question of the search: do North and South take at least so many of the tricks that are left?
+ghost use Rattle.std.specs.Prelude.{◌≡◌, ◌+◌, ◌≤◌, ◌<◌, true, Err, IfOk, OnOk, MatchOption};
+ghost use Rattle.dd_cards.specs.Cards.{has_card};
+ghost use Rattle.dd_play.specs.Board.{IsBoard, left};
+ghost use Rattle.dd_play.specs.Play.{legal, after};
+ghost use Rattle.dd_play.specs.Value.{point_of};
+ghost use Rattle.dd_play.specs.Won.{point};
+ghost use Rattle.dd_search.specs.Answers.{IsAnswer};
+
+use crate::bounds::Bounds;
+use crate::known::{known, taught};
+use crate::meter::{Halt, Meter, Tick, go_on};
+use crate::order::list_moves;
+use arrayvec::ArrayVec;
+use dd_cards::card::Card;
+use dd_cards::seat::Seat;
+use dd_play::position::Position;
+use dd_play::trick_start::TrickStart;
+
+/// Do North and South take at least `need` of the tricks left? It ticks first; at a start of a trick a look or the quick
+/// bounds may settle it; else one card of each class is tried until one does, and what that taught is noted.
+pub(crate) fn takes<B: Bounds, M: Meter>(
+    position: &Position,
+    need: u8,
+    bounds: &mut B,
+    meter: &mut M,
+) -> Result<bool, Halt>
+    requires low { 1 ≤ need }
+    requires high { need ≤ left position.now }
+    ensures answer { IfOk result (λ yes. IsAnswer position.now need yes) }
+    ensures ticked { OnOk result (M.ticked meter.old meter.new) }
+    ensures spent { result ≡ Err Halt.Spent → M.says meter.new Tick.Spent }
+    ensures stopped { result ≡ Err Halt.Stopped → M.says meter.new Tick.Stop }
+{
+    go_on(meter)?;
+    let start = TrickStart::of(position);
+    if let Some(start) = &start {
+        if let Some(yes) = known(start, need, bounds) {
+            return Ok(yes);
+        }
+    }
+    let mut moves = ArrayVec::new();
+    list_moves(position, &mut moves);
+    let north_south = position.mover().is_north_south();
+    let mut answer = !north_south;
+    for tried in moves.as_slice() {
+        // The position stays where `play` put it: a copy of it would wait for its bytes to be written.
+        let played = position.play(tried.card);
+        let rest = rest_after(need, played.1);
+        answer = match counted(&played.0, rest) {
+            Some(yes) => yes,
+            None => takes(&played.0, rest, bounds, meter)?,
+        };
+        if answer == north_south {
+            break;
+        }
+    }
+    if let Some(start) = &start {
+        bounds.note(start, taught(start, need, answer));
+    }
+    Ok(answer)
+}
+
+// How many tricks North and South still need when this seat has won one.
+#[inline]
+fn rest_after(need: u8, winner: Option<Seat>) -> u8
+    requires { 1 ≤ need }
+    ensures { result + point_of winner ≡ need }
+{
+    need - trick_of(winner)
+}
+
+/// The answer where counting settles it: none needed, or more than are left.
+#[inline]
+pub(crate) fn counted(position: &Position, need: u8) -> Option<bool>
+    ensures { MatchOption result ((1 ≤ need) × (need ≤ left position.now)) (λ yes. IsAnswer position.now need yes) }
+{
+    if need == 0 {
+        Some(true)
+    } else if need > position.tricks_left() {
+        Some(false)
+    } else {
+        None
+    }
+}
+
+/// A trick for North and South.
+#[inline]
+pub(crate) fn trick_of(winner: Option<Seat>) -> u8
+    ensures value { result ≡ point_of winner }
+    ensures bound { result ≤ 1 }
+{
+    match winner {
+        Some(seat) if seat.is_north_south() => 1,
+        _ => 0,
+    }
+}

@@ -1,0 +1,318 @@
+ghost use Rattle.std.specs.Prelude.{◌≡◌, ◌≤◌, true, IsOk, None};
+ghost use Rattle.dd_cards.specs.Cards.{has_card};
+ghost use Rattle.dd_play.specs.Play.{legal};
+
+use crate::bounds::{Bounds, NoTable};
+use crate::meter::{Budget, Endless, Halt, Meter};
+use crate::reaches::reaches;
+use crate::score::score;
+use crate::value::value;
+use dd_cards::card::Card;
+use dd_cards::hands::Hands;
+use dd_cards::rank::Rank;
+use dd_cards::seat::Seat;
+use dd_cards::strain::Strain;
+use dd_cards::suit::Suit;
+use dd_play::interval::Interval;
+use dd_play::position::Position;
+use dd_play::trick_start::TrickStart;
+
+// Where nothing bounds the search it has a score.
+fn endless_score(position: &Position, card: Card) -> Result<u8, Halt>
+    requires { has_card (legal position.now) card ≡ true }
+    ensures { IsOk result }
+{
+    score(position, card, &mut NoTable, &mut Endless)
+}
+
+// Counts what it is asked and told, and keeps nothing.
+#[derive(Drop)]
+struct Counting {
+    looks: u64,
+    notes: u64,
+}
+
+impl Bounds for Counting {
+    ghost tells = { λ table p interval. ⊥ };
+
+    ghost holds = { λ table p interval told. absurd told };
+
+    fn look(&mut self, _start: &TrickStart) -> Option<Interval> {
+        self.looks = self.looks.saturating_add(1);
+        None
+    }
+
+    fn note(&mut self, _start: &TrickStart, _interval: Interval) {
+        self.notes = self.notes.saturating_add(1);
+    }
+}
+
+// The ranks of the suits of one hand, spades first.
+type Holdings = [&'static [u8]; 4];
+
+// The position of these hands, from North clockwise, at notrump.
+fn position_of(hands: &[Holdings; 4], first: Seat, trick: &[Card]) -> Option<Position> {
+    let mut held = Hands::new();
+    for (seat, holdings) in hands.iter().enumerate() {
+        let seat = Seat::from_code(seat as u8)?;
+        for (suit, ranks) in holdings.iter().enumerate() {
+            for rank in *ranks {
+                held.insert(seat, card_of(suit as u8, *rank)?);
+            }
+        }
+    }
+    Position::new(held, Strain::Notrump, first, trick).ok()
+}
+
+fn card_of(suit: u8, rank: u8) -> Option<Card> {
+    Some(Card {
+        suit: Suit::from_code(suit)?,
+        rank: Rank::from_code(rank)?,
+    })
+}
+
+// The score of a card, where it is a legal one.
+fn score_of<B: Bounds, M: Meter>(
+    position: &Position,
+    card: Card,
+    bounds: &mut B,
+    meter: &mut M,
+) -> Option<Result<u8, Halt>> {
+    if position.is_legal(card) {
+        Some(score(position, card, bounds, meter))
+    } else {
+        None
+    }
+}
+
+// The value, where the hands are a position.
+fn value_of(hands: &[Holdings; 4], first: Seat) -> Option<Result<u8, Halt>> {
+    let position = position_of(hands, first, &[])?;
+    Some(value(&position, &mut NoTable, &mut Endless))
+}
+
+// Whether a card reaches so many tricks, where it is a legal one.
+fn reaches_of<M: Meter>(
+    position: &Position,
+    card: Card,
+    tricks: u8,
+    meter: &mut M,
+) -> Option<Result<bool, Halt>> {
+    if position.is_legal(card) {
+        Some(reaches(position, card, tricks, &mut NoTable, meter))
+    } else {
+        None
+    }
+}
+
+fn spade(rank: u8) -> Card
+    requires { (2 ≤ rank) × (rank ≤ 14) }
+{
+    Card {
+        suit: Suit::Spades,
+        rank: Rank::of(rank),
+    }
+}
+
+const CAUGHT: [Holdings; 4] = [
+    [&[3, 2], &[], &[], &[]],
+    [&[13, 4], &[], &[], &[]],
+    [&[14, 12], &[], &[], &[]],
+    [&[6, 5], &[], &[], &[]],
+];
+
+const BEHIND: [Holdings; 4] = [
+    [&[3, 2], &[], &[], &[]],
+    [&[6, 5], &[], &[], &[]],
+    [&[14, 12], &[], &[], &[]],
+    [&[13, 4], &[], &[], &[]],
+];
+
+const ONE_EACH: [Holdings; 4] = [
+    [&[14], &[], &[], &[]],
+    [&[13], &[], &[], &[]],
+    [&[12], &[], &[], &[]],
+    [&[11], &[], &[], &[]],
+];
+
+const LAST_CARD: [Holdings; 4] = [
+    [&[14], &[], &[], &[]],
+    [&[], &[], &[], &[]],
+    [&[], &[], &[], &[]],
+    [&[], &[], &[], &[]],
+];
+
+const ALL: &[u8] = &[14, 13, 12, 11, 10, 9, 8, 7, 6, 5, 4, 3, 2];
+
+const A_SUIT_EACH: [Holdings; 4] = [
+    [ALL, &[], &[], &[]],
+    [&[], ALL, &[], &[]],
+    [&[], &[], ALL, &[]],
+    [&[], &[], &[], ALL],
+];
+
+const ALL_HONOURS: [Holdings; 4] = [
+    [
+        &[14, 13, 12],
+        &[14, 13, 12],
+        &[14, 13, 12],
+        &[14, 13, 12, 11],
+    ],
+    [&[11, 8, 5, 2], &[11, 8, 5], &[11, 8, 5], &[10, 7, 4]],
+    [&[10, 7, 4], &[10, 7, 4, 2], &[10, 7, 4], &[9, 6, 3]],
+    [&[9, 6, 3], &[9, 6, 3], &[9, 6, 3, 2], &[8, 5, 2]],
+];
+
+#[test]
+fn a_king_before_the_ace_and_queen_is_caught(rt: HostRuntime) {
+    let Some(position) = position_of(&CAUGHT, Seat::North, &[]) else {
+        return;
+    };
+    let three = spade(3);
+    assert!(rt; position.is_legal(three));
+    assert_eq!(rt; endless_score(&position, three), Ok(2));
+}
+
+#[test]
+fn a_king_wins_nothing_before_the_ace(rt: HostRuntime) {
+    let Some(position) = position_of(&ONE_EACH, Seat::East, &[]) else {
+        return;
+    };
+    assert_eq!(rt;
+        score_of(&position, spade(13), &mut NoTable, &mut Endless),
+        Some(Ok(0))
+    );
+}
+
+#[test]
+fn a_suit_in_one_hand_takes_all_tricks(rt: HostRuntime) {
+    let Some(position) = position_of(&A_SUIT_EACH, Seat::North, &[]) else {
+        return;
+    };
+    let mut budget = Budget::new(1_000);
+    assert_eq!(rt;
+        score_of(&position, spade(14), &mut NoTable, &mut budget),
+        Some(Ok(13))
+    );
+}
+
+#[test]
+fn the_last_card_is_one_position(rt: HostRuntime) {
+    let trick = [spade(13), spade(12), spade(11)];
+    let Some(position) = position_of(&LAST_CARD, Seat::East, &trick) else {
+        return;
+    };
+    let mut one = Budget::new(1);
+    let mut none = Budget::new(0);
+    assert_eq!(rt;
+        score_of(&position, spade(14), &mut NoTable, &mut one),
+        Some(Ok(1))
+    );
+    assert_eq!(rt; one.ticks(), 1);
+    assert_eq!(rt;
+        score_of(&position, spade(14), &mut NoTable, &mut none),
+        Some(Err(Halt::Spent))
+    );
+    assert_eq!(rt; none.ticks(), 0);
+}
+
+#[test]
+fn a_search_looks_and_notes(rt: HostRuntime) {
+    let Some(position) = position_of(&BEHIND, Seat::North, &[]) else {
+        return;
+    };
+    let mut bounds = Counting { looks: 0, notes: 0 };
+    assert_eq!(rt;
+        score_of(&position, spade(3), &mut bounds, &mut Endless),
+        Some(Ok(1))
+    );
+    assert!(rt; bounds.looks >= 1);
+    assert!(rt; bounds.notes >= 1);
+}
+
+#[test]
+fn a_value_is_that_of_the_side_to_play(rt: HostRuntime) {
+    assert_eq!(rt; value_of(&CAUGHT, Seat::North), Some(Ok(2)));
+    assert_eq!(rt; value_of(&BEHIND, Seat::North), Some(Ok(1)));
+    assert_eq!(rt; value_of(&ONE_EACH, Seat::North), Some(Ok(1)));
+    assert_eq!(rt; value_of(&ONE_EACH, Seat::East), Some(Ok(0)));
+    assert_eq!(rt; value_of(&A_SUIT_EACH, Seat::West), Some(Ok(13)));
+}
+
+#[test]
+fn a_card_reaches_its_score_and_no_more(rt: HostRuntime) {
+    let Some(caught) = position_of(&CAUGHT, Seat::North, &[]) else {
+        return;
+    };
+    let three = spade(3);
+    assert_eq!(rt; reaches_of(&caught, three, 2, &mut Endless), Some(Ok(true)));
+    assert_eq!(rt;
+        reaches_of(&caught, three, 3, &mut Endless),
+        Some(Ok(false))
+    );
+    let Some(behind) = position_of(&BEHIND, Seat::North, &[]) else {
+        return;
+    };
+    assert_eq!(rt; reaches_of(&behind, three, 1, &mut Endless), Some(Ok(true)));
+    assert_eq!(rt;
+        reaches_of(&behind, three, 2, &mut Endless),
+        Some(Ok(false))
+    );
+}
+
+#[test]
+fn a_card_of_east_or_west_reaches_the_tricks_of_its_side(rt: HostRuntime) {
+    let Some(position) = position_of(&A_SUIT_EACH, Seat::West, &[]) else {
+        return;
+    };
+    let ace = Card {
+        suit: Suit::Clubs,
+        rank: Rank::of(14),
+    };
+    assert_eq!(rt;
+        reaches_of(&position, ace, 13, &mut Endless),
+        Some(Ok(true))
+    );
+    assert_eq!(rt;
+        reaches_of(&position, ace, 14, &mut Endless),
+        Some(Ok(false))
+    );
+}
+
+#[test]
+fn no_search_is_needed_where_counting_settles_it(rt: HostRuntime) {
+    let Some(position) = position_of(&ONE_EACH, Seat::East, &[]) else {
+        return;
+    };
+    let mut none = Budget::new(0);
+    assert_eq!(rt;
+        reaches_of(&position, spade(13), 0, &mut none),
+        Some(Ok(true))
+    );
+    assert_eq!(rt;
+        reaches_of(&position, spade(13), 2, &mut none),
+        Some(Ok(false))
+    );
+    assert_eq!(rt;
+        reaches_of(&position, spade(13), 1, &mut none),
+        Some(Err(Halt::Spent))
+    );
+}
+
+#[test]
+fn all_honours_take_all_tricks(rt: HostRuntime) {
+    let Some(position) = position_of(&ALL_HONOURS, Seat::North, &[]) else {
+        return;
+    };
+    for suit in 0..4u8 {
+        let Some(ace) = card_of(suit, 14) else {
+            return;
+        };
+        let mut budget = Budget::new(10_000);
+        assert_eq!(rt;
+            score_of(&position, ace, &mut NoTable, &mut budget),
+            Some(Ok(13)),
+            "{suit}"
+        );
+    }
+}

@@ -1,0 +1,57 @@
+-- The program's command, as `clap` sees it.
+use Rattle.std.specs.Prelude.{◌≡◌, ◌<◌, ◌^◌, ℕ, true, false, pos, List, [], ◌∷◌, Option, Some, IfSome, IsSome, option_map, codes}
+use Rattle.std.specs.Str.Parse.{IsNumeral, digits_value, without_leading_plus}
+use Rattle.clap.specs.Words.{App, Row, Rule, Shape, new_app, new_rule, one_of, rule_of, shape_of, with_rule, with_subcommand}
+use Rattle.clap.specs.declared.builder.arg.Arg.{Arg}
+use Rattle.clap.specs.declared.builder.command.Command.{Command}
+use Rattle.clap.specs.declared.builder.command.Command.TheViews.{out-Command}
+use Rattle.clap.specs.declared.builder.value_parser.ValueParser.TheVariants.{Signed, Unsigned}
+
+-- `--budget N`
+abbrev pub budget_rule : Rule
+budget_rule = record (new_rule (codes "budget")) {
+  long = Some (codes "budget");
+  value_names = 1;
+  parser = Some (Unsigned 0 1000000000000);
+}
+
+-- `--entries N`
+abbrev pub entries_rule : Rule
+entries_rule = record (new_rule (codes "entries")) {
+  long = Some (codes "entries");
+  value_names = 1;
+  parser = Some (Signed (pos 1) (pos 65536));
+  defaults = codes "4096" ∷ [];
+}
+
+-- `solve` with its options
+abbrev pub solve_app : App
+solve_app = with_rule (with_rule (new_app (codes "solve")) budget_rule) entries_rule
+
+-- the program without a subcommand, which it wants
+abbrev pub bare_app : App
+bare_app = record { top = record (new_app (codes "ddserve")).top { subcommand_required = true }; subs = [] }
+
+-- the program
+abbrev pub program_app : App
+program_app = with_subcommand bare_app solve_app.top
+
+-- the argument is that of the rule, at its own command alone
+abbrev pub IsOption : Arg → Rule → Type 0
+IsOption arg rule = (rule_of arg ≡ rule) × (arg.global ≡ false)
+
+-- the command is that of the shape, and no argument of it is global
+abbrev pub IsSubcommand : Command → Shape → Type 0
+IsSubcommand command shape = (shape_of command ≡ shape) × ((out-Command command).has_globals ≡ false)
+
+-- the number that the option's text writes in decimal digits
+abbrev pub number_of : List ℕ → List Row → Option ℕ
+number_of option rows = option_map (λ text. digits_value 10 (without_leading_plus text)) (one_of option rows)
+
+-- the text writes a number of so many bits
+abbrev pub FitsBits : ℕ → List ℕ → Type 0
+FitsBits bits text = IsNumeral 10 (without_leading_plus text) × (digits_value 10 (without_leading_plus text) < 2 ^ bits)
+
+-- the options are there as far as they must be, and their texts are numbers of their types
+abbrev pub HasNumbers : List Row → Type 0
+HasNumbers rows = IfSome (one_of (codes "budget") rows) (FitsBits 64) × IsSome (one_of (codes "entries") rows) × IfSome (one_of (codes "entries") rows) (FitsBits 32)

@@ -1,0 +1,44 @@
+//! The transposition table of one thread.
+ghost use Rattle.std.specs.Prelude.{◌≤◌};
+
+use dd_play::interval::Interval;
+use dd_play::trick_start::TrickStart;
+use dd_search::bounds::Bounds;
+use dd_shard::shard::Shard;
+use std::alloc::{AllocError, Global};
+
+/// One shard of bounds. Bounds for which there is no memory are not kept.
+#[derive(Drop)]
+pub struct OneShard {
+    shard: Shard,
+}
+
+impl OneShard {
+    /// A table that remembers nothing and has room for this number of entries, 1 to 65,536. The error says that memory
+    /// ran out.
+    pub fn new(alloc: Global, entries: u32) -> Result<OneShard, AllocError>
+        requires { (1 ≤ entries) × (entries ≤ 65536) }
+    {
+        let shard = Shard::new(alloc, entries)?;
+        Ok(OneShard { shard })
+    }
+}
+
+impl Bounds for OneShard {
+    ghost use Rattle.dd_play.specs.Intervals.{Holds};
+    ghost use Rattle.dd_play.specs.Value.{lead};
+
+    // What it tells holds. Which entries it still has depends on what came since.
+    ghost tells = { λ table p interval. Holds interval (lead p) };
+
+    ghost holds = { λ table p interval told. told };
+
+    fn look(&mut self, start: &TrickStart) -> Option<Interval> {
+        self.shard.look(start)
+    }
+
+    fn note(&mut self, start: &TrickStart, interval: Interval) {
+        // An entry more that finds no memory is an entry less to look at, and no fault.
+        let _ = self.shard.note(start, interval);
+    }
+}
