@@ -1,5 +1,5 @@
-// Exhaustive play in plain Rust: reads request lines in the written form with
-// `solutions` 3 and prints the same reply lines as `ddserve solve`. It takes good input for granted.
+// Exhaustive play in plain Rust: reads request lines whose deals have one blank between hands, with any first hand, cards
+// played and solutions, and prints the same reply lines as `ddserve solve`. It takes good input for granted.
 use std::io::{self, BufRead, Write};
 
 #[derive(Clone, Copy, PartialEq, Eq)]
@@ -162,24 +162,23 @@ impl Position {
     }
 }
 
-fn value(position: &Position, count: &mut u64) -> u8 {
-    *count += 1;
+fn value(position: &Position) -> u8 {
     let maximizes = position.mover().is_north_south();
     let mut rest = position.choices();
     let Some(card) = pop_first(&mut rest) else {
         return 0;
     };
-    let mut best = reply(position, card, count);
+    let mut best = reply(position, card);
     while let Some(card) = pop_first(&mut rest) {
-        let other = reply(position, card, count);
+        let other = reply(position, card);
         best = if maximizes { best.max(other) } else { best.min(other) };
     }
     best
 }
 
-fn reply(position: &Position, card: Card, count: &mut u64) -> u8 {
+fn reply(position: &Position, card: Card) -> u8 {
     let (next, winner) = position.play(card);
-    value(&next, count) + winner.is_some_and(Seat::is_north_south) as u8
+    value(&next) + winner.is_some_and(Seat::is_north_south) as u8
 }
 
 fn classes(position: &Position) -> Vec<(Card, u16)> {
@@ -214,12 +213,22 @@ fn field<'a>(line: &'a str, name: &str) -> &'a str {
 
 fn read(line: &str) -> Position {
     let mut hands = [0u64; 4];
-    for (seat, hand) in field(line, "deal")[2..].split(' ').enumerate() {
+    let deal = field(line, "deal");
+    let letter = "NESW".find(&deal[..1]).expect("letter");
+    for (place, hand) in deal[2..].split(' ').enumerate() {
         for (suit, ranks) in SUITS.iter().zip(hand.split('.')) {
-            for letter in ranks.bytes() {
-                let rank = RANKS.iter().position(|&r| r == letter).expect("rank") as u8 + 2;
-                hands[seat] |= 1 << Card { suit: *suit, rank }.place();
+            for letter_of_rank in ranks.bytes() {
+                let rank = RANKS.iter().position(|&r| r == letter_of_rank).expect("rank") as u8 + 2;
+                hands[(letter + place) % 4] |= 1 << Card { suit: *suit, rank }.place();
             }
+        }
+    }
+    let mut trick = [Card { suit: Suit::Spades, rank: 2 }; 3];
+    let mut played = 0;
+    for pair in line.split("\"played\":[").nth(1).map_or("", |rest| &rest[..rest.find("]]").unwrap_or(0)]).split("],") {
+        if let Some((suit, rank)) = pair.trim_start_matches('[').split_once(',') {
+            trick[played] = Card { suit: SUITS[suit.parse::<usize>().expect("suit")], rank: rank.parse().expect("rank") };
+            played += 1;
         }
     }
     let trump: usize = field(line, "trump").parse().expect("trump");
@@ -227,27 +236,33 @@ fn read(line: &str) -> Position {
         hands,
         strain: SUITS.get(trump).map_or(Strain::Notrump, |&suit| Strain::Trump(suit)),
         first: SEATS[field(line, "first").parse::<usize>().expect("first")],
-        trick: [Card { suit: Suit::Spades, rank: 2 }; 3],
-        played: 0,
+        trick,
+        played: played as u8,
     }
 }
 
 fn main() {
     let stdout = io::stdout();
     let mut out = stdout.lock();
-    let mut count = 0;
     for line in io::stdin().lock().lines() {
-        let position = read(&line.expect("read"));
+        let line = line.expect("read");
+        let position = read(&line);
         let mover = position.mover();
         let left = position.hands[mover as usize].count_ones() as u8;
         let mut cards: Vec<(u8, Card, u16)> = classes(&position)
             .into_iter()
             .map(|(card, equals)| {
-                let ns = reply(&position, card, &mut count);
+                let ns = reply(&position, card);
                 (if mover.is_north_south() { ns } else { left - ns }, card, equals)
             })
             .collect();
         cards.sort_by_key(|(score, _, _)| std::cmp::Reverse(*score));
+        let best = cards[0].0;
+        match field(&line, "solutions") {
+            "1" => cards.truncate(1),
+            "2" => cards.retain(|(score, _, _)| *score == best),
+            _ => {}
+        }
         let texts: Vec<String> = cards
             .iter()
             .map(|(score, card, equals)| {
@@ -255,8 +270,5 @@ fn main() {
             })
             .collect();
         writeln!(out, "{{\"cards\":[{}]}}", texts.join(",")).expect("write");
-    }
-    if std::env::args().any(|word| word == "--count") {
-        eprintln!("{count} positions");
     }
 }

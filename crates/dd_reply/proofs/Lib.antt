@@ -7,9 +7,11 @@ pub mod Failing
 pub mod Keys
 pub mod Meanings
 pub mod Objects
+pub mod OneMeaning
 pub mod Pairs
 pub mod Pieces
 pub mod Replied
+pub mod RequestExamples
 pub mod Serving
 pub mod Starts
 pub mod Tags

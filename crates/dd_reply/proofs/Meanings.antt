@@ -23,7 +23,10 @@ use Rattle.dd_cards.proofs.CardLists.{same_card-eq}
 use Rattle.dd_pbn.specs.declared.fault.PbnFault.{PbnFault}
 use Rattle.dd_pbn.specs.declared.fault.PbnFault.TheVariants.{Grammar, Absent, Twice}
 use Rattle.dd_pbn.specs.Deals as deals
-use Rattle.dd_pbn.proofs.Decided.{deal-decided, tag-decided}
+use Rattle.dd_pbn.specs.Reading.{tag_of}
+use Rattle.dd_pbn.specs.Values.{IsTag}
+use Rattle.dd_pbn.proofs.Decided.{decided, deal-decided}
+use Rattle.dd_pbn.proofs.ValueTexts.{Reads-tag}
 use Rattle.dd_play.specs.Board.{Board, board_of, times_in, NoneTwice, IsEven, left, cards_at}
 use Rattle.dd_play.proofs.Twice.{times_in-once}
 use Rattle.dd_reply.specs.declared.fault.Fault.{Fault}
@@ -96,7 +99,7 @@ counts-decided count (d ∷ cards) =
     ]
 
 -- whether a card stands twice is decided
-none-twice-decided : (p : Board) → AreHands p.hands → NoneTwice p ⊎ (NoneTwice p → ⊥)
+pub none-twice-decided : (p : Board) → AreHands p.hands → NoneTwice p ⊎ (NoneTwice p → ⊥)
 none-twice-decided p are =
     elim (counts-decided (λ c. times_in p.hands c + times p.trick c) p.trick) [
       | inr double ↦ inr (λ once. (let less = once double.0 in let more = double.1 in omega arith))
@@ -122,7 +125,7 @@ same-decided f g (suc n) =
     ]
 
 -- whether the counts of cards fit is decided
-even-decided : (p : Board) → IsEven p ⊎ (IsEven p → ⊥)
+pub even-decided : (p : Board) → IsEven p ⊎ (IsEven p → ⊥)
 even-decided p = same-decided (λ k. length (cards_at p (seat_after p.first k)) + (if nat_lt k (length p.trick) then 1 else 0)) (λ _. left p) 4
 
 some-board : (board : Board) (solutions : ℕ) → AreHands board.hands → SomeMeaning (MeansBoard board solutions)
@@ -206,7 +209,7 @@ spelled-decided text = go (begins_tag text)
   where
     go : (b : Bool) → ((hands : List (List PlayingCard)) × AreHands hands × MatchBool b (deals.TagText text hands) (deals.DealText text hands))
         ⊎ ((fault : PbnFault) × MatchBool b (deals.TagFault text fault) (deals.DealFault text fault))
-    go true = tag-decided text
+    go true = decided (IsTag text) (tag_of text) (Reads-tag text)
     go false = deal-decided text
 
 some-fields : (fields : SolveFields) → SomeMeaning (MeansFields fields)

@@ -5,6 +5,7 @@ pub mod answer;
 pub mod counting;
 pub mod engine;
 pub mod fault;
+pub mod laws;
 pub mod line;
 pub mod read_request;
 pub mod reply;

@@ -207,6 +207,7 @@ fn hands_of(text: &[u8]) -> Result<Hands, Fault>
     read_text(text).map_err(deal_fault)
 }
 
+// The same, with the fault as the text has it.
 fn read_text(text: &[u8]) -> Result<Hands, PbnFault>
     ensures ok { IfOk result (λ hands. AreHands hands × SpellsDeal text.now hands) }
     ensures err { IfErr result (SpellsNone text.now) }

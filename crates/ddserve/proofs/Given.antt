@@ -1,5 +1,5 @@
 -- What the uses of the options give.
-use Rattle.std.proofs.Common.{◌≡◌, ◌⊎◌, Bool, cond, codes, true, false, refl, sym, ap, subst, inl, inr, List, [], ◌∷◌, ◌++◌, Option, Some, None}
+use Rattle.std.proofs.Common.{◌≡◌, ◌⊎◌, Bool, cond, codes, true, false, refl, ap, subst, inl, inr, List, [], ◌∷◌, ◌++◌, Option, Some, None}
 use Rattle.std.specs.Prelude.{IfSome, fold, pos, unwrap_or}
 use Rattle.clap.specs.Walk.{Row, Text, one_of, used, with_default}
 use Rattle.clap.specs.Kinds.{Kinds, or_else}
@@ -26,6 +26,7 @@ abbrev pub Passes : Opt → Text → Type 0
 Passes budget text = IsUnsignedIn 0 1000000000000 text
 Passes entries text = IsSignedIn (pos 1) (pos 65536) text
 
+-- a parser that has no fault at a text accepts it
 accepted : (parser : ValueParser) (text : Text) (rest : Kinds)
     → or_else (cond (accepts false parser text) [] (ValueValidation ∷ [])) rest ≡ [] → accepts false parser text ≡ true
 accepted parser text rest free = go (accepts false parser text) refl (first-free _ rest free)
@@ -61,6 +62,7 @@ pub record Options (us : List Use) (rows : List Row) : Type 0 where
 same-text : (text : Text) → Passes entries text → without_minus text ≡ text
 same-text text passes = numeral-without_minus text (table-accepted text passes).0.0
 
+-- uses in turn without a fault are each option at most once
 pub options-of : (us : List Use) (rows : List Row) → Leads [] us rows → Options us rows
 options-of [] rows leads = subst (Options []) leads (record {
   budget_text = None;
@@ -114,28 +116,33 @@ options-of ((budget, text) ∷ (entries, number) ∷ (entries, again) ∷ us) ro
 options-of ((entries, number) ∷ (budget, text) ∷ (budget, again) ∷ us) rows leads = let bad = leads.1.1.0 in cc
 options-of ((entries, number) ∷ (budget, text) ∷ (entries, again) ∷ us) rows leads = let bad = leads.1.1.0 in cc
 
--- options that pass, each used once or not at all, meet no fault
-pub leads-of : (us : List Use) (b e : Option Text) → (us ≡ use_of budget b ++ use_of entries e) ⊎ (us ≡ use_of entries e ++ use_of budget b)
-    → IfSome b (Passes budget) → IfSome e (Passes entries) → (rows : List Row) × Leads [] us rows
-leads-of us b e order passes-b passes-e = elim order [
-  | inl is ↦ subst (λ v. (rows : List Row) × Leads [] v rows) (sym is) (first b e passes-b passes-e)
-  | inr is ↦ subst (λ v. (rows : List Row) × Leads [] v rows) (sym is) (second b e passes-b passes-e)
-]
-  where
-    free-b : (text : Text) → Passes budget text → accepts false (Unsigned 0 1000000000000) text ≡ true
-    free-b text passes = Accepts-accepts false (Unsigned 0 1000000000000) text passes
+-- the uses meet no fault, and lead to rows with these texts
+pub record Led (us : List Use) (b e : Option Text) : Type 0 where
+  pub rows : List Row
+  pub leads : Leads [] us rows
+  pub budget_read : one_of (codes "budget") (with_defaults rows) ≡ b
+  pub entries_read : one_of (codes "entries") (with_defaults rows) ≡ Some (unwrap_or e (codes "4096"))
 
-    free-e : (text : Text) → Passes entries text → accepts false (Signed (pos 1) (pos 65536)) text ≡ true
-    free-e text passes = Accepts-accepts false (Signed (pos 1) (pos 65536)) text passes
+-- a text that passes is accepted
+budget-free : (text : Text) → Passes budget text → accepts false (Unsigned 0 1000000000000) text ≡ true
+budget-free text passes = Accepts-accepts false (Unsigned 0 1000000000000) text passes
 
-    first : (x y : Option Text) → IfSome x (Passes budget) → IfSome y (Passes entries) → (rows : List Row) × Leads [] (use_of budget x ++ use_of entries y) rows
-    first None None p q = (_, refl)
-    first (Some t) None p q = (_, (rw (free-b t p) refl, refl))
-    first None (Some n) p q = (_, (rw (free-e n q) refl, refl))
-    first (Some t) (Some n) p q = (_, (rw (free-b t p) refl, (rw (free-e n q) refl, refl)))
+-- the same of the entries
+entries-free : (text : Text) → Passes entries text → accepts false (Signed (pos 1) (pos 65536)) text ≡ true
+entries-free text passes = Accepts-accepts false (Signed (pos 1) (pos 65536)) text passes
 
-    second : (x y : Option Text) → IfSome x (Passes budget) → IfSome y (Passes entries) → (rows : List Row) × Leads [] (use_of entries y ++ use_of budget x) rows
-    second None None p q = (_, refl)
-    second (Some t) None p q = (_, (rw (free-b t p) refl, refl))
-    second None (Some n) p q = (_, (rw (free-e n q) refl, refl))
-    second (Some t) (Some n) p q = (_, (rw (free-e n q) refl, (rw (free-b t p) refl, refl)))
+-- options that pass, the budget first
+pub budget-led : (b e : Option Text) → IfSome b (Passes budget) → IfSome e (Passes entries) → Led (use_of budget b ++ use_of entries e) b e
+budget-led None None p q = record { rows = _; leads = refl; budget_read = refl; entries_read = refl }
+budget-led (Some t) None p q = record { rows = _; leads = (rw (budget-free t p) refl, refl); budget_read = refl; entries_read = refl }
+budget-led None (Some n) p q = record { rows = _; leads = (rw (entries-free n q) refl, refl); budget_read = refl; entries_read = ap Some (same-text n q) }
+budget-led (Some t) (Some n) p q =
+    record { rows = _; leads = (rw (budget-free t p) refl, (rw (entries-free n q) refl, refl)); budget_read = refl; entries_read = ap Some (same-text n q) }
+
+-- the same, the entries first
+pub entries-led : (b e : Option Text) → IfSome b (Passes budget) → IfSome e (Passes entries) → Led (use_of entries e ++ use_of budget b) b e
+entries-led None None p q = record { rows = _; leads = refl; budget_read = refl; entries_read = refl }
+entries-led (Some t) None p q = record { rows = _; leads = (rw (budget-free t p) refl, refl); budget_read = refl; entries_read = refl }
+entries-led None (Some n) p q = record { rows = _; leads = (rw (entries-free n q) refl, refl); budget_read = refl; entries_read = ap Some (same-text n q) }
+entries-led (Some t) (Some n) p q =
+    record { rows = _; leads = (rw (entries-free n q) refl, (rw (budget-free t p) refl, refl)); budget_read = refl; entries_read = ap Some (same-text n q) }

@@ -39,11 +39,13 @@ numeral-plain text numeral =
     let begun = no-minus text numeral in
     subst IsPlain (sym begun.2) (rw begun.3 refl, rw begun.3 refl, rw begun.3 refl)
 
+-- so it is read as it is written
 pub numeral-without_minus : (text : Text) → IsNumeral 10 (without_leading_plus text) → without_minus text ≡ text
 numeral-without_minus text numeral =
     let begun = no-minus text numeral in
     subst (λ t. without_minus t ≡ t) (sym begun.2) (rw begun.3 refl)
 
+-- and has no minus sign
 numeral-sign : (text : Text) → IsNumeral 10 (without_leading_plus text) → starts_with_minus text ≡ false
 numeral-sign text numeral =
     let begun = no-minus text numeral in
@@ -63,6 +65,7 @@ table-accepted text passed = go (starts_with_minus text) refl
         let high = rw is at passed.3 in
         ((numeral, refl), (omega (arith, ints), omega (arith, ints)))
 
+-- it lets each number of its range through
 pub table-accepts : (text : Text) (number : ℕ) → IsNumberText text number → IsTableSize number → IsSignedIn (pos 1) (pos 65536) text
 table-accepts text number is fits =
     let sign = numeral-sign text is.0 in
@@ -73,6 +76,7 @@ table-accepts text number is fits =
 pub budget-accepted : (text : Text) → IsUnsignedIn 0 1000000000000 text → IsNumberText text (value_of text) × IsBudget (value_of text)
 budget-accepted text passed = ((passed.0, refl), passed.3)
 
+-- it lets each number of its range through
 pub budget-accepts : (text : Text) (number : ℕ) → IsNumberText text number → IsBudget number → IsUnsignedIn 0 1000000000000 text
 budget-accepts text number is fits =
     let same = is.1 in

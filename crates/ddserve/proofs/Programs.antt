@@ -16,6 +16,7 @@ use Rattle.ddserve.proofs.Runs.{both-free}
 use Rattle.ddserve.proofs.Given.{with_defaults}
 use Rattle.ddserve.proofs.Steps.{first-free, second-free}
 
+-- the parser states the matches and the faults of the program
 pub program_is_simple : is_simple_and_free program_app ≡ true
 program_is_simple = refl
 
@@ -27,6 +28,7 @@ program_rules = filled help_rule ∷ []
 abbrev program_shape : Shape
 program_shape = (built program_app).top
 
+-- the names of its subcommands
 abbrev names : Names
 names = names_of (built program_app)
 
@@ -38,6 +40,7 @@ stopped-walk w name seen [] = ap (λ xs. record w { stopped = Some (name, xs) })
 stopped-walk w name seen (x ∷ xs) =
     stopped-walk w name (seen ++ x ∷ []) xs ∙ ap (λ ys. record w { stopped = Some (name, ys) }) (append_assoc seen (x ∷ []) xs)
 
+-- and meets no fault
 stopped-free : (w : Walk) (name : Text) (seen rest : List Text) → walk_fault program_shape names (record w { stopped = Some (name, seen) }) rest ≡ []
 unfolding walked walk_fault
 stopped-free w name seen [] = refl
@@ -52,6 +55,7 @@ program-long-fails name value e = go (bytes_eq (codes "help") name) refl value e
     go true is (Some v) free = let bad = rw is at free in cc
     go false is v free = let bad = rw is at free in cc
 
+-- a short flag is a fault
 program-flag-fails : (c : ℕ) (rest : Text) (next-fault : Held → Kinds) → short_fault program_rules false (arg_by_short program_rules c) rest nothing_held next-fault ≡ [] → ⊥
 program-flag-fails c rest next-fault e = go (104 == c) refl e
   where
@@ -77,6 +81,7 @@ program-short-fails word (Some (x ∷ xs)) e = go (slice_get (chars (x ∷ xs)) 
         let bad = rw is at free in
         program-flag-fails c _ _ bad
 
+-- a word that names no subcommand is a fault
 program-other-fails : (word : Text) (long : Option (Text × Option Text))
     → or_else (flag_word_fault program_rules false long word nothing_held)
     (step_fault program_shape 1 (long_or_other program_rules idle word long nothing_held).0 (long_or_other program_rules idle word long nothing_held).1) ≡ [] → ⊥
@@ -117,15 +122,18 @@ pub record Solves (words : List Text) : Type 0 where
   pub line : words ≡ program ∷ codes "solve" ∷ rest
   pub faultless : IsFaultless (here [] None idle) rest
 
+-- the parse of a line of `solve` enters it with its rows
 pub subcommand-rows : (program : Text) (rest : List Text) → subcommand_of program_app (program ∷ codes "solve" ∷ rest) ≡ Some (codes "solve", solve_rows rest)
 subcommand-rows program rest = ap (λ (w : Walk). entered (built program_app) w.stopped) (solve-stops rest)
 
+-- where such a line has no fault, `solve` has none
 solve-free : (program : Text) (rest : List Text) → fault_of program_app (program ∷ codes "solve" ∷ rest) ≡ [] → solve_faults rest ≡ []
 solve-free program rest e =
     let after = second-free (walk_fault program_shape names (walk_from nothing_held) (codes "solve" ∷ rest)) _ e in
     let below = first-free (entered_fault (built program_app) (fold (walked program_rules names) (walk_from nothing_held) (codes "solve" ∷ rest)).stopped) _ after in
     sym (ap (λ (w : Walk). entered_fault (built program_app) w.stopped) (solve-stops rest)) ∙ below
 
+-- a line without a fault goes on after its first word as one of `solve`
 line-from : (program word : Text) (rest : List Text) → (word ≡ codes "solve") ⊎ (word ≡ codes "--") → fault_of program_app (program ∷ word ∷ rest) ≡ [] → Solves (program ∷ word ∷ rest)
 unfolding clap_on_literals
 line-from program word rest (inl is) e =
@@ -159,6 +167,7 @@ default-of-budget rows = go (has_row (codes "budget") rows)
     go true = refl
     go false = refl
 
+-- so of the entries
 default-of-entries : (rows : List Row) → default_fault rows (rule_for entries) ≡ []
 default-of-entries rows = go (has_row (codes "entries") rows)
   where
@@ -166,6 +175,7 @@ default-of-entries rows = go (has_row (codes "entries") rows)
     go true = refl
     go false = refl
 
+-- and of help, which has none
 default-of-help : (rows : List Row) → default_fault rows (filled help_rule) ≡ []
 default-of-help rows = go (has_row (codes "help") rows)
   where
@@ -173,6 +183,7 @@ default-of-help rows = go (has_row (codes "help") rows)
     go true = refl
     go false = refl
 
+-- and so of all three in turn
 defaults-free : (rows : List Row) → defaults_fault rows solve_rules ≡ []
 unfolding defaults_fault
 defaults-free rows =
@@ -193,6 +204,7 @@ after_walk w = or_else (entered_fault (built program_app) w.stopped)
     (or_else (defaults_fault (settled program_rules w.held).rows program_rules)
     (check_fault program_shape (finished program_rules w.held) (is_some (entered (built program_app) w.stopped)))))
 
+-- a line whose words for `solve` meet no fault has none
 pub solves-free : (program : Text) (rest : List Text) → IsFaultless (here [] None idle) rest → fault_of program_app (program ∷ codes "solve" ∷ rest) ≡ []
 unfolding clap_on_literals
 solves-free program rest free =

@@ -14,10 +14,11 @@ use Rattle.ddserve.proofs.Words.{joined}
 abbrev pub Use : Type 0
 Use = Opt × Text
 
--- an option's word, alone and with its text
+-- an option's word alone
 abbrev pub flag : Opt → Text
 flag o = 45 ∷ 45 ∷ joined (name_of o) None
 
+-- an option's word with its text
 abbrev pub flag_with : Use → Text
 flag_with u = 45 ∷ 45 ∷ joined (name_of u.0) (Some u.1)
 
@@ -52,15 +53,18 @@ pub record Ran (rows : List Row) (pending : Option Use) (words : List Text) (out
 
 -- ---- one word more
 
+-- the first of words without a fault has none
 faultless-turn : (w : Walk) (word : Text) (rest : List Text) → IsFaultless w (word ∷ rest) → turn_fault solve_shape [] w word ≡ []
 unfolding walk_fault
 faultless-turn w word rest free = first-free _ _ free.0
 
+-- nor have those after it
 faultless-rest : (w after : Walk) (word : Text) (rest : List Text) → walked solve_rules [] w word ≡ after → IsFaultless w (word ∷ rest) → IsFaultless after rest
 unfolding walk_fault
 faultless-rest w after word rest is free =
     subst (λ v. IsFaultless v rest) is (second-free (turn_fault solve_shape [] w word) (walk_fault solve_shape [] (walked solve_rules [] w word) rest) free.0, free.1)
 
+-- the rows at the end are those after the rest of the words
 same-end : (w after : Walk) (word : Text) (rest : List Text) → walked solve_rules [] w word ≡ after → rows_at_end after rest ≡ rows_at_end w (word ∷ rest)
 same-end w after word rest is = sym (ap (λ v. rows_at_end v rest) is)
 
@@ -73,19 +77,22 @@ settled-first rows (Some (entries, text)) us out free leads = (free, leads)
 
 -- ---- words without a fault are uses
 
--- what words without a fault are where no option waits, and where one does
+-- what words without a fault are, where no option waits
 abbrev IdleRuns : List Text → Type 0
 IdleRuns words = (rows : List Row) (pending : Option Use) → IsFaultless (here rows (pending_of pending) idle) words
     → Ran rows pending words (rows_at_end (here rows (pending_of pending) idle) words)
 
+-- and where one does
 abbrev WaitingRuns : List Text → Type 0
 WaitingRuns words = (rows : List Row) (o : Opt) → IsFaultless (here rows (Some (name_of o, [])) (option (name_of o))) words
     → (text : Text) × (rest : List Text) × (words ≡ text ∷ rest) × Ran rows (Some (o, text)) rest (rows_at_end (here rows (Some (name_of o, [])) (option (name_of o))) words)
 
+-- no word at all
 idle-none : IdleRuns []
 unfolding walk_fault
 idle-none rows pending free = record { uses = []; end = []; spells = refl; ends = inl refl; leads = settled-first rows pending [] _ free.1 refl }
 
+-- an option without its text at the end is a fault
 waiting-none : WaitingRuns []
 waiting-none rows o free = absurd (settle-fails rows o free.1)
 
@@ -99,6 +106,7 @@ idle-ended (x ∷ xs) rows pending free =
     let later = faultless-rest (here rows (pending_of pending) idle) (after_end rows (pending_of pending) idle) (codes "--") (x ∷ xs) (end-walked rows (pending_of pending) idle) free in
     absurd (after_end-fails rows (pending_of pending) idle x (faultless-turn (after_end rows (pending_of pending) idle) x xs later))
 
+-- `--` in the place of a text is a fault
 waiting-ended : (rest : List Text) (rows : List Row) (o : Opt) → IsFaultless (here rows (Some (name_of o, [])) (option (name_of o))) (codes "--" ∷ rest) → ⊥
 unfolding clap_on_literals
 waiting-ended [] rows o free = settle-fails rows o free.1
@@ -149,6 +157,7 @@ idle-apart rest runs rows pending o free =
       leads = settled-first rows pending ((o, later.0) ∷ later.3.uses) _ settles (subst (Leads now ((o, later.0) ∷ later.3.uses)) same later.3.leads);
     }
 
+-- any word, where no option waits
 idle-more : (word : Text) (rest : List Text) → IdleRuns rest → WaitingRuns rest → IdleRuns (word ∷ rest)
 idle-more word rest idle-rest waiting-rest rows pending free = elim (idle-form rows (pending_of pending) word (faultless-turn (here rows (pending_of pending) idle) word rest free)) [
   | inl is ↦ as-word (codes "--") is (λ same. idle-ended rest rows pending same)
@@ -163,6 +172,7 @@ idle-more word rest idle-rest waiting-rest rows pending free = elim (idle-form r
         subst (λ v. Ran rows pending (v ∷ rest) (rows_at_end (here rows (pending_of pending) idle) (v ∷ rest))) (sym is)
         (runs (subst (λ v. IsFaultless (here rows (pending_of pending) idle) (v ∷ rest)) is free))
 
+-- any word, where one does
 waiting-more : (word : Text) (rest : List Text) → IdleRuns rest → WaitingRuns (word ∷ rest)
 waiting-more word rest idle-rest rows o free = elim (waiting-form rows o word (faultless-turn (here rows (Some (name_of o, [])) (option (name_of o))) word rest free)) [
   | inl is ↦ absurd (waiting-ended rest rows o (subst (λ v. IsFaultless (here rows (Some (name_of o, [])) (option (name_of o))) (v ∷ rest)) is free))
@@ -178,6 +188,7 @@ runs (word ∷ rest) =
     let later = runs rest in
     (idle-more word rest later.0 later.1, waiting-more word rest later.0)
 
+-- so of all the words of `solve`
 pub faultless-runs : (words : List Text) (rows : List Row) → IsFaultless (here rows None idle) words → Ran rows None words (rows_at_end (here rows None idle) words)
 faultless-runs words rows free = (runs words).0 rows None free
 
@@ -188,6 +199,7 @@ abbrev pub ArePlain : List Use → Type 0
 ArePlain [] = ⊤
 ArePlain (u ∷ us) = IsPlain u.1 × ArePlain us
 
+-- uses that pass begin with the one that is pending
 settled-back : (rows : List Row) (pending : Option Use) (us : List Use) (out : List Row) → Leads rows (with_pending pending us) out
     → (settle_fault solve_rules false (held rows (pending_of pending)) ≡ []) × Leads (settled solve_rules (held rows (pending_of pending))).rows us out
 settled-back rows None us out leads = (refl, leads)
@@ -198,6 +210,7 @@ settled-back rows (Some (entries, text)) us out leads = (leads.0, leads.1)
 abbrev RunsTo : Walk → List Text → List Row → Type 0
 RunsTo w words out = IsFaultless w words × (rows_at_end w words ≡ out)
 
+-- a word without a fault before words without one
 one-more : (w after : Walk) (word : Text) (rest : List Text) (out : List Row) → turn_fault solve_shape [] w word ≡ [] → walked solve_rules [] w word ≡ after
     → RunsTo after rest out → RunsTo w (word ∷ rest) out
 unfolding walk_fault
@@ -205,9 +218,11 @@ one-more w after word rest out free is run =
     let moved : RunsTo (walked solve_rules [] w word) rest out = subst (λ v. RunsTo v rest out) (sym is) run in
     ((ap (λ k. or_else k (walk_fault solve_shape [] (walked solve_rules [] w word) rest)) free ∙ moved.0.0, moved.0.1), moved.1)
 
+-- where two steps meet no fault, their chain meets none
 pub both-free : (a b : Kinds) → a ≡ [] → b ≡ [] → or_else a b ≡ []
 both-free a b is-a is-b = ap (λ k. or_else k b) is-a ∙ is-b
 
+-- the end of the words meets no fault
 ended-runs : (end : List Text) (rows : List Row) (pending : Option Use) (out : List Row) → IsEnd end → Leads rows (with_pending pending []) out
     → RunsTo (here rows (pending_of pending) idle) end out
 unfolding clap_on_literals
@@ -216,6 +231,7 @@ ended-runs end rows pending out ends leads = elim ends [
   | inr is ↦ subst (λ e. RunsTo (here rows (pending_of pending) idle) e out) (sym is) (let back = settled-back rows pending [] out leads in ((refl, back.0), back.1))
 ]
 
+-- the words of uses that pass meet no fault, and lead where the uses lead
 pub uses-run : (us : List Use) (words end : List Text) (rows : List Row) (pending : Option Use) (out : List Row) → Spells us end words → IsEnd end → ArePlain us
     → Leads rows (with_pending pending us) out → RunsTo (here rows (pending_of pending) idle) words out
 uses-run [] words end rows pending out spells ends are-plain leads =

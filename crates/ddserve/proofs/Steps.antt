@@ -13,11 +13,12 @@ use Rattle.ddserve.proofs.Options.{Opt, budget, entries, held, here, known_name,
 use Rattle.ddserve.proofs.Numbers.{IsPlain}
 use Rattle.ddserve.proofs.Words.{joined, long_of-is}
 
--- where two steps meet no fault, neither does
+-- where two steps meet no fault, the first meets none
 pub first-free : (a b : Kinds) → or_else a b ≡ [] → a ≡ []
 first-free [] b e = refl
 first-free (k ∷ ks) b e = e
 
+-- nor does the second
 pub second-free : (a b : Kinds) → or_else a b ≡ [] → b ≡ []
 second-free [] b e = e
 second-free (k ∷ ks) b e = cc
@@ -169,6 +170,7 @@ unfolding clap_on_literals
 joined-walked rows pending budget text = refl
 joined-walked rows pending entries text = refl
 
+-- its fault is that of what is pending, or of the option
 pub joined-fault : (rows : List Row) (pending : Option (Text × List Text)) (o : Opt) (text : Text)
     → turn_fault solve_shape [] (here rows pending idle) (45 ∷ 45 ∷ joined (name_of o) (Some text))
     ≡ or_else (or_else (settle_fault solve_rules false (held rows pending)) (use_fault false (rule_for o) (text ∷ []) (settled solve_rules (held rows pending)).rows)) []
@@ -184,6 +186,7 @@ unfolding clap_on_literals
 apart-walked rows pending budget = refl
 apart-walked rows pending entries = refl
 
+-- its fault is that of what is pending
 pub apart-fault : (rows : List Row) (pending : Option (Text × List Text)) (o : Opt)
     → turn_fault solve_shape [] (here rows pending idle) (45 ∷ 45 ∷ joined (name_of o) None) ≡ or_else (settle_fault solve_rules false (held rows pending)) []
 unfolding clap_on_literals
@@ -210,6 +213,7 @@ unfolding walked
 text-walked rows budget text is-plain = rw (is-plain.0, is-plain.1, is-plain.2) refl
 text-walked rows entries text is-plain = rw (is-plain.0, is-plain.1, is-plain.2) refl
 
+-- and it is no fault
 pub text-free : (rows : List Row) (o : Opt) (text : Text) → IsPlain text → turn_fault solve_shape [] (here rows (Some (name_of o, [])) (option (name_of o))) text ≡ []
 text-free rows budget text is-plain = rw (is-plain.0, is-plain.1, is-plain.2) refl
 text-free rows entries text is-plain = rw (is-plain.0, is-plain.1, is-plain.2) refl

@@ -55,6 +55,8 @@ pub enum Args {
 /// The error is a bad line, a call for help, or want of memory.
 pub fn read_args(alloc: Global, words: &[String]) -> Result<Args, Error>
     ensures asked { IfOk result (Asks (map string_bytes words.now)) }
+    // The line asks for nothing else.
+    ensures only { IfOk result (λ args. (other : Args) → Asks (map string_bytes words.now) other → other ≡ args) }
     // A line that asks for something is refused for want of memory alone.
     ensures refused { IfErr result (λ error. (kind_of error ≡ ErrorKind.OutOfMemory) ⊎ ((args : Args) → ¬ Asks (map string_bytes words.now) args)) }
     ensures in_range { IfOk result IsInRange }

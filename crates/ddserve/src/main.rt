@@ -13,6 +13,7 @@ ghost use Rattle.ddserve.specs.Status.{status_of, EndsWith};
 mod command_line;
 mod one_shard;
 
+use clap::Error;
 use clap::error::ErrorKind;
 use command_line::{Args, not_text, read_args};
 use dd_reply::counting::Counting;
@@ -32,7 +33,7 @@ fn main(rt: HostRuntime) -> ExitCode {
 }
 
 /// Reads the words that the program was started with.
-fn given_args(rt: &(impl Env + AllocGlobal)) -> Result<Args, clap::Error>
+fn given_args(rt: &(impl Env + AllocGlobal)) -> Result<Args, Error>
     ensures { IfOk result IsInRange }
 {
     match env::args(rt) {
@@ -40,15 +41,13 @@ fn given_args(rt: &(impl Env + AllocGlobal)) -> Result<Args, clap::Error>
             let words: Vec<String> = words.collect(rt.alloc())?;
             read_args(rt.alloc(), words.as_slice())
         }
-        Err(error) if error.kind() == io::ErrorKind::OutOfMemory => Err(clap::Error::from(
-            AllocError,
-        )),
+        Err(error) if error.kind() == io::ErrorKind::OutOfMemory => Err(AllocError.into()),
         Err(_) => Err(not_text(rt.alloc())),
     }
 }
 
 /// Shows help on the standard output, and any other error on the standard error.
-fn show(rt: &(impl Print + Eprint), error: &clap::Error) -> ExitCode
+fn show(rt: &(impl Print + Eprint), error: &Error) -> ExitCode
     ensures { EndsWith (status_of (kind_of error.now)) (exit_status result) }
 {
     if error.kind() == ErrorKind::OutOfMemory {

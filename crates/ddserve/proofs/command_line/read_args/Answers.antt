@@ -4,7 +4,7 @@ use Rattle.clap.specs.Words.{app_of, found_of, rows_of}
 use Rattle.clap.specs.Faults.{fault_of, is_simple_and_free}
 use Rattle.ddserve.specs.CommandLine.{Asks}
 use Rattle.ddserve.proofs.Lines.{Asked}
-use Rattle.ddserve.proofs.Asked.{asked-rows, asks-args, has-defaults, in-range, meets-solve, passed-up, refusal}
+use Rattle.ddserve.proofs.Asked.{asked-rows, asks-args, asks-one, has-defaults, in-range, meets-solve, passed-up, refusal}
 use Rattle.ddserve.proofs.Programs.{program_is_simple}
 use Rattle.ddserve.proofs.command_line.read_args.Goals as goal
 use Rattle.ddserve.proofs.command_line.read_args.Goals.{After-unwrap, After-solve_args}
@@ -43,6 +43,11 @@ asks c is = asks-args (map string_bytes c.args.words.now) (rows_of (found_of c.u
 
 pub returns-clause-asked : goal.returns-clause-asked
 returns-clause-asked c = asks (goal.at.returns-clause-asked c).After-solve_args (asked (goal.at.returns-clause-asked c).After-unwrap)
+
+pub returns-clause-only : goal.returns-clause-only
+returns-clause-only c =
+    λ other asks-other. asks-one (map string_bytes c.args.words.now) c.solve_args.result other
+    (asks (goal.at.returns-clause-only c).After-solve_args (asked (goal.at.returns-clause-only c).After-unwrap)) asks-other
 
 pub returns-clause-in_range : goal.returns-clause-in_range
 returns-clause-in_range c =

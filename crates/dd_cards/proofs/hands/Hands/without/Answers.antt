@@ -1,5 +1,4 @@
-use Rattle.std.proofs.Common.{◌∙◌}
-use Rattle.dd_cards.proofs.HandLists.{kept_bits, AreHandMasks-kept, cards_of-kept, place_of-lt}
+use Rattle.dd_cards.proofs.HandLists.{AreHandMasks-kept, cards_of-kept, place_of-lt}
 use Rattle.dd_cards.proofs.hands.Hands.without.Goals as goal
 
 pub invariant_of-result : goal.invariant_of-result

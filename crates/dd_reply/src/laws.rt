@@ -1,0 +1,40 @@
+ghost use Rattle.std.specs.Prelude.{◌≡◌, ℕ, List, [], Result, Ok, Err, codes};
+ghost use Rattle.dd_cards.specs.declared.seat.Seat.TheVariants.{North, East};
+ghost use Rattle.dd_cards.specs.declared.strain.Strain.TheVariants.{Trump, Notrump};
+ghost use Rattle.dd_cards.specs.declared.suit.Suit.TheVariants.{Spades};
+ghost use Rattle.dd_pbn.specs.Examples.{eight_spades, two_suits};
+ghost use Rattle.dd_play.specs.Board.{board_of};
+ghost use Rattle.dd_reply.specs.Requests.{Asked, Means};
+
+use crate::fault::Fault;
+
+/// A line has a meaning, and only one.
+pub fn one_meaning()
+    ensures some { (line : List ℕ) → (meaning : Result Asked Fault) × Means line meaning }
+    ensures only { (line : List ℕ) (a b : Result Asked Fault) → Means line a → Means line b → a ≡ b }
+{}
+
+/// Lines worked by hand.
+pub fn worked_lines()
+    ensures best_cards { Means (codes "{\"do\":\"solve\",\"deal\":\"N:A.2.. K.A.. Q.K.. J.Q..\",\"trump\":4,\"first\":1,\"solutions\":2}")
+        (Ok (record { board = board_of two_suits Notrump East []; solutions = 2 })) }
+    ensures every_card { Means (codes "{\"deal\":\"[Deal \\\"e:k4... aq... 65... 32...\\\"]\",\"played\":[],\"trump\":0,\"first\":0,\"solutions\":3,\"do\":\"solve\"}")
+        (Ok (record { board = board_of eight_spades (Trump Spades) North []; solutions = 3 })) }
+    ensures no_object { Means (codes "[]") (Err Fault.NotAnObject) }
+    ensures three_numbers { Means (codes "{\"do\":\"solve\",\"deal\":\"N:A.2.. K.A.. Q.K.. J.Q..\",\"trump\":4,\"first\":0,\"solutions\":3,\"played\":[[0,14,1]]}")
+        (Err Fault.WrongField) }
+    ensures left_out { Means (codes "{\"do\":\"solve\",\"deal\":\"N:A... - Q... J...\",\"trump\":4,\"first\":0,\"solutions\":3}")
+        (Err Fault.HandLeftOut) }
+    ensures two_aces { Means (codes "{\"do\":\"solve\",\"deal\":\"N:AA... K2... Q3... J4...\",\"trump\":4,\"first\":0,\"solutions\":3}")
+        (Err Fault.CardTwice) }
+    ensures no_trump { Means (codes "{\"do\":\"solve\",\"deal\":\"N:A.2.. K.A.. Q.K.. J.Q..\",\"trump\":5,\"first\":4,\"solutions\":3}")
+        (Err Fault.WrongTrump) }
+    ensures no_seat { Means (codes "{\"do\":\"solve\",\"deal\":\"N:A.2.. K.A.. Q.K.. J.Q..\",\"trump\":4,\"first\":4,\"solutions\":3,\"played\":[[4,14]]}")
+        (Err Fault.WrongFirst) }
+    ensures no_card { Means (codes "{\"do\":\"solve\",\"deal\":\"N:A.2.. K.A.. Q.K.. J.Q..\",\"trump\":4,\"first\":0,\"solutions\":4,\"played\":[[4,14]]}")
+        (Err Fault.WrongPlayed) }
+    ensures no_solutions { Means (codes "{\"do\":\"solve\",\"deal\":\"N:A.2.. K.A.. Q.K.. J.Q..\",\"trump\":4,\"first\":0,\"solutions\":4,\"played\":[[0,14]]}")
+        (Err Fault.WrongSolutions) }
+    ensures ace_led { Means (codes "{\"do\":\"solve\",\"deal\":\"N:A.2.. K.A.. Q.K.. J.Q..\",\"trump\":4,\"first\":0,\"solutions\":3,\"played\":[[0,14]]}")
+        (Err Fault.CardTwice) }
+{}
