@@ -157,7 +157,7 @@ pub bit_of-and : (m n i : ℕ) → bit_at (bit_and m n) i ≡ 1 → bit_at m i �
 bit_of-and m n i h = let e : bit_at (bit_and m n) i ≡ min (bit_at m i) (bit_at n i) = bit_at_and m n i in let b = bit_at-lt m i in omega (arith, h)
 
 -- a bit after an insertion is an old one or the card's
-bit_of-or : (m : ℕ) (c : PlayingCard) (i : ℕ) → IsRank c.rank → bit_at (bit_or m (1 * 2 ^ place_of c % 2 ^ 64)) i ≡ 1 → (bit_at m i ≡ 1) ⊎ (i ≡ place_of c)
+pub bit_of-or : (m : ℕ) (c : PlayingCard) (i : ℕ) → IsRank c.rank → bit_at (bit_or m (1 * 2 ^ place_of c % 2 ^ 64)) i ≡ 1 → (bit_at m i ≡ 1) ⊎ (i ≡ place_of c)
 bit_of-or m c i real h =
     elim (eqb_tells i (place_of c)) [ inl same ↦ inr same.1 | inr other ↦ inl (sym (bit_at_set_other w64 m (place_of c) (place_of-lt c real) i other.1) ∙ h) ]
 

@@ -9,3 +9,4 @@ pub mod SetLaws
 pub mod Counts
 pub mod HandsLaws
 pub mod Codes
+pub mod Unions

@@ -1,7 +1,10 @@
-ghost use Rattle.std.specs.Prelude.{◌≡◌, ◌∷◌, [], ◌↔◌, IsTrue, MatchOption, filter, length};
-ghost use Rattle.dd_cards.specs.Cards.{is_of, has_card};
+ghost use Rattle.std.specs.Prelude.{◌≡◌, ◌∷◌, [], ◌↔◌, ◌||◌, true, IsTrue, MatchOption, map, filter, length};
+ghost use Rattle.dd_cards.specs.PlayingCard.{PlayingCard};
+ghost use Rattle.dd_cards.specs.Ranks.{IsRank};
+ghost use Rattle.dd_cards.specs.Cards.{is_of, card_of, has_card, with_card, deck};
 
 use crate::card::Card;
+use crate::holding::Holding;
 use crate::rank::Rank;
 use crate::suit::Suit;
 use std::marker::Model;
@@ -40,6 +43,14 @@ impl Hand {
         Hand { mask }
     }
 
+    /// No cards.
+    #[inline]
+    pub fn new() -> Hand
+        ensures { result ≡ [] }
+    {
+        Hand { mask: 0 }
+    }
+
     /// Is there no card?
     pub fn is_empty(&self) -> bool
         ensures { IsTrue result ↔ (self.now ≡ []) }
@@ -67,6 +78,38 @@ impl Hand {
     {
         Hand {
             mask: self.mask & (0xffff << suit.shift()),
+        }
+    }
+
+    /// The ranks of this suit.
+    #[inline]
+    pub fn holding(self, suit: Suit) -> Holding
+        ensures ranks { map (card_of suit) result ≡ filter (is_of suit) self }
+        ensures real { (c : PlayingCard) → has_card self c ≡ true → IsRank c.rank }
+    {
+        let lane = self.mask >> suit.shift();
+        Holding::of_mask((lane & 0x7ffc) as u16)
+    }
+
+    /// The cards of either hand.
+    #[inline]
+    pub fn union(self, other: Hand) -> Hand
+        ensures cards { result ≡ filter (λ c. has_card self c || has_card other c) deck }
+        ensures left { (c : PlayingCard) → has_card self c ≡ true → has_card result c ≡ true }
+        ensures right { (c : PlayingCard) → has_card other c ≡ true → has_card result c ≡ true }
+    {
+        Hand {
+            mask: self.mask | other.mask,
+        }
+    }
+
+    /// These cards and this one.
+    #[inline]
+    pub fn with(self, card: Card) -> Hand
+        ensures { result ≡ with_card self card }
+    {
+        Hand {
+            mask: self.mask | 1 << card.place(),
         }
     }
 

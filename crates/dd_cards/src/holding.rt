@@ -1,4 +1,4 @@
-ghost use Rattle.std.specs.Prelude.{◌≡◌, ℕ, ◌<◌, ◌≤◌, ◌↔◌, ◌==◌, ◌||◌, [], List, length, filter, find, IsTrue, nat_lt, slice_get};
+ghost use Rattle.std.specs.Prelude.{◌≡◌, true, MatchOption, ℕ, ◌<◌, ◌≤◌, ◌↔◌, ◌==◌, ◌||◌, [], List, length, filter, find, IsTrue, nat_lt, slice_get};
 ghost use mathlib.Core.Bool.{not};
 ghost use Rattle.dd_cards.specs.Ranks.{all_ranks, has_rank, with_rank};
 ghost use Rattle.dd_cards.specs.Masks.{mask_of};
@@ -93,6 +93,21 @@ impl Holding {
             mask: self.mask & ((1 << rank.code()) - 1),
         };
         part.highest()
+    }
+
+    /// The lowest rank that is not below this one; None where there is none.
+    #[inline]
+    pub fn next_from(self, rank: Rank) -> Option<Rank>
+        ensures { MatchOption result ((q : ℕ) → has_rank self q ≡ true → q < rank)
+            (λ r. (has_rank self r ≡ true) × (rank ≤ r) × ((q : ℕ) → has_rank self q ≡ true → rank ≤ q → r ≤ q)) }
+    {
+        let least = rank.code();
+        let part = self.mask >> least;
+        if part == 0 {
+            None
+        } else {
+            Some(Rank::of(least + part.trailing_zeros() as u8))
+        }
     }
 
     /// The ranks above this one.

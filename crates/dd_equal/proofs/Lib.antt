@@ -4,3 +4,5 @@ pub mod Walks
 pub mod Swaps
 pub mod Equal
 pub mod Tops
+pub mod Images
+pub mod Wholes

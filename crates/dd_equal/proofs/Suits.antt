@@ -193,7 +193,7 @@ pub record AreRanks (p : Board) (s : Suit) (own others : List ℕ) : Type 0 wher
   pub of_others : others ≡ suit_ranks s (other_cards p)
 
 -- what lies between two cards lies between their ranks
-between-ranks : (p : Board) (s : Suit) (own others : List ℕ) (r q : ℕ) → IsBoard p → AreRanks p s own others → list_any (is_between (card_of s r) (card_of s q)) (other_cards p) ≡ is_separated others r q
+pub between-ranks : (p : Board) (s : Suit) (own others : List ℕ) (r q : ℕ) → IsBoard p → AreRanks p s own others → list_any (is_between (card_of s r) (card_of s q)) (other_cards p) ≡ is_separated others r q
 between-ranks p s own others r q valid are =
     any-suit s (λ x. (nat_lt r x && nat_lt x q) || (nat_lt q x && nat_lt x r)) (other_cards p) (others-real p valid)
     ∙ ap (list_any (λ x. (nat_lt r x && nat_lt x q) || (nat_lt q x && nat_lt x r))) (sym are.of_others)

@@ -21,7 +21,7 @@ use Rattle.dd_equal.proofs.Equal.{tells-equal}
 use Rattle.dd_equal.proofs.Swaps.{equal-won}
 
 -- where a card of the list passes a test, one such card
-some-card : (test : PlayingCard → Bool) (cards : List PlayingCard) → list_any test cards ≡ true → (d : PlayingCard) × (has_card cards d ≡ true) × (test d ≡ true)
+pub some-card : (test : PlayingCard → Bool) (cards : List PlayingCard) → list_any test cards ≡ true → (d : PlayingCard) × (has_card cards d ≡ true) × (test d ≡ true)
 some-card test [] h = absurd (cc)
 some-card test (c ∷ cards) h = go (test c) refl (some-card test cards)
   where

@@ -1,13 +1,14 @@
 -- Equal cards: cards of the hand to play, of one suit, with no card of another hand or the trick between them (DDS manual, futureTricks).
-use Rattle.std.specs.Prelude.{ℕ, ◌&&◌, ◌||◌, Bool, List, ◌++◌, map, filter, nat_lt}
+use Rattle.std.specs.Prelude.{◌≡◌, true, ℕ, ◌&&◌, ◌||◌, Bool, List, ◌++◌, map, filter, nat_lt}
 use Rattle.std.specs.List.{list_any}
 use mathlib.Core.Bool.{not}
 use Rattle.dd_cards.specs.PlayingCard.{PlayingCard}
-use Rattle.dd_cards.specs.Cards.{is_of}
+use Rattle.dd_cards.specs.Cards.{is_of, has_card}
 use Rattle.dd_cards.specs.Seats.{seat_after}
 use Rattle.dd_cards.specs.Masks.{mask_of}
 use Rattle.dd_play.specs.Board.{Board, cards_at, mover}
 use Rattle.dd_play.specs.Play.{legal}
+use Rattle.dd_play.specs.Simulations.{IsLegal}
 
 -- the cards in the other hands and on the trick
 abbrev pub other_cards : Board → List PlayingCard
@@ -44,3 +45,7 @@ class_of p c = record { top = c; equals = equals_of p c }
 -- every class of the legal cards, in the order of their highest cards
 abbrev pub classes_of : Board → List EqualCards
 classes_of p = map (class_of p) (tops p)
+
+-- with the highest card of a class, the whole class
+abbrev pub IsWhole : (PlayingCard → Bool) → Board → Type 0
+IsWhole top p = (t c : PlayingCard) → has_card (tops p) t ≡ true → IsLegal p c → are_equal p t c ≡ true → top t ≡ true → top c ≡ true

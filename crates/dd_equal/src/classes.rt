@@ -71,7 +71,7 @@ fn push_classes(classes: &mut ArrayVec<Class, 13>, suit: Suit, own: Holding, oth
 }
 
 // The ranks above the floor and those below it. Without a floor all are above.
-fn parted(ranks: Holding, floor: Option<Rank>) -> (Holding, Holding)
+pub(crate) fn parted(ranks: Holding, floor: Option<Rank>) -> (Holding, Holding)
     ensures { MatchOption floor ((result.0 ≡ ranks) × (result.1 ≡ []))
         (λ f. (result.0 ≡ filter (λ q. nat_lt f q) ranks) × (result.1 ≡ filter (λ q. nat_lt q f) ranks)) }
 {
@@ -82,7 +82,7 @@ fn parted(ranks: Holding, floor: Option<Rank>) -> (Holding, Holding)
 }
 
 // The ranks of the cards of this suit that may be played.
-fn legal_ranks(position: &Position, suit: Suit) -> Holding
+pub(crate) fn legal_ranks(position: &Position, suit: Suit) -> Holding
     ensures ranks { map (card_of suit) result ≡ filter (is_of suit) (legal position.now) }
     ensures board { IsBoard position.now }
 {
@@ -98,7 +98,7 @@ fn legal_ranks(position: &Position, suit: Suit) -> Holding
 }
 
 // The ranks of the cards of this suit in the other hands and on the trick.
-fn other_ranks(position: &Position, suit: Suit) -> Holding
+pub(crate) fn other_ranks(position: &Position, suit: Suit) -> Holding
     ensures { result ≡ filter (λ r. has_card (other_cards position.now) (card_of suit r)) all_ranks }
 {
     let left = position.mover().next();

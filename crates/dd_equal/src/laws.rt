@@ -9,7 +9,8 @@ ghost use Rattle.dd_play.specs.Simulations.{IsLegal};
 ghost use Rattle.dd_play.specs.Value.{score};
 ghost use Rattle.dd_play.specs.Won.{is_side, point};
 ghost use Rattle.dd_play.specs.Claims.{Takes};
-ghost use Rattle.dd_equal.specs.EqualCards.{are_equal, tops};
+ghost use Rattle.dd_play.specs.Reach.{IsUpward, TakesBy, IsWorth};
+ghost use Rattle.dd_equal.specs.EqualCards.{are_equal, tops, IsWhole};
 
 /// Equal cards have one score, whatever other cards of the hand lie between them.
 pub fn equal_cards_score_alike()
@@ -22,4 +23,10 @@ pub fn one_card_of_each_class()
     ensures { (side : Bool) (p : Board) (n : ℕ) → IsBoard p → is_side side (mover p) ≡ false → 1 ≤ left p
         → ((c : PlayingCard) → has_card (tops p) c ≡ true → (m : ℕ) × Takes side (after p c) m × (n ≤ m + point side p c))
         → Takes side p n }
+{}
+
+/// The same of claims that rest on high cards, if a class of which they rest on the highest card is among these cards wholly.
+pub fn one_card_of_each_class_by_high_cards()
+    ensures { (top : PlayingCard → Bool) (side : Bool) (p : Board) (n : ℕ) → IsUpward top → IsBoard p → is_side side (mover p) ≡ false → 1 ≤ left p
+        → IsWhole top p → ((c : PlayingCard) → has_card (tops p) c ≡ true → IsWorth top side p c n) → TakesBy top side p n }
 {}

@@ -6,3 +6,4 @@ pub mod classes;
 pub mod laws;
 #[cfg(test)]
 mod tests;
+pub mod whole;

@@ -13,3 +13,6 @@ pub mod Steps
 pub mod Twins
 pub mod Claims
 pub mod HandsAfter
+pub mod Fewer
+pub mod Worth
+pub mod Contests

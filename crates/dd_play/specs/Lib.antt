@@ -10,3 +10,4 @@ pub mod Won
 pub mod Simulations
 pub mod Covers
 pub mod Claims
+pub mod Reach

@@ -16,6 +16,8 @@ ghost use Rattle.dd_play.specs.Deals.{spades, hearts, deal};
 ghost use Rattle.dd_play.specs.Won.{is_side, won, point};
 ghost use Rattle.dd_play.specs.Simulations.{IsLegal};
 ghost use Rattle.dd_play.specs.Claims.{Takes};
+ghost use Rattle.dd_play.specs.Covers.{IsSettled};
+ghost use Rattle.dd_play.specs.Reach.{reach, IsUpward, TakesBy, IsWorth};
 
 use dd_cards::seat::Seat;
 use dd_cards::strain::Strain;
@@ -67,6 +69,37 @@ pub fn claims()
     ensures exactly { (side : Bool) (p : Board) (n m : ℕ) → IsBoard p → Takes side p n → Takes (not side) p m → n + m ≡ left p → won side p ≡ n }
     ensures bounds { (p : Board) (lo hi : ℕ) → IsBoard p → p.trick ≡ [] → ((lo ≤ lead p) × (lead p ≤ hi))
         ↔ (Takes (is_north_south p.first) p lo × Takes (not (is_north_south p.first)) p (left p - hi)) }
+{}
+
+/// Claims that rest on some cards and all higher ones alone, and so hold at each position that differs below them: the rules
+/// that a search rests on whose entries forget low cards.
+/// `nothing`, `fewer`, `more`: no trick, no more than are claimed, and resting on more cards.
+/// `one_card`, `every_card`: what one card is worth is enough where the side is to play; where the other side is, each of
+/// its cards has to be worth as much.
+/// `after`: a card is worth what is claimed after it and the trick that it completes, if the trick's winner is a card that
+/// the claim rests on or is the only one of its suit there.
+/// `less`, `wider`: a card is worth less, and as much by more cards.
+/// `low`: one card below those that a claim rests on is worth as much as another of its suit.
+/// `here`: a claim holds where it was made.
+/// `reached`: what is no lower than one of these cards.
+pub fn claims_by_high_cards()
+    ensures nothing { (top : PlayingCard → Bool) (side : Bool) (p : Board) → TakesBy top side p 0 }
+    ensures fewer { (top : PlayingCard → Bool) (side : Bool) (p : Board) (n m : ℕ) → TakesBy top side p n → m ≤ n → TakesBy top side p m }
+    ensures more { (few many : PlayingCard → Bool) (side : Bool) (p : Board) (n : ℕ) → ((c : PlayingCard) → few c ≡ true → many c ≡ true)
+        → IsUpward few → TakesBy few side p n → TakesBy many side p n }
+    ensures one_card { (top : PlayingCard → Bool) (side : Bool) (p : Board) (c : PlayingCard) (n : ℕ) → is_side side (mover p) ≡ true
+        → IsLegal p c → IsWorth top side p c n → TakesBy top side p n }
+    ensures every_card { (top : PlayingCard → Bool) (side : Bool) (p : Board) (n : ℕ) → is_side side (mover p) ≡ false → 1 ≤ left p
+        → ((c : PlayingCard) → IsLegal p c → IsWorth top side p c n) → TakesBy top side p n }
+    ensures after { (top : PlayingCard → Bool) (side : Bool) (p : Board) (c : PlayingCard) (n : ℕ) → IsLegal p c → IsSettled top p c
+        → TakesBy top side (after p c) n → IsWorth top side p c (n + point side p c) }
+    ensures less { (top : PlayingCard → Bool) (side : Bool) (p : Board) (c : PlayingCard) (n m : ℕ) → IsWorth top side p c n → m ≤ n → IsWorth top side p c m }
+    ensures wider { (few many : PlayingCard → Bool) (side : Bool) (p : Board) (c : PlayingCard) (n : ℕ) → ((c : PlayingCard) → few c ≡ true → many c ≡ true)
+        → IsUpward few → IsWorth few side p c n → IsWorth many side p c n }
+    ensures low { (top : PlayingCard → Bool) (side : Bool) (p : Board) (c d : PlayingCard) (n : ℕ) → top c ≡ false → top d ≡ false → d.suit ≡ c.suit
+        → IsWorth top side p c n → IsWorth top side p d n }
+    ensures here { (top : PlayingCard → Bool) (side : Bool) (p : Board) (n : ℕ) → IsBoard p → IsUpward top → TakesBy top side p n → Takes side p n }
+    ensures reached { (cards : List PlayingCard) → IsUpward (reach cards) }
 {}
 
 /// Deals whose value can be counted by hand: the ace takes its trick for the leader's side, and against it; a king

@@ -1,13 +1,14 @@
-ghost use Rattle.std.specs.Prelude.{◌≡◌, ◌+◌, ◌<◌, ◌≤◌, ◌↔◌, ℕ, true, false, IsTrue, IsOk, IfOk, Some, None, Err, nat_lt, length, take, slice_set, if◌then◌else◌};
+ghost use Rattle.std.specs.Prelude.{◌≡◌, ◌+◌, ◌<◌, ◌≤◌, ◌↔◌, ℕ, Bool, true, false, IsTrue, IsOk, IfOk, IfSome, Some, None, Err, [], ◌∷◌, nat_lt, length, take, slice_set, slice_index_or, if◌then◌else◌};
 ghost use Rattle.std.specs.Bool.{OnTrue, OnFalse};
 ghost use Rattle.dd_cards.specs.PlayingCard.{PlayingCard};
-ghost use Rattle.dd_cards.specs.Cards.{has_card};
+ghost use Rattle.dd_cards.specs.Cards.{has_card, is_of};
 ghost use Rattle.dd_cards.specs.Ranks.{IsRank};
 ghost use Rattle.dd_cards.specs.Seats.{seat_after};
 ghost use Rattle.dd_cards.specs.Hands.{hand_of, times, AreHands};
 ghost use Rattle.dd_play.specs.Board.{board_of, IsBoard, mover, left, times_in};
 ghost use Rattle.dd_play.specs.Tricks.{winner_of};
 ghost use Rattle.dd_play.specs.Play.{legal, completes, trick_with, after, hands_after};
+ghost use Rattle.dd_play.specs.Covers.{IsSettled, count_of};
 
 use crate::play_fault::PlayFault;
 use crate::turn::seat_after;
@@ -18,6 +19,7 @@ use dd_cards::hand::Hand;
 use dd_cards::hands::Hands;
 use dd_cards::seat::Seat;
 use dd_cards::strain::Strain;
+use dd_cards::suit::Suit;
 use std::marker::Model;
 
 /// A legal state of play: four hands, the strain, the seat that leads, and up to three cards on the trick.
@@ -220,6 +222,28 @@ impl Position {
         }
     }
 
+    /// Of a trick that this legal card completes, won by `winner`: the card that wins it, if another card of its suit lies
+    /// there. Then the winner rests on that card, and else on none.
+    #[inline(always)]
+    pub fn contested(&self, card: Card, winner: Option<Seat>) -> Option<Card>
+        requires legal { has_card (legal self.now) card ≡ true }
+        requires winner { winner ≡ (if completes self.now
+            then Some (winner_of (trick_with self.now card) self.now.first self.now.strain) else None) }
+        ensures { (top : PlayingCard → Bool) → IfSome result (λ won. top won ≡ true) → IsSettled top self.now card }
+    {
+        let Some(seat) = winner else {
+            return None;
+        };
+        let [a, b, c] = self.trick;
+        let place = (seat.code() + 4 - self.first.code()) % 4;
+        let won = one_of_four(place, a, b, c, card);
+        if count_of(won.suit, a, b, c, card) > 1 {
+            Some(won)
+        } else {
+            None
+        }
+    }
+
     // The hands when the mover has played this card. No other hand has it.
     #[inline]
     fn hands_without(&self, card: Card) -> Hands
@@ -229,6 +253,37 @@ impl Position {
     {
         self.hands.without(card)
     }
+}
+
+// The card at this place of four.
+#[inline(always)]
+fn one_of_four(place: u8, a: Card, b: Card, c: Card, d: Card) -> Card
+    requires { place < 4 }
+    ensures { result ≡ slice_index_or (a ∷ b ∷ c ∷ d ∷ []) place d }
+{
+    match place {
+        0 => a,
+        1 => b,
+        2 => c,
+        _ => d,
+    }
+}
+
+// How many of four cards are of this suit.
+#[inline(always)]
+fn count_of(suit: Suit, a: Card, b: Card, c: Card, d: Card) -> u8
+    ensures { result ≡ count_of suit (a ∷ b ∷ c ∷ d ∷ []) }
+{
+    one_of(suit, a) + one_of(suit, b) + one_of(suit, c) + one_of(suit, d)
+}
+
+// 1 for a card of this suit.
+#[inline(always)]
+fn one_of(suit: Suit, card: Card) -> u8
+    ensures value { result ≡ (if is_of suit card then 1 else 0) }
+    ensures bound { result ≤ 1 }
+{
+    if card.suit == suit { 1 } else { 0 }
 }
 
 // The three places with the card at this one, by choice and not by address: a place that was written would be read again

@@ -4,3 +4,4 @@ pub mod TopTrumps
 pub mod Cashing
 pub mod Sound
 pub mod Runs
+pub mod Covered

@@ -27,7 +27,7 @@ use Rattle.dd_quick.proofs.Hands.{no-higher, places-on}
 -- ---- lists of ranks
 
 -- a part of a list of ranks has those that pass
-has-part : (test : ℕ → Bool) (ranks : List ℕ) (q : ℕ) → has_rank (filter test ranks) q ≡ (test q && has_rank ranks q)
+pub has-part : (test : ℕ → Bool) (ranks : List ℕ) (q : ℕ) → has_rank (filter test ranks) q ≡ (test q && has_rank ranks q)
 has-part test ranks q = any-filter_same (λ x. x == q) test (test q) (λ x e. ap test (eqb-true x q e)) ranks
 
 -- each rank is one of all
@@ -184,7 +184,7 @@ module _ (p : Board) (h : Seat) (suit : Suit) (own others : List ℕ) (held : Ar
           go d has false e = ap (λ a. a && nat_lt q d.rank) e
 
   -- a rank that the seat holds is a winner where it is above the highest of the others
-  above-highest : (r q : ℕ) → Some r ≡ slice_get others 0 → has_rank own q ≡ true → is_winner p h (card_of suit q) ≡ nat_lt r q
+  pub above-highest : (r q : ℕ) → Some r ≡ slice_get others 0 → has_rank own q ≡ true → is_winner p h (card_of suit q) ≡ nat_lt r q
   unfolding all_ranks
   above-highest r q first mine = go (nat_lt r q) refl
     where

@@ -1,5 +1,5 @@
 -- Quick tricks: the tricks that a side is sure to take, counted without search.
-use Rattle.std.specs.Prelude.{ℕ, ◌+◌, ◌-◌, Bool, ◌&&◌, ◌||◌, length, filter, min, max, nat_lt, if◌then◌else◌}
+use Rattle.std.specs.Prelude.{◌≡◌, true, List, ℕ, ◌+◌, ◌-◌, Bool, ◌&&◌, ◌||◌, length, filter, min, max, nat_lt, if◌then◌else◌}
 use Rattle.std.specs.List.{list_any}
 use mathlib.Core.Bool.{not}
 use Rattle.dd_cards.specs.declared.seat.Seat.{Seat}
@@ -9,7 +9,8 @@ use Rattle.dd_cards.specs.declared.strain.Strain.{Strain}
 use Rattle.dd_cards.specs.declared.strain.Strain.TheVariants.{Trump, Notrump}
 use Rattle.dd_cards.specs.PlayingCard.{PlayingCard}
 use Rattle.dd_cards.specs.Seats.{seat_after}
-use Rattle.dd_cards.specs.Cards.{is_of}
+use Rattle.dd_cards.specs.Cards.{is_of, has_card}
+use Rattle.dd_play.specs.Reach.{reach}
 use Rattle.dd_play.specs.Board.{Board, cards_at, left}
 use Rattle.dd_play.specs.Tricks.{is_trump}
 
@@ -54,3 +55,12 @@ quick_lo p = max (leaders_tricks p) (top_trumps p.strain p (seat_after p.first 2
 -- and no more than this
 abbrev pub quick_hi : Board → ℕ
 quick_hi p = left p - max (top_trumps p.strain p (seat_after p.first 1)) (top_trumps p.strain p (seat_after p.first 3))
+
+-- the seat's winners in the suit are reached by these cards
+abbrev pub AreReached : List PlayingCard → Board → Seat → Suit → Type 0
+AreReached cards p seat suit = (c : PlayingCard) → has_card (cards_at p seat) c ≡ true → is_of suit c ≡ true → is_winner p seat c ≡ true → reach cards c ≡ true
+
+-- and so are its highest trumps
+abbrev pub AreTrumpsReached : Strain → List PlayingCard → Board → Seat → Type 0
+AreTrumpsReached Notrump cards p seat = Unit {0}
+AreTrumpsReached (Trump trump) cards p seat = AreReached cards p seat trump

@@ -4,3 +4,11 @@ pub mod Holders
 pub mod Numbers
 pub mod Owners
 pub mod Tested
+pub mod Places
+pub mod Covered
+pub mod Looked
+pub mod Chains
+pub mod Sound
+pub mod Told
+pub mod Lowest
+pub mod Fulls

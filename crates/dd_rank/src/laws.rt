@@ -1,12 +1,41 @@
 //! What alike positions have in common, for every two boards.
 
-ghost use Rattle.std.specs.Prelude.{◌≡◌, []};
-ghost use Rattle.dd_play.specs.Board.{Board, IsBoard};
+ghost use Rattle.std.specs.Prelude.{◌≡◌, ℕ, ◌-◌, ◌≤◌, Bool, true, List, []};
+ghost use mathlib.Core.Bool.{not};
+ghost use Rattle.dd_cards.specs.declared.suit.Suit.{Suit};
+ghost use Rattle.dd_cards.specs.PlayingCard.{PlayingCard};
+ghost use Rattle.dd_cards.specs.Ranks.{IsRank};
+ghost use Rattle.dd_cards.specs.Cards.{has_card};
+ghost use Rattle.dd_cards.specs.Seats.{is_north_south};
+ghost use Rattle.dd_play.specs.Board.{Board, IsBoard, left};
 ghost use Rattle.dd_play.specs.Value.{lead};
+ghost use Rattle.dd_play.specs.Covers.{count_of};
+ghost use Rattle.dd_play.specs.Reach.{reach, TakesBy};
 ghost use Rattle.dd_rank.specs.Alike.{AreAlike, IsAlike};
+ghost use Rattle.dd_rank.specs.Depths.{all_cards, Covers, depths_of};
 
 /// Alike positions have one value for the leader's side: also where all seats are turned, and so where none is.
 pub fn alike_positions()
     ensures turned { (p q : Board) → IsBoard p → IsBoard q → AreAlike p q → lead q ≡ lead p }
     ensures unturned { (p q : Board) → IsBoard p → IsBoard q → IsAlike p q → lead q ≡ lead p }
+{}
+
+/// What holds of all positions that one covers at depths, and claims by the cards that these depths reach, are the same.
+/// `told`: bounds that hold of each covered position are a claim of each side, by cards of no smaller depths.
+/// `noted`: what both sides claim by cards holds of each position that is covered at no smaller depths.
+/// `chained`: a position that is covered by a covered one is covered.
+/// `itself`: a position covers itself.
+/// `full`: at full depths it covers only alike positions.
+pub fn covered_positions()
+    ensures told { (cards : List PlayingCard) (depths : Suit → ℕ) (p : Board) (lo hi : ℕ) → ((c : PlayingCard) → has_card cards c ≡ true → IsRank c.rank)
+        → p.trick ≡ [] → ((u : Suit) → depths u ≤ depths_of (reach cards) p u)
+        → ((q : Board) → IsBoard q → Covers p depths q → (lo ≤ lead q) × (lead q ≤ hi))
+        → TakesBy (reach cards) (is_north_south p.first) p lo × TakesBy (reach cards) (not (is_north_south p.first)) p (left p - hi) }
+    ensures noted { (cards : List PlayingCard) (depths : Suit → ℕ) (p : Board) (lo hi : ℕ) → ((c : PlayingCard) → has_card cards c ≡ true → IsRank c.rank)
+        → IsBoard p → ((u : Suit) → depths_of (reach cards) p u ≤ depths u)
+        → TakesBy (reach cards) (is_north_south p.first) p lo → TakesBy (reach cards) (not (is_north_south p.first)) p (left p - hi)
+        → (q : Board) → IsBoard q → Covers p depths q → (lo ≤ lead q) × (lead q ≤ hi) }
+    ensures chained { (depths : Suit → ℕ) (p q r : Board) → Covers p depths q → Covers q depths r → Covers p depths r }
+    ensures itself { (p : Board) (depths : Suit → ℕ) → p.trick ≡ [] → ((u : Suit) → depths u ≤ count_of u (all_cards p)) → Covers p depths p }
+    ensures full { (p q : Board) (depths : Suit → ℕ) → IsBoard p → IsBoard q → ((u : Suit) → depths u ≡ count_of u (all_cards p)) → Covers p depths q → AreAlike p q }
 {}

@@ -2,6 +2,7 @@
 #![tactic(auto)]
 
 pub mod alike;
+pub mod depths;
 pub mod laws;
 #[cfg(test)]
 mod tests;

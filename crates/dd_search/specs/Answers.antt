@@ -5,11 +5,22 @@ use Rattle.dd_cards.specs.Hands.{times}
 use Rattle.dd_cards.specs.Seats.{is_north_south}
 use Rattle.dd_play.specs.Board.{Board, left}
 use Rattle.dd_play.specs.Claims.{Takes}
+use Rattle.dd_play.specs.Reach.{reach, TakesBy}
 
 -- yes: they take them; no: East and West take so many that they cannot
 abbrev pub IsAnswer : Board → ℕ → Bool → Type 0
 IsAnswer p need true = Takes true p need
 IsAnswer p need false = Takes false p (left p + 1 - need)
+
+-- the same of claims that rest on these cards and higher ones alone
+abbrev pub IsAnswerBy : Board → ℕ → List PlayingCard → Bool → Type 0
+IsAnswerBy p need cards true = TakesBy (reach cards) true p need
+IsAnswerBy p need cards false = TakesBy (reach cards) false p (left p + 1 - need)
+
+-- an answer, and the cards that it rests on
+pub record AnswerBy : Type 0 where
+  pub yes : Bool
+  pub cards : List PlayingCard
 
 -- North and South take lo to hi of them
 abbrev pub IsWindow : Board → ℕ → ℕ → Type 0

@@ -1,29 +1,51 @@
 //! What a search is told of positions, and tells of them: the transposition table as it sees it.
-ghost use Rattle.std.specs.Prelude.{IfSome};
-ghost use Rattle.dd_play.specs.Board.{Board};
+ghost use Rattle.std.specs.Prelude.{IfSome, ◌<◌, ◌≤◌, ◌⊎◌, true, ◌≡◌};
+ghost use Rattle.dd_cards.specs.declared.suit.Suit.{Suit};
+ghost use Rattle.dd_play.specs.Board.{Board, IsBoard};
+ghost use Rattle.dd_play.specs.Covers.{count_of};
 ghost use Rattle.dd_play.specs.Value.{lead};
 ghost use Rattle.dd_play.specs.Intervals.{Holds};
+ghost use Rattle.dd_rank.specs.Depths.{FourDepths, depth_in, all_cards, Covers};
 
 use dd_play::interval::Interval;
 use dd_play::trick_start::TrickStart;
+use dd_rank::depths::Depths;
 
-/// Known bounds of the values of positions. A value is the number of tricks, 0 to 13, of the leader's side.
+/// Known bounds of the values of positions. A value is the number of tricks, 0 to 13, of the leader's side. Bounds come
+/// with depths, and hold of each position that the one asked covers at these.
 pub trait Bounds {
     ghost use Rattle.dd_play.specs.declared.interval.Interval.{Interval};
 
-    /// the bounds that are told of a position
-    ghost tells: { Self → Board → Interval → Type 0 };
+    /// the bounds that are told of a position, with their depths
+    ghost tells: { Self → Board → FourDepths → Interval → Type 0 };
 
-    /// The bounds of the position's value, and nothing where none are known.
-    fn look(&mut self, start: &TrickStart) -> Option<Interval>
-        ensures { IfSome result (λ interval. tells self.old start.now interval) };
+    /// Bounds, with their depths, and nothing where none are known.
+    fn look(&mut self, start: &TrickStart) -> Option<(Interval, Depths)>
+        ensures told { IfSome result (λ told. tells self.old start.now told.1 told.0) }
+        ensures within { IfSome result (λ told. (u : Suit) → depth_in told.1 u ≤ count_of u (all_cards start.now)) };
 
-    /// Hands over bounds of the position's value, which may be kept or not.
-    fn note(&mut self, start: &TrickStart, interval: Interval)
-        requires { Holds interval (lead start.now) };
+    /// Bounds that settle whether the leader's side takes at least `need` tricks, and nothing where none are known.
+    fn settle(&mut self, start: &TrickStart, need: u8) -> Option<(Interval, Depths)>
+        ensures told { IfSome result (λ told. tells self.old start.now told.1 told.0) }
+        ensures within { IfSome result (λ told. (u : Suit) → depth_in told.1 u ≤ count_of u (all_cards start.now)) }
+        ensures settles { IfSome result (λ told. (need ≤ told.0.lo) ⊎ (told.0.hi < need)) }
+    {
+        let told = self.look(start)?;
+        if need <= told.0.lo || told.0.hi < need {
+            Some(told)
+        } else {
+            None
+        }
+    }
+
+    /// Hands over bounds, with their depths, which may be kept or not.
+    fn note(&mut self, start: &TrickStart, depths: Depths, interval: Interval)
+        requires within { (u : Suit) → depth_in depths u ≤ count_of u (all_cards start.now) }
+        requires holds { (q : Board) → IsBoard q → Covers start.now (depth_in depths) q → Holds interval (lead q) };
 
     /// what is told holds
-    ghost holds: { (table : Self) (p : Board) (interval : Interval) → tells table p interval → Holds interval (lead p) };
+    ghost holds: { (table : Self) (p : Board) (depths : FourDepths) (interval : Interval) (q : Board) → tells table p depths interval
+        → IsBoard q → Covers p (depth_in depths) q → Holds interval (lead q) };
 }
 
 /// Knows nothing and keeps nothing.
@@ -31,13 +53,13 @@ pub trait Bounds {
 pub struct NoTable;
 
 impl Bounds for NoTable {
-    ghost tells = { λ table p interval. ⊥ };
+    ghost tells = { λ table p depths interval. ⊥ };
 
-    ghost holds = { λ table p interval told. absurd told };
+    ghost holds = { λ table p depths interval q told. absurd told };
 
-    fn look(&mut self, _start: &TrickStart) -> Option<Interval> {
+    fn look(&mut self, _start: &TrickStart) -> Option<(Interval, Depths)> {
         None
     }
 
-    fn note(&mut self, _start: &TrickStart, _interval: Interval) {}
+    fn note(&mut self, _start: &TrickStart, _depths: Depths, _interval: Interval) {}
 }

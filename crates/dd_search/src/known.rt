@@ -1,48 +1,88 @@
 //! What is known of a position's value before a card is tried, and what an answer makes known.
 ghost use Rattle.std.specs.Prelude.{◌≡◌, ◌-◌, ◌<◌, ◌≤◌, ℕ, min, IfSome, MatchOption};
 ghost use Rattle.std.specs.Bool.{OnTrue, OnFalse};
-ghost use Rattle.dd_play.specs.Board.{left};
+ghost use Rattle.dd_play.specs.Board.{IsBoard, left};
 ghost use Rattle.dd_play.specs.Value.{lead};
 ghost use Rattle.dd_play.specs.Intervals.{Holds};
-ghost use Rattle.dd_search.specs.Answers.{IsAnswer, IsWindow, north_souths};
+ghost use mathlib.Core.Bool.{not};
+ghost use Rattle.dd_cards.specs.Seats.{is_north_south};
+ghost use Rattle.dd_play.specs.Reach.{reach, TakesBy};
+ghost use Rattle.dd_search.specs.Answers.{IsAnswerBy, IsWindow, north_souths};
 
+use crate::answer::Answer;
 use crate::bounds::Bounds;
 use dd_play::interval::Interval;
 use dd_play::position::Position;
 use dd_play::trick_start::TrickStart;
-use dd_quick::bounds::bounds as quick_bounds;
+use dd_quick::bounds::{against_leader, bounds as quick_bounds, for_leader};
+use dd_rank::depths::Depths;
 
 /// Do North and South take at least `need` of the tricks left, where a look or, after it, the quick bounds settle it?
 #[inline]
-pub(crate) fn known<B: Bounds>(start: &TrickStart, need: u8, bounds: &mut B) -> Option<bool>
-    ensures { IfSome result (λ yes. IsAnswer start.now need yes) }
+pub(crate) fn known<B: Bounds>(start: &TrickStart, need: u8, bounds: &mut B) -> Option<Answer>
+    requires low { 1 ≤ need }
+    requires high { need ≤ left start.now }
+    ensures answer { IfSome result (λ answer. IsAnswerBy start.now need answer.cards answer.yes) }
+    ensures board { IsBoard start.now }
 {
     let position = start.position();
     let leads = position.first().is_north_south();
     let left = position.tricks_left();
-    if let Some(interval) = bounds.look(start) {
-        let answer = settled(turned(leads, left, interval), need);
-        if answer.is_some() {
-            return answer;
-        }
+    let leaders = if leads { need } else { left + 1 - need };
+    if let Some(told) = bounds.settle(start, leaders) {
+        return Some(Answer {
+            yes: (leaders <= told.0.lo) == leads,
+            cards: told.1.cards(start),
+        });
     }
-    settled(turned(leads, left, quick_bounds(start)), need)
+    quick(start, need)
+}
+
+// The same by the quick tricks of each side, with the winners that they are.
+#[inline]
+fn quick(start: &TrickStart, need: u8) -> Option<Answer>
+    requires { need ≤ left start.now }
+    ensures { IfSome result (λ answer. IsAnswerBy start.now need answer.cards answer.yes) }
+{
+    let position = start.position();
+    let leads = position.first().is_north_south();
+    let left = position.tricks_left();
+    let others = left + 1 - need;
+    let leaders = if leads { need } else { others };
+    let against = if leads { others } else { need };
+    if let Some(cards) = for_leader(start, leaders) {
+        return Some(Answer { yes: leads, cards });
+    }
+    let cards = against_leader(start, against)?;
+    Some(Answer { yes: !leads, cards })
+}
+
+/// Hands over what an answer proves of the value.
+pub(crate) fn teach<B: Bounds>(start: &TrickStart, need: u8, answer: Answer, bounds: &mut B)
+    requires low { 1 ≤ need }
+    requires high { need ≤ left start.now }
+    requires answer { IsAnswerBy start.now need answer.cards answer.yes }
+{
+    let interval = taught(start, need, answer);
+    bounds.note(start, Depths::reached(start, answer.cards), interval);
 }
 
 /// The bounds that an answer proves of the value, and no more: at least `need` tricks for North and South, or fewer.
 #[inline]
-pub(crate) fn taught(start: &TrickStart, need: u8, yes: bool) -> Interval
+fn taught(start: &TrickStart, need: u8, answer: Answer) -> Interval
     requires low { 1 ≤ need }
     requires high { need ≤ left start.now }
-    requires answer { IsAnswer start.now need yes }
-    ensures holds { Holds result (lead start.now) }
-    ensures yes { OnTrue yes ((n : ℕ) → Holds result n → need ≤ north_souths start.now n) }
-    ensures no { OnFalse yes ((n : ℕ) → Holds result n → north_souths start.now n < need) }
+    requires answer { IsAnswerBy start.now need answer.cards answer.yes }
+    ensures board { IsBoard start.now }
+    ensures theirs { TakesBy (reach answer.cards) (is_north_south start.now.first) start.now result.lo }
+    ensures others { TakesBy (reach answer.cards) (not (is_north_south start.now.first)) start.now (left start.now - result.hi) }
+    ensures yes { OnTrue answer.yes ((n : ℕ) → Holds result n → need ≤ north_souths start.now n) }
+    ensures no { OnFalse answer.yes ((n : ℕ) → Holds result n → north_souths start.now n < need) }
 {
     let position = start.position();
     let leads = position.first().is_north_south();
     let left = position.tricks_left();
-    let window = if yes {
+    let window = if answer.yes {
         Interval { lo: need, hi: left }
     } else {
         Interval {
@@ -61,13 +101,23 @@ pub(crate) fn window<B: Bounds>(position: &Position, bounds: &mut B) -> Interval
     let left = position.tricks_left();
     match TrickStart::of(position) {
         Some(start) if left > 0 => {
-            let told = bounds.look(&start);
+            let told = looked(&start, bounds);
             let quick = quick_bounds(&start);
             let both = met(told, quick);
             turned(position.first().is_north_south(), left, both)
         }
         _ => Interval { lo: 0, hi: left },
     }
+}
+
+// The bounds that a look tells.
+fn looked<B: Bounds>(start: &TrickStart, bounds: &mut B) -> Option<Interval>
+    ensures { IfSome result (λ interval. Holds interval (lead start.now)) }
+{
+    // The proof reads here that it is a start of a trick.
+    let _ = start.position();
+    let told = bounds.look(start)?;
+    Some(told.0)
 }
 
 // What was told and the quick bounds together.

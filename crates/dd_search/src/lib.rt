@@ -1,6 +1,7 @@
 //! How many tricks a card wins when both sides play as well as can be. It takes no memory of its own.
 #![tactic(auto)]
 
+mod answer;
 pub mod bounds;
 mod follow;
 mod guess;
@@ -10,6 +11,7 @@ mod lead;
 pub mod meter;
 mod order;
 pub mod reaches;
+mod rests;
 pub mod score;
 mod strength;
 mod takes;

@@ -37,7 +37,7 @@ pub fn reaches<B: Bounds, M: Meter>(
     let rest = need.saturating_sub(trick_of(winner));
     let yes = match counted(&next, rest) {
         Some(yes) => yes,
-        None => takes(&next, rest, bounds, meter)?,
+        None => takes(&next, rest, bounds, meter)?.yes,
     };
     Ok(yes == north_south)
 }

@@ -1,19 +1,22 @@
 //! The question of the search: do North and South take at least so many of the tricks that are left?
-ghost use Rattle.std.specs.Prelude.{◌≡◌, ◌+◌, ◌≤◌, ◌<◌, true, Err, IfOk, OnOk, MatchOption};
+ghost use Rattle.std.specs.Prelude.{IfSome, [], ◌≡◌, ◌+◌, ◌≤◌, ◌<◌, true, Err, IfOk, OnOk, MatchOption};
 ghost use Rattle.dd_cards.specs.Cards.{has_card};
-ghost use Rattle.dd_play.specs.Board.{IsBoard, left};
+ghost use Rattle.dd_play.specs.Board.{left};
 ghost use Rattle.dd_play.specs.Play.{legal, after};
 ghost use Rattle.dd_play.specs.Value.{point_of};
 ghost use Rattle.dd_play.specs.Won.{point};
-ghost use Rattle.dd_search.specs.Answers.{IsAnswer};
+ghost use Rattle.dd_search.specs.Answers.{IsAnswer, IsAnswerBy};
 
+use crate::answer::Answer;
 use crate::bounds::Bounds;
-use crate::known::{known, taught};
+use crate::known::{known, teach};
 use crate::meter::{Halt, Meter, Tick, go_on};
 use crate::order::list_moves;
+use crate::rests::{also_spared, is_spared, settled_by};
 use arrayvec::ArrayVec;
-use dd_cards::card::Card;
+use dd_cards::hand::Hand;
 use dd_cards::seat::Seat;
+use dd_equal::whole::whole;
 use dd_play::position::Position;
 use dd_play::trick_start::TrickStart;
 
@@ -24,10 +27,11 @@ pub(crate) fn takes<B: Bounds, M: Meter>(
     need: u8,
     bounds: &mut B,
     meter: &mut M,
-) -> Result<bool, Halt>
+) -> Result<Answer, Halt>
     requires low { 1 ≤ need }
     requires high { need ≤ left position.now }
-    ensures answer { IfOk result (λ yes. IsAnswer position.now need yes) }
+    ensures answer { IfOk result (λ answer. IsAnswer position.now need answer.yes) }
+    ensures rests { IfOk result (λ answer. IsAnswerBy position.now need answer.cards answer.yes) }
     ensures ticked { OnOk result (M.ticked meter.old meter.new) }
     ensures spent { result ≡ Err Halt.Spent → M.says meter.new Tick.Spent }
     ensures stopped { result ≡ Err Halt.Stopped → M.says meter.new Tick.Stop }
@@ -35,28 +39,51 @@ pub(crate) fn takes<B: Bounds, M: Meter>(
     go_on(meter)?;
     let start = TrickStart::of(position);
     if let Some(start) = &start {
-        if let Some(yes) = known(start, need, bounds) {
-            return Ok(yes);
+        if let Some(answer) = known(start, need, bounds) {
+            return Ok(answer);
         }
     }
     let mut moves = ArrayVec::new();
     list_moves(position, &mut moves);
     let north_south = position.mover().is_north_south();
-    let mut answer = !north_south;
+    let mut found = None;
+    let mut cards = Hand::new();
+    let mut spared = Hand::new();
     for tried in moves.as_slice() {
+        let card = tried.card;
+        if is_spared(spared, card) {
+            continue;
+        }
         // The position stays where `play` put it: a copy of it would wait for its bytes to be written.
-        let played = position.play(tried.card);
+        let played = position.play(card);
         let rest = rest_after(need, played.1);
-        answer = match counted(&played.0, rest) {
-            Some(yes) => yes,
+        let later = match counted(&played.0, rest) {
+            Some(yes) => Answer {
+                yes,
+                cards: Hand::new(),
+            },
             None => takes(&played.0, rest, bounds, meter)?,
         };
-        if answer == north_south {
+        let by = settled_by(position, card, played.1, later.cards);
+        if later.yes == north_south {
+            found = Some(by);
             break;
         }
+        cards = cards.union(by);
+        spared = also_spared(spared, card, by);
     }
+    let answer = match found {
+        Some(by) => Answer {
+            yes: north_south,
+            cards: by,
+        },
+        None => Answer {
+            yes: !north_south,
+            cards: whole(position, cards),
+        },
+    };
     if let Some(start) = &start {
-        bounds.note(start, taught(start, need, answer));
+        teach(start, need, answer, bounds);
     }
     Ok(answer)
 }
@@ -73,7 +100,8 @@ fn rest_after(need: u8, winner: Option<Seat>) -> u8
 /// The answer where counting settles it: none needed, or more than are left.
 #[inline]
 pub(crate) fn counted(position: &Position, need: u8) -> Option<bool>
-    ensures { MatchOption result ((1 ≤ need) × (need ≤ left position.now)) (λ yes. IsAnswer position.now need yes) }
+    ensures answer { MatchOption result ((1 ≤ need) × (need ≤ left position.now)) (λ yes. IsAnswer position.now need yes) }
+    ensures rests { IfSome result (λ yes. IsAnswerBy position.now need [] yes) }
 {
     if need == 0 {
         Some(true)

@@ -16,6 +16,7 @@ use dd_cards::suit::Suit;
 use dd_play::interval::Interval;
 use dd_play::position::Position;
 use dd_play::trick_start::TrickStart;
+use dd_rank::depths::Depths;
 
 // Where nothing bounds the search it has a score.
 fn endless_score(position: &Position, card: Card) -> Result<u8, Halt>
@@ -33,16 +34,16 @@ struct Counting {
 }
 
 impl Bounds for Counting {
-    ghost tells = { λ table p interval. ⊥ };
+    ghost tells = { λ table p depths interval. ⊥ };
 
-    ghost holds = { λ table p interval told. absurd told };
+    ghost holds = { λ table p depths interval q told. absurd told };
 
-    fn look(&mut self, _start: &TrickStart) -> Option<Interval> {
+    fn look(&mut self, _start: &TrickStart) -> Option<(Interval, Depths)> {
         self.looks = self.looks.saturating_add(1);
         None
     }
 
-    fn note(&mut self, _start: &TrickStart, _interval: Interval) {
+    fn note(&mut self, _start: &TrickStart, _depths: Depths, _interval: Interval) {
         self.notes = self.notes.saturating_add(1);
     }
 }

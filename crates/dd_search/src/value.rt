@@ -55,7 +55,7 @@ pub(crate) fn north_souths_tricks<B: Bounds, M: Meter>(
     let mut need = guess(position);
     'window: while lo < hi {
         need = next_question(need, lo, hi);
-        if takes(position, need, bounds, meter)? {
+        if takes(position, need, bounds, meter)?.yes {
             lo = need;
         } else {
             hi = need - 1;

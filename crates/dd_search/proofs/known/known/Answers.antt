@@ -1,44 +1,30 @@
-use Rattle.std.proofs.Common.{arith, ap, ◌∙◌}
-use Rattle.std.specs.Prelude.{◌≤◌}
+use Rattle.std.proofs.Common.{◌≡◌, ◌∙◌, ap, sym, refl, true, false}
 use Rattle.dd_cards.specs.Seats.{is_north_south}
 use Rattle.dd_play.specs.Board.{Board, left}
-use Rattle.dd_play.specs.Value.{lead}
-use Rattle.dd_play.specs.Intervals.{Holds}
-use Rattle.dd_search.proofs.Questions.{lo-within, bounds-answer}
+use Rattle.dd_rank.specs.Depths.{depth_in}
+use Rattle.dd_rank.proofs.Told.{told}
+use Rattle.dd_search.proofs.Relied.{told-answer}
 use Rattle.dd_search.proofs.known.known.Goals as goal
+use Rattle.dd_search.proofs.known.known.Goals.{then-leads, else-leads}
 
-pub turned-requires : goal.turned-requires
-turned-requires g c =
+pub cards-requires : goal.cards-requires
+cards-requires g c = c.in-Some.ensures.within
+
+pub returns-in-Some-clause-answer : goal.returns-in-Some-clause-answer
+returns-in-Some-clause-answer g c =
     let p = c.args.start.now in
-    let i = c.in-Some.interval in
-    let told : Holds i (lead p) = g.met.B.Bounds.holds c.args.bounds.now p i c.in-Some.ensures in
-    let low : i.lo ≤ left p = lo-within p i.lo i.hi c.position-position.ensures.board c.position-position.ensures.start told.0 told.1 in
+    let i = c.in-Some.told.0 in
+    let d = c.in-Some.told.1 in
+    let claims = told c.cards.result (depth_in d) p i.lo i.hi c.cards.ensures.real c.position-position.ensures.start c.cards.ensures.depths (λ q good a. g.met.B.Bounds.holds c.args.bounds.now p d i q c.in-Some.ensures.told good a) in
+    let side = c.is_north_south-leads.ensures ∙ ap is_north_south (c.first.ensures ∙ ap (λ (q : Board). q.first) c.position-position.ensures.value) in
     let tricks = c.tricks_left-left.ensures.tricks ∙ ap left c.position-position.ensures.value in
-    omega (arith, low, tricks)
-
-pub turned-requires-2 : goal.turned-requires-2
-turned-requires-2 g c =
-    let p = c.args.start.now in
-    let i = c.bounds.result in
-    let quick = c.bounds.ensures.holds in
-    let low : i.lo ≤ left p = lo-within p i.lo i.hi c.position-position.ensures.board c.position-position.ensures.start quick.0 quick.1 in
-    let tricks = c.tricks_left-left.ensures.tricks ∙ ap left c.position-position.ensures.value in
-    omega (arith, low, tricks)
-
-pub returns-then-is_some : goal.returns-then-is_some
-returns-then-is_some g c =
-    let p = c.args.start.now in
-    let i = c.in-Some.interval in
-    let told : Holds i (lead p) = g.met.B.Bounds.holds c.args.bounds.now p i c.in-Some.ensures in
-    bounds-answer p i.lo i.hi c.turned.result.lo c.turned.result.hi c.is_north_south-leads.result c.tricks_left-left.result c.args.need c.settled-answer.result c.position-position.ensures.board c.position-position.ensures.start
-    (c.is_north_south-leads.ensures ∙ ap is_north_south (c.first.ensures ∙ ap (λ (q : Board). q.first) c.position-position.ensures.value))
-    (c.tricks_left-left.ensures.tricks ∙ ap left c.position-position.ensures.value)
-    (record { same = c.turned.ensures.same; other = c.turned.ensures.other }) told.0 told.1 c.settled-answer.ensures
-
-pub returns : goal.returns
-returns g c =
-    let p = c.args.start.now in
-    bounds-answer p c.bounds.result.lo c.bounds.result.hi c.turned-2.result.lo c.turned-2.result.hi c.is_north_south-leads.result c.tricks_left-left.result c.args.need c.settled.result c.position-position.ensures.board c.position-position.ensures.start
-    (c.is_north_south-leads.ensures ∙ ap is_north_south (c.first.ensures ∙ ap (λ (q : Board). q.first) c.position-position.ensures.value))
-    (c.tricks_left-left.ensures.tricks ∙ ap left c.position-position.ensures.value)
-    (record { same = c.turned-2.ensures.same; other = c.turned-2.ensures.other }) c.bounds.ensures.holds.0 c.bounds.ensures.holds.1 c.settled.ensures
+    told-answer p i.lo i.hi c.args.need c.if-leads.leaders c.tricks_left-left.result c.is_north_south-leads.result _ c.cards.result side tricks c.requires.low c.requires.high
+    (elim c.if-leads.branch [
+      | then-leads w ↦ λ t. w.leaders-is
+      | else-leads w ↦ λ t. absurd (let k : false ≡ true = sym w.if-leads.false ∙ t in cc)
+    ])
+    (elim c.if-leads.branch [
+      | then-leads w ↦ λ t. absurd (let k : false ≡ true = sym t ∙ w.if-leads.true in cc)
+      | else-leads w ↦ λ t. w.leaders-is
+    ])
+    c.in-Some.ensures.settles refl claims.0 claims.1

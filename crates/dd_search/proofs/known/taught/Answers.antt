@@ -1,19 +1,28 @@
-use Rattle.std.proofs.Common.{ap, ◌∙◌, ◌≡◌}
+use Rattle.std.proofs.Common.{ap, ◌∙◌, ◌≡◌, ◌-◌, sym}
+use mathlib.Core.Bool.{not}
 use Rattle.dd_cards.specs.Seats.{is_north_south}
 use Rattle.dd_play.specs.Board.{Board, left}
-use Rattle.dd_search.specs.Answers.{IsWindow}
-use Rattle.dd_search.proofs.Questions.{turned-out, yes-window, no-window}
+use Rattle.dd_play.specs.Reach.{reach, TakesBy}
+use Rattle.dd_search.specs.Answers.{AnswerBy}
+use Rattle.dd_search.proofs.Relied.{IsWindowBy, turned-by, yes-window, no-window}
 use Rattle.dd_search.proofs.known.taught.Goals as goal
-use Rattle.dd_search.proofs.known.taught.Goals.{then-yes, else-yes}
+use Rattle.dd_search.proofs.known.taught.Goals.{After-turned, then-answer, else-answer}
 
-pub returns-clause-holds : goal.returns-clause-holds
-returns-clause-holds c =
+both : (c : After-turned) → TakesBy (reach c.args.answer.cards) (is_north_south c.args.start.now.first) c.args.start.now c.turned.result.lo × TakesBy (reach c.args.answer.cards) (not (is_north_south c.args.start.now.first)) c.args.start.now (left c.args.start.now - c.turned.result.hi)
+both c =
     let p = c.args.start.now in
     let tricks : c.tricks_left-left.result ≡ left p = c.tricks_left-left.ensures.tricks ∙ ap left c.position-position.ensures.value in
-    let window : IsWindow p c.if-yes.window.0 c.if-yes.window.1.0 = elim c.if-yes.branch [
-      | then-yes w ↦ yes-window p c.args.need c.args.yes c.if-yes.window.0 c.if-yes.window.1.0 c.requires.answer w.if-yes.true (ap (λ i. i.0) w.window-is) (ap (λ i. i.1.0) w.window-is ∙ tricks)
-      | else-yes w ↦ no-window p c.args.need c.args.yes c.if-yes.window.0 c.if-yes.window.1.0 c.requires.answer w.if-yes.false (ap (λ i. i.0) w.window-is) (ap (λ i. i.1.0) w.window-is) c.requires.low
+    let said = ap (λ (a : AnswerBy). a.yes) c.answer.view_is in
+    let window : IsWindowBy p c.args.answer.cards c.if-answer.window.0 c.if-answer.window.1.0 = elim c.if-answer.branch [
+      | then-answer w ↦ yes-window p c.args.need c.args.answer.cards c.args.answer.yes c.if-answer.window.0 c.if-answer.window.1.0 c.requires.answer (sym said ∙ w.if-answer.true) (ap (λ i. i.0) w.window-is) (ap (λ i. i.1.0) w.window-is ∙ tricks)
+      | else-answer w ↦ no-window p c.args.need c.args.answer.cards c.args.answer.yes c.if-answer.window.0 c.if-answer.window.1.0 c.requires.answer (sym said ∙ w.if-answer.false) (ap (λ i. i.0) w.window-is) (ap (λ i. i.1.0) w.window-is) c.requires.low
     ] in
-    turned-out p c.if-yes.window.0 c.if-yes.window.1.0 c.turned.result.lo c.turned.result.hi c.is_north_south-leads.result c.tricks_left-left.result c.position-position.ensures.board c.position-position.ensures.start
+    turned-by p c.args.answer.cards c.if-answer.window.0 c.if-answer.window.1.0 c.turned.result.lo c.turned.result.hi c.is_north_south-leads.result c.tricks_left-left.result
     (c.is_north_south-leads.ensures ∙ ap is_north_south (c.first.ensures ∙ ap (λ (q : Board). q.first) c.position-position.ensures.value))
     tricks (record { same = c.turned.ensures.same; other = c.turned.ensures.other }) window
+
+pub returns-clause-theirs : goal.returns-clause-theirs
+returns-clause-theirs c = (both c).0
+
+pub returns-clause-others : goal.returns-clause-others
+returns-clause-others c = (both c).1

@@ -1,0 +1,169 @@
+//! How many of the highest cards of each suit matter, and which cards these are.
+ghost use Rattle.std.specs.Prelude.{◌≡◌, ℕ, ◌≤◌, ◌&&◌, true, length, filter, nat_le};
+ghost use Rattle.dd_cards.specs.PlayingCard.{PlayingCard};
+ghost use Rattle.dd_cards.specs.declared.suit.Suit.{Suit as SuitOf};
+ghost use Rattle.dd_cards.specs.Ranks.{IsRank, has_rank};
+ghost use Rattle.dd_cards.specs.Cards.{has_card, is_of};
+ghost use Rattle.dd_cards.specs.Hands.{IsSet};
+ghost use Rattle.dd_play.specs.Board.{IsBoard};
+ghost use Rattle.dd_play.specs.Covers.{count_of};
+ghost use Rattle.dd_play.specs.Reach.{reach};
+ghost use Rattle.dd_rank.specs.Depths.{all_cards, depths_of, depth_in, left_from};
+
+use dd_cards::card::Card;
+use dd_cards::hand::Hand;
+use dd_cards::holding::Holding;
+use dd_cards::rank::Rank;
+use dd_cards::seat::Seat;
+use dd_cards::suit::Suit;
+use dd_play::position::Position;
+use dd_play::trick_start::TrickStart;
+use std::marker::Model;
+
+/// For each suit how many of its highest cards matter.
+#[derive(Clone, Copy, Debug)]
+pub struct Depths {
+    spades: u8,
+    hearts: u8,
+    diamonds: u8,
+    clubs: u8,
+}
+
+impl Model for Depths {
+    ghost use Rattle.dd_rank.specs.Depths.{FourDepths};
+
+    ghost Value = { FourDepths };
+
+    ghost view = { λ d. record { spades = d.spades; hearts = d.hearts; diamonds = d.diamonds; clubs = d.clubs } };
+
+    ghost inverse = { λ v. record { spades = v.spades; hearts = v.hearts; diamonds = v.diamonds; clubs = v.clubs } };
+}
+
+impl Depths {
+    /// The depth of a suit.
+    #[inline]
+    pub fn of(self, suit: Suit) -> u8
+        ensures { result ≡ depth_in self suit }
+    {
+        match suit {
+            Suit::Spades => self.spades,
+            Suit::Hearts => self.hearts,
+            Suit::Diamonds => self.diamonds,
+            Suit::Clubs => self.clubs,
+        }
+    }
+
+    /// The depths of all cards left at a position.
+    pub fn full(start: &TrickStart) -> Depths
+        ensures { (u : SuitOf) → depth_in result u ≡ count_of u (all_cards start.now) }
+    {
+        let all = cards_left(start.position());
+        Depths {
+            spades: all.holding(Suit::Spades).len(),
+            hearts: all.holding(Suit::Hearts).len(),
+            diamonds: all.holding(Suit::Diamonds).len(),
+            clubs: all.holding(Suit::Clubs).len(),
+        }
+    }
+
+    /// The depths of these cards at a position: how many of the cards left are one of them or higher than one.
+    pub fn reached(start: &TrickStart, cards: Hand) -> Depths
+        ensures depths { (u : SuitOf) → depth_in result u ≡ depths_of (reach cards) start.now u }
+        ensures within { (u : SuitOf) → depth_in result u ≤ count_of u (all_cards start.now) }
+        ensures real { (c : PlayingCard) → has_card cards c ≡ true → IsRank c.rank }
+    {
+        let all = cards_left(start.position());
+        Depths {
+            spades: depth_of(all, cards, Suit::Spades),
+            hearts: depth_of(all, cards, Suit::Hearts),
+            diamonds: depth_of(all, cards, Suit::Diamonds),
+            clubs: depth_of(all, cards, Suit::Clubs),
+        }
+    }
+
+    /// The lowest of the cards of these depths at a position, one of each suit of which there are some.
+    pub fn cards(self, start: &TrickStart) -> Hand
+        requires { (u : SuitOf) → depth_in self u ≤ count_of u (all_cards start.now) }
+        ensures depths { (u : SuitOf) → depth_in self u ≤ depths_of (reach result) start.now u }
+        ensures real { (c : PlayingCard) → has_card result c ≡ true → IsRank c.rank }
+    {
+        let all = cards_left(start.position());
+        let cards = Hand::new();
+        let cards = with_depth(all, cards, Suit::Spades, self.spades);
+        let cards = with_depth(all, cards, Suit::Hearts, self.hearts);
+        let cards = with_depth(all, cards, Suit::Diamonds, self.diamonds);
+        let cards = with_depth(all, cards, Suit::Clubs, self.clubs);
+        let _ = cards.holding(Suit::Spades);
+        cards
+    }
+}
+
+// The cards in the four hands, as a set.
+fn cards_left(position: &Position) -> Hand
+    ensures cards { (c : PlayingCard) → has_card result c ≡ has_card (all_cards position.now) c }
+    ensures set { IsSet result }
+    ensures board { IsBoard position.now }
+{
+    let hands = position.hands();
+    hands
+        .hand(Seat::North)
+        .union(hands.hand(Seat::East))
+        .union(hands.hand(Seat::South))
+        .union(hands.hand(Seat::West))
+}
+
+// How many of all cards of the suit are reached.
+#[inline]
+fn depth_of(all: Hand, cards: Hand, suit: Suit) -> u8
+    ensures depth { result ≡ length (filter (λ e. is_of suit e && reach cards e) all) }
+    ensures real { (c : PlayingCard) → has_card cards c ≡ true → IsRank c.rank }
+{
+    match cards.holding(suit).next_from(Rank::of(2)) {
+        Some(floor) => {
+            let left = all.holding(suit);
+            left.len() - left.below(floor).len()
+        }
+        None => 0,
+    }
+}
+
+// The cards, and the one at this depth of the suit.
+#[inline]
+fn with_depth(all: Hand, cards: Hand, suit: Suit, depth: u8) -> Hand
+    requires set { IsSet all }
+    requires depth { depth ≤ count_of suit all }
+    ensures real { (c : PlayingCard) → has_card cards c ≡ true → IsRank c.rank }
+    ensures more { (c : PlayingCard) → has_card cards c ≡ true → has_card result c ≡ true }
+    ensures depth { depth ≤ length (filter (λ e. is_of suit e && reach result e) all) }
+{
+    // The proof reads here that the cards are cards of the pack.
+    let _ = cards.holding(suit);
+    if depth == 0 {
+        return cards;
+    }
+    let left = all.holding(suit);
+    match left.highest() {
+        Some(highest) => {
+            let rank = floor_at(left, highest, depth);
+            cards.with(Card { suit, rank })
+        }
+        None => cards,
+    }
+}
+
+// A rank from which on there are at least so many, going down from the highest.
+fn floor_at(left: Holding, highest: Rank, depth: u8) -> Rank
+    requires some { has_rank left highest ≡ true }
+    requires depth { depth ≤ length left }
+    ensures there { has_rank left result ≡ true }
+    ensures depth { depth ≤ length (left_from result left) }
+{
+    let mut floor = highest;
+    'down: for _ in 1..depth {
+        match left.next_below(floor) {
+            Some(lower) => floor = lower,
+            None => break,
+        }
+    }
+    floor
+}

@@ -1,0 +1,312 @@
+-- answers that rest on cards, by the rules of such claims alone
+use Rattle.std.proofs.Common.{◌≡◌, ℕ, ◌+◌, ◌-◌, ◌<◌, ◌≤◌, Bool, true, false, refl, sym, ap, ◌∙◌, subst, arith, List, [], length, Option, Some, None, get_or, below_more, inl, inr, ◌⊎◌}
+use Rattle.std.specs.Bool.{OnTrue, OnFalse}
+use Rattle.std.specs.Prelude.{filter, map, slice_get, nat_le, MatchOption}
+use Rattle.std.proofs.lemmas.Bool.{leb-true}
+use Rattle.std.proofs.lemmas.Bool.Decides.{nat_tests}
+use Rattle.std.proofs.lemmas.List.{get_or_default}
+use mathlib.Core.Bool.{not, beq}
+use Rattle.dd_cards.specs.declared.suit.Suit.{Suit}
+use Rattle.dd_cards.specs.PlayingCard.{PlayingCard}
+use Rattle.dd_cards.specs.Ranks.{IsRank, has_rank}
+use Rattle.dd_cards.specs.Cards.{has_card, is_of, card_of, with_card}
+use Rattle.dd_cards.proofs.SetLaws.{has_rank-holding}
+use Rattle.dd_cards.specs.Seats.{is_north_south}
+use Rattle.dd_play.specs.Board.{Board, IsBoard, mover, left}
+use Rattle.dd_play.specs.Play.{after}
+use Rattle.dd_play.specs.Value.{lead}
+use Rattle.dd_play.specs.Intervals.{Holds}
+use Rattle.dd_play.specs.declared.interval.Interval.{Interval}
+use Rattle.dd_play.specs.Won.{point}
+use Rattle.dd_play.specs.Simulations.{IsLegal}
+use Rattle.dd_play.specs.Covers.{IsSettled, count_of}
+use Rattle.dd_play.specs.Reach.{reach, TakesBy, IsWorth}
+use Rattle.dd_play.proofs.Boards.{legal-leads}
+use Rattle.dd_play.proofs.Claims.{one-point}
+use Rattle.dd_play.proofs.Worth.{by-nothing, by-fewer, by-more, by-one, by-here, worth-after, worth-fewer, worth-more, worth-low, reach-within, reach-upward, reach-some, reach-of}
+use Rattle.dd_play.proofs.Counts.{not-has}
+use Rattle.dd_equal.specs.EqualCards.{tops, IsWhole}
+use Rattle.dd_equal.proofs.Images.{each-class-whole}
+use Rattle.dd_equal.proofs.Wholes.{with-new, with-which}
+use Rattle.dd_rank.proofs.Lowest.{first-there}
+use Rattle.dd_rank.specs.Depths.{FourDepths, depth_in, all_cards, Covers, depths_of}
+use Rattle.dd_rank.proofs.Told.{told}
+use Rattle.dd_rank.proofs.Fulls.{full-lead, itself}
+use Rattle.dd_search.specs.Answers.{IsAnswer, IsAnswerBy, AnswerBy, IsReordering}
+use Rattle.dd_search.proofs.Questions.{IsTurned}
+use Rattle.dd_search.specs.Moves.{WeighedCard, cards_of}
+use Rattle.dd_search.proofs.Orders.{each-top}
+
+-- these cards are among those
+abbrev pub Within : List PlayingCard → List PlayingCard → Type 0
+Within few many = (c : PlayingCard) → has_card few c ≡ true → has_card many c ≡ true
+
+-- how many tricks the side claims that answers so
+abbrev claimed : Bool → Board → ℕ → ℕ
+claimed true p need = need
+claimed false p need = left p + 1 - need
+
+claim : (said : Bool) (p : Board) (need : ℕ) (cards : List PlayingCard) → IsAnswerBy p need cards said → TakesBy (reach cards) said p (claimed said p need)
+claim true p need cards h = h
+claim false p need cards h = h
+
+answers : (said : Bool) (p : Board) (need : ℕ) (cards : List PlayingCard) → TakesBy (reach cards) said p (claimed said p need) → IsAnswerBy p need cards said
+answers true p need cards h = h
+answers false p need cards h = h
+
+-- an answer holds where it was found
+pub answer-here : (p : Board) (need : ℕ) (cards : List PlayingCard) (said : Bool) → IsBoard p → IsAnswerBy p need cards said → IsAnswer p need said
+answer-here p need cards true valid h = by-here (reach cards) true p need valid (reach-upward cards) h
+answer-here p need cards false valid h = by-here (reach cards) false p (left p + 1 - need) valid (reach-upward cards) h
+
+-- what is claimed after a card, with the trick that the card completes, is what was asked before it
+claimed-after : (said : Bool) (p : Board) (c : PlayingCard) (need rest : ℕ) → IsBoard p → IsLegal p c → 1 ≤ need → rest + point true p c ≡ need
+    → claimed said p need ≤ claimed said (after p c) rest + point said p c
+claimed-after true p c need rest valid has some e = omega (arith, e)
+claimed-after false p c need rest valid has some e =
+    let tricks = (legal-leads p c valid has).tricks in
+    let one = one-point true p c in
+    omega (arith, e, tricks, one, some)
+
+-- a card gives the side its answer, by these cards
+abbrev pub Leads : Board → ℕ → PlayingCard → List PlayingCard → Bool → Type 0
+Leads p need c cards said = IsWorth (reach cards) said p c (claimed said p need)
+
+-- what is found after a legal card that is settled
+pub leads : (p q : Board) (need rest : ℕ) (c : PlayingCard) (later by : List PlayingCard) (said : Bool) → IsBoard p → IsLegal p c → 1 ≤ need → q ≡ after p c → rest + point true p c ≡ need
+    → IsAnswerBy q rest later said → Within later by → IsSettled (reach by) p c → Leads p need c by said
+leads p q need rest c later by said valid has some next same answer within settled =
+    let here : TakesBy (reach later) said (after p c) (claimed said (after p c) rest) = claim said (after p c) rest later (subst (λ (r : Board). IsAnswerBy r rest later said) next answer) in
+    worth-fewer (reach by) said p c (claimed said (after p c) rest + point said p c) (claimed said p need)
+    (worth-after (reach by) said p c (claimed said (after p c) rest) has settled
+    (by-more (reach later) (reach by) said (after p c) (claimed said (after p c) rest) (reach-within later by within) (reach-upward later) here))
+    (claimed-after said p c need rest valid has some same)
+
+-- by more cards too
+pub leads-wider : (p : Board) (need : ℕ) (c : PlayingCard) (few many : List PlayingCard) (said : Bool) → Within few many → Leads p need c few said → Leads p need c many said
+leads-wider p need c few many said within h = worth-more (reach few) (reach many) said p c (claimed said p need) (reach-within few many within) (reach-upward few) h
+
+-- a low card for another
+pub leads-low : (p : Board) (need : ℕ) (c d : PlayingCard) (cards : List PlayingCard) (said : Bool) → reach cards c ≡ false → reach cards d ≡ false → d.suit ≡ c.suit → Leads p need c cards said → Leads p need d cards said
+leads-low p need c d cards said low low' suits h = worth-low (reach cards) said p c d (claimed said p need) low low' suits h
+
+turn : (a b : Bool) → a ≡ b → beq b a ≡ true
+turn true true e = refl
+turn false false e = refl
+turn true false e = absurd (cc)
+turn false true e = absurd (cc)
+
+turn-not : (a b : Bool) → a ≡ not b → beq b a ≡ false
+turn-not true true e = absurd (cc)
+turn-not false false e = absurd (cc)
+turn-not true false e = refl
+turn-not false true e = refl
+
+-- one card is enough for the side that plays it
+pub one-settles : (p : Board) (need : ℕ) (c : PlayingCard) (cards : List PlayingCard) (said : Bool) → said ≡ is_north_south (mover p) → IsLegal p c → Leads p need c cards said → IsAnswerBy p need cards said
+one-settles p need c cards said side has h = answers said p need cards (by-one (reach cards) said p c (claimed said p need) (turn said (is_north_south (mover p)) side) has h)
+
+-- where no card of the side to play is enough, the other side has it
+pub none-settles : (p : Board) (need : ℕ) (cards : List PlayingCard) (said : Bool) → IsBoard p → said ≡ not (is_north_south (mover p)) → 1 ≤ need → need ≤ left p → IsWhole (reach cards) p
+    → ((c : PlayingCard) → has_card (tops p) c ≡ true → Leads p need c cards said) → IsAnswerBy p need cards said
+none-settles p need cards said valid side some most whole each =
+    answers said p need cards (each-class-whole (reach cards) said p (claimed said p need) (reach-upward cards) valid (turn-not said (is_north_south (mover p)) side) (omega (arith, some, most)) whole each)
+
+-- ---- the walk over the moves
+
+-- each move so far gives the other side its answer
+abbrev pub AllLead : Board → ℕ → List WeighedCard → ℕ → List PlayingCard → Bool → Type 0
+AllLead p need places i cards said = (k : ℕ) → k < i → (d : WeighedCard) → Leads p need (get_or places k d).card cards said
+
+-- and so does each card up to one of these of its suit
+abbrev pub AllSpared : Board → ℕ → List PlayingCard → List PlayingCard → Bool → Type 0
+AllSpared p need spared cards said = (e : PlayingCard) → has_card spared e ≡ true → (c : PlayingCard) → c.suit ≡ e.suit → c.rank ≤ e.rank → Leads p need c cards said
+
+-- one move more
+pub one-more : (p : Board) (need : ℕ) (places : List WeighedCard) (i : ℕ) (m : WeighedCard) (card : PlayingCard) (old new : List PlayingCard) (said : Bool) → m ≡ get_or places i m → i < length places → card ≡ m.card → Within old new
+    → Leads p need card new said → AllLead p need places i old said → AllLead p need places (i + 1) new said
+one-more p need places i m card old new said is within same more here each =
+    below_more _ _ (λ k h d. leads-wider p need (get_or places k d).card old new said more (each k h d)) (λ d.
+    let place : get_or places i d ≡ m = get_or_default places i d m within ∙ sym is in
+    subst (λ (x : PlayingCard). Leads p need x new said) (same ∙ ap (λ (y : WeighedCard). y.card) (sym place)) here)
+
+-- what also_spared says of its result
+abbrev pub IsAlso : List PlayingCard → PlayingCard → List PlayingCard → List PlayingCard → Type 0
+IsAlso old card by new = (e : PlayingCard) → has_card new e ≡ true → (has_card old e ≡ true) ⊎ ((e.suit ≡ card.suit) × (card.rank ≤ e.rank) × ((c : PlayingCard) → c.suit ≡ card.suit → c.rank ≤ e.rank → reach by c ≡ false))
+
+-- more cards are spared
+pub more-spared : (p : Board) (need : ℕ) (card : PlayingCard) (old new by cards all : List PlayingCard) (said : Bool) → IsAlso old card by new → Within cards all → Within by all → Leads p need card by said
+    → AllSpared p need old cards said → AllSpared p need new all said
+more-spared p need card old new by cards all said also a b here each e has c suits low = elim (also e has) [
+  | inl before ↦ leads-wider p need c cards all said a (each e before c suits low)
+  | inr now ↦ leads-wider p need c by all said b (leads-low p need card c by said (now.2 card refl now.1) (now.2 c (suits ∙ now.0) low) (suits ∙ now.0) here)
+]
+
+-- ---- what is spared
+
+abbrev pub AreOf : Suit → List ℕ → List PlayingCard → Type 0
+AreOf s ranks cards = map (card_of s) ranks ≡ filter (is_of s) cards
+
+-- the highest of the suit is no lower
+pub first-spared : (s : Suit) (ranks : List ℕ) (cards : List PlayingCard) (r n : ℕ) → AreOf s ranks cards → Some n ≡ slice_get ranks 0 → r ≤ n
+    → (e : PlayingCard) × (has_card cards e ≡ true) × (e.suit ≡ s) × (r ≤ e.rank)
+first-spared s ranks cards r n are first low = (card_of s n, sym (has_rank-holding s ranks cards n are) ∙ first-there ranks n first, refl, low)
+
+-- nothing of the suit is reached
+pub none-reached : (s : Suit) (ranks : List ℕ) (cards : List PlayingCard) → AreOf s ranks cards → ((d : PlayingCard) → has_card cards d ≡ true → IsRank d.rank) → ((q : ℕ) → has_rank ranks q ≡ true → q < 2)
+    → (c : PlayingCard) → c.suit ≡ s → reach cards c ≡ false
+none-reached s ranks cards are real none c suits = not-has _ (λ h.
+    let d = reach-some cards c h in
+    let same : d.0 ≡ card_of s d.0.rank = ap (λ (u : Suit). card_of u d.0.rank) (d.2 ∙ suits) in
+    let low = none d.0.rank (has_rank-holding s ranks cards d.0.rank are ∙ ap (has_card cards) (sym same) ∙ d.1) in
+    let two = (real d.0 d.1).0 in
+    omega (arith, low, two))
+
+-- nothing below the lowest is
+pub low-reached : (s : Suit) (ranks : List ℕ) (cards : List PlayingCard) (floor : ℕ) → AreOf s ranks cards → ((d : PlayingCard) → has_card cards d ≡ true → IsRank d.rank) → ((q : ℕ) → has_rank ranks q ≡ true → 2 ≤ q → floor ≤ q)
+    → (c : PlayingCard) → c.suit ≡ s → c.rank < floor → reach cards c ≡ false
+low-reached s ranks cards floor are real least c suits below = not-has _ (λ h.
+    let d = reach-some cards c h in
+    let same : d.0 ≡ card_of s d.0.rank = ap (λ (u : Suit). card_of u d.0.rank) (d.2 ∙ suits) in
+    let l = least d.0.rank (has_rank-holding s ranks cards d.0.rank are ∙ ap (has_card cards) (sym same) ∙ d.1) (real d.0 d.1).0 in
+    let m = d.3 in
+    omega (arith, l, m, below))
+
+-- one card more is spared
+pub also-one : (old cards : List PlayingCard) (card x : PlayingCard) → x.suit ≡ card.suit → card.rank ≤ x.rank → ((c : PlayingCard) → c.suit ≡ card.suit → c.rank ≤ x.rank → reach cards c ≡ false) → IsAlso old card cards (with_card old x)
+also-one old cards card x suits low none e h = elim (with-which old x e h) [
+  | inl same ↦ inr (
+    ap (λ (y : PlayingCard). y.suit) same ∙ suits,
+    (let r : e.rank ≡ x.rank = ap (λ (y : PlayingCard). y.rank) same in omega (arith, r, low)),
+    λ c s l. none c s (let r : e.rank ≡ x.rank = ap (λ (y : PlayingCard). y.rank) same in omega (arith, r, l)),
+  )
+  | inr before ↦ inl before
+]
+
+-- a card that is put in is reached
+pub reach-new : (cards : List PlayingCard) (x : PlayingCard) → IsRank x.rank → reach (with_card cards x) x ≡ true
+reach-new cards x real = reach-of (with_card cards x) x x (with-new cards x real) refl (omega arith)
+
+-- ---- what bounds tell
+
+-- bounds that settle the leader's question settle North and South's
+pub told-answer : (p : Board) (lo hi need leaders left_is : ℕ) (leads said : Bool) (cards : List PlayingCard) → leads ≡ is_north_south p.first → left_is ≡ left p → 1 ≤ need → need ≤ left p
+    → (leads ≡ true → leaders ≡ need) → (leads ≡ false → leaders ≡ left_is + 1 - need) → (leaders ≤ lo) ⊎ (hi < leaders) → said ≡ beq (nat_le leaders lo) leads
+    → TakesBy (reach cards) (is_north_south p.first) p lo → TakesBy (reach cards) (not (is_north_south p.first)) p (left p - hi) → IsAnswerBy p need cards said
+told-answer p lo hi need leaders left_is leads said cards side tricks some most ours theirs settles is low high = subst (λ (b : Bool). IsAnswerBy p need cards b) (sym is) (go leads side ours theirs (nat_le leaders lo) refl)
+  where
+    not-le : (a b : ℕ) → nat_le a b ≡ false → b < a
+    not-le a b h = grind (arith, nat_tests)
+
+    over : nat_le leaders lo ≡ false → hi < leaders
+    over e = elim settles [ inl l ↦ absurd (let n = not-le leaders lo e in omega (arith, n, l)) | inr h ↦ h ]
+
+    go : (b : Bool) → b ≡ is_north_south p.first → (b ≡ true → leaders ≡ need) → (b ≡ false → leaders ≡ left_is + 1 - need) → (k : Bool) → nat_le leaders lo ≡ k → IsAnswerBy p need cards (beq k b)
+    go true s ours theirs true e = by-fewer (reach cards) true p lo need (subst (λ (x : Bool). TakesBy (reach cards) x p lo) (sym s) low) (let l = leb-true leaders lo e in let o = ours refl in omega (arith, l, o))
+    go true s ours theirs false e = by-fewer (reach cards) false p (left p - hi) (left p + 1 - need) (subst (λ (x : Bool). TakesBy (reach cards) (not x) p (left p - hi)) (sym s) high) (let l = over e in let o = ours refl in omega (arith, l, o))
+    go false s ours theirs true e = by-fewer (reach cards) false p lo (left p + 1 - need) (subst (λ (x : Bool). TakesBy (reach cards) x p lo) (sym s) low) (let l = leb-true leaders lo e in let o = theirs refl in omega (arith, l, o, tricks))
+    go false s ours theirs false e = by-fewer (reach cards) true p (left p - hi) need (subst (λ (x : Bool). TakesBy (reach cards) (not x) p (left p - hi)) (sym s) high) (let l = over e in let o = theirs refl in omega (arith, l, o, tricks, some, most))
+
+-- what two truth values that agree or differ tell
+same-beq : (a b : Bool) → beq a b ≡ true → a ≡ b
+same-beq true true h = refl
+same-beq true false h = absurd (cc)
+same-beq false true h = absurd (cc)
+same-beq false false h = refl
+
+pub differ-beq : (a b : Bool) → beq a b ≡ false → a ≡ not b
+differ-beq true true h = absurd (cc)
+differ-beq true false h = refl
+differ-beq false true h = refl
+differ-beq false false h = absurd (cc)
+
+-- a card against the side to play
+pub leads-against : (p q : Board) (need rest : ℕ) (c : PlayingCard) (later by : List PlayingCard) (b said : Bool) → IsBoard p → IsLegal p c → 1 ≤ need → q ≡ after p c → rest + point true p c ≡ need
+    → IsAnswerBy q rest later said → beq said b ≡ false → Within later by → IsSettled (reach by) p c → Leads p need c by (not b)
+leads-against p q need rest c later by b said valid has some next same answer against within settled =
+    leads p q need rest c later by (not b) valid has some next same (subst (λ (x : Bool). IsAnswerBy q rest later x) (differ-beq said b against) answer) within settled
+
+-- a card for it
+pub settled-answer : (p q : Board) (need rest : ℕ) (c : PlayingCard) (later by : List PlayingCard) (b said : Bool) → IsBoard p → b ≡ is_north_south (mover p) → IsLegal p c → 1 ≤ need → q ≡ after p c → rest + point true p c ≡ need
+    → IsAnswerBy q rest later said → beq said b ≡ true → Within later by → IsSettled (reach by) p c → IsAnswerBy p need by b
+settled-answer p q need rest c later by b said valid side has some next same answer wanted within settled =
+    one-settles p need c by b side has (leads p q need rest c later by b valid has some next same (subst (λ (x : Bool). IsAnswerBy q rest later x) (same-beq said b wanted) answer) within settled)
+
+-- where the walk ended with nothing found, or with what a card found
+abbrev pub Walked : Board → ℕ → List WeighedCard → List WeighedCard → ℕ → List PlayingCard → Bool → Option (List PlayingCard) → Type 0
+Walked p need places moves i cards b found = MatchOption found ((length places ≤ i) × AllLead p need places i cards (not b)) (λ by. IsAnswerBy p need by b)
+
+-- the answer where a card found it
+pub some-found : (p : Board) (need : ℕ) (places moves : List WeighedCard) (i : ℕ) (cards by : List PlayingCard) (b : Bool) (found : Option (List PlayingCard)) (answer : AnswerBy) → Walked p need places moves i cards b found → found ≡ Some by
+    → answer ≡ record { yes = b; cards = by } → IsAnswerBy p need answer.cards answer.yes
+some-found p need places moves i cards by b found answer walked e is =
+    let h : IsAnswerBy p need by b = subst (λ (o : Option (List PlayingCard)). Walked p need places moves i cards b o) e walked in
+    subst (λ (a : AnswerBy). IsAnswerBy p need a.cards a.yes) (sym is) h
+
+-- and where none did
+pub none-found : (p : Board) (need : ℕ) (places moves : List WeighedCard) (i : ℕ) (cards all : List PlayingCard) (b : Bool) (found : Option (List PlayingCard)) (answer : AnswerBy) → IsBoard p → b ≡ is_north_south (mover p) → places ≡ moves → IsReordering (cards_of moves) (tops p)
+    → 1 ≤ need → need ≤ left p → Walked p need places moves i cards b found → found ≡ None → Within cards all → IsWhole (reach all) p → answer ≡ record { yes = not b; cards = all } → IsAnswerBy p need answer.cards answer.yes
+none-found p need places moves i cards all b found answer valid side same order some most walked e more is_whole is =
+    let h : (length places ≤ i) × AllLead p need places i cards (not b) = subst (λ (o : Option (List PlayingCard)). Walked p need places moves i cards b o) e walked in
+    let each : (c : PlayingCard) → has_card (tops p) c ≡ true → Leads p need c cards (not b) = each-top p places moves i (λ c. Leads p need c cards (not b)) same order h.0 h.1 in
+    subst (λ (a : AnswerBy). IsAnswerBy p need a.cards a.yes) (sym is) (none-settles p need all (not b) valid (ap not side) some most is_whole (λ c has. leads-wider p need c cards all (not b) more (each c has)))
+
+-- ---- counting, and what an answer teaches
+
+pub counted-yes : (p : Board) (need : ℕ) → need ≡ 0 → IsAnswerBy p need [] true
+counted-yes p need e = by-fewer (reach []) true p 0 need (by-nothing (reach []) true p) (omega (arith, e))
+
+pub counted-no : (p : Board) (need : ℕ) → left p < need → IsAnswerBy p need [] false
+counted-no p need h = by-fewer (reach []) false p 0 (left p + 1 - need) (by-nothing (reach []) false p) (omega (arith, h))
+
+-- a window of North and South's tricks, by these cards
+abbrev pub IsWindowBy : Board → List PlayingCard → ℕ → ℕ → Type 0
+IsWindowBy p cards lo hi = TakesBy (reach cards) true p lo × TakesBy (reach cards) false p (left p - hi)
+
+pub yes-window : (p : Board) (need : ℕ) (cards : List PlayingCard) (said : Bool) (lo hi : ℕ) → IsAnswerBy p need cards said → said ≡ true → lo ≡ need → hi ≡ left p → IsWindowBy p cards lo hi
+yes-window p need cards said lo hi answer e low high =
+    let k : TakesBy (reach cards) true p need = subst (λ (x : Bool). IsAnswerBy p need cards x) e answer in
+    (by-fewer (reach cards) true p need lo k (omega (arith, low)), by-fewer (reach cards) false p 0 (left p - hi) (by-nothing (reach cards) false p) (omega (arith, high)))
+
+pub no-window : (p : Board) (need : ℕ) (cards : List PlayingCard) (said : Bool) (lo hi : ℕ) → IsAnswerBy p need cards said → said ≡ false → lo ≡ 0 → hi ≡ need - 1 → 1 ≤ need → IsWindowBy p cards lo hi
+no-window p need cards said lo hi answer e low high some =
+    let k : TakesBy (reach cards) false p (left p + 1 - need) = subst (λ (x : Bool). IsAnswerBy p need cards x) e answer in
+    (by-fewer (reach cards) true p 0 lo (by-nothing (reach cards) true p) (omega (arith, low)), by-fewer (reach cards) false p (left p + 1 - need) (left p - hi) k (omega (arith, high, some)))
+
+-- turned to the leader's
+pub turned-by : (p : Board) (cards : List PlayingCard) (l h lo hi : ℕ) (leads : Bool) (n : ℕ) → leads ≡ is_north_south p.first → n ≡ left p → IsTurned leads n l h lo hi → IsWindowBy p cards l h
+    → TakesBy (reach cards) (is_north_south p.first) p lo × TakesBy (reach cards) (not (is_north_south p.first)) p (left p - hi)
+turned-by p cards l h lo hi leads n side tricks turn w = subst (λ (x : Bool). TakesBy (reach cards) x p lo × TakesBy (reach cards) (not x) p (left p - hi)) side (go leads turn)
+  where
+    go : (b : Bool) → IsTurned b n l h lo hi → TakesBy (reach cards) b p lo × TakesBy (reach cards) (not b) p (left p - hi)
+    go true t =
+        let a = t.same.0 in
+        let b = t.same.1 in
+        (by-fewer (reach cards) true p l lo w.0 (omega (arith, a)), by-fewer (reach cards) false p (left p - h) (left p - hi) w.1 (omega (arith, b, tricks)))
+    go false t =
+        let a = t.other.0 in
+        let b = t.other.1 in
+        (by-fewer (reach cards) false p (left p - h) lo w.1 (omega (arith, a, tricks)), by-fewer (reach cards) true p l (left p - hi) w.0 (omega (arith, b, tricks)))
+
+-- what the quick bounds say rests on all cards left
+pub full-answer : (p : Board) (need : ℕ) (cards : List PlayingCard) (depths : FourDepths) (said : Bool) (l h lo hi : ℕ) (leads : Bool) (n : ℕ) → IsBoard p → p.trick ≡ [] → leads ≡ is_north_south p.first → n ≡ left p → IsTurned leads n l h lo hi
+    → l ≤ lead p → lead p ≤ h → ((c : PlayingCard) → has_card cards c ≡ true → IsRank c.rank) → ((u : Suit) → depth_in depths u ≡ count_of u (all_cards p)) → ((u : Suit) → depth_in depths u ≤ depths_of (reach cards) p u)
+    → OnTrue said (need ≤ lo) → OnFalse said (hi < need) → IsAnswerBy p need cards said
+full-answer p need cards depths said l h lo hi leads n valid start side tricks turn low high real full enough on off =
+    let each : (q : Board) → IsBoard q → Covers p (depth_in depths) q → (l ≤ lead q) × (lead q ≤ h) = λ q good a. (let e = full-lead p q (depth_in depths) valid good full a in (omega (arith, e, low), omega (arith, e, high))) in
+    let claims = told cards (depth_in depths) p l h real start enough each in
+    go said on off (subst (λ (x : Bool). IsTurned x n l h lo hi) side turn) claims (is_north_south p.first) refl
+  where
+    go : (s : Bool) → OnTrue s (need ≤ lo) → OnFalse s (hi < need) → IsTurned (is_north_south p.first) n l h lo hi → TakesBy (reach cards) (is_north_south p.first) p l × TakesBy (reach cards) (not (is_north_south p.first)) p (left p - h)
+        → (b : Bool) → is_north_south p.first ≡ b → IsAnswerBy p need cards s
+    go s on off t claims b e = at s on off b (subst (λ (x : Bool). IsTurned x n l h lo hi) e t) (subst (λ (x : Bool). TakesBy (reach cards) x p l × TakesBy (reach cards) (not x) p (left p - h)) e claims)
+      where
+        at : (s : Bool) → OnTrue s (need ≤ lo) → OnFalse s (hi < need) → (b : Bool) → IsTurned b n l h lo hi → TakesBy (reach cards) b p l × TakesBy (reach cards) (not b) p (left p - h) → IsAnswerBy p need cards s
+        at true on off true t k = (let a = t.same.0 in by-fewer (reach cards) true p l need k.0 (omega (arith, a, on)))
+        at true on off false t k = (let a = t.other.0 in by-fewer (reach cards) true p (left p - h) need k.1 (omega (arith, a, on, tricks)))
+        at false on off true t k = (let a = t.same.1 in by-fewer (reach cards) false p (left p - h) (left p + 1 - need) k.1 (omega (arith, a, off, tricks)))
+        at false on off false t k = (let a = t.other.1 in by-fewer (reach cards) false p l (left p + 1 - need) k.0 (omega (arith, a, off, tricks)))
+
+-- what is told of a position holds of it
+pub told-here : (p : Board) (depths : FourDepths) (i : Interval) → IsBoard p → p.trick ≡ [] → ((u : Suit) → depth_in depths u ≤ count_of u (all_cards p)) → ((q : Board) → IsBoard q → Covers p (depth_in depths) q → Holds i (lead q)) → Holds i (lead p)
+told-here p depths i valid start most each = each p valid (itself p (depth_in depths) start most)
