@@ -1,14 +1,14 @@
 -- putting moves in order loses none and doubles none
-use Rattle.std.proofs.Common.{◌≡◌, ◌≢◌, ℕ, zero, suc, ◌+◌, ◌-◌, ◌<◌, ◌≤◌, Bool, true, false, refl, sym, ap, ◌∙◌, subst, arith, List, [], ◌∷◌, ◌++◌, length, take, length-append, length-set, get_or, set, get_or-set_same, get_or-set_other}
+use Rattle.std.proofs.Common.{◌≡◌, ◌≢◌, ℕ, zero, suc, ◌+◌, ◌-◌, ◌<◌, ◌≤◌, Bool, true, false, refl, sym, ap, ◌∙◌, subst, append_assoc, arith, List, [], ◌∷◌, ◌++◌, Option, None, Some, length, take, length-append, length-set, get_or, set, get_or-set_same, get_or-set_other}
 use Rattle.std.specs.Prelude.{map, cond}
 use mathlib.Core.Bool.{not}
 use Rattle.std.specs.List.{swap}
 use Rattle.std.specs.List.Sorted.{IsPermutation}
-use Rattle.std.proofs.lemmas.List.{set-set, take_more, take_all, map-append}
+use Rattle.std.proofs.lemmas.List.{set-set, take_more, take_all, map-append, append-nil}
 use Rattle.std.proofs.lemmas.List.Sums.{length-filter}
 use Rattle.std.proofs.Math.Seq.{set-append_seam}
 use Rattle.std.proofs.lemmas.List.Edits.{swap_is}
-use Rattle.std.proofs.lemmas.List.Sorted.{IsPermutation-refl, IsPermutation-swap, IsPermutation-trans, IsPermutation-map, IsPermutation-append_left, sum_by-IsPermutation}
+use Rattle.std.proofs.lemmas.List.Sorted.{IsPermutation-refl, IsPermutation-swap, IsPermutation-trans, IsPermutation-map, IsPermutation-append_left, IsPermutation-append_right, IsPermutation-append_comm, sum_by-IsPermutation}
 use Rattle.dd_cards.specs.Seats.{is_north_south}
 use Rattle.dd_cards.specs.PlayingCard.{PlayingCard}
 use Rattle.dd_cards.specs.Cards.{same_card, has_card}
@@ -25,21 +25,55 @@ use Rattle.dd_search.proofs.Questions.{top-legal, LeadsTo, none-settles}
 
 -- ---- one card of each class
 
--- one class more, and its highest card among the moves
-pub one-more : (classes : List EqualCards) (old new : List WeighedCard) (i : ℕ) (class : EqualCards) (card : PlayingCard) (w : ℕ) → i < length classes → class ≡ get_or classes i class → card ≡ class.top
-    → IsPermutation (map (λ k. k.top) (take i classes)) (cards_of old) → IsPermutation (old ++ record { card = card; weight = w } ∷ []) new → IsPermutation (map (λ k. k.top) (take (i + 1) classes)) (cards_of new)
-one-more classes old new i class card w within is top same put =
-    let move : WeighedCard = record { card = card; weight = w } in
+-- the card of the move that is held back, if there is one
+abbrev pub held : Option WeighedCard → List PlayingCard
+held None = []
+held (Some m) = m.card ∷ []
+
+-- one class more, and its highest card among the cards
+pub one-more : (classes : List EqualCards) (old new : List PlayingCard) (i : ℕ) (class : EqualCards) (card : PlayingCard) → i < length classes → class ≡ get_or classes i class → card ≡ class.top
+    → IsPermutation (map (λ k. k.top) (take i classes)) old → IsPermutation (old ++ card ∷ []) new → IsPermutation (map (λ k. k.top) (take (i + 1) classes)) new
+one-more classes old new i class card within is top same put =
     let walked : map (λ (k : EqualCards). k.top) (take (i + 1) classes) ≡ map (λ (k : EqualCards). k.top) (take i classes) ++ card ∷ [] =
     ap (map (λ (k : EqualCards). k.top)) (take_more classes i class within)
     ∙ map-append (λ (k : EqualCards). k.top) (take i classes) (get_or classes i class ∷ [])
     ∙ ap (λ c. map (λ (k : EqualCards). k.top) (take i classes) ++ c ∷ []) (ap (λ (k : EqualCards). k.top) (sym is) ∙ sym top) in
-    let moved : IsPermutation (cards_of (old ++ move ∷ [])) (cards_of new) = IsPermutation-map (λ (m : WeighedCard). m.card) (old ++ move ∷ []) new put in
-    let split : cards_of (old ++ move ∷ []) ≡ cards_of old ++ card ∷ [] = map-append (λ (m : WeighedCard). m.card) old (move ∷ []) in
-    subst (λ cards. IsPermutation cards (cards_of new)) (sym walked)
-    (IsPermutation-trans (map (λ (k : EqualCards). k.top) (take i classes) ++ card ∷ []) (cards_of old ++ card ∷ []) (cards_of new)
-    (IsPermutation-append_left (card ∷ []) (map (λ (k : EqualCards). k.top) (take i classes)) (cards_of old) same)
-    (subst (λ cards. IsPermutation cards (cards_of new)) split moved))
+    subst (λ cards. IsPermutation cards new) (sym walked)
+    (IsPermutation-trans (map (λ (k : EqualCards). k.top) (take i classes) ++ card ∷ []) (old ++ card ∷ []) new
+    (IsPermutation-append_left (card ∷ []) (map (λ (k : EqualCards). k.top) (take i classes)) old same) put)
+
+-- a first card is held back
+pub first-held : (moves : List WeighedCard) (card : PlayingCard) → IsPermutation ((cards_of moves ++ []) ++ card ∷ []) (cards_of moves ++ card ∷ [])
+first-held moves card = subst (λ cards. IsPermutation (cards ++ card ∷ []) (cards_of moves ++ card ∷ [])) (sym (append-nil (cards_of moves))) (IsPermutation-refl (cards_of moves ++ card ∷ []))
+
+-- another card is held back, or stands among the moves
+pub next-held : (moves : List WeighedCard) (new : List PlayingCard) (first second : PlayingCard) → IsPermutation (cards_of moves ++ first ∷ second ∷ []) new
+    → IsPermutation ((cards_of moves ++ first ∷ []) ++ second ∷ []) new
+next-held moves new first second same =
+    subst (λ cards. IsPermutation cards new) (sym (append_assoc (cards_of moves) (first ∷ []) (second ∷ []))) same
+
+-- the cards of moves and of one more that was put among them
+pub put-cards : (old new : List WeighedCard) (m : WeighedCard) (card : PlayingCard) → m.card ≡ card → IsPermutation (old ++ m ∷ []) new
+    → IsPermutation (cards_of old ++ card ∷ []) (cards_of new)
+put-cards old new m card same put =
+    subst (λ cards. IsPermutation cards (cards_of new))
+    (map-append (λ (w : WeighedCard). w.card) old (m ∷ []) ∙ ap (λ c. cards_of old ++ c ∷ []) same)
+    (IsPermutation-map (λ (w : WeighedCard). w.card) (old ++ m ∷ []) new put)
+
+-- of two cards the first was put among the moves, and the second comes behind them
+pub first-put : (old new : List WeighedCard) (m : WeighedCard) (first second : PlayingCard) → m.card ≡ first → IsPermutation (old ++ m ∷ []) new
+    → IsPermutation (cards_of old ++ first ∷ second ∷ []) (cards_of new ++ second ∷ [])
+first-put old new m first second same put =
+    subst (λ cards. IsPermutation cards (cards_of new ++ second ∷ [])) (append_assoc (cards_of old) (first ∷ []) (second ∷ []))
+    (IsPermutation-append_left (second ∷ []) (cards_of old ++ first ∷ []) (cards_of new) (put-cards old new m first same put))
+
+-- .. or the second was, and the first comes behind them
+pub second-put : (old new : List WeighedCard) (m : WeighedCard) (first second : PlayingCard) → m.card ≡ second → IsPermutation (old ++ m ∷ []) new
+    → IsPermutation (cards_of old ++ first ∷ second ∷ []) (cards_of new ++ first ∷ [])
+second-put old new m first second same put =
+    IsPermutation-trans (cards_of old ++ first ∷ second ∷ []) (cards_of old ++ second ∷ first ∷ []) (cards_of new ++ first ∷ [])
+    (IsPermutation-append_right (cards_of old) (first ∷ second ∷ []) (second ∷ first ∷ []) (IsPermutation-append_comm (first ∷ []) (second ∷ [])))
+    (first-put old new m second first same put)
 
 -- a card stands as often in any order
 times-permutation : (cards others : List PlayingCard) → IsPermutation cards others → IsReordering others cards
@@ -52,11 +86,11 @@ tops-of p [] = refl
 tops-of p (c ∷ cards) = ap (λ rest. c ∷ rest) (tops-of p cards)
 
 -- so the moves are the highest cards of the classes in some order
-pub all-tops : (p : Board) (classes : List EqualCards) (moves : List WeighedCard) (i : ℕ) → classes ≡ classes_of p → length classes ≤ i
-    → IsPermutation (map (λ k. k.top) (take i classes)) (cards_of moves) → IsReordering (cards_of moves) (tops p)
-all-tops p classes moves i are done same =
+pub all-tops : (p : Board) (classes : List EqualCards) (cards : List PlayingCard) (i : ℕ) → classes ≡ classes_of p → length classes ≤ i
+    → IsPermutation (map (λ k. k.top) (take i classes)) cards → IsReordering cards (tops p)
+all-tops p classes cards i are done same =
     let whole : map (λ (k : EqualCards). k.top) (take i classes) ≡ tops p = ap (map (λ (k : EqualCards). k.top)) (take_all i classes done ∙ are) ∙ tops-of p (tops p) in
-    times-permutation (tops p) (cards_of moves) (subst (λ cards. IsPermutation cards (cards_of moves)) whole same)
+    times-permutation (tops p) cards (subst (λ tops. IsPermutation tops cards) whole same)
 
 -- ---- the moves are legal, and none is missing
 

@@ -1,68 +1,109 @@
-//! Where to begin: a guess of the tricks of a side, from who holds the high cards and the trumps.
+//! Where to begin: a guess of the tricks of a side, from who leads, and who holds the high cards and the trumps.
 ghost use Rattle.std.specs.Prelude.{◌≤◌};
 
 use crate::strength::code_of_highest;
 use dd_cards::holding::Holding;
-use dd_cards::seat::Seat;
 use dd_cards::strain::Strain;
 use dd_cards::suit::Suit;
 use dd_play::position::Position;
 
-// The points of a side.
+// The points of the leader's side and of the other.
 #[derive(Clone, Copy, Debug)]
 struct Points {
-    ours: u16,
-    theirs: u16,
+    ours: u32,
+    theirs: u32,
 }
 
-/// A guess of the tricks, 0 to those left, that North and South take from here on: half of them, and more or less by
-/// their share of the points.
+// What a guess counts, in thousandths of a trick of a full deal.
+#[derive(Clone, Copy, Debug)]
+struct Worths {
+    // to be on lead
+    lead: u32,
+    // a point more than the other side
+    point: u32,
+    // a trump more than the other side
+    trump: u32,
+}
+
+// Fitted by eye to random full deals.
+const NOTRUMP: Worths = Worths {
+    lead: 800,
+    point: 224,
+    trump: 0,
+};
+
+const TRUMPS: Worths = Worths {
+    lead: 240,
+    point: 152,
+    trump: 506,
+};
+
+/// A guess of the tricks, 0 to those left, that North and South take from here on: half of them, and more or less by who
+/// leads and by each side's share of the points and the trumps.
 pub(crate) fn guess(position: &Position) -> u8 {
+    let tricks = leaders_guess(position);
+    if position.first().is_north_south() {
+        tricks
+    } else {
+        position.tricks_left().saturating_sub(tricks)
+    }
+}
+
+// The guess for the leader's side.
+fn leaders_guess(position: &Position) -> u8 {
+    let left = position.tricks_left() as u32;
+    let points = all_points(position);
+    let (worths, trumps) = match position.strain() {
+        Strain::Notrump => (NOTRUMP, Points { ours: 0, theirs: 0 }),
+        Strain::Trump(suit) => {
+            let (ours, theirs) = sides(position, suit);
+            let ours = ours.len() as u32;
+            let theirs = theirs.len() as u32;
+            (TRUMPS, Points { ours, theirs })
+        }
+    };
+    let more = (worths.lead + worths.point * points.ours) * left / 13 + worths.trump * trumps.ours;
+    let less = worths.point * points.theirs * left / 13 + worths.trump * trumps.theirs;
+    let thousandths = (500 * left + more + 500).saturating_sub(less);
+    (thousandths / 1000).min(left) as u8
+}
+
+// The points of all suits.
+fn all_points(position: &Position) -> Points
+    ensures ours { result.ours ≤ 160 }
+    ensures theirs { result.theirs ≤ 160 }
+{
     let spades = points_of(position, Suit::Spades);
     let hearts = points_of(position, Suit::Hearts);
     let diamonds = points_of(position, Suit::Diamonds);
     let clubs = points_of(position, Suit::Clubs);
-    let ours = spades.ours + hearts.ours + diamonds.ours + clubs.ours;
-    let theirs = spades.theirs + hearts.theirs + diamonds.theirs + clubs.theirs;
-    let all = ours + theirs;
-    if all == 0 {
-        return 0;
+    Points {
+        ours: spades.ours + hearts.ours + diamonds.ours + clubs.ours,
+        theirs: spades.theirs + hearts.theirs + diamonds.theirs + clubs.theirs,
     }
-    let left = position.tricks_left() as u16;
-    // The half of `left * (1 + 2 * (ours - theirs) / all)`, rounded.
-    let tricks = (left * (3 * ours).saturating_sub(theirs) + all) / (2 * all);
-    tricks.min(left) as u8
 }
 
-// The points of a suit: 4, 3, 2 and 1 for its highest cards that are left, and 2 for each trump.
-fn points_of(position: &Position, suit: Suit) -> Points
-    ensures ours { result.ours ≤ 100 }
-    ensures theirs { result.theirs ≤ 100 }
-{
+// The ranks of a suit that the leader's side has, and those of the other.
+fn sides(position: &Position, suit: Suit) -> (Holding, Holding) {
     let hands = position.hands();
-    let north_south = hands
-        .holding(Seat::North, suit)
-        .union(hands.holding(Seat::South, suit));
-    let east_west = hands
-        .holding(Seat::East, suit)
-        .union(hands.holding(Seat::West, suit));
-    let high = high_cards(north_south, east_west);
-    match position.strain() {
-        Strain::Trump(trump) if trump == suit => Points {
-            ours: high.ours + 2 * north_south.len() as u16,
-            theirs: high.theirs + 2 * east_west.len() as u16,
-        },
-        _ => high,
-    }
+    let leader = position.first();
+    let left = leader.next();
+    let partner = left.next();
+    let right = partner.next();
+    (
+        hands
+            .holding(leader, suit)
+            .union(hands.holding(partner, suit)),
+        hands.holding(left, suit).union(hands.holding(right, suit)),
+    )
 }
 
-// 4, 3, 2 and 1 for the four highest cards.
-fn high_cards(ours: Holding, theirs: Holding) -> Points
+// The points of a suit: 4, 3, 2 and 1 for its highest cards that are left.
+fn points_of(position: &Position, suit: Suit) -> Points
     ensures ours { result.ours ≤ 40 }
     ensures theirs { result.theirs ≤ 40 }
 {
-    let mut ours = ours;
-    let mut theirs = theirs;
+    let (mut ours, mut theirs) = sides(position, suit);
     let mut points = Points { ours: 0, theirs: 0 };
     for lower in 0..4 {
         let worth = 4 - lower;

@@ -1,11 +1,13 @@
-//! Which card looks best to lead: reasons for a suit, and then for a card of it.
+//! Which card looks best to lead: what speaks for a suit, and then for a card of it. Round numbers, set by hand.
 ghost use Rattle.std.specs.Prelude.{◌≤◌};
 
 use crate::strength::code_of_highest;
-use dd_cards::card::Card;
 use dd_cards::holding::Holding;
+use dd_cards::rank::Rank;
+use dd_cards::seat::Seat;
 use dd_cards::strain::Strain;
 use dd_cards::suit::Suit;
+use dd_equal::class::Class;
 use dd_play::position::Position;
 
 /// What a leader sees of each suit.
@@ -20,12 +22,79 @@ pub(crate) struct Leading {
 #[derive(Clone, Copy, Debug)]
 struct SuitView {
     // how good the suit looks
-    weight: u8,
-    // the rank of the opponents' highest card of it, or 0
+    weight: u16,
+    // what a card of it is worth
+    worth: Worth,
+    // what it is worth where it is the highest left, or has an equal below it
+    special: Worth,
+    // the rank of the highest card, where the leader has it
+    own_top: u8,
+    // whether the leader has the second highest card and not the highest
+    sequence: bool,
+    // the rank of partner's highest card, and more than any rank where partner ruffs
+    partner: u8,
+    // the rank of the opponents' highest card, and more than any rank where one of them ruffs
     against: u8,
-    // whether partner has a higher one
-    partner_wins: bool,
 }
+
+// What a card is worth whose trick the leader's side wins when each hand plays well, and one whose trick it loses.
+#[derive(Clone, Copy, Debug)]
+struct Worth {
+    wins: u16,
+    loses: u16,
+}
+
+// The reasons for a card, the first that holds.
+// An opponent's highest card stands alone and falls.
+const LONE_TOP_CARD: Worth = Worth {
+    wins: 70,
+    loses: 10,
+};
+// The leader has the highest card and partner the second highest.
+const TOP_TWO_CARDS: Worth = Worth {
+    wins: 40,
+    loses: 40,
+};
+// The leader has the highest card: that card itself, and the others of the suit.
+const OWN_TOP_CARD: Worth = Worth {
+    wins: 25,
+    loses: 55,
+};
+
+const BELOW_OWN_TOP_CARD: Worth = Worth { wins: 20, loses: 0 };
+// Partner has the highest card.
+const TO_PARTNER: Worth = Worth {
+    wins: 40,
+    loses: 40,
+};
+// The leader has the second highest card, and the card has an equal: it drives the highest out.
+const SEQUENCE: Worth = Worth {
+    wins: 55,
+    loses: 25,
+};
+
+const ANY_OTHER: Worth = Worth {
+    wins: 40,
+    loses: 10,
+};
+
+// The reasons for a suit and against it.
+const SUIT: u16 = 400;
+// each card of it that an opponent has, or each card of an opponent who has none of it
+const OPPONENTS_CARD: u16 = 10;
+
+const OPPONENT_RUFFS: u16 = 10;
+
+const LAST_HAND_HAS_TOP: u16 = 10;
+
+const LAST_HAND_HAS_SECOND: u16 = 15;
+
+const THROUGH_TOP_TO_SECOND: u16 = 10;
+
+const SINGLETON_TO_TOP: u16 = 15;
+
+// More than any rank.
+const RUFF: u8 = 15;
 
 impl Leading {
     /// The view of the mover, with no card on the trick.
@@ -38,102 +107,197 @@ impl Leading {
         }
     }
 
-    /// How good the card looks: a winner, a low card towards partner's winner, and else a low card.
+    /// How good the highest card of a class looks.
     #[inline]
-    pub(crate) fn weight(self, card: Card) -> u8 {
-        let view = match card.suit {
-            Suit::Spades => self.spades,
-            Suit::Hearts => self.hearts,
-            Suit::Diamonds => self.diamonds,
-            Suit::Clubs => self.clubs,
-        };
+    pub(crate) fn weight(&self, class: Class) -> u16 {
+        let card = class.top;
         let rank = card.rank.code();
-        let weight = if rank > view.against {
-            22
-        } else if view.partner_wins {
-            27 - rank / 2
-        } else {
-            7 - rank / 2
+        let view = match card.suit {
+            Suit::Spades => &self.spades,
+            Suit::Hearts => &self.hearts,
+            Suit::Diamonds => &self.diamonds,
+            Suit::Clubs => &self.clubs,
         };
-        view.weight.saturating_add(weight)
+        let special = rank == view.own_top || view.sequence && class.equals != 0;
+        let worth = if special { view.special } else { view.worth };
+        let worth = if rank.max(view.partner) > view.against {
+            worth.wins
+        } else {
+            worth.loses
+        };
+        view.weight
+            .saturating_add(worth)
+            .saturating_sub(rank as u16)
+    }
+}
+
+// The cards of a suit, from the leader's on.
+#[derive(Clone, Copy, Debug)]
+struct FourHoldings {
+    own: Holding,
+    left: Holding,
+    partner: Holding,
+    right: Holding,
+}
+
+// Whose a card is, seen from the leader.
+#[derive(Clone, Copy, Debug, PartialEq, Eq)]
+enum Owner {
+    Leader,
+    Left,
+    Partner,
+    Right,
+    Nobody,
+}
+
+fn four_holdings(position: &Position, suit: Suit) -> FourHoldings {
+    let hands = position.hands();
+    let leader = position.first();
+    let left = leader.next();
+    let partner = left.next();
+    FourHoldings {
+        own: hands.holding(leader, suit),
+        left: hands.holding(left, suit),
+        partner: hands.holding(partner, suit),
+        right: hands.holding(partner.next(), suit),
+    }
+}
+
+#[inline]
+fn owner_of(holdings: &FourHoldings, rank: Option<Rank>) -> Owner {
+    match rank {
+        None => Owner::Nobody,
+        Some(rank) if holdings.own.has(rank) => Owner::Leader,
+        Some(rank) if holdings.left.has(rank) => Owner::Left,
+        Some(rank) if holdings.partner.has(rank) => Owner::Partner,
+        Some(_) => Owner::Right,
     }
 }
 
 fn suit_view(position: &Position, suit: Suit) -> SuitView {
-    let hands = position.hands();
-    let leader = position.mover();
-    let left = leader.next();
-    let partner = left.next();
-    let right = partner.next();
-    let before = hands.holding(left, suit);
-    let behind = hands.holding(right, suit);
-    let ours = hands.holding(partner, suit);
-    let against = code_of_highest(before.union(behind));
-    let weight = long_suit(before, behind)
-        + away_from_strength(
-            hands.holding(leader, suit).union(ours).union(before),
-            behind,
-        )
-        + match position.strain() {
-            Strain::Trump(trump) if trump == suit => 2 * SAFE_FROM_A_RUFF,
-            Strain::Trump(trump) => {
-                NOT_TRUMPS
-                    + safe_from_a_ruff(before, hands.holding(left, trump))
-                    + safe_from_a_ruff(behind, hands.holding(right, trump))
-                    + partner_ruffs(ours, hands.holding(partner, trump))
-            }
-            Strain::Notrump => 0,
-        };
-    SuitView {
-        weight,
-        against,
-        partner_wins: code_of_highest(ours) > against,
-    }
-}
-
-const SAFE_FROM_A_RUFF: u8 = 40;
-
-const NOT_TRUMPS: u8 = 20;
-
-// The opponents' cards of the suit: where they have many, small cards may become winners.
-fn long_suit(before: Holding, behind: Holding) -> u8
-    ensures { result ≤ 26 }
-{
-    before.len() + behind.len()
-}
-
-// The last hand holds neither the highest card nor the second.
-fn away_from_strength(others: Holding, behind: Holding) -> u8
-    ensures { result ≤ 5 }
-{
-    let Some(highest) = behind.highest() else {
-        return 5;
+    let holdings = four_holdings(position, suit);
+    let theirs = holdings.left.union(holdings.right);
+    let all = holdings.own.union(holdings.partner).union(theirs);
+    let top = all.highest();
+    let second = match top {
+        Some(rank) => all.next_below(rank),
+        None => None,
     };
-    if others.above(highest).len() >= 2 {
-        5
-    } else {
-        0
+    let top_owner = owner_of(&holdings, top);
+    let second_owner = owner_of(&holdings, second);
+    let lone = top_owner == Owner::Left && holdings.left.len() == 1
+        || top_owner == Owner::Right && holdings.right.len() == 1;
+    let (worth, special) = worths(top_owner, second_owner, lone);
+    let ruffed = is_ruffed(position, suit, &holdings);
+    let partner_ruffs = ruffs(position, position.first().next().next(), suit);
+    let weight = suit_weight(position, suit, &holdings, top_owner, second_owner);
+    SuitView {
+        weight: if ruffed {
+            weight - OPPONENT_RUFFS
+        } else {
+            weight
+        },
+        worth,
+        special,
+        own_top: if top_owner == Owner::Leader {
+            code_of_highest(all)
+        } else {
+            0
+        },
+        sequence: top_owner != Owner::Leader && second_owner == Owner::Leader,
+        partner: if partner_ruffs {
+            RUFF
+        } else {
+            code_of_highest(holdings.partner)
+        },
+        against: if ruffed {
+            RUFF
+        } else {
+            code_of_highest(theirs)
+        },
     }
 }
 
-// An opponent follows suit, or has no trump.
-fn safe_from_a_ruff(suit: Holding, trumps: Holding) -> u8
-    ensures { result ≤ 40 }
-{
-    if suit.is_empty() && !trumps.is_empty() {
-        0
-    } else {
-        SAFE_FROM_A_RUFF
+// What the cards of a suit are worth, and what the special ones are.
+fn worths(top: Owner, second: Owner, lone: bool) -> (Worth, Worth) {
+    if lone {
+        return (LONE_TOP_CARD, LONE_TOP_CARD);
+    }
+    match (top, second) {
+        (Owner::Leader, Owner::Partner) => (TOP_TWO_CARDS, TOP_TWO_CARDS),
+        (Owner::Leader, _) => (BELOW_OWN_TOP_CARD, OWN_TOP_CARD),
+        (Owner::Partner, _) => (TO_PARTNER, TO_PARTNER),
+        (_, Owner::Leader) => (ANY_OTHER, SEQUENCE),
+        _ => (ANY_OTHER, ANY_OTHER),
     }
 }
 
-// Partner is void and has a trump.
-fn partner_ruffs(suit: Holding, trumps: Holding) -> u8
-    ensures { result ≤ 10 }
+// How good the suit looks, but for ruffs of the opponents.
+fn suit_weight(
+    position: &Position,
+    suit: Suit,
+    holdings: &FourHoldings,
+    top: Owner,
+    second: Owner,
+) -> u16
+    ensures { 100 ≤ result }
 {
-    if suit.is_empty() && !trumps.is_empty() {
-        10
-    } else {
-        0
+    let tricks = position.tricks_left();
+    let cards = opponents_cards(holdings.left, tricks) + opponents_cards(holdings.right, tricks);
+    let mut weight = SUIT - OPPONENTS_CARD * cards;
+    if top == Owner::Right {
+        weight -= LAST_HAND_HAS_TOP;
+    } else if second == Owner::Right {
+        weight -= LAST_HAND_HAS_SECOND;
     }
+    if top == Owner::Left && second == Owner::Partner {
+        weight += THROUGH_TOP_TO_SECOND;
+    }
+    let single = holdings.own.len() == 1 && holdings.partner.len() > 1;
+    if single && top == Owner::Partner && has_ruffs(position, suit) {
+        weight += SINGLETON_TO_TOP;
+    }
+    weight
+}
+
+// The cards of the suit, and where an opponent has none of it all that it has.
+fn opponents_cards(holding: Holding, tricks: u8) -> u16
+    requires { tricks ≤ 13 }
+    ensures { result ≤ 13 }
+{
+    if holding.is_empty() {
+        tricks as u16
+    } else {
+        holding.len() as u16
+    }
+}
+
+// Has the leader a trump, when it has no card of this side suit any more?
+fn has_ruffs(position: &Position, suit: Suit) -> bool {
+    match position.strain() {
+        Strain::Trump(trump) if trump != suit => {
+            !position.hands().holding(position.first(), trump).is_empty()
+        }
+        _ => false,
+    }
+}
+
+// Can the seat ruff the suit?
+fn ruffs(position: &Position, seat: Seat, suit: Suit) -> bool {
+    let hands = position.hands();
+    match position.strain() {
+        Strain::Trump(trump) if trump != suit => {
+            hands.holding(seat, suit).is_empty() && !hands.holding(seat, trump).is_empty()
+        }
+        _ => false,
+    }
+}
+
+// Can an opponent of the leader ruff the suit?
+fn is_ruffed(position: &Position, suit: Suit, holdings: &FourHoldings) -> bool {
+    if !holdings.left.is_empty() && !holdings.right.is_empty() {
+        return false;
+    }
+    let left = position.first().next();
+    ruffs(position, left, suit) || ruffs(position, left.next().next(), suit)
 }

@@ -3,10 +3,8 @@ ghost use Rattle.std.specs.Prelude.{◌≤◌};
 
 use dd_cards::card::Card;
 use dd_cards::holding::Holding;
-use dd_cards::seat::Seat;
 use dd_cards::strain::Strain;
 use dd_cards::suit::Suit;
-use dd_play::position::Position;
 
 // What a trump has above its rank.
 const TRUMP: u8 = 20;
@@ -24,28 +22,11 @@ pub(crate) fn strength(strain: Strain, led: Suit, card: Card) -> u8
     }
 }
 
-/// The greatest strength, 0 to 34, that this hand can play to the suit led.
-#[inline]
-pub(crate) fn reach(position: &Position, seat: Seat, led: Suit) -> u8
-    ensures { result ≤ 34 }
-{
-    let hands = position.hands();
-    let strain = position.strain();
-    if let Some(rank) = hands.holding(seat, led).highest() {
-        return strength(strain, led, Card { suit: led, rank });
-    }
-    let Strain::Trump(suit) = strain else {
-        return 0;
-    };
-    match hands.holding(seat, suit).highest() {
-        Some(rank) => strength(strain, led, Card { suit, rank }),
-        None => 0,
-    }
-}
-
 /// The rank, 2 to 14, of the highest card, or 0 where there is none.
 #[inline]
-pub(crate) fn code_of_highest(suit: Holding) -> u8 {
+pub(crate) fn code_of_highest(suit: Holding) -> u8
+    ensures { result ≤ 14 }
+{
     match suit.highest() {
         Some(rank) => rank.code(),
         None => 0,
