@@ -1,5 +1,5 @@
 -- the quick tricks of a position are those of each position that it covers with its winners
-use Rattle.std.proofs.Common.{◌≡◌, ◌≢◌, ℕ, ◌+◌, ◌-◌, ◌<◌, ◌≤◌, Bool, true, false, refl, sym, ap, ◌∙◌, subst, arith, List, [], ◌∷◌, zero-le}
+use Rattle.std.proofs.Common.{◌≡◌, ◌≢◌, ℕ, ◌+◌, ◌-◌, ◌<◌, ◌≤◌, Bool, true, false, refl, sym, ap, ◌∙◌, subst, arith, List, [], ◌∷◌, zero-le, length, ◌⊎◌, inl, inr}
 use Rattle.std.specs.Prelude.{filter, min, nat_le, nat_lt, ◌&&◌, ◌||◌, if◌then◌else◌}
 use Rattle.std.specs.List.{list_any}
 use mathlib.Core.Bool.{not, beq}
@@ -25,18 +25,20 @@ use Rattle.dd_play.proofs.Boards.{has-first, in-rest, after-code, code-lt}
 use Rattle.dd_play.proofs.Counts.{inject, not-has}
 use Rattle.dd_play.proofs.Plays.{turn-turn, turn-apart, once-in, suit-of, of-suit'}
 use Rattle.std.proofs.Common.{Option, Some, None}
-use Rattle.std.specs.Prelude.{MatchOption, IfSome, slice_get}
+use Rattle.std.specs.Prelude.{MatchOption, slice_get}
 use Rattle.dd_cards.specs.Ranks.{IsRank, has_rank}
 use Rattle.dd_cards.specs.Cards.{card_of, with_card, same_card}
 use Rattle.dd_cards.proofs.SetLaws.{has_rank-holding, has_card-with_card, same_card-self}
 use Rattle.dd_play.specs.Reach.{reach}
 use Rattle.dd_play.proofs.Boards.{card-real}
-use Rattle.dd_play.proofs.Worth.{reach-of, reach-within, by-fewer}
-use Rattle.dd_quick.proofs.Runs.{AreHeld, above-highest, has-part}
-use Rattle.dd_quick.specs.QuickTricks.{AreReached, AreTrumpsReached, beats, is_winner, run, length_at, shortest, cashed, leaders_tricks, top_trumps}
+use Rattle.dd_play.proofs.Worth.{reach-of, reach-within, reach-upward, by-fewer, by-more, by-here}
+use Rattle.dd_quick.proofs.Runs.{AreHeld, above-highest, has-part, run-above, run-all}
+use Rattle.dd_rank.specs.Depths.{Covers, depths_of}
+use Rattle.dd_rank.proofs.Told.{noted}
+use Rattle.dd_quick.specs.QuickTricks.{AreReached, AreTrumpsReached, SureTricks, beats, is_winner, run, length_at, shortest, cashed, leaders_tricks, top_trumps}
 use Rattle.dd_quick.proofs.Hands.{no-higher}
 use Rattle.dd_quick.proofs.Sound.{bounded}
-use Rattle.dd_play.proofs.Claims.{all}
+use Rattle.dd_play.proofs.Claims.{all, both}
 
 -- a card of the list that passes
 some-card : (test : PlayingCard → Bool) (cards : List PlayingCard) → list_any test cards ≡ true → (d : PlayingCard) × (has_card cards d ≡ true) × (test d ≡ true)
@@ -283,40 +285,75 @@ trumps-top cards p x (Trump v) are u e = subst (λ (w : Suit). AreTop (reach car
     inside : Trump v ≡ Trump u → v ≡ u
     inside e = ap (λ (z : Strain). elim z [ Trump w ↦ w | Notrump ↦ v ]) e
 
--- what the code finds of a side's trumps
-pub partner-claim : (p r : Board) (o : Option (List PlayingCard)) (need : ℕ) (x : Seat) → r ≡ p → x ≡ seat_after p.first 2 → p.trick ≡ [] → IfSome o (λ cards. need ≤ top_trumps r.strain r x) → IfSome o (λ cards. AreTrumpsReached r.strain cards r x)
-    → IfSome o (λ cards. TakesBy (reach cards) (is_north_south p.first) p need)
-partner-claim p r None need x same seat start enough are = tt
-partner-claim p r (Some cards) need x same seat start enough are =
-    let e : need ≤ top_trumps p.strain p (seat_after p.first 2) = subst (λ (y : Seat). need ≤ top_trumps p.strain p y) seat (subst (λ (b : Board). need ≤ top_trumps b.strain b x) same enough) in
-    let a : AreTrumpsReached p.strain cards p (seat_after p.first 2) = subst (λ (y : Seat). AreTrumpsReached p.strain cards p y) seat (subst (λ (b : Board). AreTrumpsReached b.strain cards b x) same are) in
-    by-fewer (reach cards) (is_north_south p.first) p (top_trumps p.strain p (seat_after p.first 2)) need (partner-by (reach cards) p start (trumps-top cards p (seat_after p.first 2) p.strain a)) e
+-- as many as there are winners make the run
+pub winners-run : (p : Board) (h : Seat) (suit : Suit) (own others winners : List ℕ) (highest : Option ℕ) → AreHeld p h suit own others → highest ≡ slice_get others 0
+    → MatchOption highest (winners ≡ own) (λ r. winners ≡ filter (λ q. nat_lt r q) own) → length winners ≡ run p h suit
+winners-run p h suit own others winners None held first part = ap length part ∙ run-all p h suit own others held first
+winners-run p h suit own others winners (Some r) held first part = ap length part ∙ run-above p h suit own others held r first
 
-pub opponent-claim : (p r : Board) (o : Option (List PlayingCard)) (need : ℕ) (x : Seat) (i : ℕ) → ((q : Board) → IsBoard q → q.trick ≡ [] → lead q + top_trumps q.strain q (seat_after q.first i) ≤ left q) → r ≡ p → x ≡ seat_after p.first i → p.trick ≡ []
-    → IfSome o (λ cards. need ≤ top_trumps r.strain r x) → IfSome o (λ cards. AreTrumpsReached r.strain cards r x) → IfSome o (λ cards. TakesBy (reach cards) (not (is_north_south p.first)) p need)
-opponent-claim p r None need x i law same seat start enough are = tt
-opponent-claim p r (Some cards) need x i law same seat start enough are =
-    let e : need ≤ top_trumps p.strain p (seat_after p.first i) = subst (λ (y : Seat). need ≤ top_trumps p.strain p y) seat (subst (λ (b : Board). need ≤ top_trumps b.strain b x) same enough) in
-    let a : AreTrumpsReached p.strain cards p (seat_after p.first i) = subst (λ (y : Seat). AreTrumpsReached p.strain cards p y) seat (subst (λ (b : Board). AreTrumpsReached b.strain cards b x) same are) in
-    by-fewer (reach cards) (not (is_north_south p.first)) p (top_trumps p.strain p (seat_after p.first i)) need (opponent-by (reach cards) p i start law (trumps-top cards p (seat_after p.first i) p.strain a)) e
+-- ---- what each side is sure of
 
-pub next-law : (q : Board) → IsBoard q → q.trick ≡ [] → lead q + top_trumps q.strain q (seat_after q.first 1) ≤ left q
+-- the side is sure of these tricks by these winners
+abbrev pub IsSure : Bool → Board → SureTricks → Type 0
+IsSure side p s = TakesBy (reach s.cards) side p s.tricks
+
+-- the leader's side of the partner's highest trumps
+pub partner-sure : (p : Board) (s : SureTricks) (x : Seat) → x ≡ seat_after p.first 2 → p.trick ≡ [] → s.tricks ≡ top_trumps p.strain p x → AreTrumpsReached p.strain s.cards p x → IsSure (is_north_south p.first) p s
+partner-sure p s x seat start tricks are =
+    let a : AreTrumpsReached p.strain s.cards p (seat_after p.first 2) = subst (λ (y : Seat). AreTrumpsReached p.strain s.cards p y) seat are in
+    let e = ap (top_trumps p.strain p) seat in
+    by-fewer (reach s.cards) (is_north_south p.first) p (top_trumps p.strain p (seat_after p.first 2)) s.tricks (partner-by (reach s.cards) p start (trumps-top s.cards p (seat_after p.first 2) p.strain a)) (omega (arith, tricks, e))
+
+next-law : (q : Board) → IsBoard q → q.trick ≡ [] → lead q + top_trumps q.strain q (seat_after q.first 1) ≤ left q
 next-law q good e = (bounded q good e).next
 
-pub last-law : (q : Board) → IsBoard q → q.trick ≡ [] → lead q + top_trumps q.strain q (seat_after q.first 3) ≤ left q
+last-law : (q : Board) → IsBoard q → q.trick ≡ [] → lead q + top_trumps q.strain q (seat_after q.first 3) ≤ left q
 last-law q good e = (bounded q good e).last
 
--- and of what the leader cashes
-pub leader-claim : (p r : Board) (need : ℕ) (x : Seat) (a b c d : List PlayingCard) → r ≡ p → x ≡ p.first → p.trick ≡ [] → need ≤ leaders_tricks r → AreReached a r x Spades → AreReached b r x Hearts → AreReached c r x Diamonds → AreReached d r x Clubs
-    → ((e : PlayingCard) → has_card a e ≡ true → has_card b e ≡ true) → ((e : PlayingCard) → has_card b e ≡ true → has_card c e ≡ true) → ((e : PlayingCard) → has_card c e ≡ true → has_card d e ≡ true) → TakesBy (reach d) (is_north_south p.first) p need
-leader-claim p r need x a b c d same seat start enough sp he di cl ab bc cd =
-    by-fewer (reach d) (is_north_south p.first) p (leaders_tricks p) need (cashed-by (reach d) p start tops) (subst (λ (z : Board). need ≤ leaders_tricks z) same enough)
-  where
-    at : (cards : List PlayingCard) (u : Suit) → AreReached cards r x u → AreReached cards p p.first u
-    at cards u h = subst (λ (y : Seat). AreReached cards p y u) seat (subst (λ (z : Board). AreReached cards z x u) same h)
+-- and the other side of those of the hand that is i seats on
+opponent-sure : (p : Board) (s : SureTricks) (x : Seat) (i : ℕ) → ((q : Board) → IsBoard q → q.trick ≡ [] → lead q + top_trumps q.strain q (seat_after q.first i) ≤ left q)
+    → x ≡ seat_after p.first i → p.trick ≡ [] → s.tricks ≡ top_trumps p.strain p x → AreTrumpsReached p.strain s.cards p x → IsSure (not (is_north_south p.first)) p s
+opponent-sure p s x i law seat start tricks are =
+    let a : AreTrumpsReached p.strain s.cards p (seat_after p.first i) = subst (λ (y : Seat). AreTrumpsReached p.strain s.cards p y) seat are in
+    let e = ap (top_trumps p.strain p) seat in
+    by-fewer (reach s.cards) (not (is_north_south p.first)) p (top_trumps p.strain p (seat_after p.first i)) s.tricks (opponent-by (reach s.cards) p i start law (trumps-top s.cards p (seat_after p.first i) p.strain a)) (omega (arith, tricks, e))
 
+-- of the next hand
+pub next-sure : (p : Board) (s : SureTricks) (x : Seat) → x ≡ seat_after p.first 1 → p.trick ≡ [] → s.tricks ≡ top_trumps p.strain p x → AreTrumpsReached p.strain s.cards p x → IsSure (not (is_north_south p.first)) p s
+next-sure p s x seat start tricks are = opponent-sure p s x 1 next-law seat start tricks are
+
+-- and of the last one
+pub last-sure : (p : Board) (s : SureTricks) (x : Seat) → x ≡ seat_after p.first 3 → p.trick ≡ [] → s.tricks ≡ top_trumps p.strain p x → AreTrumpsReached p.strain s.cards p x → IsSure (not (is_north_south p.first)) p s
+last-sure p s x seat start tricks are = opponent-sure p s x 3 last-law seat start tricks are
+
+-- the leader's side of what the leader cashes, where the winners of each suit are put to those of the one before
+pub leader-sure : (p : Board) (a b c d : List PlayingCard) → p.trick ≡ [] → AreReached a p p.first Spades → AreReached b p p.first Hearts → AreReached c p p.first Diamonds → AreReached d p p.first Clubs
+    → ((e : PlayingCard) → has_card a e ≡ true → has_card b e ≡ true) → ((e : PlayingCard) → has_card b e ≡ true → has_card c e ≡ true) → ((e : PlayingCard) → has_card c e ≡ true → has_card d e ≡ true)
+    → TakesBy (reach d) (is_north_south p.first) p (leaders_tricks p)
+leader-sure p a b c d start sp he di cl ab bc cd = cashed-by (reach d) p start tops
+  where
     tops : (u : Suit) → AreTop (reach d) p p.first u
-    tops Spades = reached-more a d p p.first Spades (λ e h. cd e (bc e (ab e h))) (at a Spades sp)
-    tops Hearts = reached-more b d p p.first Hearts (λ e h. cd e (bc e h)) (at b Hearts he)
-    tops Diamonds = reached-more c d p p.first Diamonds cd (at c Diamonds di)
-    tops Clubs = at d Clubs cl
+    tops Spades = reached-more a d p p.first Spades (λ e h. cd e (bc e (ab e h))) sp
+    tops Hearts = reached-more b d p p.first Hearts (λ e h. cd e (bc e h)) he
+    tops Diamonds = reached-more c d p p.first Diamonds cd di
+    tops Clubs = cl
+
+-- of two that are sure, either one is
+pub either-sure : (side : Bool) (p : Board) (one other s : SureTricks) → (s ≡ one) ⊎ (s ≡ other) → IsSure side p one → IsSure side p other → IsSure side p s
+either-sure side p one other s is a b = elim is [ inl e ↦ subst (λ (z : SureTricks). IsSure side p z) (sym e) a | inr e ↦ subst (λ (z : SureTricks). IsSure side p z) (sym e) b ]
+
+-- what both sides are sure of is no more than what is left
+pub sure-within : (p : Board) (ours theirs : SureTricks) → IsBoard p → IsSure (is_north_south p.first) p ours → IsSure (not (is_north_south p.first)) p theirs → ours.tricks + theirs.tricks ≤ left p
+sure-within p ours theirs valid a b =
+    both (is_north_south p.first) p ours.tricks theirs.tricks valid (by-here (reach ours.cards) (is_north_south p.first) p ours.tricks valid (reach-upward ours.cards) a)
+    (by-here (reach theirs.cards) (not (is_north_south p.first)) p theirs.tricks valid (reach-upward theirs.cards) b)
+
+-- and it bounds the value of each position that is covered at the depths of the winners of both
+pub sure-bounds : (p : Board) (ours theirs : SureTricks) (cards : List PlayingCard) (depths : Suit → ℕ) (lo hi : ℕ) → ((c : PlayingCard) → has_card cards c ≡ true → IsRank c.rank) → IsBoard p
+    → ((c : PlayingCard) → has_card ours.cards c ≡ true → has_card cards c ≡ true) → ((c : PlayingCard) → has_card theirs.cards c ≡ true → has_card cards c ≡ true) → ((u : Suit) → depths u ≡ depths_of (reach cards) p u)
+    → lo ≡ ours.tricks → hi ≡ left p - theirs.tricks → IsSure (is_north_south p.first) p ours → IsSure (not (is_north_south p.first)) p theirs
+    → (q : Board) → IsBoard q → Covers p depths q → (lo ≤ lead q) × (lead q ≤ hi)
+sure-bounds p ours theirs cards depths lo hi real valid mine others deep low high a b =
+    noted cards depths p lo hi real valid (λ u. let e = deep u in omega (arith, e))
+    (by-fewer (reach cards) (is_north_south p.first) p ours.tricks lo (by-more (reach ours.cards) (reach cards) (is_north_south p.first) p ours.tricks (reach-within ours.cards cards mine) (reach-upward ours.cards) a) (omega (arith, low)))
+    (by-fewer (reach cards) (not (is_north_south p.first)) p theirs.tricks (left p - hi) (by-more (reach theirs.cards) (reach cards) (not (is_north_south p.first)) p theirs.tricks (reach-within theirs.cards cards others) (reach-upward theirs.cards) b) (omega (arith, high)))

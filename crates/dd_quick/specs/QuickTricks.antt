@@ -56,6 +56,11 @@ quick_lo p = max (leaders_tricks p) (top_trumps p.strain p (seat_after p.first 2
 abbrev pub quick_hi : Board → ℕ
 quick_hi p = left p - max (top_trumps p.strain p (seat_after p.first 1)) (top_trumps p.strain p (seat_after p.first 3))
 
+-- sure tricks, and the winners on which they rest
+pub record SureTricks : Type 0 where
+  pub tricks : ℕ
+  pub cards : List PlayingCard
+
 -- the seat's winners in the suit are reached by these cards
 abbrev pub AreReached : List PlayingCard → Board → Seat → Suit → Type 0
 AreReached cards p seat suit = (c : PlayingCard) → has_card (cards_at p seat) c ≡ true → is_of suit c ≡ true → is_winner p seat c ≡ true → reach cards c ≡ true

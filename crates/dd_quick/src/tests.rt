@@ -76,17 +76,44 @@ fn quick_tricks_of_both_sides_are_the_bounds(rt: HostRuntime) {
     ];
     let hearts = Strain::Trump(Suit::Hearts);
     let notrump = Strain::Notrump;
+    // The bounds, and the depths of spades and hearts: how many cards there are down to the lowest winner.
     let table = [
-        (one_each.as_slice(), notrump, (1, 1), "the ace"),
-        (tenace.as_slice(), notrump, (0, 2), "no winner leads"),
-        (short.as_slice(), hearts, (1, 1), "East ruffs the king"),
-        (trumps.as_slice(), hearts, (2, 2), "the partner's trumps"),
-        (trumps.as_slice(), notrump, (0, 2), "no trumps"),
+        (one_each.as_slice(), notrump, (1, 1), (1, 0), "the ace"),
+        (
+            tenace.as_slice(),
+            notrump,
+            (0, 2),
+            (0, 0),
+            "no winner leads",
+        ),
+        (
+            short.as_slice(),
+            hearts,
+            (1, 1),
+            (2, 1),
+            "East ruffs the king",
+        ),
+        (
+            trumps.as_slice(),
+            hearts,
+            (2, 2),
+            (0, 2),
+            "the partner's trumps",
+        ),
+        (trumps.as_slice(), notrump, (0, 2), (0, 0), "no trumps"),
     ];
-    for (cards, strain, (lo, hi), what) in table {
+    for (cards, strain, (lo, hi), (spades, hearts), what) in table {
         let start = start(cards, strain, Seat::North).expect(&rt, "even hands");
-        let found = bounds(&start);
+        let (found, depths) = bounds(&start);
         assert_eq!(rt; (found.lo, found.hi), (lo, hi), "{what}");
+        let of_spades = depths.of(Suit::Spades);
+        assert_eq!(rt;
+            (of_spades, depths.of(Suit::Hearts)),
+            (spades, hearts),
+            "{what}"
+        );
+        let minors = (depths.of(Suit::Diamonds), depths.of(Suit::Clubs));
+        assert_eq!(rt; minors, (0, 0), "{what}");
     }
 }
 
@@ -100,6 +127,7 @@ fn without_cards_no_trick_is_taken(rt: HostRuntime) {
     ];
     let start = start(&cards, Strain::Trump(Suit::Spades), Seat::North).expect(&rt, "even hands");
     let end = after_a_trick(&start).expect(&rt, "each hand has a card");
-    let found = bounds(&end);
+    let (found, depths) = bounds(&end);
     assert_eq!(rt; (found.lo, found.hi), (0, 0));
+    assert_eq!(rt; depths.of(Suit::Spades), 0);
 }

@@ -1,15 +1,15 @@
 -- the value of a position is the greatest score of its cards
-use Rattle.std.proofs.Common.{◌≡◌, ℕ, ◌+◌, ◌-◌, ◌<◌, ◌≤◌, Bool, true, false, refl, sym, ap, ◌∙◌, arith, List, [], ◌∷◌, inl, inr, eqb-true}
+use Rattle.std.proofs.Common.{◌≡◌, ℕ, ◌+◌, ◌-◌, ◌<◌, ◌≤◌, Bool, true, false, refl, sym, ap, ◌∙◌, arith, List, [], ◌∷◌, length, inl, inr, eqb-true}
 use Rattle.std.specs.Prelude.{◌==◌, ◌⊎◌, if◌then◌else◌}
 use Rattle.std.proofs.lemmas.Bool.{eqb-false}
 use mathlib.Core.Bool.{not, beq}
 use Rattle.dd_cards.specs.PlayingCard.{PlayingCard}
 use Rattle.dd_cards.specs.Cards.{has_card, same_card}
-use Rattle.dd_cards.specs.Seats.{is_north_south}
+use Rattle.dd_cards.specs.Seats.{is_north_south, seat_after}
 use Rattle.dd_cards.proofs.CardLists.{same_card-eq}
 use Rattle.dd_play.specs.Board.{Board, IsBoard, mover, left}
 use Rattle.dd_play.specs.Play.{after}
-use Rattle.dd_play.specs.Value.{ns_with, score}
+use Rattle.dd_play.specs.Value.{ns, ns_with, score, lead}
 use Rattle.dd_play.specs.Won.{won}
 use Rattle.dd_play.specs.Simulations.{IsLegal}
 use Rattle.dd_play.specs.Claims.{Takes}
@@ -18,7 +18,7 @@ use Rattle.dd_play.proofs.Rules.{won_with, won-true, won-false, can}
 use Rattle.dd_play.proofs.Claims.{all, exactly, one-point}
 use Rattle.dd_equal.specs.EqualCards.{tops}
 use Rattle.dd_equal.proofs.Tops.{every-class}
-use Rattle.dd_search.proofs.Questions.{top-legal}
+use Rattle.dd_search.proofs.Orders.{top-legal}
 
 -- the mover sits on its own side
 own-side : (b : Bool) → beq b b ≡ true
@@ -110,3 +110,11 @@ value-north-south p tricks valid theirs others within e = rw e (sym (exactly tru
 
 pub value-east-west : (p : Board) (tricks : ℕ) → IsBoard p → Takes true p tricks → Takes false p (left p - tricks) → tricks ≤ left p → is_north_south (mover p) ≡ false → left p - tricks ≡ value_of p
 value-east-west p tricks valid theirs others within e = rw e (sym (exactly false p (left p - tricks) tricks valid others theirs (omega arith)))
+
+-- at the start of a trick the value is the leader's
+pub lead-value : (p : Board) → p.trick ≡ [] → lead p ≡ value_of p
+lead-value p start = go (is_north_south p.first) ∙ ap (λ (cards : List PlayingCard). won (is_north_south (seat_after p.first (length cards))) p) (sym start)
+  where
+    go : (b : Bool) → (if b then ns p else (left p - ns p)) ≡ won b p
+    go true = refl
+    go false = refl

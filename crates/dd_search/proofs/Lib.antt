@@ -1,5 +1,5 @@
 pub mod Orders
-pub mod Questions
 pub mod Relied
 pub mod Scores
 pub mod Greatest
+pub mod Classes

@@ -1,7 +1,6 @@
 -- putting moves in order loses none and doubles none
 use Rattle.std.proofs.Common.{◌≡◌, ◌≢◌, ℕ, zero, suc, ◌+◌, ◌-◌, ◌<◌, ◌≤◌, Bool, true, false, refl, sym, ap, ◌∙◌, subst, append_assoc, arith, List, [], ◌∷◌, ◌++◌, Option, None, Some, length, take, length-append, length-set, get_or, set, get_or-set_same, get_or-set_other}
 use Rattle.std.specs.Prelude.{map, cond}
-use mathlib.Core.Bool.{not}
 use Rattle.std.specs.List.{swap}
 use Rattle.std.specs.List.Sorted.{IsPermutation}
 use Rattle.std.proofs.lemmas.List.{set-set, take_more, take_all, map-append, append-nil}
@@ -9,19 +8,22 @@ use Rattle.std.proofs.lemmas.List.Sums.{length-filter}
 use Rattle.std.proofs.Math.Seq.{set-append_seam}
 use Rattle.std.proofs.lemmas.List.Edits.{swap_is}
 use Rattle.std.proofs.lemmas.List.Sorted.{IsPermutation-refl, IsPermutation-swap, IsPermutation-trans, IsPermutation-map, IsPermutation-append_left, IsPermutation-append_right, IsPermutation-append_comm, sum_by-IsPermutation}
-use Rattle.dd_cards.specs.Seats.{is_north_south}
 use Rattle.dd_cards.specs.PlayingCard.{PlayingCard}
 use Rattle.dd_cards.specs.Cards.{same_card, has_card}
 use Rattle.dd_cards.specs.Hands.{times}
-use Rattle.dd_play.specs.Board.{Board, IsBoard, mover, left}
+use Rattle.dd_play.specs.Board.{Board}
+use Rattle.dd_play.specs.Play.{legal}
 use Rattle.dd_play.specs.Simulations.{IsLegal}
 use Rattle.dd_cards.proofs.CardLists.{same_card-eq}
-use Rattle.dd_play.proofs.Values.{times-cons, times-has}
+use Rattle.dd_play.proofs.Values.{any-filter, times-cons, times-has}
 use Rattle.dd_play.proofs.Boards.{has-first, in-rest, flag_of}
-use Rattle.dd_equal.specs.EqualCards.{EqualCards, class_of, classes_of, tops}
-use Rattle.dd_search.specs.Answers.{IsAnswer, IsReordering}
+use Rattle.dd_equal.specs.EqualCards.{EqualCards, class_of, classes_of, is_top, tops}
+use Rattle.dd_search.specs.Answers.{IsReordering}
 use Rattle.dd_search.specs.Moves.{WeighedCard, cards_of}
-use Rattle.dd_search.proofs.Questions.{top-legal, LeadsTo, none-settles}
+
+-- the highest card of a class is legal
+pub top-legal : (p : Board) (c : PlayingCard) → has_card (tops p) c ≡ true → IsLegal p c
+top-legal p c has = any-filter (λ d. same_card d c) (is_top p) (legal p) has
 
 -- ---- one card of each class
 
@@ -140,12 +142,6 @@ each-top p places moves i P all same done each c has =
     let found = place-of places c d there in
     let within = found.1 in
     subst P found.2 (each found.0 (omega (arith, within, done)) d)
-
--- where every move was tried and none was enough, the other side has it
-pub exhausted : (p : Board) (places moves : List WeighedCard) (i need : ℕ) (b answer : Bool) → IsBoard p → b ≡ is_north_south (mover p) → places ≡ moves → IsReordering (cards_of moves) (tops p) → length places ≤ i
-    → 1 ≤ need → need ≤ left p → answer ≡ not b → ((k : ℕ) → k < i → (d : WeighedCard) → LeadsTo p need (get_or places k d).card (not b)) → IsAnswer p need answer
-exhausted p places moves i need b answer valid side all same done some most is each =
-    subst (λ (x : Bool). IsAnswer p need x) (sym is) (none-settles p need (not b) valid (ap not side) some most (each-top p places moves i (λ c. LeadsTo p need c (not b)) all same done each))
 
 -- ---- one move put into its place
 

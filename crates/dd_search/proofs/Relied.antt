@@ -1,7 +1,7 @@
 -- answers that rest on cards, by the rules of such claims alone
 use Rattle.std.proofs.Common.{◌≡◌, ℕ, ◌+◌, ◌-◌, ◌<◌, ◌≤◌, Bool, true, false, refl, sym, ap, ◌∙◌, subst, arith, List, [], length, Option, Some, None, get_or, below_more, inl, inr, ◌⊎◌}
 use Rattle.std.specs.Bool.{OnTrue, OnFalse}
-use Rattle.std.specs.Prelude.{filter, map, slice_get, nat_le, MatchOption}
+use Rattle.std.specs.Prelude.{filter, map, min, slice_get, nat_le, MatchOption, if◌then◌else◌}
 use Rattle.std.proofs.lemmas.Bool.{leb-true}
 use Rattle.std.proofs.lemmas.Bool.Decides.{nat_tests}
 use Rattle.std.proofs.lemmas.List.{get_or_default}
@@ -15,25 +15,23 @@ use Rattle.dd_cards.specs.Seats.{is_north_south}
 use Rattle.dd_play.specs.Board.{Board, IsBoard, mover, left}
 use Rattle.dd_play.specs.Play.{after}
 use Rattle.dd_play.specs.Value.{lead}
-use Rattle.dd_play.specs.Intervals.{Holds}
-use Rattle.dd_play.specs.declared.interval.Interval.{Interval}
 use Rattle.dd_play.specs.Won.{point}
 use Rattle.dd_play.specs.Simulations.{IsLegal}
+use Rattle.dd_play.specs.Claims.{Takes}
 use Rattle.dd_play.specs.Covers.{IsSettled, count_of}
 use Rattle.dd_play.specs.Reach.{reach, TakesBy, IsWorth}
 use Rattle.dd_play.proofs.Boards.{legal-leads}
-use Rattle.dd_play.proofs.Claims.{one-point}
+use Rattle.dd_play.proofs.Claims.{one-point, both}
 use Rattle.dd_play.proofs.Worth.{by-nothing, by-fewer, by-more, by-one, by-here, worth-after, worth-fewer, worth-more, worth-low, reach-within, reach-upward, reach-some, reach-of}
 use Rattle.dd_play.proofs.Counts.{not-has}
 use Rattle.dd_equal.specs.EqualCards.{tops, IsWhole}
 use Rattle.dd_equal.proofs.Images.{each-class-whole}
 use Rattle.dd_equal.proofs.Wholes.{with-new, with-which}
 use Rattle.dd_rank.proofs.Lowest.{first-there}
-use Rattle.dd_rank.specs.Depths.{FourDepths, depth_in, all_cards, Covers, depths_of}
-use Rattle.dd_rank.proofs.Told.{told}
-use Rattle.dd_rank.proofs.Fulls.{full-lead, itself}
-use Rattle.dd_search.specs.Answers.{IsAnswer, IsAnswerBy, AnswerBy, IsReordering}
-use Rattle.dd_search.proofs.Questions.{IsTurned}
+use Rattle.dd_rank.specs.Depths.{all_cards, Covers, depths_of}
+use Rattle.dd_rank.proofs.Told.{noted}
+use Rattle.dd_rank.proofs.Fulls.{itself}
+use Rattle.dd_search.specs.Answers.{IsAnswer, IsAnswerBy, AnswerBy, ClaimBy, IsClaimBy, IsWindow, IsReordering}
 use Rattle.dd_search.specs.Moves.{WeighedCard, cards_of}
 use Rattle.dd_search.proofs.Orders.{each-top}
 
@@ -251,13 +249,7 @@ none-found p need places moves i cards all b found answer valid side same order 
     let each : (c : PlayingCard) → has_card (tops p) c ≡ true → Leads p need c cards (not b) = each-top p places moves i (λ c. Leads p need c cards (not b)) same order h.0 h.1 in
     subst (λ (a : AnswerBy). IsAnswerBy p need a.cards a.yes) (sym is) (none-settles p need all (not b) valid (ap not side) some most is_whole (λ c has. leads-wider p need c cards all (not b) more (each c has)))
 
--- ---- counting, and what an answer teaches
-
-pub counted-yes : (p : Board) (need : ℕ) → need ≡ 0 → IsAnswerBy p need [] true
-counted-yes p need e = by-fewer (reach []) true p 0 need (by-nothing (reach []) true p) (omega (arith, e))
-
-pub counted-no : (p : Board) (need : ℕ) → left p < need → IsAnswerBy p need [] false
-counted-no p need h = by-fewer (reach []) false p 0 (left p + 1 - need) (by-nothing (reach []) false p) (omega (arith, h))
+-- ---- what an answer teaches
 
 -- a window of North and South's tricks, by these cards
 abbrev pub IsWindowBy : Board → List PlayingCard → ℕ → ℕ → Type 0
@@ -272,6 +264,11 @@ pub no-window : (p : Board) (need : ℕ) (cards : List PlayingCard) (said : Bool
 no-window p need cards said lo hi answer e low high some =
     let k : TakesBy (reach cards) false p (left p + 1 - need) = subst (λ (x : Bool). IsAnswerBy p need cards x) e answer in
     (by-fewer (reach cards) true p 0 lo (by-nothing (reach cards) true p) (omega (arith, low)), by-fewer (reach cards) false p (left p + 1 - need) (left p - hi) k (omega (arith, high, some)))
+
+-- the bounds from lo to hi are those from l to h seen from the other side, or the same where `leads` holds
+pub record IsTurned (leads : Bool) (n l h lo hi : ℕ) : Type 0 where
+  pub same : OnTrue leads ((lo ≡ l) × (hi ≡ min h n))
+  pub other : OnFalse leads ((lo ≡ n - h) × (hi ≡ n - l))
 
 -- turned to the leader's
 pub turned-by : (p : Board) (cards : List PlayingCard) (l h lo hi : ℕ) (leads : Bool) (n : ℕ) → leads ≡ is_north_south p.first → n ≡ left p → IsTurned leads n l h lo hi → IsWindowBy p cards l h
@@ -288,25 +285,93 @@ turned-by p cards l h lo hi leads n side tricks turn w = subst (λ (x : Bool). T
         let b = t.other.1 in
         (by-fewer (reach cards) false p (left p - h) lo w.1 (omega (arith, a, tricks)), by-fewer (reach cards) true p l (left p - hi) w.0 (omega (arith, b, tricks)))
 
--- what the quick bounds say rests on all cards left
-pub full-answer : (p : Board) (need : ℕ) (cards : List PlayingCard) (depths : FourDepths) (said : Bool) (l h lo hi : ℕ) (leads : Bool) (n : ℕ) → IsBoard p → p.trick ≡ [] → leads ≡ is_north_south p.first → n ≡ left p → IsTurned leads n l h lo hi
-    → l ≤ lead p → lead p ≤ h → ((c : PlayingCard) → has_card cards c ≡ true → IsRank c.rank) → ((u : Suit) → depth_in depths u ≡ count_of u (all_cards p)) → ((u : Suit) → depth_in depths u ≤ depths_of (reach cards) p u)
-    → OnTrue said (need ≤ lo) → OnFalse said (hi < need) → IsAnswerBy p need cards said
-full-answer p need cards depths said l h lo hi leads n valid start side tricks turn low high real full enough on off =
-    let each : (q : Board) → IsBoard q → Covers p (depth_in depths) q → (l ≤ lead q) × (lead q ≤ h) = λ q good a. (let e = full-lead p q (depth_in depths) valid good full a in (omega (arith, e, low), omega (arith, e, high))) in
-    let claims = told cards (depth_in depths) p l h real start enough each in
-    go said on off (subst (λ (x : Bool). IsTurned x n l h lo hi) side turn) claims (is_north_south p.first) refl
-  where
-    go : (s : Bool) → OnTrue s (need ≤ lo) → OnFalse s (hi < need) → IsTurned (is_north_south p.first) n l h lo hi → TakesBy (reach cards) (is_north_south p.first) p l × TakesBy (reach cards) (not (is_north_south p.first)) p (left p - h)
-        → (b : Bool) → is_north_south p.first ≡ b → IsAnswerBy p need cards s
-    go s on off t claims b e = at s on off b (subst (λ (x : Bool). IsTurned x n l h lo hi) e t) (subst (λ (x : Bool). TakesBy (reach cards) x p l × TakesBy (reach cards) (not x) p (left p - h)) e claims)
-      where
-        at : (s : Bool) → OnTrue s (need ≤ lo) → OnFalse s (hi < need) → (b : Bool) → IsTurned b n l h lo hi → TakesBy (reach cards) b p l × TakesBy (reach cards) (not b) p (left p - h) → IsAnswerBy p need cards s
-        at true on off true t k = (let a = t.same.0 in by-fewer (reach cards) true p l need k.0 (omega (arith, a, on)))
-        at true on off false t k = (let a = t.other.0 in by-fewer (reach cards) true p (left p - h) need k.1 (omega (arith, a, on, tricks)))
-        at false on off true t k = (let a = t.same.1 in by-fewer (reach cards) false p (left p - h) (left p + 1 - need) k.1 (omega (arith, a, off, tricks)))
-        at false on off false t k = (let a = t.other.1 in by-fewer (reach cards) false p l (left p + 1 - need) k.0 (omega (arith, a, off, tricks)))
+-- ---- claims of both sides, and the value
 
--- what is told of a position holds of it
-pub told-here : (p : Board) (depths : FourDepths) (i : Interval) → IsBoard p → p.trick ≡ [] → ((u : Suit) → depth_in depths u ≤ count_of u (all_cards p)) → ((q : Board) → IsBoard q → Covers p (depth_in depths) q → Holds i (lead q)) → Holds i (lead p)
-told-here p depths i valid start most each = each p valid (itself p (depth_in depths) start most)
+-- what the leader's side and the other side claim, where North or South leads
+pub north-south-leads : (p : Board) (cards : List PlayingCard) (n m : ℕ) (b : Bool) → b ≡ is_north_south p.first → b ≡ true → TakesBy (reach cards) (is_north_south p.first) p n × TakesBy (reach cards) (not (is_north_south p.first)) p m
+    → TakesBy (reach cards) true p n × TakesBy (reach cards) false p m
+north-south-leads p cards n m b side e k = subst (λ (x : Bool). TakesBy (reach cards) x p n × TakesBy (reach cards) (not x) p m) (sym side ∙ e) k
+
+-- and where East or West does
+pub east-west-leads : (p : Board) (cards : List PlayingCard) (n m : ℕ) (b : Bool) → b ≡ is_north_south p.first → b ≡ false → TakesBy (reach cards) (is_north_south p.first) p n × TakesBy (reach cards) (not (is_north_south p.first)) p m
+    → TakesBy (reach cards) true p m × TakesBy (reach cards) false p n
+east-west-leads p cards n m b side e k =
+    let h : TakesBy (reach cards) false p n × TakesBy (reach cards) true p m = subst (λ (x : Bool). TakesBy (reach cards) x p n × TakesBy (reach cards) (not x) p m) (sym side ∙ e) k in
+    (h.1, h.0)
+
+-- both sides claim no more than is left
+pub claims-within : (p : Board) (ours theirs : ClaimBy) → IsBoard p → IsWindow p ours theirs → ours.tricks + theirs.tricks ≤ left p
+claims-within p ours theirs valid w =
+    both true p ours.tricks theirs.tricks valid (by-here (reach ours.cards) true p ours.tricks valid (reach-upward ours.cards) w.0) (by-here (reach theirs.cards) false p theirs.tricks valid (reach-upward theirs.cards) w.1)
+
+-- of two claims, either one is a claim
+pub either-claim : (side : Bool) (p : Board) (one other claim : ClaimBy) → (claim ≡ one) ⊎ (claim ≡ other) → IsClaimBy side p one → IsClaimBy side p other → IsClaimBy side p claim
+either-claim side p one other claim is a b = elim is [ inl e ↦ subst (λ (x : ClaimBy). IsClaimBy side p x) (sym e) a | inr e ↦ subst (λ (x : ClaimBy). IsClaimBy side p x) (sym e) b ]
+
+-- by more cards
+pub claim-wider : (side : Bool) (p : Board) (claim : ClaimBy) (cards : List PlayingCard) (n : ℕ) → IsClaimBy side p claim → Within claim.cards cards → n ≤ claim.tricks → TakesBy (reach cards) side p n
+claim-wider side p claim cards n h more few =
+    by-fewer (reach cards) side p claim.tricks n (by-more (reach claim.cards) (reach cards) side p claim.tricks (reach-within claim.cards cards more) (reach-upward claim.cards) h) few
+
+-- what North and South take, no more and no less, by these cards
+pub record IsExactly (p : Board) (n : ℕ) (cards : List PlayingCard) : Type 0 where
+  pub valid : IsBoard p
+  pub theirs : TakesBy (reach cards) true p n
+  pub others : TakesBy (reach cards) false p (left p - n)
+  pub within : n ≤ left p
+
+-- the claims hold there
+pub exactly-theirs : (p : Board) (n : ℕ) (cards : List PlayingCard) → IsExactly p n cards → Takes true p n
+exactly-theirs p n cards k = by-here (reach cards) true p n k.valid (reach-upward cards) k.theirs
+
+pub exactly-others : (p : Board) (n : ℕ) (cards : List PlayingCard) → IsExactly p n cards → Takes false p (left p - n)
+exactly-others p n cards k = by-here (reach cards) false p (left p - n) k.valid (reach-upward cards) k.others
+
+-- so many the leader's side takes
+abbrev leaders : Board → ℕ → ℕ
+leaders p n = (if is_north_south p.first then n else (left p - n))
+
+-- it claims them, and the other side the rest
+leaders-claims : (p : Board) (n : ℕ) (cards : List PlayingCard) → IsExactly p n cards → TakesBy (reach cards) (is_north_south p.first) p (leaders p n) × TakesBy (reach cards) (not (is_north_south p.first)) p (left p - leaders p n)
+leaders-claims p n cards k = go (is_north_south p.first)
+  where
+    go : (b : Bool) → TakesBy (reach cards) b p (if b then n else (left p - n)) × TakesBy (reach cards) (not b) p (left p - (if b then n else (left p - n)))
+    go true = (k.theirs, k.others)
+    go false = (k.others, by-fewer (reach cards) true p n (left p - (left p - n)) k.theirs (let w = k.within in omega (arith, w)))
+
+-- and each position that is covered at the depths of the cards has that value
+covered-value : (p : Board) (n : ℕ) (cards : List PlayingCard) (depths : Suit → ℕ) → IsExactly p n cards → ((c : PlayingCard) → has_card cards c ≡ true → IsRank c.rank) → ((u : Suit) → depths u ≡ depths_of (reach cards) p u)
+    → (q : Board) → IsBoard q → Covers p depths q → lead q ≡ leaders p n
+covered-value p n cards depths k real deep q good covers =
+    let claims = leaders-claims p n cards k in
+    let h = noted cards depths p (leaders p n) (leaders p n) real k.valid (λ u. let e = deep u in omega (arith, e)) claims.0 claims.1 q good covers in
+    let low = h.0 in
+    let high = h.1 in
+    omega (arith, low, high)
+
+-- what was found of a start of a trick, and the depths of the cards that it rests on
+pub record IsStartValue (p : Board) (n : ℕ) (cards : List PlayingCard) (depths : Suit → ℕ) : Type 0 where
+  pub exactly : IsExactly p n cards
+  pub start : p.trick ≡ []
+  pub real : (c : PlayingCard) → has_card cards c ≡ true → IsRank c.rank
+  pub deep : (u : Suit) → depths u ≡ depths_of (reach cards) p u
+  pub within : (u : Suit) → depths u ≤ count_of u (all_cards p)
+
+start-value : (p : Board) (n : ℕ) (cards : List PlayingCard) (depths : Suit → ℕ) → IsStartValue p n cards depths → lead p ≡ leaders p n
+start-value p n cards depths k = covered-value p n cards depths k.exactly k.real k.deep p k.exactly.valid (itself p depths k.start k.within)
+
+-- the value, where North or South leads
+pub start-north-south : (p : Board) (n : ℕ) (cards : List PlayingCard) (depths : Suit → ℕ) (b : Bool) → IsStartValue p n cards depths → b ≡ is_north_south p.first → b ≡ true → n ≡ lead p
+start-north-south p n cards depths b k side e =
+    let here : is_north_south p.first ≡ true = sym side ∙ e in
+    sym (start-value p n cards depths k ∙ ap (λ (x : Bool). if x then n else (left p - n)) here)
+
+-- and where East or West does
+pub start-east-west : (p : Board) (n : ℕ) (cards : List PlayingCard) (depths : Suit → ℕ) (b : Bool) → IsStartValue p n cards depths → b ≡ is_north_south p.first → b ≡ false → left p - n ≡ lead p
+start-east-west p n cards depths b k side e =
+    let here : is_north_south p.first ≡ false = sym side ∙ e in
+    sym (start-value p n cards depths k ∙ ap (λ (x : Bool). if x then n else (left p - n)) here)
+
+-- each position that is covered has it
+pub start-covered : (p : Board) (n : ℕ) (cards : List PlayingCard) (depths : Suit → ℕ) → IsStartValue p n cards depths → (q : Board) → IsBoard q → Covers p depths q → lead q ≡ lead p
+start-covered p n cards depths k q good covers = covered-value p n cards depths k.exactly k.real k.deep q good covers ∙ sym (start-value p n cards depths k)

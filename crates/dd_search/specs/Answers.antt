@@ -22,9 +22,18 @@ pub record AnswerBy : Type 0 where
   pub yes : Bool
   pub cards : List PlayingCard
 
--- North and South take lo to hi of them
-abbrev pub IsWindow : Board → ℕ → ℕ → Type 0
-IsWindow p lo hi = Takes true p lo × Takes false p (left p - hi)
+-- tricks that a side claims, and the cards that this rests on
+pub record ClaimBy : Type 0 where
+  pub tricks : ℕ
+  pub cards : List PlayingCard
+
+-- the side takes them
+abbrev pub IsClaimBy : Bool → Board → ClaimBy → Type 0
+IsClaimBy side p claim = TakesBy (reach claim.cards) side p claim.tricks
+
+-- North and South take so many, and East and West
+abbrev pub IsWindow : Board → ClaimBy → ClaimBy → Type 0
+IsWindow p ours theirs = IsClaimBy true p ours × IsClaimBy false p theirs
 
 -- at an empty trick, the tricks of North and South where the leader's side takes n
 abbrev pub north_souths : Board → ℕ → ℕ

@@ -1,16 +1,20 @@
 //! What is known of a position's value before a card is tried, and what an answer makes known.
-ghost use Rattle.std.specs.Prelude.{◌≡◌, ◌-◌, ◌<◌, ◌≤◌, ℕ, min, IfSome, MatchOption};
+ghost use Rattle.std.specs.Prelude.{◌≡◌, ◌-◌, ◌<◌, ◌≤◌, ℕ, min, IfSome};
 ghost use Rattle.std.specs.Bool.{OnTrue, OnFalse};
-ghost use Rattle.dd_play.specs.Board.{IsBoard, left};
+ghost use mathlib.Core.Bool.{not};
+ghost use Rattle.dd_cards.specs.declared.suit.Suit.{Suit as SuitOf};
+ghost use Rattle.dd_cards.specs.Seats.{is_north_south};
+ghost use Rattle.dd_play.specs.Board.{Board, IsBoard, left};
+ghost use Rattle.dd_play.specs.Covers.{count_of};
 ghost use Rattle.dd_play.specs.Value.{lead};
 ghost use Rattle.dd_play.specs.Intervals.{Holds};
-ghost use mathlib.Core.Bool.{not};
-ghost use Rattle.dd_cards.specs.Seats.{is_north_south};
 ghost use Rattle.dd_play.specs.Reach.{reach, TakesBy};
+ghost use Rattle.dd_rank.specs.Depths.{all_cards, depth_in, Covers};
 ghost use Rattle.dd_search.specs.Answers.{IsAnswerBy, IsWindow, north_souths};
 
 use crate::answer::Answer;
 use crate::bounds::Bounds;
+use crate::claim::Claim;
 use dd_play::interval::Interval;
 use dd_play::position::Position;
 use dd_play::trick_start::TrickStart;
@@ -93,54 +97,50 @@ fn taught(start: &TrickStart, need: u8, answer: Answer) -> Interval
     turned(leads, left, window)
 }
 
-/// The tricks that North and South take, as far as a look and the quick bounds tell at a start of a trick.
-pub(crate) fn window<B: Bounds>(position: &Position, bounds: &mut B) -> Interval
-    ensures window { IsWindow position.now result.lo result.hi }
-    ensures within { result.hi ≤ left position.now }
+/// What North and South take and what East and West take, as far as a look and the quick bounds tell at a start of a trick.
+pub(crate) fn window<B: Bounds>(position: &Position, bounds: &mut B) -> (Claim, Claim)
+    ensures { IsWindow position.now result.0 result.1 }
 {
+    let nothing = (Claim::nothing(), Claim::nothing());
     let left = position.tricks_left();
     match TrickStart::of(position) {
         Some(start) if left > 0 => {
-            let told = looked(&start, bounds);
+            let told = bounds.look(&start);
             let quick = quick_bounds(&start);
-            let both = met(told, quick);
-            turned(position.first().is_north_south(), left, both)
+            let quick = claims(&start, quick.0, quick.1);
+            let quick = (nothing.0.or(quick.0), nothing.1.or(quick.1));
+            match told {
+                Some(told) => {
+                    let told = claims(&start, told.0, told.1);
+                    (quick.0.or(told.0), quick.1.or(told.1))
+                }
+                None => quick,
+            }
         }
-        _ => Interval { lo: 0, hi: left },
+        _ => nothing,
     }
 }
 
-// The bounds that a look tells.
-fn looked<B: Bounds>(start: &TrickStart, bounds: &mut B) -> Option<Interval>
-    ensures { IfSome result (λ interval. Holds interval (lead start.now)) }
+// What North and South take and what East and West take, by bounds that hold at these depths.
+fn claims(start: &TrickStart, interval: Interval, depths: Depths) -> (Claim, Claim)
+    requires within { (u : SuitOf) → depth_in depths u ≤ count_of u (all_cards start.now) }
+    requires holds { (q : Board) → IsBoard q → Covers start.now (depth_in depths) q → Holds interval (lead q) }
+    ensures { IsWindow start.now result.0 result.1 }
 {
-    // The proof reads here that it is a start of a trick.
-    let _ = start.position();
-    let told = bounds.look(start)?;
-    Some(told.0)
-}
-
-// What was told and the quick bounds together.
-fn met(told: Option<Interval>, quick: Interval) -> Interval
-    ensures { (n : ℕ) → IfSome told (λ interval. Holds interval n) → Holds quick n → Holds result n }
-{
-    match told {
-        Some(interval) => interval.meet(quick).unwrap_or(quick),
-        None => quick,
-    }
-}
-
-// The answer that bounds of the tricks of North and South give.
-#[inline]
-fn settled(window: Interval, need: u8) -> Option<bool>
-    ensures { MatchOption result ((window.lo < need) × (need ≤ window.hi)) (λ yes. OnTrue yes (need ≤ window.lo) × OnFalse yes (window.hi < need)) }
-{
-    if window.lo >= need {
-        Some(true)
-    } else if window.hi < need {
-        Some(false)
+    let position = start.position();
+    let cards = depths.cards(start);
+    let leaders = Claim {
+        tricks: interval.lo,
+        cards,
+    };
+    let others = Claim {
+        tricks: position.tricks_left().saturating_sub(interval.hi),
+        cards,
+    };
+    if position.first().is_north_south() {
+        (leaders, others)
     } else {
-        None
+        (others, leaders)
     }
 }
 

@@ -3,6 +3,7 @@
 
 mod answer;
 pub mod bounds;
+mod claim;
 mod follow;
 mod guess;
 mod known;
@@ -13,6 +14,7 @@ mod order;
 pub mod reaches;
 mod rests;
 pub mod score;
+pub mod start;
 mod strength;
 mod takes;
 #[cfg(test)]

@@ -6,6 +6,7 @@ ghost use Rattle.dd_play.specs.Value.{score};
 
 use crate::bounds::Bounds;
 use crate::meter::{Halt, Meter, Tick};
+use crate::reaches::reaches;
 use crate::takes::trick_of;
 use crate::value::north_souths_tricks;
 use dd_cards::card::Card;
@@ -30,10 +31,35 @@ pub fn score<B: Bounds, M: Meter>(
     ensures answers { ((m : M) (tick : Tick) → M.says m tick → tick ≡ Tick.Go) → IsOk result }
 {
     let (next, winner) = position.play(card);
-    let tricks = north_souths_tricks(&next, bounds, meter)? + trick_of(winner);
+    let found = north_souths_tricks(&next, bounds, meter)?;
+    let tricks = found.tricks + trick_of(winner);
     if position.mover().is_north_south() {
         Ok(tricks)
     } else {
         Ok(position.tricks_left() - tricks)
     }
+}
+
+/// The score of a legal card that scores at most `most`, by questions from there down. Errors as at `score`.
+pub fn score_up_to<B: Bounds, M: Meter>(
+    position: &Position,
+    card: Card,
+    most: u8,
+    bounds: &mut B,
+    meter: &mut M,
+) -> Result<u8, Halt>
+    requires legal { has_card (legal position.now) card ≡ true }
+    requires most { score position.now card ≤ most }
+    ensures value { IfOk result (λ tricks. tricks ≡ score position.now card) }
+    ensures spent { result ≡ Err Halt.Spent → M.says meter.new Tick.Spent }
+    ensures stopped { result ≡ Err Halt.Stopped → M.says meter.new Tick.Stop }
+{
+    let mut tricks = most;
+    'tricks: while tricks > 0 {
+        if reaches(position, card, tricks, bounds, meter)? {
+            break;
+        }
+        tricks -= 1;
+    }
+    Ok(tricks)
 }

@@ -1,50 +1,52 @@
-use Rattle.std.proofs.Common.{◌≡◌, ◌≤◌, ◌+◌, sym, ap, ◌∙◌, subst, arith}
-use Rattle.dd_cards.specs.Seats.{seat_after, next_seat}
-use Rattle.dd_play.specs.Board.{Board, IsBoard, left}
-use Rattle.dd_play.specs.Value.{lead}
-use Rattle.dd_quick.specs.QuickTricks.{leaders_tricks, top_trumps}
-use Rattle.dd_quick.proofs.Sound.{bounded}
+use Rattle.std.proofs.Common.{◌+◌, ◌≤◌, ap, ◌∙◌, subst, arith}
+use mathlib.Core.Bool.{not}
+use Rattle.dd_cards.specs.Seats.{is_north_south}
+use Rattle.dd_play.specs.Board.{Board, left}
+use Rattle.dd_quick.specs.QuickTricks.{SureTricks}
+use Rattle.dd_quick.proofs.Covered.{IsSure, sure-within, sure-bounds}
 use Rattle.dd_quick.proofs.bounds.bounds.Goals as goal
-use Rattle.dd_quick.proofs.bounds.bounds.Goals.{After-next-right}
+use Rattle.dd_quick.proofs.bounds.bounds.Goals.{After-tricks_left}
 
--- what the quick tricks of the four hands bound, by the seats that are computed
-record Bounded (c : After-next-right) : Type 0 where
-  value : lead c.position-position.result.now ≡ lead c.args.start.now
-  leader : leaders_tricks c.position-position.result.now ≤ lead c.args.start.now
-  partner : top_trumps c.position-position.result.now.strain c.position-position.result.now c.next-partner.result ≤ lead c.args.start.now
-  next : lead c.args.start.now + top_trumps c.position-position.result.now.strain c.position-position.result.now c.next-left.result ≤ left c.position-position.result.now
-  last : lead c.args.start.now + top_trumps c.position-position.result.now.strain c.position-position.result.now c.next-right.result ≤ left c.position-position.result.now
+-- what the two sides are sure of at the position that is asked
+record Both (c : After-tricks_left) : Type 0 where
+  ours : IsSure (is_north_south c.args.start.now.first) c.args.start.now c.leaders-ours.result
+  theirs : IsSure (not (is_north_south c.args.start.now.first)) c.args.start.now c.others-theirs.result
 
--- at the position that is read
-here : (c : After-next-right) → Bounded c
-here c =
-    let p : Board = c.position-position.result.now in
-    let same = c.position-position.ensures.value in
-    let sure = bounded p (subst IsBoard (sym same) c.position-position.ensures.board) (ap (λ (q : Board). q.trick) same ∙ c.position-position.ensures.start) in
-    let value : lead p ≡ lead c.args.start.now = ap lead same in
-    let next : c.next-left.result ≡ seat_after p.first 1 = c.next-left.ensures ∙ ap next_seat c.first.ensures in
-    let partner : c.next-partner.result ≡ seat_after p.first 2 = c.next-partner.ensures ∙ ap next_seat next in
-    let last : c.next-right.result ≡ seat_after p.first 3 = c.next-right.ensures ∙ ap next_seat partner in
-    let one = ap (top_trumps p.strain p) next in
-    let two = ap (top_trumps p.strain p) partner in
-    let three = ap (top_trumps p.strain p) last in
-    let a = sure.leader in
-    let b = sure.partner in
-    let d = sure.next in
-    let e = sure.last in
-    record {
-      value = value;
-      leader = omega (arith, value, a);
-      partner = omega (arith, value, two, b);
-      next = omega (arith, value, one, d);
-      last = omega (arith, value, three, e);
-    }
+both : (c : After-tricks_left) → Both c
+both c = record {
+  ours = subst (λ (p : Board). IsSure (is_north_south p.first) p c.leaders-ours.result) c.position-position.ensures.value c.leaders-ours.ensures.claim;
+  theirs = subst (λ (p : Board). IsSure (not (is_north_south p.first)) p c.others-theirs.result) c.position-position.ensures.value c.others-theirs.ensures.claim;
+}
 
-pub overflow_sub-result : goal.overflow_sub-result
-overflow_sub-result c = (let h = here (goal.at.overflow_sub-result c).After-next-right in omega (arith, h.leader, h.partner, h.next, h.last))
+within : (c : After-tricks_left) → c.leaders-ours.result.tricks + c.others-theirs.result.tricks ≤ c.tricks_left.result
+within c =
+    let h = sure-within c.args.start.now c.leaders-ours.result c.others-theirs.result c.position-position.ensures.board (both c).ours (both c).theirs in
+    let e = c.tricks_left.ensures.tricks ∙ ap left c.position-position.ensures.value in
+    omega (arith, h, e)
 
-pub invariant_of-result : goal.invariant_of-result
-invariant_of-result c = record { ordered = (let h = here (goal.at.invariant_of-result c).After-next-right in omega (arith, h.leader, h.partner, h.next, h.last)) }
+pub overflow_sub-interval : goal.overflow_sub-interval
+overflow_sub-interval c =
+    let h = within (goal.at.overflow_sub-interval c).After-tricks_left in
+    let e = ap (λ (s : SureTricks). s.tricks) c.theirs.view_is in
+    omega (arith, h, e)
+
+pub invariant_of-interval : goal.invariant_of-interval
+invariant_of-interval c = record {
+  ordered = (
+      let h = within (goal.at.invariant_of-interval c).After-tricks_left in
+      let e = ap (λ (s : SureTricks). s.tricks) c.theirs.view_is in
+      let f = ap (λ (s : SureTricks). s.tricks) c.ours.view_is in
+      omega (arith, h, e, f)
+      );
+}
 
 pub returns-clause-holds : goal.returns-clause-holds
-returns-clause-holds c = (let h = here (goal.at.returns-clause-holds c).After-next-right in (omega (arith, h.leader, h.partner), omega (arith, h.next, h.last)))
+returns-clause-holds c =
+    let k = both (goal.at.returns-clause-holds c).After-tricks_left in
+    let p = c.args.start.now in
+    let left_is = c.tricks_left.ensures.tricks ∙ ap left c.position-position.ensures.value in
+    let lo = ap (λ (s : SureTricks). s.tricks) c.ours.view_is in
+    let hi = ap (λ (s : SureTricks). s.tricks) c.theirs.view_is in
+    sure-bounds p c.leaders-ours.result c.others-theirs.result c.union-cards.result _ c.ours.inside.tricks _ c.reached.ensures.real c.position-position.ensures.board
+    (rw (← ap (λ (s : SureTricks). s.cards) c.ours.view_is) c.union-cards.ensures.left) (rw (← ap (λ (s : SureTricks). s.cards) c.theirs.view_is) c.union-cards.ensures.right)
+    c.reached.ensures.depths lo (omega (arith, left_is, hi)) k.ours k.theirs
