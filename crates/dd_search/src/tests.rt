@@ -6,7 +6,9 @@ use crate::bounds::{Bounds, NoTable};
 use crate::meter::{Budget, Endless, Halt, Meter};
 use crate::reaches::reaches;
 use crate::score::score;
+use crate::start::{start_scores, start_value};
 use crate::value::value;
+use arrayvec::ArrayVec;
 use dd_cards::card::Card;
 use dd_cards::hands::Hands;
 use dd_cards::rank::Rank;
@@ -316,4 +318,92 @@ fn all_honours_take_all_tricks(rt: HostRuntime) {
             "{suit}"
         );
     }
+}
+
+// The start of a trick, where the hands are a position.
+fn start_of(hands: &[Holdings; 4], first: Seat) -> Option<TrickStart> {
+    TrickStart::of(&position_of(hands, first, &[])?)
+}
+
+// The depths, spades first.
+fn four(depths: Depths) -> [u8; 4] {
+    [
+        depths.of(Suit::Spades),
+        depths.of(Suit::Hearts),
+        depths.of(Suit::Diamonds),
+        depths.of(Suit::Clubs),
+    ]
+}
+
+const TWO_ACES: [Holdings; 4] = [
+    [&[2], &[14], &[], &[]],
+    [&[14, 13], &[], &[], &[]],
+    [&[12], &[4], &[], &[]],
+    [&[11], &[5], &[], &[]],
+];
+
+#[test]
+fn a_value_rests_on_the_cards_that_win(rt: HostRuntime) {
+    let table = [
+        (&ONE_EACH, Seat::North, 1, [1, 0, 0, 0], "the ace"),
+        (&ONE_EACH, Seat::East, 0, [1, 0, 0, 0], "against the ace"),
+        (&CAUGHT, Seat::North, 2, [3, 0, 0, 0], "ace, king and queen"),
+        (&BEHIND, Seat::North, 1, [2, 0, 0, 0], "ace and king"),
+    ];
+    for (hands, first, want, depths, what) in table {
+        let start = start_of(hands, first).expect(&rt, what);
+        let found = start_value(&start, &mut NoTable, &mut Endless).expect(&rt, what);
+        assert_eq!(rt; (found.0, four(found.1)), (want, depths), "{what}");
+    }
+}
+
+#[test]
+fn each_class_has_its_score_in_the_order_of_the_suits(rt: HostRuntime) {
+    let table = [
+        (&CAUGHT, Seat::North, [(3, 2)].as_slice(), "equal cards"),
+        (&ONE_EACH, Seat::East, [(13, 0)].as_slice(), "one card"),
+        (
+            &TWO_ACES,
+            Seat::North,
+            [(2, 0), (16 + 14, 1)].as_slice(),
+            "two classes",
+        ),
+    ];
+    for (hands, first, want, what) in table {
+        let start = start_of(hands, first).expect(&rt, what);
+        let found = start_scores(&start, &mut NoTable, &mut Endless).expect(&rt, what);
+        let mut scores: ArrayVec<(u8, u8), 13> = ArrayVec::new();
+        for (card, score) in found.0.as_slice() {
+            let _fits = scores.try_push((card.code(), *score));
+        }
+        assert_eq!(rt; scores.as_slice(), want, "{what}");
+    }
+}
+
+// The position after each hand has played its first card.
+fn after_a_trick(start: &TrickStart) -> Option<TrickStart> {
+    let second = first_played(start.position())?;
+    let third = first_played(&second)?;
+    let fourth = first_played(&third)?;
+    TrickStart::of(&first_played(&fourth)?)
+}
+
+fn first_played(position: &Position) -> Option<Position> {
+    let card = position.choices().pop_first()?;
+    if position.is_legal(card) {
+        Some(position.play(card).0)
+    } else {
+        None
+    }
+}
+
+#[test]
+fn without_cards_there_is_no_score(rt: HostRuntime) {
+    let start = start_of(&ONE_EACH, Seat::North).expect(&rt, "one card a hand");
+    let end = after_a_trick(&start).expect(&rt, "four cards");
+    let mut one = Budget::new(1);
+    let found = start_scores(&end, &mut NoTable, &mut one).expect(&rt, "one tick");
+    assert!(rt; found.0.is_empty());
+    assert_eq!(rt; four(found.1), [0, 0, 0, 0]);
+    assert_eq!(rt; one.ticks(), 1);
 }

@@ -1,3 +1,4 @@
 pub mod CommandLine
 pub mod Program
 pub mod Status
+pub mod FullDepths

@@ -3,6 +3,7 @@ ghost use Rattle.std.specs.Prelude.{◌≤◌};
 
 use dd_play::interval::Interval;
 use dd_play::trick_start::TrickStart;
+use dd_rank::depths::Depths;
 use dd_search::bounds::Bounds;
 use dd_shard::shard::Shard;
 use std::alloc::{AllocError, Global};
@@ -25,19 +26,23 @@ impl OneShard {
 }
 
 impl Bounds for OneShard {
-    ghost use Rattle.dd_play.specs.Intervals.{Holds};
-    ghost use Rattle.dd_play.specs.Value.{lead};
+    ghost use Rattle.ddserve.specs.FullDepths.{IsFull, full-holds};
 
-    // What it tells holds. Which entries it still has depends on what came since.
-    ghost tells = { λ table p interval. Holds interval (lead p) };
+    // What it tells holds of the position, and at full depths. Which entries it still has depends on what came since.
+    ghost tells = { λ table p depths interval. IsFull p depths interval };
 
-    ghost holds = { λ table p interval told. told };
+    ghost holds = { λ table p depths interval q told valid covers. full-holds p depths interval q told valid covers };
 
-    fn look(&mut self, start: &TrickStart) -> Option<Interval> {
-        self.shard.look(start)
+    fn look(&mut self, start: &TrickStart) -> Option<(Interval, Depths)> {
+        // The proof reads here that it is a position.
+        let _ = start.position();
+        let interval = self.shard.look(start)?;
+        Some((interval, Depths::full(start)))
     }
 
-    fn note(&mut self, start: &TrickStart, interval: Interval) {
+    fn note(&mut self, start: &TrickStart, _depths: Depths, interval: Interval) {
+        // The proof reads here that it is a start of a trick.
+        let _ = start.position();
         // An entry more that finds no memory is an entry less to look at, and no fault.
         let _ = self.shard.note(start, interval);
     }
