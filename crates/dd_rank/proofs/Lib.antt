@@ -1,9 +1,9 @@
 pub mod AlikeLead
 pub mod Pairs
 pub mod Holders
-pub mod Numbers
+pub mod Digits
+pub mod Turned
 pub mod Owners
-pub mod Tested
 pub mod Places
 pub mod Covered
 pub mod Looked
@@ -12,3 +12,4 @@ pub mod Sound
 pub mod Told
 pub mod Lowest
 pub mod Fulls
+pub mod Standing

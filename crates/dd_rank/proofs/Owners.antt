@@ -35,7 +35,7 @@ lowest-has (suc k) r low high = elim (eqb_tells (k + 2) r) [ inl e ↦ inl e.1 |
 
 -- ---- the ranks of a suit that are left
 -- the holder of the suit's card of a rank
-abbrev holder_at : Board → Suit → ℕ → Option Seat
+abbrev pub holder_at : Board → Suit → ℕ → Option Seat
 holder_at p u r = holder p.hands (card_of u r)
 
 -- the ranks of the suit's cards that some hand has, from the highest down
@@ -43,12 +43,12 @@ pub ranks_left : Board → Suit → List ℕ
 ranks_left p u = filter (λ r. is_some (holder_at p u r)) all_ranks
 
 -- they fall
-left-falls : (p : Board) (u : Suit) → Falls (ranks_left p u)
+pub left-falls : (p : Board) (u : Suit) → Falls (ranks_left p u)
 unfolding ranks_left all_ranks
 left-falls p u = part-falls (λ r. is_some (holder_at p u r)) (lowest_ranks 13) (lowest-falls 13)
 
 -- their holders are the suit's owners
-left-owners : (p : Board) (u : Suit) → map (holder_at p u) (ranks_left p u) ≡ map Some (owners p u)
+pub left-owners : (p : Board) (u : Suit) → map (holder_at p u) (ranks_left p u) ≡ map Some (owners p u)
 unfolding ranks_left suit_cards
 left-owners p u = kept-map (holder_at p u) all_ranks ∙ ap (map Some) (sym (by-ranks (holder p.hands) u all_ranks))
 
@@ -62,18 +62,18 @@ same-owners p q u e = some-same (owners q u) (owners p u) (sym (left-owners q u)
 
 -- ---- the holder at a legal state of play
 -- who has the card is its holder
-has-holder : (p : Board) → IsBoard p → (s : Seat) (c : PlayingCard) → has_card (cards_at p s) c ≡ true → holder p.hands c ≡ Some s
+pub has-holder : (p : Board) → IsBoard p → (s : Seat) (c : PlayingCard) → has_card (cards_at p s) c ≡ true → holder p.hands c ≡ Some s
 has-holder p valid s c h = only-holder p.hands c s h (λ t k. board-disjoint p valid c t s k h)
 
 -- the rank of a card that a hand has is left
-has-left : (p : Board) → IsBoard p → (s : Seat) (c : PlayingCard) → has_card (cards_at p s) c ≡ true → Has c.rank (ranks_left p c.suit)
+pub has-left : (p : Board) → IsBoard p → (s : Seat) (c : PlayingCard) → has_card (cards_at p s) c ≡ true → Has c.rank (ranks_left p c.suit)
 unfolding ranks_left all_ranks
 has-left p valid s c h =
     let real : IsRank c.rank = card-real p s c valid h in
     part-has (λ r. is_some (holder_at p c.suit r)) (lowest_ranks 13) c.rank (lowest-has 13 c.rank real.0 (let k = real.1 in omega (arith, k))) (ap is_some (has-holder p valid s c h))
 
 -- some hand has the card of a rank that is left
-left-has : (p : Board) (u : Suit) (r : ℕ) → Has r (ranks_left p u) → (s : Seat) × (has_card (cards_at p s) (card_of u r) ≡ true)
+pub left-has : (p : Board) (u : Suit) (r : ℕ) → Has r (ranks_left p u) → (s : Seat) × (has_card (cards_at p s) (card_of u r) ≡ true)
 unfolding ranks_left
 left-has p u r has = go (holder_at p u r) refl (has-part (λ r. is_some (holder_at p u r)) all_ranks r has).0
   where
