@@ -13,3 +13,5 @@ pub mod Told
 pub mod Lowest
 pub mod Fulls
 pub mod Standing
+pub mod Lengths
+pub mod Agreed

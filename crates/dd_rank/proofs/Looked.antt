@@ -23,7 +23,7 @@ use Rattle.dd_play.proofs.Fewer.{unturn}
 use Rattle.dd_rank.proofs.Places.{count-le, above-is, above-suit, above-rank, in-all}
 use Rattle.dd_rank.proofs.Covered.{all-in, IsTopOf, IsLifted, lifted-top}
 
-count-append : (test : PlayingCard → Bool) (xs ys : List PlayingCard) → count test (xs ++ ys) ≡ count test xs + count test ys
+pub count-append : (test : PlayingCard → Bool) (xs ys : List PlayingCard) → count test (xs ++ ys) ≡ count test xs + count test ys
 count-append test [] ys = omega arith
 count-append test (x ∷ xs) ys =
     let a = count-cons test x xs in

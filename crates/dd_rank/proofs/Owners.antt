@@ -39,7 +39,7 @@ abbrev pub holder_at : Board → Suit → ℕ → Option Seat
 holder_at p u r = holder p.hands (card_of u r)
 
 -- the ranks of the suit's cards that some hand has, from the highest down
-pub ranks_left : Board → Suit → List ℕ
+unfoldable pub ranks_left : Board → Suit → List ℕ
 ranks_left p u = filter (λ r. is_some (holder_at p u r)) all_ranks
 
 -- they fall

@@ -115,10 +115,10 @@ place_or f (Some x) = places_after f x
 
 -- the owners' places, by the ranks left
 places-by-ranks : (p : Board) (u : Suit) → owner_places p u ≡ map (λ r. place_or p.first (holder_at p u r)) (ranks_left p u)
+unfolding place_or
 places-by-ranks p u = sym (some-places (owners p u)) ∙ ap (map (place_or p.first)) (sym (left-owners p u)) ∙ twice (ranks_left p u)
   where
     some-places : (xs : List Seat) → map (place_or p.first) (map Some xs) ≡ map (places_after p.first) xs
-    unfolding place_or
     some-places [] = refl
     some-places (x ∷ xs) = ap (λ l. places_after p.first x ∷ l) (some-places xs)
 
