@@ -15,3 +15,4 @@ pub mod Fulls
 pub mod Standing
 pub mod Lengths
 pub mod Agreed
+pub mod Walked

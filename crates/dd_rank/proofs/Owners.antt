@@ -27,6 +27,11 @@ unfolding lowest_ranks
 lowest-falls zero = tt
 lowest-falls (suc k) = (lowest-below k, lowest-falls k)
 
+-- .. and so do all ranks
+pub ranks-fall : Falls all_ranks
+unfolding all_ranks
+ranks-fall = lowest-falls 13
+
 -- each rank from 2 on below the bound is among them
 lowest-has : (k r : ℕ) → 2 ≤ r → r < k + 2 → Has r (lowest_ranks k)
 unfolding lowest_ranks
@@ -44,8 +49,8 @@ ranks_left p u = filter (λ r. is_some (holder_at p u r)) all_ranks
 
 -- they fall
 pub left-falls : (p : Board) (u : Suit) → Falls (ranks_left p u)
-unfolding ranks_left all_ranks
-left-falls p u = part-falls (λ r. is_some (holder_at p u r)) (lowest_ranks 13) (lowest-falls 13)
+unfolding ranks_left
+left-falls p u = part-falls (λ r. is_some (holder_at p u r)) all_ranks ranks-fall
 
 -- their holders are the suit's owners
 pub left-owners : (p : Board) (u : Suit) → map (holder_at p u) (ranks_left p u) ≡ map Some (owners p u)
