@@ -16,3 +16,5 @@ pub mod Standing
 pub mod Lengths
 pub mod Agreed
 pub mod Walked
+pub mod Suited
+pub mod Seated

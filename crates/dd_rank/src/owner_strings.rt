@@ -68,11 +68,14 @@ impl OwnerStrings {
     {
         let position = start.position();
         let hands = position.hands();
-        let first = position.first();
-        let leader = hands.hand(first);
-        let second = hands.hand(first.next());
-        let third = hands.hand(first.next().next());
-        let fourth = hands.hand(first.next().next().next());
+        let first_seat = position.first();
+        let second_seat = first_seat.next();
+        let third_seat = second_seat.next();
+        let fourth_seat = third_seat.next();
+        let leader = hands.hand(first_seat);
+        let second = hands.hand(second_seat);
+        let third = hands.hand(third_seat);
+        let fourth = hands.hand(fourth_seat);
         let spades = suit_string(leader, second, third, fourth, Suit::Spades);
         let hearts = suit_string(leader, second, third, fourth, Suit::Hearts);
         let diamonds = suit_string(leader, second, third, fourth, Suit::Diamonds);
