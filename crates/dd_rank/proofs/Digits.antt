@@ -9,7 +9,7 @@ abbrev pub AreDigits : List ℕ → Type 0
 AreDigits xs = (i : ℕ) → get_or xs i 0 < 4
 
 -- a positive power of four
-power-pos : (d : ℕ) → 0 < 4 ^ d
+pub power-pos : (d : ℕ) → 0 < 4 ^ d
 power-pos zero = omega arith
 power-pos (suc d) = let ih = power-pos d in let e : 4 ^ suc d ≡ 4 * 4 ^ d = omega arith in omega (arith, ih, e)
 
@@ -82,3 +82,23 @@ number-below (x ∷ xs) digits =
 -- so it is its own lower part
 pub whole-number : (xs : List ℕ) → AreDigits xs → number_of 4 xs % 4 ^ length xs ≡ number_of 4 xs
 whole-number xs digits = mod-eq_of_lt (number-below xs digits)
+
+-- a digit to the base 4 takes two bits
+pub two-bits : (d : ℕ) → 2 ^ (2 * d) ≡ 4 ^ d
+two-bits zero = refl
+two-bits (suc d) =
+    let ih = two-bits d in
+    let e : 2 * suc d ≡ suc (suc (2 * d)) = omega arith in
+    let a : 2 ^ suc (suc (2 * d)) ≡ 2 * (2 * 2 ^ (2 * d)) = omega arith in
+    let b : 4 ^ suc d ≡ 4 * 4 ^ d = omega arith in
+    ap (λ n. 2 ^ n) e ∙ omega (arith, ih, a, b)
+
+-- powers of four tell their exponents
+pub powers-tell : (d e : ℕ) → 4 ^ d ≡ 4 ^ e → d ≡ e
+powers-tell zero zero same = refl
+powers-tell zero (suc e) same = absurd (let p = power-pos e in let a : 4 ^ suc e ≡ 4 * 4 ^ e = omega arith in omega (arith, same, p, a))
+powers-tell (suc d) zero same = absurd (let p = power-pos d in let a : 4 ^ suc d ≡ 4 * 4 ^ d = omega arith in omega (arith, same, p, a))
+powers-tell (suc d) (suc e) same =
+    let a : 4 ^ suc d ≡ 4 * 4 ^ d = omega arith in
+    let b : 4 ^ suc e ≡ 4 * 4 ^ e = omega arith in
+    ap suc (powers-tell d e (omega (arith, same, a, b)))

@@ -18,3 +18,5 @@ pub mod Agreed
 pub mod Walked
 pub mod Suited
 pub mod Seated
+pub mod Packed
+pub mod Alikes

@@ -6,11 +6,11 @@ use Rattle.std.proofs.lemmas.List.{get_or-map}
 use Rattle.dd_cards.specs.declared.seat.Seat.{Seat}
 use Rattle.dd_cards.specs.declared.suit.Suit.{Suit}
 use Rattle.dd_cards.specs.PlayingCard.{PlayingCard}
-use Rattle.dd_cards.specs.Ranks.{all_ranks}
+use Rattle.dd_cards.specs.Ranks.{lowest_ranks, all_ranks}
 use Rattle.dd_cards.specs.Cards.{is_of, has_card, card_of, deck}
 use Rattle.dd_cards.proofs.CardLists.{has_card-deck}
 use Rattle.dd_cards.proofs.RankLists.{filter-same}
-use Rattle.dd_cards.proofs.SetLaws.{IsSet-filter, IsSet-deck, suit-ranks, has_card-filter}
+use Rattle.dd_cards.proofs.SetLaws.{IsSet-filter, IsSet-deck, suit-ranks, length-filter-le}
 use Rattle.dd_cards.proofs.Sets.{times-set}
 use Rattle.dd_play.specs.Board.{Board, IsBoard, cards_at}
 use Rattle.dd_play.specs.Covers.{count_of}
@@ -137,6 +137,15 @@ places-ranks p u = ap length (places-by-ranks p u) ∙ length-map (λ r. place_o
 -- .. and as cards of the suit
 pub places-count : (p : Board) → IsBoard p → (u : Suit) → count_of u (all_cards p) ≡ length (owner_places p u)
 places-count p valid u = sym (whole-count p valid (is_of u)) ∙ length-of u (ranks_left p u) (whole p) (left-of p valid u) ∙ sym (places-ranks p u)
+
+-- a suit has at most thirteen cards
+pub count-small : (p : Board) → IsBoard p → (u : Suit) → count_of u (all_cards p) ≤ 13
+unfolding ranks_left all_ranks lowest_ranks
+count-small p valid u =
+    let few : length (filter (λ r. is_some (holder_at p u r)) all_ranks) ≤ 13 = length-filter-le (λ r. is_some (holder_at p u r)) all_ranks in
+    let a = places-count p valid u in
+    let b : length (owner_places p u) ≡ length (filter (λ r. is_some (holder_at p u r)) all_ranks) = places-ranks p u in
+    omega (arith, few, a, b)
 
 -- the owner at a card's place is the seat that has it
 pub stands-at : (p : Board) → IsBoard p → (x : Seat) (c : PlayingCard) → has_card (cards_at p x) c ≡ true

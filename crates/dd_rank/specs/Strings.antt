@@ -107,27 +107,53 @@ same_strings = eq_of_both (on (λ (s : Strings). strain_code s.strain) nat_eq) (
     (eq_of_both (on (λ (s : Strings). s.spades) nat_eq) (eq_of_both (on (λ (s : Strings). s.hearts) nat_eq)
     (eq_of_both (on (λ (s : Strings). s.diamonds) nat_eq) (on (λ (s : Strings). s.clubs) nat_eq)))))
 
--- the test is an equivalence
+-- are strain and lengths the same?
+abbrev pub same_shape : ShapeOf → ShapeOf → Bool
+same_shape = eq_of_both (on (λ (s : ShapeOf). strain_code s.strain) nat_eq) (on (λ (s : ShapeOf). s.lengths) nat_eq)
+
+-- a test of a number is an equivalence
+by-number : {K : Type 0} (part : K → ℕ) → IsEquivalence (on part nat_eq)
+by-number part = on_equiv part nat_eq_equiv
+
+-- the test of strings is an equivalence
 pub same-strings : IsEquivalence same_strings
 same-strings =
-    and_equiv (by (λ s. strain_code s.strain)) (and_equiv (by (λ s. s.lengths)) (and_equiv (by (λ s. s.spades))
-    (and_equiv (by (λ s. s.hearts)) (and_equiv (by (λ s. s.diamonds)) (by (λ s. s.clubs))))))
-  where
-    by : (part : Strings → ℕ) → IsEquivalence (on part nat_eq)
-    by part = on_equiv part nat_eq_equiv
+    and_equiv (by-number (λ s. strain_code s.strain)) (and_equiv (by-number (λ s. s.lengths)) (and_equiv (by-number (λ s. s.spades))
+    (and_equiv (by-number (λ s. s.hearts)) (and_equiv (by-number (λ s. s.diamonds)) (by-number (λ s. s.clubs))))))
 
 -- .. and so a partial one
 pub same-strings-partial : IsPartialEquivalence same_strings
 same-strings-partial = partial_equiv_from_equiv same-strings
 
+-- the test of shapes is an equivalence
+pub same-shape : IsEquivalence same_shape
+same-shape = and_equiv (by-number (λ s. strain_code s.strain)) (by-number (λ s. s.lengths))
+
+-- .. and so a partial one
+pub same-shape-partial : IsPartialEquivalence same_shape
+same-shape-partial = partial_equiv_from_equiv same-shape
+
+-- two tests that pass together
+both-pass : (a b : Bool) → (a && b) ≡ true → (a ≡ true) × (b ≡ true)
+both-pass true b h = (refl, h)
+both-pass false b h = absurd (cc)
+
+-- shapes with the same parts have one mixing number, and so are fed alike to a hasher
+pub fed-shape : (x y : ShapeOf) → same_shape x y ≡ true → u64 (mixed_of x) ≡ u64 (mixed_of y)
+fed-shape x y h =
+    let a = both-pass (strain_code x.strain == strain_code y.strain) (x.lengths == y.lengths) h in
+    let strain : strain_code x.strain ≡ strain_code y.strain = eqb-true _ _ a.0 in
+    let lengths : x.lengths ≡ y.lengths = eqb-true _ _ a.1 in
+    rw (strain, lengths) refl
+
 -- strings with the same parts have one mixing number, and so are fed alike to a hasher
 pub fed-same : (x y : Strings) → same_strings x y ≡ true → u64 (mixed_in x) ≡ u64 (mixed_in y)
 fed-same x y h =
-    let a = both (strain_code x.strain == strain_code y.strain) _ h in
-    let b = both (x.lengths == y.lengths) _ a.1 in
-    let c = both (x.spades == y.spades) _ b.1 in
-    let d = both (x.hearts == y.hearts) _ c.1 in
-    let e = both (x.diamonds == y.diamonds) (x.clubs == y.clubs) d.1 in
+    let a = both-pass (strain_code x.strain == strain_code y.strain) _ h in
+    let b = both-pass (x.lengths == y.lengths) _ a.1 in
+    let c = both-pass (x.spades == y.spades) _ b.1 in
+    let d = both-pass (x.hearts == y.hearts) _ c.1 in
+    let e = both-pass (x.diamonds == y.diamonds) (x.clubs == y.clubs) d.1 in
     let strain : strain_code x.strain ≡ strain_code y.strain = eqb-true _ _ a.0 in
     let lengths : x.lengths ≡ y.lengths = eqb-true _ _ b.0 in
     let spades : x.spades ≡ y.spades = eqb-true _ _ c.0 in
@@ -135,7 +161,3 @@ fed-same x y h =
     let diamonds : x.diamonds ≡ y.diamonds = eqb-true _ _ e.0 in
     let clubs : x.clubs ≡ y.clubs = eqb-true _ _ e.1 in
     rw (strain, lengths, spades, hearts, diamonds, clubs) refl
-  where
-    both : (a b : Bool) → (a && b) ≡ true → (a ≡ true) × (b ≡ true)
-    both true b h = (refl, h)
-    both false b h = absurd (cc)

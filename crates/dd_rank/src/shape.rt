@@ -1,12 +1,14 @@
 ghost use Rattle.std.specs.Prelude.{◌≡◌};
-ghost use Rattle.dd_rank.specs.Strings.{mix, mixed_of};
+ghost use Rattle.std.specs.Hash as fed;
+ghost use Rattle.dd_rank.specs.Strings.{fed-shape, mix, mixed_of, same-shape, same-shape-partial, same_shape};
 
 use dd_cards::strain::Strain;
+use std::hash::{Hash, Hasher};
 use std::marker::Model;
 
 /// The strain of a start of a trick, and how many cards of each suit each hand has, with the seats counted from the leader.
 // Four bits a length: sixteen bits for each suit, the spades on top, and in them the leader's the lowest.
-#[derive(Clone, Copy, Debug, PartialEq, Eq, Hash)]
+#[derive(Clone, Copy, Debug)]
 pub struct Shape {
     strain: Strain,
     lengths: u64,
@@ -36,6 +38,32 @@ impl Shape {
         ensures { result ≡ mixed_of self }
     {
         mix(mix(0, self.strain.code() as u64), self.lengths)
+    }
+}
+
+impl PartialEq for Shape {
+    ghost eq = { same_shape };
+
+    ghost laws = { same-shape-partial };
+
+    #[inline]
+    fn eq(&self, other: &Shape) -> bool {
+        self.strain.code() == other.strain.code() && self.lengths == other.lengths
+    }
+}
+
+impl Eq for Shape {
+    ghost laws = { same-shape };
+}
+
+impl Hash for Shape {
+    ghost hash_input = { λ s. fed.u64 (mixed_of s) };
+
+    ghost respects_eq = { fed-shape };
+
+    #[inline]
+    fn hash<H: Hasher>(&self, state: &mut H) {
+        state.write_u64(self.mixed());
     }
 }
 

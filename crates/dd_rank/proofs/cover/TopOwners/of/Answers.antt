@@ -1,14 +1,7 @@
 use Rattle.std.proofs.Common.{◌≡◌, ℕ, zero, suc, ◌+◌, ◌*◌, ◌^◌, ◌-◌, ◌%◌, ◌≤◌, refl, ap, ◌∙◌, arith, bit_and}
 use Rattle.std.proofs.lemmas.Nat.{one_shl, and_mask}
+use Rattle.dd_rank.proofs.Digits.{two-bits}
 use Rattle.dd_rank.proofs.cover.TopOwners.of.Goals as goal
-
--- two bits a digit
-two-bits : (d : ℕ) → 2 ^ (2 * d) ≡ 4 ^ d
-two-bits zero = refl
-two-bits (suc d) =
-    let ih = two-bits d in
-    let e : 2 * suc d ≡ suc (suc (2 * d)) = omega arith in
-    ap (λ n. 2 ^ n) e ∙ (let a : 2 ^ suc (suc (2 * d)) ≡ 2 * (2 * 2 ^ (2 * d)) = omega arith in let b : 4 ^ suc d ≡ 4 * 4 ^ d = omega arith in omega (arith, ih, a, b))
 
 -- the bit above so many digits
 above-digits : (d : ℕ) → d ≤ 13 → 1 * 2 ^ (2 * d) % 4294967296 ≡ 4 ^ d
