@@ -30,6 +30,13 @@ turned-place p q k x first = ap (λ f. places_after f (seat_after x k)) first �
 at-place : (p : Board) → IsBoard p → (x : Seat) (c : PlayingCard) (u : Suit) (i : ℕ) → has_card (cards_at p x) c ≡ true → c.suit ≡ u → place p c ≡ i → get_or (owner_places p u) i 0 ≡ places_after p.first x
 at-place p valid x c u i h suit at = ap₂ (λ (s : Suit) (j : ℕ). get_or (owner_places p s) j 0) (sym suit) (sym at) ∙ (stands-at p valid x c h).0
 
+-- a card and one at its place whose holder is turned have one owner
+same-owner : (p q : Board) (k : ℕ) (x : Seat) (c d : PlayingCard) (u : Suit) (i : ℕ) → IsBoard p → IsBoard q → q.first ≡ seat_after p.first k
+    → has_card (cards_at p x) c ≡ true → has_card (cards_at q (seat_after x k)) d ≡ true → d.suit ≡ c.suit → c.suit ≡ u → place q d ≡ place p c → place p c ≡ i
+    → get_or (owner_places q u) i 0 ≡ get_or (owner_places p u) i 0
+same-owner p q k x c d u i valid_p valid_q first hc hd suits suit places at =
+    at-place q valid_q (seat_after x k) d u i hd (suits ∙ suit) (places ∙ at) ∙ turned-place p q k x first ∙ sym (at-place p valid_p x c u i hc suit at)
+
 -- a cover agrees
 pub covers-agree : (depths : Suit → ℕ) (p q : Board) → IsBoard p → IsBoard q → Covers p depths q → AreAgreed depths p q
 covers-agree depths p q valid_p valid_q a = record {
@@ -46,8 +53,7 @@ covers-agree depths p q valid_p valid_q a = record {
         let some = someone-at p valid_p u i (let m = a.1.most u in let n = places-count p valid_p u in omega (arith, h, m, n)) in
         let low : place p some.1 < depths some.1.suit = subst (λ s. place p some.1 < depths s) (sym some.3) (let e = some.4 in omega (arith, e, h)) in
         let d = a.1.forth some.0 some.1 some.2 low in
-        at-place q valid_q (seat_after some.0 a.0) d.0 u i d.1 (d.2 ∙ some.3) (d.3 ∙ some.4)
-        ∙ turned-place p q a.0 some.0 a.1.first ∙ sym (at-place p valid_p some.0 some.1 u i some.2 some.3 some.4)
+        same-owner p q a.0 some.0 some.1 d.0 u i valid_p valid_q a.1.first some.2 d.1 d.2 some.3 d.3 some.4
 
 -- and what agrees is a cover
 pub agree-covers : (depths : Suit → ℕ) (p q : Board) → IsBoard p → IsBoard q → p.trick ≡ [] → q.trick ≡ [] → AreAgreed depths p q → Covers p depths q

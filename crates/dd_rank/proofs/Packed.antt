@@ -48,14 +48,14 @@ masked p depths u top n t =
     ap (bit_and n) (t.mask ∙ ap (λ x. x - 1) (sym (two-bits (depth_in depths u)))) ∙ and_mask n (2 * depth_in depths u) ∙ ap (λ x. n % x) (two-bits (depth_in depths u))
 
 -- four tests pass together
-all-four : (a b c d : Bool) → (((a && b) && c) && d) ≡ true → (a ≡ true) × (b ≡ true) × (c ≡ true) × (d ≡ true)
+pub all-four : (a b c d : Bool) → (((a && b) && c) && d) ≡ true → (a ≡ true) × (b ≡ true) × (c ≡ true) × (d ≡ true)
 all-four true true true true h = (refl, refl, refl, refl)
 all-four true true true false h = absurd (cc)
 all-four true true false d h = absurd (cc)
 all-four true false c d h = absurd (cc)
 all-four false b c d h = absurd (cc)
 
-four-pass : (a b c d : Bool) → a ≡ true → b ≡ true → c ≡ true → d ≡ true → (((a && b) && c) && d) ≡ true
+pub four-pass : (a b c d : Bool) → a ≡ true → b ≡ true → c ≡ true → d ≡ true → (((a && b) && c) && d) ≡ true
 four-pass a b c d ea eb ec ed = rw (ea, eb, ec, ed) refl
 
 -- a test that is true

@@ -9,5 +9,8 @@ use dd_play::trick_start::TrickStart;
 pub fn alike(one: &TrickStart, other: &TrickStart) -> bool
     ensures { IsTrue result ↔ AreAlike one.now other.now }
 {
+    // The proof reads here that both are legal states of play.
+    let _ = one.position();
+    let _ = other.position();
     OwnerStrings::of(one) == OwnerStrings::of(other)
 }

@@ -13,9 +13,16 @@ use dd_play::trick_start::TrickStart;
 pub fn covers(one: &TrickStart, depths: Depths, other: &TrickStart) -> bool
     ensures { IsTrue result ↔ Covers one.now (depth_in depths) other.now }
 {
+    // The proof reads here that both are legal states of play.
+    let _ = one.position();
+    let _ = other.position();
+    if !depths.are_within(Depths::full(one)) {
+        return false;
+    }
     let strings = OwnerStrings::of(one);
     let others = OwnerStrings::of(other);
-    depths.are_within(Depths::full(one))
-        && strings.shape() == others.shape()
-        && Cover::new(one, depths, strings).covers(&others)
+    if strings.shape() != others.shape() {
+        return false;
+    }
+    Cover::new(one, depths, strings).covers(&others)
 }
