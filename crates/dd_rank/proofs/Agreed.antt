@@ -1,5 +1,5 @@
 -- A position covers another at depths exactly where shapes and first owners are the same.
-use Rattle.std.proofs.Common.{◌≡◌, ℕ, ◌+◌, ◌%◌, ◌^◌, ◌<◌, ◌≤◌, true, refl, sym, ap, ◌∙◌, subst, arith, [], length, get_or}
+use Rattle.std.proofs.Common.{◌≡◌, ℕ, ◌%◌, ◌^◌, ◌<◌, ◌≤◌, true, sym, ap, ◌∙◌, subst, arith, [], length, get_or}
 use mathlib.Core.Path.{ap₂}
 use Rattle.dd_cards.specs.declared.seat.Seat.{Seat}
 use Rattle.dd_cards.specs.declared.suit.Suit.{Suit}
@@ -9,7 +9,7 @@ use Rattle.dd_cards.specs.Seats.{seat_after}
 use Rattle.dd_play.specs.Board.{Board, IsBoard, cards_at}
 use Rattle.dd_play.specs.Covers.{count_of}
 use Rattle.dd_play.proofs.Plays.{turn-turn}
-use Rattle.dd_rank.specs.Depths.{all_cards, place, IsCoverAt, Covers}
+use Rattle.dd_rank.specs.Depths.{all_cards, place, Covers}
 use Rattle.dd_rank.specs.Strings.{places_after, owner_places, owners_number, length_at, all_lengths, ShapeOf, shape_of}
 use Rattle.dd_rank.proofs.Digits.{digits-give, digits-tell}
 use Rattle.dd_rank.proofs.Lengths.{lengths-tell, lengths-give, counts-same}

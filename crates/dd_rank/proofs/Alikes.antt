@@ -1,5 +1,5 @@
 -- Positions are alike exactly where their owner strings are the same: full depths cover exactly the alike positions.
-use Rattle.std.proofs.Common.{◌≡◌, ℕ, ◌%◌, ◌^◌, ◌≤◌, ◌<◌, Bool, true, false, refl, sym, ap, ◌∙◌, arith, [], length, eqb-true, eq-eqb}
+use Rattle.std.proofs.Common.{◌≡◌, ℕ, ◌%◌, ◌^◌, ◌≤◌, ◌<◌, true, false, refl, sym, ap, ◌∙◌, arith, [], length, eqb-true, eq-eqb}
 use Rattle.std.specs.Prelude.{◌↔◌, ◌&&◌, ◌==◌, nat_lt, filter}
 use Rattle.std.proofs.lemmas.Bool.{lt-ltb, ltb-true}
 use Rattle.std.proofs.lemmas.Bool.Decides.{nat_tests}
@@ -13,13 +13,13 @@ use Rattle.dd_cards.specs.Seats.{is_north_south}
 use Rattle.dd_cards.specs.Strains.{strain_code}
 use Rattle.dd_cards.proofs.CardLists.{suit_code-injective, suit_code-lt}
 use Rattle.dd_play.specs.Board.{Board, IsBoard}
-use Rattle.dd_play.specs.Covers.{IsOver, any_card, count_of, IsCover}
+use Rattle.dd_play.specs.Covers.{IsOver, any_card, count_of}
 use Rattle.dd_play.specs.Reach.{IsStrict}
 use Rattle.dd_play.proofs.Boards.{card-real}
 use Rattle.dd_play.proofs.Fewer.{cover-fewer, strict-fewer}
 use Rattle.dd_rank.specs.Alike.{AreAlike}
 use Rattle.dd_rank.specs.Depths.{all_cards, Covers}
-use Rattle.dd_rank.specs.Strings.{owner_places, owners_number, Strings, strings_of, shape_of, ShapeOf, same_strings, same_shape}
+use Rattle.dd_rank.specs.Strings.{owner_places, owners_number, Strings, strings_of, ShapeOf, same_strings, same_shape, both-pass}
 use Rattle.dd_rank.proofs.Agreed.{covers-agree, agree-covers}
 use Rattle.dd_rank.proofs.AlikeLead.{alike-cover, met-start}
 use Rattle.dd_rank.proofs.Covered.{all-in}
@@ -102,11 +102,6 @@ strain_code-injective (Trump u) (Trump v) e = ap Trump (suit_code-injective u v 
 strain_code-injective (Trump u) Notrump e = absurd (let k = suit_code-lt u in omega (arith, k, e))
 strain_code-injective Notrump (Trump v) e = absurd (let k = suit_code-lt v in omega (arith, k, e))
 strain_code-injective Notrump Notrump e = refl
-
--- two tests pass together
-both-pass : (a b : Bool) → (a && b) ≡ true → (a ≡ true) × (b ≡ true)
-both-pass true b h = (refl, h)
-both-pass false b h = absurd (cc)
 
 -- equal shapes are one shape
 pub shapes-tell : (x y : ShapeOf) → same_shape x y ≡ true ↔ x ≡ y

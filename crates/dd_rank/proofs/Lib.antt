@@ -1,5 +1,5 @@
 pub mod AlikeLead
-pub mod Pairs
+pub mod Falling
 pub mod Holders
 pub mod Digits
 pub mod Turned

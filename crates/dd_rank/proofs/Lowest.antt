@@ -56,7 +56,8 @@ union-right u x y c e real h = ap (λ l. has_card l c) e ∙ filter-has (λ c. h
     or-yes true b h = refl
     or-yes false b h = h
 
-both-ways : (a b : Bool) → (a ≡ true → b ≡ true) → (b ≡ true → a ≡ true) → a ≡ b
+-- a test that passes just where another does
+pub both-ways : (a b : Bool) → (a ≡ true → b ≡ true) → (b ≡ true → a ≡ true) → a ≡ b
 both-ways true b f g = sym (f refl)
 both-ways false true f g = g refl
 both-ways false false f g = refl

@@ -1,5 +1,5 @@
 -- what the tests on the packed owners of a cover tell
-use Rattle.std.proofs.Common.{◌≡◌, ℕ, suc, ◌+◌, ◌*◌, ◌-◌, ◌%◌, ◌^◌, ◌≤◌, Bool, true, false, refl, sym, ap, ◌∙◌, subst, arith, eqb-true, eq-eqb, bit_and, nat_eq, []}
+use Rattle.std.proofs.Common.{◌≡◌, ℕ, ◌*◌, ◌-◌, ◌%◌, ◌^◌, ◌≤◌, Bool, true, false, refl, sym, ap, ◌∙◌, subst, arith, eqb-true, eq-eqb, bit_and, nat_eq, []}
 use Rattle.std.specs.Prelude.{◌&&◌, ◌↔◌, IsTrue}
 use mathlib.Core.Path.{ap₂}
 use Rattle.std.proofs.lemmas.Nat.{and_mask}
@@ -9,11 +9,11 @@ use Rattle.dd_play.specs.Board.{Board, IsBoard}
 use Rattle.dd_play.specs.Covers.{count_of}
 use Rattle.dd_rank.specs.Cover.{CoverOf, IsSameCover}
 use Rattle.dd_rank.specs.Depths.{all_cards, Covers, FourDepths, depth_in}
-use Rattle.dd_rank.specs.Strings.{owners_number, ShapeOf, shape_of, Strings, strings_of, string_in}
+use Rattle.dd_rank.specs.Strings.{owners_number, shape_of, Strings, strings_of, string_in, both-pass}
 use Rattle.dd_rank.specs.Tops.{IsTopOf, IsPacked}
 use Rattle.dd_rank.specs.declared.cover.Cover.TheInside.{Inside}
 use Rattle.dd_rank.specs.declared.cover.TopOwners.{TopOwners}
-use Rattle.dd_rank.proofs.Agreed.{AreAgreed, covers-agree, agree-covers}
+use Rattle.dd_rank.proofs.Agreed.{covers-agree, agree-covers}
 use Rattle.dd_rank.proofs.Digits.{power-pos, two-bits, powers-tell}
 
 -- the owners of a suit
@@ -102,12 +102,6 @@ covers-tested c v q s h d cl packed is shape valid start ts th td tc = (
     each es eh ed ec Clubs = (test Clubs cl tc).0 ec
 
 -- ---- equal covers
--- two tests of numbers pass together
-both-pass : (a b : Bool) → (a && b) ≡ true → (a ≡ true) × (b ≡ true)
-both-pass true true h = (refl, refl)
-both-pass true false h = absurd (cc)
-both-pass false b h = absurd (cc)
-
 -- one suit's test of two covers
 abbrev SameTops : Bool → TopOwners → TopOwners → Type 0
 SameTops b t o = b ≡ (nat_eq t.mask o.mask && nat_eq t.owners o.owners)

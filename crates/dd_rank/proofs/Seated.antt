@@ -1,5 +1,5 @@
 -- the four hands from the leader on, and the owner strings that they tell
-use Rattle.std.proofs.Common.{◌≡◌, ℕ, zero, suc, ◌+◌, ◌*◌, ◌%◌, ◌<◌, true, false, refl, sym, ap, ◌∙◌, subst, arith, List, [], ◌∷◌, Option, None, Some}
+use Rattle.std.proofs.Common.{◌≡◌, ℕ, ◌+◌, ◌*◌, ◌<◌, true, false, refl, sym, ap, ◌∙◌, subst, arith, List, [], ◌∷◌, Option, None, Some}
 use Rattle.std.specs.Prelude.{map}
 use Rattle.std.specs.List.{filter_map}
 use mathlib.Core.Path.{ap₂}

@@ -1,5 +1,5 @@
 -- the owner at a place of a suit
-use Rattle.std.proofs.Common.{◌≡◌, ℕ, zero, suc, ◌+◌, ◌<◌, ◌≤◌, Bool, true, false, cond, refl, sym, ap, ◌∙◌, subst, arith, List, [], ◌∷◌, Option, None, Some, inl, inr, length, get_or, zero-le}
+use Rattle.std.proofs.Common.{◌≡◌, ℕ, zero, suc, ◌<◌, ◌≤◌, Bool, true, refl, sym, ap, ◌∙◌, arith, List, [], ◌∷◌, Option, None, Some, inl, inr, length, get_or}
 use Rattle.std.specs.Prelude.{map, filter, is_some, nat_lt}
 use Rattle.std.proofs.lemmas.Bool.{lt-ltb, le-ltb}
 use Rattle.std.proofs.lemmas.List.{get_or-map}
@@ -17,14 +17,15 @@ use Rattle.dd_play.specs.Covers.{count_of}
 use Rattle.dd_play.proofs.Boards.{card-real}
 use Rattle.dd_play.proofs.Plays.{filter-has, filter-passes}
 use Rattle.dd_rank.specs.Depths.{all_cards, is_above, place}
-use Rattle.dd_rank.specs.Owners.{holder, owners}
+use Rattle.dd_rank.specs.Owners.{owners}
 use Rattle.dd_rank.specs.Strings.{places_after, owner_places}
 use Rattle.dd_rank.proofs.Covered.{all-in}
+use Rattle.dd_rank.proofs.Digits.{length-map}
 use Rattle.dd_rank.proofs.Holders.{holder-has}
 use Rattle.dd_rank.proofs.Looked.{all-once}
-use Rattle.dd_rank.proofs.Lowest.{AreOf, same-count, suit-count, length-of}
+use Rattle.dd_rank.proofs.Lowest.{AreOf, both-ways, same-count, suit-count, length-of}
 use Rattle.dd_rank.proofs.Owners.{holder_at, ranks_left, left-falls, left-owners, has-left, left-has, has-holder}
-use Rattle.dd_rank.proofs.Pairs.{Has, Falls}
+use Rattle.dd_rank.proofs.Falling.{Has, Falls}
 use Rattle.dd_rank.proofs.Places.{in-all}
 use Rattle.dd_rank.proofs.Turned.{places-lt}
 
@@ -66,11 +67,6 @@ place-above (suc i) (a ∷ xs) falls h =
     (inr ih.0, rw (lt-ltb (get_or xs i 0) a (falls.0 (get_or xs i 0) ih.0)) (ap suc ih.1))
 
 -- ---- the ranks left are those of all cards
-both-ways : (a b : Bool) → (a ≡ true → b ≡ true) → (b ≡ true → a ≡ true) → a ≡ b
-both-ways true b f g = sym (f refl)
-both-ways false true f g = g refl
-both-ways false false f g = refl
-
 -- all cards that are left, as a set
 whole : Board → List PlayingCard
 whole p = filter (has_card (all_cards p)) deck
@@ -125,10 +121,6 @@ places-by-ranks p u = sym (some-places (owners p u)) ∙ ap (map (place_or p.fir
     twice : (xs : List ℕ) → map (place_or p.first) (map (holder_at p u) xs) ≡ map (λ r. place_or p.first (holder_at p u r)) xs
     twice [] = refl
     twice (x ∷ xs) = ap (λ l. place_or p.first (holder_at p u x) ∷ l) (twice xs)
-
-length-map : (f : ℕ → ℕ) (xs : List ℕ) → length (map f xs) ≡ length xs
-length-map f [] = refl
-length-map f (x ∷ xs) = ap suc (length-map f xs)
 
 -- as many owners as ranks
 places-ranks : (p : Board) (u : Suit) → length (owner_places p u) ≡ length (ranks_left p u)

@@ -1,6 +1,6 @@
 -- what four hands hold of a suit, as the code tells it
-use Rattle.std.proofs.Common.{◌≡◌, ◌≢◌, ℕ, zero, suc, ◌+◌, ◌*◌, ◌<◌, ◌≤◌, Bool, true, false, cond, refl, sym, ap, ◌∙◌, subst, arith, eqb-true, List, [], ◌∷◌, Option, None, Some}
-use Rattle.std.specs.Prelude.{map, filter, ◌==◌, ◌||◌, ◌&&◌, if◌then◌else◌}
+use Rattle.std.proofs.Common.{◌≡◌, ℕ, ◌+◌, ◌*◌, Bool, true, false, cond, refl, sym, ap, ◌∙◌, arith, eqb-true, List, [], ◌∷◌, Option, None, Some}
+use Rattle.std.specs.Prelude.{map, filter, ◌==◌, ◌||◌, ◌&&◌}
 use Rattle.std.specs.List.{filter_map, list_all}
 use mathlib.Core.Path.{ap₂}
 use Rattle.dd_cards.specs.declared.seat.Seat.{Seat}

@@ -1,5 +1,5 @@
 -- seats counted from the leader
-use Rattle.std.proofs.Common.{◌≡◌, ℕ, zero, suc, ◌+◌, ◌<◌, refl, sym, ap, ◌∙◌, arith}
+use Rattle.std.proofs.Common.{◌≡◌, ℕ, zero, suc, ◌<◌, refl, sym, ap, ◌∙◌, arith}
 use Rattle.dd_cards.specs.declared.seat.Seat.{Seat}
 use Rattle.dd_cards.specs.declared.seat.Seat.TheVariants.{North, East, South, West}
 use Rattle.dd_cards.specs.Seats.{seat_after, next_seat}

@@ -1,5 +1,5 @@
 -- the walk over the ranks of a suit, from the highest down, that makes the owners' number
-use Rattle.std.proofs.Common.{◌≡◌, ℕ, zero, suc, ◌+◌, ◌*◌, ◌^◌, ◌<◌, ◌≤◌, Bool, true, false, cond, refl, sym, ap, ◌∙◌, subst, arith, List, [], ◌∷◌, Option, None, Some, inl, inr, length, get_or}
+use Rattle.std.proofs.Common.{◌≡◌, ℕ, zero, suc, ◌+◌, ◌*◌, ◌^◌, ◌<◌, ◌≤◌, Bool, true, false, refl, sym, ap, ◌∙◌, subst, arith, List, [], ◌∷◌, None, Some, inl, inr, length}
 use Rattle.std.specs.Prelude.{map, filter, slice_get, unwrap_or, ◌==◌, if◌then◌else◌}
 use mathlib.Core.Bool.{not}
 use Rattle.std.proofs.Math.Nat.{pow-le-pow_right, mul-le-mul_left}
@@ -8,9 +8,9 @@ use Rattle.std.proofs.Common.{eq-eqb}
 use Rattle.dd_cards.specs.Ranks.{lowest_ranks, all_ranks, has_rank}
 use Rattle.dd_cards.proofs.SetLaws.{length-filter-le}
 use Rattle.dd_rank.specs.Strings.{number_of, place_by}
-use Rattle.dd_rank.proofs.Digits.{AreDigits, number-below}
+use Rattle.dd_rank.proofs.Digits.{AreDigits, length-map, number-below}
 use Rattle.dd_rank.proofs.Owners.{ranks-fall}
-use Rattle.dd_rank.proofs.Pairs.{Has, Falls, part-falls}
+use Rattle.dd_rank.proofs.Falling.{Has, Falls, part-falls}
 
 -- the number of these ranks' places
 abbrev pub places_number : List ℕ → List ℕ → List ℕ → ℕ
@@ -50,10 +50,6 @@ places-digits : (odd far ranks : List ℕ) → AreDigits (map (place_by odd far)
 places-digits odd far [] i = omega arith
 places-digits odd far (r ∷ ranks) zero = place-lt odd far r
 places-digits odd far (r ∷ ranks) (suc i) = places-digits odd far ranks i
-
-length-map : (f : ℕ → ℕ) (xs : List ℕ) → length (map f xs) ≡ length xs
-length-map f [] = refl
-length-map f (x ∷ xs) = ap suc (length-map f xs)
 
 -- their number is below a power of four
 pub places-below : (odd far ranks : List ℕ) → places_number odd far ranks < 4 ^ length ranks

@@ -134,7 +134,7 @@ pub same-shape-partial : IsPartialEquivalence same_shape
 same-shape-partial = partial_equiv_from_equiv same-shape
 
 -- two tests that pass together
-both-pass : (a b : Bool) → (a && b) ≡ true → (a ≡ true) × (b ≡ true)
+pub both-pass : (a b : Bool) → (a && b) ≡ true → (a ≡ true) × (b ≡ true)
 both-pass true b h = (refl, h)
 both-pass false b h = absurd (cc)
 

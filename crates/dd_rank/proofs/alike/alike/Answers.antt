@@ -1,6 +1,4 @@
-use Rattle.std.proofs.Common.{◌≡◌, Bool, true, sym, ap, ◌∙◌}
-use mathlib.Core.Path.{ap₂}
-use Rattle.dd_rank.specs.Strings.{same_strings}
+use Rattle.std.proofs.Common.{sym, ◌∙◌}
 use Rattle.dd_rank.proofs.Alikes.{alike-strings, strings-tell}
 use Rattle.dd_rank.proofs.Packed.{is-true, true-is}
 use Rattle.dd_rank.proofs.alike.alike.Goals as goal

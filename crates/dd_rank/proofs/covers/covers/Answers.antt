@@ -1,10 +1,9 @@
 use Rattle.std.proofs.Common.{◌≡◌, Bool, true, false, refl, sym, ap, ◌∙◌, subst}
 use Rattle.std.specs.Prelude.{◌↔◌, IsTrue}
 use mathlib.Core.Bool.{not}
-use mathlib.Core.Path.{ap₂}
 use Rattle.dd_play.specs.Board.{Board}
 use Rattle.dd_rank.specs.Depths.{Covers, FourDepths, depth_in}
-use Rattle.dd_rank.specs.Strings.{Strings, ShapeOf, shape_of, shape_in, same_shape}
+use Rattle.dd_rank.specs.Strings.{shape_of, shape_in}
 use Rattle.dd_rank.proofs.Agreed.{covers-agree}
 use Rattle.dd_rank.proofs.Alikes.{shapes-tell}
 use Rattle.dd_rank.proofs.covers.covers.Goals as goal

@@ -1,8 +1,8 @@
-use Rattle.std.proofs.Common.{◌≡◌, sym, ap, ◌∙◌, bit_and, nat_eq, subst}
+use Rattle.std.proofs.Common.{sym, ap, ◌∙◌, bit_and, nat_eq, subst}
 use Rattle.std.specs.Prelude.{◌&&◌, ◌↔◌, IsTrue}
 use Rattle.dd_rank.specs.Cover.{CoverOf}
 use Rattle.dd_rank.specs.Depths.{Covers, depth_in}
-use Rattle.dd_rank.specs.Strings.{Strings, ShapeOf, shape_of, shape_in}
+use Rattle.dd_rank.specs.Strings.{shape_of, shape_in}
 use Rattle.dd_rank.proofs.Packed.{covers-tested}
 use Rattle.dd_rank.proofs.cover.Cover.covers.Goals as goal
 

@@ -1,4 +1,4 @@
-use Rattle.std.proofs.Common.{◌≡◌, ℕ, zero, suc, ◌+◌, ◌*◌, ◌^◌, ◌-◌, ◌%◌, ◌≤◌, refl, ap, ◌∙◌, arith, bit_and}
+use Rattle.std.proofs.Common.{◌≡◌, ℕ, ◌*◌, ◌^◌, ◌-◌, ◌%◌, ◌≤◌, ap, ◌∙◌, arith, bit_and}
 use Rattle.std.proofs.lemmas.Nat.{one_shl, and_mask}
 use Rattle.dd_rank.proofs.Digits.{two-bits}
 use Rattle.dd_rank.proofs.cover.TopOwners.of.Goals as goal
