@@ -57,29 +57,32 @@ covers-agree depths p q valid_p valid_q a = record {
 
 -- and what agrees is a cover
 pub agree-covers : (depths : Suit → ℕ) (p q : Board) → IsBoard p → IsBoard q → p.trick ≡ [] → q.trick ≡ [] → AreAgreed depths p q → Covers p depths q
-agree-covers depths p q valid_p valid_q start_p start_q a = (k, record {
-  start_p = start_p;
-  start_q = start_q;
-  strain = ap (λ (s : ShapeOf). s.strain) a.shape;
-  first = first;
-  most = a.most;
-  lengths = lengths;
-  forth = λ x c h low. (
-      let i = place p c in
-      let here = stands-at p valid_p x c h in
-      let more : place p c < length (owner_places q c.suit) = (let l = here.1 in let m = places-count p valid_p c.suit in let n = places-count q valid_q c.suit in let e = counts-same p q valid_p valid_q same c.suit in omega (arith, l, m, n, e)) in
-      let some = someone-at q valid_q c.suit (place p c) more in
-      let seat : some.0 ≡ seat_after x k = places-tell q.first some.0 (seat_after x k) (
-      sym (at-place q valid_q some.0 some.1 c.suit (place p c) some.2 some.3 some.4) ∙ owner c.suit (place p c) low ∙ here.0 ∙ sym (turned-place p q k x first)) in
-      (some.1, ap (λ y. has_card (cards_at q y) some.1) (sym seat) ∙ some.2, some.3, some.4));
-  back = λ x d h low. (
-      let there = stands-at q valid_q (seat_after x k) d h in
-      let more : place q d < length (owner_places p d.suit) = (let m = a.most d.suit in let n = places-count p valid_p d.suit in omega (arith, low, m, n)) in
-      let some = someone-at p valid_p d.suit (place q d) more in
-      let seat : some.0 ≡ x = places-tell p.first some.0 x (
-      sym (at-place p valid_p some.0 some.1 d.suit (place q d) some.2 some.3 some.4) ∙ sym (owner d.suit (place q d) low) ∙ there.0 ∙ turned-place p q k x first) in
-      (some.1, ap (λ y. has_card (cards_at p y) some.1) (sym seat) ∙ some.2, some.3, some.4));
-})
+agree-covers depths p q valid_p valid_q start_p start_q a = (
+  k,
+  record {
+    start_p = start_p;
+    start_q = start_q;
+    strain = ap (λ (s : ShapeOf). s.strain) a.shape;
+    first = first;
+    most = a.most;
+    lengths = lengths;
+    forth = λ x c h low. (
+        let i = place p c in
+        let here = stands-at p valid_p x c h in
+        let more : place p c < length (owner_places q c.suit) = (let l = here.1 in let m = places-count p valid_p c.suit in let n = places-count q valid_q c.suit in let e = counts-same p q valid_p valid_q same c.suit in omega (arith, l, m, n, e)) in
+        let some = someone-at q valid_q c.suit (place p c) more in
+        let seat : some.0 ≡ seat_after x k = places-tell q.first some.0 (seat_after x k) (
+        sym (at-place q valid_q some.0 some.1 c.suit (place p c) some.2 some.3 some.4) ∙ owner c.suit (place p c) low ∙ here.0 ∙ sym (turned-place p q k x first)) in
+        (some.1, ap (λ y. has_card (cards_at q y) some.1) (sym seat) ∙ some.2, some.3, some.4));
+    back = λ x d h low. (
+        let there = stands-at q valid_q (seat_after x k) d h in
+        let more : place q d < length (owner_places p d.suit) = (let m = a.most d.suit in let n = places-count p valid_p d.suit in omega (arith, low, m, n)) in
+        let some = someone-at p valid_p d.suit (place q d) more in
+        let seat : some.0 ≡ x = places-tell p.first some.0 x (
+        sym (at-place p valid_p some.0 some.1 d.suit (place q d) some.2 some.3 some.4) ∙ sym (owner d.suit (place q d) low) ∙ there.0 ∙ turned-place p q k x first) in
+        (some.1, ap (λ y. has_card (cards_at p y) some.1) (sym seat) ∙ some.2, some.3, some.4));
+  },
+)
   where
     k : ℕ
     k = places_after p.first q.first

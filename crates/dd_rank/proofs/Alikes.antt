@@ -127,7 +127,11 @@ strings-tell x y = (
       same-parts x.strain y.strain x.lengths y.lengths x.spades y.spades x.hearts y.hearts x.diamonds y.diamonds x.clubs y.clubs
       (strain_code-injective x.strain y.strain (eqb-true _ _ a.0)) (eqb-true _ _ b.0) (eqb-true _ _ c.0) (eqb-true _ _ d.0) (eqb-true _ _ e.0) (eqb-true _ _ e.1)),
   λ e. rw (
-      eq-eqb (strain_code x.strain) (strain_code y.strain) (ap (λ (s : Strings). strain_code s.strain) e), eq-eqb x.lengths y.lengths (ap (λ (s : Strings). s.lengths) e),
-      eq-eqb x.spades y.spades (ap (λ (s : Strings). s.spades) e), eq-eqb x.hearts y.hearts (ap (λ (s : Strings). s.hearts) e),
-      eq-eqb x.diamonds y.diamonds (ap (λ (s : Strings). s.diamonds) e), eq-eqb x.clubs y.clubs (ap (λ (s : Strings). s.clubs) e)) refl,
+    eq-eqb (strain_code x.strain) (strain_code y.strain) (ap (λ (s : Strings). strain_code s.strain) e),
+    eq-eqb x.lengths y.lengths (ap (λ (s : Strings). s.lengths) e),
+    eq-eqb x.spades y.spades (ap (λ (s : Strings). s.spades) e),
+    eq-eqb x.hearts y.hearts (ap (λ (s : Strings). s.hearts) e),
+    eq-eqb x.diamonds y.diamonds (ap (λ (s : Strings). s.diamonds) e),
+    eq-eqb x.clubs y.clubs (ap (λ (s : Strings). s.clubs) e),
+  ) refl,
 )

@@ -150,9 +150,9 @@ stands-at p valid x c h =
     let less = at.1 in
     let low : place p c < length (ranks_left p c.suit) = omega (arith, is, less) in (
       ap (λ l. get_or l (place p c) 0) (places-by-ranks p c.suit)
-      ∙ get_or-map (λ r. place_or p.first (holder_at p c.suit r)) (ranks_left p c.suit) (place p c) 0 0 low
-      ∙ ap (λ r. place_or p.first (holder_at p c.suit r)) (ap (λ i. get_or (ranks_left p c.suit) i 0) is ∙ at.0)
-      ∙ ap (place_or p.first) (has-holder p valid x c h),
+          ∙ get_or-map (λ r. place_or p.first (holder_at p c.suit r)) (ranks_left p c.suit) (place p c) 0 0 low
+          ∙ ap (λ r. place_or p.first (holder_at p c.suit r)) (ap (λ i. get_or (ranks_left p c.suit) i 0) is ∙ at.0)
+          ∙ ap (place_or p.first) (has-holder p valid x c h),
       omega (arith, low, many),
     )
 

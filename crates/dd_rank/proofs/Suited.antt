@@ -111,7 +111,14 @@ owners-told u l s t f lr sr tr fr hands el es et ef =
 
     each : (r : ℕ) → IsRank r → IsTold (holder hs (card_of u r)) (has_rank (either lr tr) r || has_rank (either sr fr) r) (place_by (either sr fr) (either tr fr) r)
     each r real =
-        rw (part-has-rank (λ q. has_rank lr q || has_rank tr q) r real, part-has-rank (λ q. has_rank sr q || has_rank fr q) r real, part-has-rank (λ q. has_rank tr q || has_rank fr q) r real,
-          has_rank-holding u lr l r el, has_rank-holding u sr s r es, has_rank-holding u tr t r et, has_rank-holding u fr f r ef)
+        rw (
+          part-has-rank (λ q. has_rank lr q || has_rank tr q) r real,
+          part-has-rank (λ q. has_rank sr q || has_rank fr q) r real,
+          part-has-rank (λ q. has_rank tr q || has_rank fr q) r real,
+          has_rank-holding u lr l r el,
+          has_rank-holding u sr s r es,
+          has_rank-holding u tr t r et,
+          has_rank-holding u fr f r ef,
+        )
         (by-flags (has_card l (card_of u r)) (has_card s (card_of u r)) (has_card t (card_of u r)) (has_card f (card_of u r))
         (apart r North East (λ e. (cc))) (apart r North South (λ e. (cc))) (apart r North West (λ e. (cc))) (apart r East South (λ e. (cc))) (apart r East West (λ e. (cc))) (apart r South West (λ e. (cc))))

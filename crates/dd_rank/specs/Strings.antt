@@ -96,7 +96,6 @@ mixed_of s = mix (mix 0 (strain_code s.strain)) s.lengths
 abbrev pub mixed_in : Strings → ℕ
 mixed_in s = mix (mix (mixed_of (shape_in s)) (s.spades + 2 ^ 32 * s.hearts)) (s.diamonds + 2 ^ 32 * s.clubs)
 
-
 -- the place of a rank's holder, told by two sets of ranks: those of the second and fourth hand, and those of the third and fourth
 abbrev pub place_by : List ℕ → List ℕ → ℕ → ℕ
 place_by odd far r = (if has_rank odd r then 1 else 0) + 2 * (if has_rank far r then 1 else 0)

@@ -8,7 +8,7 @@ ghost use Rattle.dd_play.specs.Covers.{count_of};
 ghost use Rattle.dd_rank.specs.Owners.{owners_in};
 ghost use Rattle.dd_rank.specs.Strings.{strings_of, shape_in, mixed_in, number_of, place_by, same_strings, same-strings, same-strings-partial, string_in};
 
-use crate::shape::{mix, Shape};
+use crate::shape::{Shape, mix};
 use dd_cards::hand::Hand;
 use dd_cards::holding::Holding;
 use dd_cards::strain::Strain;
@@ -34,11 +34,23 @@ impl Model for OwnerStrings {
 
     ghost Value = { Strings };
 
-    ghost view = { λ s. record { strain = s.strain; lengths = s.lengths; spades = s.spades; hearts = s.hearts;
-        diamonds = s.diamonds; clubs = s.clubs } };
+    ghost view = { λ s. record {
+      strain = s.strain;
+      lengths = s.lengths;
+      spades = s.spades;
+      hearts = s.hearts;
+      diamonds = s.diamonds;
+      clubs = s.clubs;
+    } };
 
-    ghost inverse = { λ v. record { strain = v.strain; lengths = v.lengths; spades = v.spades; hearts = v.hearts;
-        diamonds = v.diamonds; clubs = v.clubs } };
+    ghost inverse = { λ v. record {
+      strain = v.strain;
+      lengths = v.lengths;
+      spades = v.spades;
+      hearts = v.hearts;
+      diamonds = v.diamonds;
+      clubs = v.clubs;
+    } };
 }
 
 impl PartialEq for OwnerStrings {
