@@ -39,6 +39,7 @@ same-owner p q k x c d u i valid_p valid_q first hc hd suits suit places at =
 
 -- a cover agrees
 pub covers-agree : (depths : Suit → ℕ) (p q : Board) → IsBoard p → IsBoard q → Covers p depths q → AreAgreed depths p q
+unfolding owners_number
 covers-agree depths p q valid_p valid_q a = record {
   shape = ap₂ (λ s n. (let r : ShapeOf = record { strain = s; lengths = n } in r)) a.1.strain (lengths-give p q lengths);
   most = a.1.most;
@@ -57,6 +58,7 @@ covers-agree depths p q valid_p valid_q a = record {
 
 -- and what agrees is a cover
 pub agree-covers : (depths : Suit → ℕ) (p q : Board) → IsBoard p → IsBoard q → p.trick ≡ [] → q.trick ≡ [] → AreAgreed depths p q → Covers p depths q
+unfolding owners_number
 agree-covers depths p q valid_p valid_q start_p start_q a = (
   k,
   record {

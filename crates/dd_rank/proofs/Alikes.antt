@@ -69,6 +69,7 @@ same-parts s t n m a i b j c k d l es en ea eb ec ed = rw (es, en, ea, eb, ec, e
 
 -- a suit's owners are its lowest digits, as many as there are cards
 whole-owners : (p : Board) → IsBoard p → (u : Suit) (n : ℕ) → n ≡ count_of u (all_cards p) → owners_number p u % 4 ^ n ≡ owners_number p u
+unfolding owners_number
 whole-owners p valid u n e = ap (λ d. owners_number p u % 4 ^ d) (e ∙ places-count p valid u) ∙ whole-number (owner_places p u) (places-digits p u)
 
 -- Positions are alike exactly where their owner strings are the same.

@@ -36,6 +36,7 @@ suit-small p valid u = digits-small (length_at p u 0) (length_at p u 1) (length_
 
 -- where all lengths are the same, so are those of a suit
 suit-same : (p q : Board) → IsBoard p → IsBoard q → all_lengths q ≡ all_lengths p → (u : Suit) → suit_lengths q u ≡ suit_lengths p u
+unfolding all_lengths
 suit-same p q valid_p valid_q same = go
   where
     four : (suit_lengths q Clubs ≡ suit_lengths p Clubs) × (suit_lengths q Diamonds ≡ suit_lengths p Diamonds) × (suit_lengths q Hearts ≡ suit_lengths p Hearts) × (suit_lengths q Spades ≡ suit_lengths p Spades)
@@ -69,6 +70,7 @@ lengths-tell p q valid_p valid_q same u = go
 
 -- the same lengths make the same number
 pub lengths-give : (p q : Board) → ((u : Suit) (k : ℕ) → length_at q u k ≡ length_at p u k) → all_lengths q ≡ all_lengths p
+unfolding all_lengths
 lengths-give p q same = whole _ _ _ _ _ _ _ _ (suit Clubs) (suit Diamonds) (suit Hearts) (suit Spades)
   where
     digits : (a b c d e f g h : ℕ) → a ≡ e → b ≡ f → c ≡ g → d ≡ h → number_of 16 (a ∷ b ∷ c ∷ d ∷ []) ≡ number_of 16 (e ∷ f ∷ g ∷ h ∷ [])

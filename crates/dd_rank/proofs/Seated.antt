@@ -18,7 +18,7 @@ use Rattle.dd_play.specs.Covers.{count_of}
 use Rattle.dd_play.proofs.Boards.{after-code}
 use Rattle.dd_play.proofs.Counts.{not-has}
 use Rattle.dd_rank.specs.Owners.{holder, owners_in}
-use Rattle.dd_rank.specs.Strings.{places_after, number_of, owners_number, suit_lengths, Strings, strings_of}
+use Rattle.dd_rank.specs.Strings.{places_after, number_of, owners_number, suit_lengths, all_lengths, Strings, strings_of}
 use Rattle.dd_rank.proofs.Holders.{holder-has, only-holder, no-holder}
 use Rattle.dd_rank.proofs.Turned.{places-lt, after-places}
 
@@ -134,6 +134,7 @@ pub record IsSuitString (p : Board) (u : Suit) (lengths owners : ℕ) : Type 0 w
 -- a suit of the four hands from the leader on
 pub suit-string : (p : Board) (l s t f : List PlayingCard) (u : Suit) (n m : ℕ) → AreSeated p l s t f
     → n ≡ number_of 16 (count_of u l ∷ count_of u s ∷ count_of u t ∷ count_of u f ∷ []) → m ≡ number_of 4 (map seat_code (owners_in (l ∷ s ∷ t ∷ f ∷ []) u)) → IsSuitString p u n m
+unfolding owners_number
 suit-string p l s t f u n m a en em = record {
   lengths_are = en ∙ digits _ _ _ _ _ _ _ _ (ap (count_of u) a.leader) (ap (count_of u) a.second) (ap (count_of u) a.third) (ap (count_of u) a.fourth);
   owners_are = em ∙ ap (λ hs. number_of 4 (map seat_code (owners_in hs u))) (listed p l s t f a) ∙ ap (number_of 4) (turned-owners p.hands p.first a.hands u);
@@ -145,6 +146,7 @@ suit-string p l s t f u n m a en em = record {
 -- the four suits make the strings
 pub four-strings : (p : Board) (strain : Strain) (a b c d e f g h : ℕ) → strain ≡ p.strain → IsSuitString p Spades a e → IsSuitString p Hearts b f → IsSuitString p Diamonds c g → IsSuitString p Clubs d h
     → (let r : Strings = record { strain = strain; lengths = d + c * 65536 + b * 4294967296 + a * 281474976710656; spades = e; hearts = f; diamonds = g; clubs = h } in r) ≡ strings_of p
+unfolding all_lengths
 four-strings p strain a b c d e f g h es sp he di cl =
     strings _ _ _ _ _ _ _ _ _ _ _ _ es (lanes a b c d _ _ _ _ sp.lengths_are he.lengths_are di.lengths_are cl.lengths_are) sp.owners_are he.owners_are di.owners_are cl.owners_are
   where

@@ -29,7 +29,7 @@ abbrev pub owner_places : Board → Suit → List ℕ
 owner_places p u = map (places_after p.first) (owners p u)
 
 -- these as one number to the base 4, the highest card's digit the lowest
-abbrev pub owners_number : Board → Suit → ℕ
+unfoldable pub owners_number : Board → Suit → ℕ
 owners_number p u = number_of 4 (owner_places p u)
 
 -- how many cards of the suit the seat has that comes so many places after the leader
@@ -41,7 +41,7 @@ abbrev pub suit_lengths : Board → Suit → ℕ
 suit_lengths p u = number_of 16 (length_at p u 0 ∷ length_at p u 1 ∷ length_at p u 2 ∷ length_at p u 3 ∷ [])
 
 -- the sixteen lengths, sixteen bits for each suit, the spades on top
-abbrev pub all_lengths : Board → ℕ
+unfoldable pub all_lengths : Board → ℕ
 all_lengths p = number_of (2 ^ 16) (suit_lengths p Clubs ∷ suit_lengths p Diamonds ∷ suit_lengths p Hearts ∷ suit_lengths p Spades ∷ [])
 
 -- strain, lengths and each suit's owners: all that tells a start of a trick from those that aren't alike
