@@ -31,6 +31,7 @@ length-small p valid u k = (let h = length-suit u (cards_at p (seat_after p.firs
 pub digits-small : (a b c d : ℕ) → a < 16 → b < 16 → c < 16 → d < 16 → number_of 16 (a ∷ b ∷ c ∷ d ∷ []) < 65536
 digits-small a b c d la lb lc ld = omega arith
 
+-- the lengths of a suit take sixteen bits
 suit-small : (p : Board) → IsBoard p → (u : Suit) → suit_lengths p u < 65536
 suit-small p valid u = digits-small (length_at p u 0) (length_at p u 1) (length_at p u 2) (length_at p u 3) (length-small p valid u 0) (length-small p valid u 1) (length-small p valid u 2) (length-small p valid u 3)
 

@@ -55,6 +55,7 @@ all-four true true false d h = absurd (cc)
 all-four true false c d h = absurd (cc)
 all-four false b c d h = absurd (cc)
 
+-- .. and so do all together
 pub four-pass : (a b c d : Bool) → a ≡ true → b ≡ true → c ≡ true → d ≡ true → (((a && b) && c) && d) ≡ true
 four-pass a b c d ea eb ec ed = rw (ea, eb, ec, ed) refl
 
@@ -63,6 +64,7 @@ pub is-true : (b : Bool) → IsTrue b → b ≡ true
 is-true true h = refl
 is-true false h = absurd (cc)
 
+-- .. and the other way round
 pub true-is : (b : Bool) → b ≡ true → IsTrue b
 true-is true h = refl
 true-is false h = absurd (cc)

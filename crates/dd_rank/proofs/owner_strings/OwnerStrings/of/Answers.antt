@@ -21,6 +21,7 @@ taken c =
       fourth = at-seat c.args.start.now c.hands-hands.result.now c.first-first_seat.result c.next-fourth_seat.result 3 c.hand-fourth.result hands first (c.next-fourth_seat.ensures ∙ ap next_seat third) c.hand-fourth.ensures.hand;
     }
 
+-- .. are four hands
 four : (c : After-hand-fourth) → AreHands (c.hand-leader.result ∷ c.hand-second.result ∷ c.hand-third.result ∷ c.hand-fourth.result ∷ [])
 four c = seated-four c.args.start.now c.hand-leader.result c.hand-second.result c.hand-third.result c.hand-fourth.result (taken c)
 
