@@ -10,6 +10,7 @@ use Rattle.dd_play.proofs.Boards.{after-code}
 use Rattle.dd_play.specs.Covers.{count_of}
 use Rattle.dd_rank.specs.Depths.{place, IsCoverAt}
 
+-- two turns are one
 turn-add : (x : Seat) (k j : ℕ) → seat_after (seat_after x k) j ≡ seat_after x (k + j)
 turn-add x k j =
     let a = after-code x k in
@@ -17,6 +18,7 @@ turn-add x k j =
     let c = after-code x (k + j) in
     seat_code-injective (seat_after (seat_after x k) j) (seat_after x (k + j)) (omega (arith, a, b, c))
 
+-- a cover of a cover is a cover, by the two turns together
 pub covers-chain : (depths : Suit → ℕ) (k j : ℕ) (p q r : Board) → IsCoverAt k depths p q → IsCoverAt j depths q r → IsCoverAt (k + j) depths p r
 covers-chain depths k j p q r a b = record {
   start_p = a.start_p;

@@ -26,6 +26,7 @@ use Rattle.dd_play.proofs.Counts.{not-has}
 use Rattle.std.proofs.Common.{◌*◌}
 use Rattle.dd_rank.proofs.Places.{count-le, count-lt, above-is, above-suit, above-rank, place-le, order-place, place-one, in-all}
 
+-- one of two tests passes
 or-split : (a b : Bool) → (a || b) ≡ true → (a ≡ true) ⊎ (b ≡ true)
 or-split true b h = inl refl
 or-split false b h = inr h
@@ -61,18 +62,23 @@ first_or : List PlayingCard → PlayingCard → PlayingCard
 first_or [] d = d
 first_or (c ∷ cards) d = c
 
+-- is it the suit's card at this place?
 abbrev at_place : Board → Suit → ℕ → PlayingCard → Bool
 at_place b u i e = is_of u e && (place b e == i)
 
+-- a card of the suit lower than all
 abbrev bottom : Suit → PlayingCard
 bottom u = record { suit = u; rank = 0 }
 
+-- the suit's card at this place, or the one lower than all
 pub pick : Board → Suit → ℕ → PlayingCard
 pick b u i = first_or (filter (at_place b u i) (all_cards b)) (bottom u)
 
+-- a card of the suit that is left, at this place
 abbrev Picked : Board → Suit → ℕ → PlayingCard → Type 0
 Picked b u i c = (has_card (all_cards b) c ≡ true) × (c.suit ≡ u) × (place b c ≡ i)
 
+-- what is picked stands there, or is the one lower than all
 picked : (b : Board) (u : Suit) (i : ℕ) → Picked b u i (pick b u i) ⊎ (pick b u i ≡ bottom u)
 unfolding pick first_or
 picked b u i = go (filter (at_place b u i) (all_cards b)) refl
@@ -84,9 +90,11 @@ picked b u i = go (filter (at_place b u i) (all_cards b)) refl
         let test : at_place b u i c ≡ true = filter-passes (at_place b u i) (all_cards b) c there in
         inl (any-filter (λ y. same_card y c) (at_place b u i) (all_cards b) there, suit-of u c (and-left (is_of u c) (place b c == i) test), eqb-true (place b c) i (and-right (is_of u c) (place b c == i) test))
 
+-- what is picked is of the suit
 pub pick-suit : (b : Board) (u : Suit) (i : ℕ) → (pick b u i).suit ≡ u
 pick-suit b u i = elim (picked b u i) [ inl h ↦ h.1 | inr e ↦ ap (λ (y : PlayingCard). y.suit) e ]
 
+-- a card at a place is the one that is picked
 pub pick-finds : (b : Board) (u : Suit) (i : ℕ) (e : PlayingCard) → has_card (all_cards b) e ≡ true → e.suit ≡ u → place b e ≡ i → pick b u i ≡ e
 unfolding pick first_or
 pick-finds b u i e has suits at = go (filter (at_place b u i) (all_cards b)) refl
@@ -111,6 +119,7 @@ to_of p q c = pick q c.suit (place p c)
 abbrev pub IsTopOf : (PlayingCard → Bool) → (Suit → ℕ) → Board → Type 0
 IsTopOf top depths p = ((c : PlayingCard) → has_card (all_cards p) c ≡ true → top c ≡ is_within depths p c) × ((u : Suit) → top (record { suit = u; rank = 0 }) ≡ false)
 
+-- a cover at depths is the one relation, with the cards within the depths as top cards
 pub covers-cover : (top : PlayingCard → Bool) (k : ℕ) (depths : Suit → ℕ) (p q : Board) → IsTopOf top depths p → IsBoard p → IsBoard q → IsCoverAt k depths p q
     → IsCover top k (to_of p q) (to_of q p) (is_north_south p.first) p (is_north_south q.first) q × IsStrict top (to_of p q) (to_of q p) p q
 covers-cover top k depths p q is_top good_p good_q a = (

@@ -37,7 +37,7 @@ itself p depths start most = (
 )
 
 -- every card of the pack
-abbrev any_rank : PlayingCard → Bool
+abbrev pub any_rank : PlayingCard → Bool
 any_rank c = nat_lt 0 c.rank
 
 -- each card left is within the full depths

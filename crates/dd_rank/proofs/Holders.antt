@@ -124,14 +124,6 @@ kept-map {X = X} f (r ∷ xs) = go (f r) refl (kept-map f xs)
     go None e ih = ih
     go (Some x) e ih = ap₂ (λ z zs. z ∷ zs) e ih
 
--- values are told by the values that are there
-pub some-same : (xs ys : List Seat) → map Some xs ≡ map Some ys → xs ≡ ys
-some-same xs ys e = sym (back xs) ∙ ap (filter_map (λ (o : Option Seat). o)) e ∙ back ys
-  where
-    back : (zs : List Seat) → filter_map (λ (o : Option Seat). o) (map Some zs) ≡ zs
-    back [] = refl
-    back (z ∷ zs) = ap (λ l. z ∷ l) (back zs)
-
 -- holders of the cards of these ranks
 pub by-ranks : (f : PlayingCard → Option Seat) (u : Suit) (ranks : List ℕ) → filter_map f (map (card_of u) ranks) ≡ filter_map (λ r. f (card_of u r)) ranks
 by-ranks f u [] = refl

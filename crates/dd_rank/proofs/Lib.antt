@@ -1,9 +1,9 @@
 pub mod AlikeLead
-pub mod Pairs
+pub mod Falling
 pub mod Holders
-pub mod Numbers
+pub mod Digits
+pub mod Turned
 pub mod Owners
-pub mod Tested
 pub mod Places
 pub mod Covered
 pub mod Looked
@@ -12,3 +12,11 @@ pub mod Sound
 pub mod Told
 pub mod Lowest
 pub mod Fulls
+pub mod Standing
+pub mod Lengths
+pub mod Agreed
+pub mod Walked
+pub mod Suited
+pub mod Seated
+pub mod Packed
+pub mod Alikes

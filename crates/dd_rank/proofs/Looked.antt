@@ -23,7 +23,8 @@ use Rattle.dd_play.proofs.Fewer.{unturn}
 use Rattle.dd_rank.proofs.Places.{count-le, above-is, above-suit, above-rank, in-all}
 use Rattle.dd_rank.proofs.Covered.{all-in, IsTopOf, IsLifted, lifted-top}
 
-count-append : (test : PlayingCard → Bool) (xs ys : List PlayingCard) → count test (xs ++ ys) ≡ count test xs + count test ys
+-- two lists together count as much as each by itself
+pub count-append : (test : PlayingCard → Bool) (xs ys : List PlayingCard) → count test (xs ++ ys) ≡ count test xs + count test ys
 count-append test [] ys = omega arith
 count-append test (x ∷ xs) ys =
     let a = count-cons test x xs in
@@ -45,19 +46,24 @@ all-once p valid c =
     let o = valid.once c in
     omega (arith, a, b, d, o)
 
+-- what is not at most is greater
 lower : (a b : ℕ) → nat_le a b ≡ false → b < a
 lower a b h = grind (arith, nat_tests)
 
+-- what is greater is not at most
 not-le : (a b : ℕ) → b < a → nat_le a b ≡ false
 not-le a b h = grind (arith, nat_tests)
 
+-- two tests pass
 both : (a b : Bool) → a ≡ true → b ≡ true → (a && b) ≡ true
 both a b h k = rw (h, k) refl
 
+-- a test that does not fail passes
 yes-or : (b : Bool) → (b ≡ false → ⊥) → b ≡ true
 yes-or true h = refl
 yes-or false h = absurd (h refl)
 
+-- what answers an empty trick is empty
 no-trick : (to from : PlayingCard → PlayingCard) (top : PlayingCard → Bool) (cs ds : List PlayingCard) → cs ≡ [] → AllAnswer to from top cs ds → ds ≡ []
 no-trick to from top cs ds e a = go ds (subst (λ xs. AllAnswer to from top xs ds) e a)
   where
@@ -65,6 +71,7 @@ no-trick to from top cs ds e a = go ds (subst (λ xs. AllAnswer to from top xs d
     go [] a = refl
     go (d ∷ ds) a = absurd a
 
+-- the one relation at an empty trick, with upward top cards, is a cover at their depths
 pub cover-covers : (top : PlayingCard → Bool) (k : ℕ) (to from : PlayingCard → PlayingCard) (s : Bool) (p : Board) (t : Bool) (q : Board) → IsLifted top → p.trick ≡ []
     → IsCover top k to from s p t q → IsStrict top to from p q → IsCoverAt k (depths_of top p) p q
 cover-covers top k to from s p t q lifted start r strict =
@@ -136,6 +143,7 @@ cover-covers top k to from s p t q lifted start r strict =
         let under : d.rank < (to e).rank = over (seat_after y.0 k) (seat_after x k) (to e) d g.0 hd (ap top g.1 ∙ top_e) low (r.to_suit e ∙ suits) in
         (in-all q (seat_after y.0 k) (to e) g.0, above-is d (to e) (r.to_suit e ∙ suits) under, g.1))
 
+-- seats of one side
 same-side : (a b c : Bool) → beq a b ≡ beq c c → b ≡ a
 same-side true true c h = refl
 same-side false false c h = refl

@@ -39,6 +39,7 @@ same-count test xs ys once once' same =
 abbrev pub IsUnion : List PlayingCard → List PlayingCard → List PlayingCard → Type 0
 IsUnion u x y = u ≡ filter (λ c. has_card x c || has_card y c) deck
 
+-- a card of a union is in one of the two
 union-one : (u x y : List PlayingCard) (c : PlayingCard) → IsUnion u x y → has_card u c ≡ true → (has_card x c ≡ true) ⊎ (has_card y c ≡ true)
 union-one u x y c e h = go (has_card x c) refl (and-left (has_card x c || has_card y c) (has_card deck c) (sym (has_card-filter (λ c. has_card x c || has_card y c) deck c) ∙ ap (λ l. has_card l c) (sym e) ∙ h))
   where
@@ -46,9 +47,11 @@ union-one u x y c e h = go (has_card x c) refl (and-left (has_card x c || has_ca
     go true f k = inl f
     go false f k = inr k
 
+-- the cards of the first are in the union
 union-left : (u x y : List PlayingCard) (c : PlayingCard) → IsUnion u x y → IsRank c.rank → has_card x c ≡ true → has_card u c ≡ true
 union-left u x y c e real h = ap (λ l. has_card l c) e ∙ filter-has (λ c. has_card x c || has_card y c) deck c (has_card-deck c real) (rw h refl)
 
+-- .. and so are those of the second
 union-right : (u x y : List PlayingCard) (c : PlayingCard) → IsUnion u x y → IsRank c.rank → has_card y c ≡ true → has_card u c ≡ true
 union-right u x y c e real h = ap (λ l. has_card l c) e ∙ filter-has (λ c. has_card x c || has_card y c) deck c (has_card-deck c real) (or-yes (has_card x c) (has_card y c) h)
   where
@@ -56,7 +59,8 @@ union-right u x y c e real h = ap (λ l. has_card l c) e ∙ filter-has (λ c. h
     or-yes true b h = refl
     or-yes false b h = h
 
-both-ways : (a b : Bool) → (a ≡ true → b ≡ true) → (b ≡ true → a ≡ true) → a ≡ b
+-- a test that passes just where another does
+pub both-ways : (a b : Bool) → (a ≡ true → b ≡ true) → (b ≡ true → a ≡ true) → a ≡ b
 both-ways true b f g = sym (f refl)
 both-ways false true f g = g refl
 both-ways false false f g = refl
@@ -88,9 +92,11 @@ union-all p n e s w a b u valid en ee es ew ea eb eu = (
 
 -- ---- how many of a suit are reached
 
+-- the ranks of the suit's cards
 abbrev pub AreOf : Suit → List ℕ → List PlayingCard → Type 0
 AreOf s ranks cards = map (card_of s) ranks ≡ filter (is_of s) cards
 
+-- as many cards as ranks
 length-map' : (s : Suit) (xs : List ℕ) → length (map (card_of s) xs) ≡ length xs
 length-map' s [] = refl
 length-map' s (x ∷ xs) = ap suc (length-map' s xs)
@@ -100,6 +106,7 @@ pub suit-count : (s : Suit) (ranks : List ℕ) (all : List PlayingCard) (test : 
 suit-count s ranks all test are =
     ap length (sym (filter-filter test (is_of s) all) ∙ ap (filter test) (sym are) ∙ filter-map test (card_of s) ranks) ∙ length-map' s (filter (λ q. test (card_of s q)) ranks)
 
+-- the numbers below a bound and those from it on are all
 parts-length : (n : ℕ) (xs : List ℕ) → length (filter (λ q. nat_lt q n) xs) + length (filter (λ q. nat_le n q) xs) ≡ length xs
 parts-length n [] = refl
 parts-length n (x ∷ xs) = let ih = parts-length n xs in elim (cases_lt x n) [
@@ -237,6 +244,7 @@ pub first-there : (xs : List ℕ) (n : ℕ) → Some n ≡ slice_get xs 0 → ha
 first-there [] n e = absurd (cc)
 first-there (x ∷ xs) n e = let same : n ≡ x = ap (λ o. unwrap_or o n) e in rw (eq-eqb x n (sym same)) refl
 
+-- a list with no first number is empty
 pub none-there : (xs : List ℕ) → None ≡ slice_get xs 0 → length xs ≡ 0
 none-there [] e = refl
 none-there (x ∷ xs) e = absurd (cc)

@@ -34,6 +34,7 @@ count-le test wider (c ∷ cards) each =
     flags true false h = absurd (let k : false ≡ true = h refl in cc)
     flags false b h = zero-le
 
+-- .. and more where one card passes the wider test alone
 pub count-lt : (test wider : PlayingCard → Bool) (cards : List PlayingCard) → ((e : PlayingCard) → test e ≡ true → wider e ≡ true) → (z : PlayingCard) → has_card cards z ≡ true → wider z ≡ true → test z ≡ false
     → count test cards + 1 ≤ count wider cards
 count-lt test wider [] each z has wide out = absurd (cc)
@@ -64,9 +65,11 @@ count-lt test wider (c ∷ cards) each z has wide out = go (same_card c z) refl 
 pub above-is : (c e : PlayingCard) → e.suit ≡ c.suit → c.rank < e.rank → is_above c e ≡ true
 above-is c e suits h = rw (of-suit' c.suit e suits, lt-ltb c.rank e.rank h) refl
 
+-- a higher card is of the suit
 pub above-suit : (c e : PlayingCard) → is_above c e ≡ true → e.suit ≡ c.suit
 above-suit c e h = suit-of c.suit e (and-left (is_of c.suit e) (nat_lt c.rank e.rank) h)
 
+-- .. and of a higher rank
 pub above-rank : (c e : PlayingCard) → is_above c e ≡ true → c.rank < e.rank
 above-rank c e h = ltb-true c.rank e.rank (and-right (is_of c.suit e) (nat_lt c.rank e.rank) h)
 
@@ -77,6 +80,7 @@ place-lt p c d has suits h =
     (λ e t. above-is c e (above-suit d e t ∙ suits) (let k = above-rank d e t in omega (arith, k, h)))
     d has (above-is c d suits h) (not-has _ (λ t. let k = above-rank d d t in omega (arith, k)))
 
+-- a card that is no lower has a place that is no greater
 pub place-le : (p : Board) (c d : PlayingCard) → d.suit ≡ c.suit → c.rank ≤ d.rank → place p d ≤ place p c
 place-le p c d suits h =
     count-le (is_above d) (is_above c) (all_cards p) (λ e has t. above-is c e (above-suit d e t ∙ suits) (let k = above-rank d e t in omega (arith, k, h)))
@@ -109,9 +113,11 @@ place-one p c d hc hd suits e =
         let b : c.rank ≤ d.rank = below d.rank c.rank (λ h. let k = place-lt p d c hc (sym suits) h in omega (arith, k, e)) in
         omega (arith, a, b)
 
+-- the first of two tests passes
 or-left : (a b : Bool) → a ≡ true → (a || b) ≡ true
 or-left a b h = rw h refl
 
+-- .. or the second
 or-more : (a b : Bool) → b ≡ true → (a || b) ≡ true
 or-more true b h = refl
 or-more false b h = h

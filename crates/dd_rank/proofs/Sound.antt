@@ -18,6 +18,7 @@ use Rattle.dd_play.proofs.Counts.{count-cons}
 use Rattle.dd_rank.proofs.AlikeLead.{won-lead}
 use Rattle.dd_rank.proofs.Covered.{to_of, covers-cover, IsLifted, lifted-top, by-covered}
 
+-- the test of one side, turned
 not-side : (a b : Bool) → beq a (not b) ≡ not (beq a b)
 not-side true true = refl
 not-side true false = refl
@@ -43,6 +44,7 @@ other-sides top k to from s p t q r = record {
   over_q = r.over_q;
 }
 
+-- a hand's cards are those of its four suits
 suits-length : (cards : List PlayingCard) → count_of Spades cards + count_of Hearts cards + count_of Diamonds cards + count_of Clubs cards ≡ length cards
 suits-length [] = refl
 suits-length (c ∷ cards) =
@@ -61,6 +63,7 @@ suits-length (c ∷ cards) =
     one Diamonds = refl
     one Clubs = refl
 
+-- a covered position has as many tricks left
 pub same-left : (k : ℕ) (depths : Suit → ℕ) (p q : Board) → IsCoverAt k depths p q → left q ≡ left p
 same-left k depths p q a =
     let l = λ (u : Suit). a.lengths p.first u in

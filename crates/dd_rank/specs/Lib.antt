@@ -1,3 +1,6 @@
 pub mod Alike
 pub mod Owners
 pub mod Depths
+pub mod Strings
+pub mod Cover
+pub mod Tops

@@ -1,12 +1,10 @@
 -- Who owns the cards that are left, suit by suit: all that a position's class of alike ones depends on beside strain and leader.
-use Rattle.std.specs.Prelude.{ℕ, ◌+◌, ◌*◌, List, [], ◌∷◌, Option, None, Some, if◌then◌else◌}
+use Rattle.std.specs.Prelude.{List, Option, None, Some, if◌then◌else◌}
 use Rattle.std.specs.List.{filter_map}
 use Rattle.dd_cards.specs.declared.seat.Seat.{Seat}
 use Rattle.dd_cards.specs.declared.seat.Seat.TheVariants.{North, East, South, West}
 use Rattle.dd_cards.specs.declared.suit.Suit.{Suit}
-use Rattle.dd_cards.specs.declared.suit.Suit.TheVariants.{Spades, Hearts, Diamonds, Clubs}
 use Rattle.dd_cards.specs.PlayingCard.{PlayingCard}
-use Rattle.dd_cards.specs.Seats.{seat_code}
 use Rattle.dd_cards.specs.Cards.{has_card, suit_cards}
 use Rattle.dd_cards.specs.Hands.{hand_of}
 use Rattle.dd_play.specs.Board.{Board}
@@ -26,13 +24,3 @@ owners_in hands u = filter_map (holder hands) (suit_cards u)
 -- the owners of a suit at a position
 abbrev pub owners : Board → Suit → List Seat
 owners p u = owners_in p.hands u
-
--- seats as one number: to the base 4, each seat's digit one more than its code, the first seat's digit the lowest
-abbrev pub seats_number : List Seat → ℕ
-seats_number [] = 0
-seats_number (s ∷ seats) = 4 * seats_number seats + seat_code s + 1
-
--- the owners of the four suits, each as one number
-abbrev pub suits_numbers : List (List PlayingCard) → List ℕ
-suits_numbers hands =
-    seats_number (owners_in hands Spades) ∷ seats_number (owners_in hands Hearts) ∷ seats_number (owners_in hands Diamonds) ∷ seats_number (owners_in hands Clubs) ∷ []

@@ -1,5 +1,5 @@
 //! How many of the highest cards of each suit matter, and which cards these are.
-ghost use Rattle.std.specs.Prelude.{◌≡◌, ℕ, ◌≤◌, ◌&&◌, true, length, filter, nat_le};
+ghost use Rattle.std.specs.Prelude.{◌≡◌, ℕ, ◌≤◌, ◌↔◌, ◌&&◌, true, IsTrue, length, filter, nat_le};
 ghost use Rattle.dd_cards.specs.PlayingCard.{PlayingCard};
 ghost use Rattle.dd_cards.specs.declared.suit.Suit.{Suit as SuitOf};
 ghost use Rattle.dd_cards.specs.Ranks.{IsRank, has_rank};
@@ -51,6 +51,17 @@ impl Depths {
             Suit::Diamonds => self.diamonds,
             Suit::Clubs => self.clubs,
         }
+    }
+
+    /// Is no depth above that of the same suit?
+    #[inline]
+    pub(crate) fn are_within(self, most: Depths) -> bool
+        ensures { IsTrue result ↔ ((u : SuitOf) → depth_in self u ≤ depth_in most u) }
+    {
+        (self.spades <= most.spades)
+            & (self.hearts <= most.hearts)
+            & (self.diamonds <= most.diamonds)
+            & (self.clubs <= most.clubs)
     }
 
     /// The depths of all cards left at a position.

@@ -14,6 +14,7 @@ use Rattle.dd_rank.proofs.Looked.{all-once}
 use Rattle.dd_rank.proofs.Lowest.{same-count, depth-more}
 use Rattle.dd_rank.proofs.depths.Depths.cards.Goals as goal
 
+-- a depth is at most the number of the suit's cards in the set
 within : (p q : Board) (all : List PlayingCard) (d : FourDepths) (u : Suit) (n : ℕ) → IsBoard q → q ≡ p → IsSet all → ((c : PlayingCard) → has_card all c ≡ has_card (all_cards q) c) → ((u : Suit) → depth_in d u ≤ count_of u (all_cards p)) → n ≡ depth_in d u → n ≤ count_of u all
 within p q all d u n valid is set same most e =
     let k = same-count (is_of u) all (all_cards q) (λ c. times-set all c set) (all-once q valid) same in
@@ -21,6 +22,7 @@ within p q all d u n valid is set same most e =
     let s : count_of u (all_cards q) ≡ count_of u (all_cards p) = ap (λ (b : Board). count_of u (all_cards b)) is in
     omega (arith, k, m, s, e)
 
+-- the depths of all four suits
 by-suits : (p q : Board) (all a b c e : List PlayingCard) (d : FourDepths) → IsBoard q → q ≡ p → IsSet all → ((c : PlayingCard) → has_card all c ≡ has_card (all_cards q) c)
     → d.spades ≤ length (filter (λ x. is_of Spades x && reach a x) all) → d.hearts ≤ length (filter (λ x. is_of Hearts x && reach b x) all) → d.diamonds ≤ length (filter (λ x. is_of Diamonds x && reach c x) all) → d.clubs ≤ length (filter (λ x. is_of Clubs x && reach e x) all)
     → ((x : PlayingCard) → has_card a x ≡ true → has_card b x ≡ true) → ((x : PlayingCard) → has_card b x ≡ true → has_card c x ≡ true) → ((x : PlayingCard) → has_card c x ≡ true → has_card e x ≡ true)

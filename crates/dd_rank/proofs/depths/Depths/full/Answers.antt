@@ -12,6 +12,7 @@ use Rattle.dd_rank.proofs.Looked.{all-once}
 use Rattle.dd_rank.proofs.Lowest.{same-count, length-of}
 use Rattle.dd_rank.proofs.depths.Depths.full.Goals as goal
 
+-- the depths of all four suits
 by-suits : (p : Board) (all : List PlayingCard) (a b d e : ℕ) → IsBoard p → IsSet all → ((c : PlayingCard) → has_card all c ≡ has_card (all_cards p) c)
     → a ≡ count_of Spades all → b ≡ count_of Hearts all → d ≡ count_of Diamonds all → e ≡ count_of Clubs all
     → (u : Suit) → depth_in (record { spades = a; hearts = b; diamonds = d; clubs = e }) u ≡ count_of u (all_cards p)

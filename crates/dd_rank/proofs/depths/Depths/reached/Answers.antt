@@ -15,6 +15,7 @@ use Rattle.dd_rank.proofs.Looked.{all-once}
 use Rattle.dd_rank.proofs.Lowest.{same-count, more-pass}
 use Rattle.dd_rank.proofs.depths.Depths.reached.Goals as goal
 
+-- the depths of all four suits
 by-suits : (p : Board) (all cards : List PlayingCard) (a b d e : ℕ) → IsBoard p → IsSet all → ((c : PlayingCard) → has_card all c ≡ has_card (all_cards p) c)
     → a ≡ length (filter (λ x. is_of Spades x && reach cards x) all) → b ≡ length (filter (λ x. is_of Hearts x && reach cards x) all) → d ≡ length (filter (λ x. is_of Diamonds x && reach cards x) all) → e ≡ length (filter (λ x. is_of Clubs x && reach cards x) all)
     → (u : Suit) → depth_in (record { spades = a; hearts = b; diamonds = d; clubs = e }) u ≡ depths_of (reach cards) p u
@@ -29,6 +30,7 @@ by-suits p all cards a b d e valid set same ea eb ed ee u = go u
     go Diamonds = ed ∙ count Diamonds
     go Clubs = ee ∙ count Clubs
 
+-- no depth is above the number of the suit's cards
 lengths : (p : Board) (d : FourDepths) (cards : List PlayingCard) → ((u : Suit) → depth_in d u ≡ depths_of (reach cards) p u) → (u : Suit) → depth_in d u ≤ count_of u (all_cards p)
 lengths p d cards same u = (let e = same u in let m = more-pass (λ x. is_of u x && reach cards x) (is_of u) (all_cards p) (λ x h. and-left (is_of u x) (reach cards x) h) in omega (arith, e, m))
 
