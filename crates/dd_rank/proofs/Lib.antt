@@ -20,3 +20,4 @@ pub mod Suited
 pub mod Seated
 pub mod Packed
 pub mod Alikes
+pub mod FirstBits

@@ -4,3 +4,4 @@ pub mod Depths
 pub mod Strings
 pub mod Cover
 pub mod Tops
+pub mod FirstOwners

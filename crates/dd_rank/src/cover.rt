@@ -1,6 +1,6 @@
 //! A position whose entry answers for each position that it covers.
 
-ghost use Rattle.std.specs.Prelude.{◌≡◌, ◌↔◌, ◌-◌, ◌≤◌, ◌%◌, ◌^◌, IsTrue, [], ◌&&◌, bit_and, nat_eq};
+ghost use Rattle.std.specs.Prelude.{◌≡◌, ◌↔◌, ◌-◌, ◌≤◌, ◌%◌, ◌^◌, IsTrue, [], ◌&&◌, bit_and, nat_eq, nat_le};
 ghost use Rattle.dd_cards.specs.declared.suit.Suit.{Suit as SuitOf};
 ghost use Rattle.dd_play.specs.Board.{Board, IsBoard};
 ghost use Rattle.dd_play.specs.Covers.{count_of};
@@ -114,16 +114,16 @@ impl Cover {
 }
 
 // The owners of a suit's highest cards, and the bits in which they stand.
-#[derive(Clone, Copy)]
-struct TopOwners {
-    mask: u32,
-    owners: u32,
+#[derive(Clone, Copy, Debug)]
+pub(crate) struct TopOwners {
+    pub(crate) mask: u32,
+    pub(crate) owners: u32,
 }
 
 impl TopOwners {
     // Of the owners of a suit the first so many.
     #[inline]
-    fn of(depth: u8, owners: u32) -> TopOwners
+    pub(crate) fn of(depth: u8, owners: u32) -> TopOwners
         requires { depth ≤ 13 }
         ensures mask { result.mask ≡ 4 ^ depth - 1 }
         ensures owners { result.owners ≡ owners % 4 ^ depth }
@@ -137,7 +137,7 @@ impl TopOwners {
 
     // Are these the first owners of a suit?
     #[inline]
-    fn are_in(self, owners: u32) -> bool
+    pub(crate) fn are_in(self, owners: u32) -> bool
         ensures { result ≡ nat_eq (bit_and owners self.mask) self.owners }
     {
         owners & self.mask == self.owners
@@ -148,5 +148,13 @@ impl TopOwners {
         ensures { result ≡ (nat_eq self.mask other.mask && nat_eq self.owners other.owners) }
     {
         self.mask == other.mask && self.owners == other.owners
+    }
+
+    // Are these no more, and the first of the others?
+    #[inline]
+    pub(crate) fn begin(self, others: TopOwners) -> bool
+        ensures { result ≡ (nat_le self.mask others.mask && nat_eq (bit_and others.owners self.mask) self.owners) }
+    {
+        self.mask <= others.mask && others.owners & self.mask == self.owners
     }
 }

@@ -21,7 +21,7 @@ use dd_play::trick_start::TrickStart;
 use std::marker::Model;
 
 /// For each suit how many of its highest cards matter.
-#[derive(Clone, Copy, Debug)]
+#[derive(Clone, Copy, Debug, Default)]
 pub struct Depths {
     spades: u8,
     hearts: u8,

@@ -1,6 +1,6 @@
 //! What alike positions have in common, for every two boards.
 
-ghost use Rattle.std.specs.Prelude.{◌≡◌, ◌↔◌, ℕ, ◌-◌, ◌≤◌, Bool, true, List, []};
+ghost use Rattle.std.specs.Prelude.{◌≡◌, ◌↔◌, ℕ, ◌-◌, ◌%◌, ◌^◌, ◌≤◌, Bool, true, List, []};
 ghost use mathlib.Core.Bool.{not};
 ghost use Rattle.dd_cards.specs.declared.suit.Suit.{Suit};
 ghost use Rattle.dd_cards.specs.PlayingCard.{PlayingCard};
@@ -13,7 +13,7 @@ ghost use Rattle.dd_play.specs.Covers.{count_of};
 ghost use Rattle.dd_play.specs.Reach.{reach, TakesBy};
 ghost use Rattle.dd_rank.specs.Alike.{AreAlike, IsAlike};
 ghost use Rattle.dd_rank.specs.Depths.{all_cards, Covers, depths_of};
-ghost use Rattle.dd_rank.specs.Strings.{Strings, strings_of, shape_of, mixed_in, same_strings};
+ghost use Rattle.dd_rank.specs.Strings.{string_in, Strings, ShapeOf, strings_of, shape_of, mixed_in, same_strings, same_shape};
 
 /// Alike positions have one value for the leader's side: also where all seats are turned, and so where none is.
 pub fn alike_positions()
@@ -27,6 +27,9 @@ pub fn alike_positions()
 /// `chained`: a position that is covered by a covered one is covered.
 /// `itself`: a position covers itself.
 /// `shapes`: it covers only positions of its shape.
+/// `owners`: these are the positions of its shape with the same first owners of each suit.
+/// `counts`: positions of one shape have as many cards of each suit.
+/// `few`: these are thirteen at most.
 /// `full`: at full depths it covers the alike positions and no others.
 pub fn covered_positions()
     ensures told { (cards : List PlayingCard) (depths : Suit → ℕ) (p : Board) (lo hi : ℕ) → ((c : PlayingCard) → has_card cards c ≡ true → IsRank c.rank)
@@ -40,15 +43,21 @@ pub fn covered_positions()
     ensures chained { (depths : Suit → ℕ) (p q r : Board) → Covers p depths q → Covers q depths r → Covers p depths r }
     ensures itself { (p : Board) (depths : Suit → ℕ) → p.trick ≡ [] → ((u : Suit) → depths u ≤ count_of u (all_cards p)) → Covers p depths p }
     ensures shapes { (p q : Board) (depths : Suit → ℕ) → IsBoard p → IsBoard q → Covers p depths q → shape_of q ≡ shape_of p }
+    ensures owners { (p q : Board) (depths : Suit → ℕ) → IsBoard p → IsBoard q → p.trick ≡ [] → q.trick ≡ [] → ((u : Suit) → depths u ≤ count_of u (all_cards p))
+        → (Covers p depths q ↔ ((shape_of q ≡ shape_of p) × ((u : Suit) → string_in (strings_of q) u % 4 ^ depths u ≡ string_in (strings_of p) u % 4 ^ depths u))) }
+    ensures counts { (p q : Board) → IsBoard p → IsBoard q → shape_of q ≡ shape_of p → (u : Suit) → count_of u (all_cards q) ≡ count_of u (all_cards p) }
+    ensures few { (p : Board) → IsBoard p → (u : Suit) → count_of u (all_cards p) ≤ 13 }
     ensures full { (p q : Board) (depths : Suit → ℕ) → IsBoard p → IsBoard q → ((u : Suit) → depths u ≡ count_of u (all_cards p)) → (Covers p depths q ↔ AreAlike p q) }
 {}
 
 /// Owner strings tell positions apart just as far as these aren't alike.
 /// `alike`: positions are alike exactly where their strings are the same.
 /// `keys`: the test by which keys are compared tells whether they are the same.
+/// `shapes`: and the test by which shapes are compared, whether those are.
 /// `mixed`: equal keys have one mixing number, which is all that a hasher is fed of them.
 pub fn owner_strings()
     ensures alike { (p q : Board) → IsBoard p → IsBoard q → p.trick ≡ [] → q.trick ≡ [] → (AreAlike p q ↔ strings_of q ≡ strings_of p) }
     ensures keys { (x y : Strings) → (same_strings x y ≡ true ↔ x ≡ y) }
+    ensures shapes { (x y : ShapeOf) → (same_shape x y ≡ true ↔ x ≡ y) }
     ensures mixed { (x y : Strings) → same_strings x y ≡ true → mixed_in x ≡ mixed_in y }
 {}

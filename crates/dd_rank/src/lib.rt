@@ -6,6 +6,7 @@ pub mod alike;
 pub mod cover;
 pub mod covers;
 pub mod depths;
+pub mod first_owners;
 pub mod laws;
 pub mod owner_strings;
 pub mod rank_key;

@@ -1,0 +1,161 @@
+//! A table of one thread before another.
+ghost use Rattle.std.specs.Prelude.{◌≡◌, ◌<◌, ◌≤◌, ◌⊎◌, IfSome};
+ghost use Rattle.dd_play.specs.Board.{Board, IsBoard};
+ghost use Rattle.dd_play.specs.Covers.{count_of};
+ghost use Rattle.dd_play.specs.Value.{lead};
+ghost use Rattle.dd_play.specs.Intervals.{Holds};
+ghost use Rattle.dd_rank.specs.Depths.{all_cards, depth_in, Covers};
+ghost use Rattle.dd_rank.specs.FirstOwners.{AreFirst};
+ghost use Rattle.dd_rank.specs.Strings.{shape_in, strings_of};
+ghost use Rattle.dd_cache.specs.Told.{ToldOf, IsSound};
+
+use crate::page::Page;
+use crate::told::Told;
+use dd_play::interval::Interval;
+use dd_play::trick_start::TrickStart;
+use dd_rank::depths::Depths;
+use dd_rank::first_owners::FirstOwners;
+use dd_rank::laws::{covered_positions, owner_strings};
+use dd_rank::owner_strings::OwnerStrings;
+use dd_rank::shape::Shape;
+use dd_search::bounds::Bounds;
+use std::alloc::{AllocError, Global};
+
+// The pages that there may be, and the places at which they are found: powers of two.
+const PAGES: u32 = 0x1_0000;
+
+const PLACES: usize = 0x1_0000;
+
+// So many pages at most are looked at in one place.
+const MOST_PAGES: usize = 64;
+
+/// What a thread learned lately, before the table behind it. Its pages are a ring: the newest takes the place of the oldest.
+#[derive(Drop)]
+pub struct Cache<B> {
+    behind: B,
+    // by place the number of its newest page
+    newest: Vec<u32>,
+    pages: Vec<Page>,
+    // the number of the next page; the first one has the number PAGES
+    next: u32,
+}
+
+impl<B: Drop> Cache<B> {
+    /// A cache that has learned nothing, before this table. All its memory is taken here. The error says that there is
+    /// none.
+    pub fn new(alloc: Global, behind: B) -> Result<Cache<B>, AllocError> {
+        let pages = Vec::with_capacity(alloc, PAGES as usize)?;
+        let newest = vec![in alloc; 0; PLACES]?;
+        Ok(Cache {
+            behind,
+            newest,
+            pages,
+            next: PAGES,
+        })
+    }
+}
+
+impl<B> Cache<B> {
+    /// The table behind.
+    pub fn behind(&mut self) -> &mut B {
+        &mut self.behind
+    }
+
+    // The page of this number, where it is not yet overwritten.
+    #[inline]
+    fn page(&self, number: u32) -> Option<&Page> {
+        if self.next.wrapping_sub(number) > PAGES {
+            return None;
+        }
+        self.pages.get((number % PAGES) as usize)
+    }
+
+    // What settles the question of the position with these strings.
+    fn own(&self, strings: &OwnerStrings, need: u8) -> Option<(Interval, Depths)>
+        ensures told { IfSome result (λ told. (t : ToldOf) × IsSound (shape_in strings.now) t × AreFirst t.firsts strings.now × (t.firsts.depths ≡ told.1) × (t.interval ≡ told.0)) }
+        ensures settles { IfSome result (λ told. (need ≤ told.0.lo) ⊎ (told.0.hi < need)) }
+    {
+        // The proof reads here what it means that shapes are compared.
+        owner_strings();
+        let shape = strings.shape();
+        let mut number = *self.newest.get(place(shape))?;
+        for _ in 0..MOST_PAGES {
+            let page = self.page(number)?;
+            if page.shape() == shape {
+                if let Some(told) = page.settle(strings, need) {
+                    return Some((told.interval, told.firsts.depths()));
+                }
+            }
+            number = page.before();
+        }
+        None
+    }
+}
+
+impl<B> Cache<B> {
+    // Keeps bounds of a shape: on the newest page of the shape, or on a new page.
+    fn keep(&mut self, shape: Shape, new: Told)
+        requires { IsSound shape new }
+    {
+        let Some(newest) = self.newest.get_mut(place(shape)) else {
+            return;
+        };
+        let number = *newest;
+        let at = (self.next % PAGES) as usize;
+        let new = match self.pages.get_mut((number % PAGES) as usize) {
+            Some(page) if self.next.wrapping_sub(number) <= PAGES && page.shape() == shape => {
+                match page.keep(new) {
+                    Some(new) => new,
+                    None => return,
+                }
+            }
+            _ => new,
+        };
+        *newest = self.next;
+        self.next = self.next.wrapping_add(1);
+        let page = Page::new(shape, number, new);
+        match self.pages.get_mut(at) {
+            Some(oldest) => *oldest = page,
+            None => {
+                let _ = self.pages.push(page);
+            }
+        }
+    }
+}
+
+impl<B: Bounds> Bounds for Cache<B> {
+    // What it tells holds. What it still has depends on what came since.
+    ghost tells = { λ cache p depths interval. (q : Board) → IsBoard q → Covers p (depth_in depths) q → Holds interval (lead q) };
+
+    ghost holds = { λ cache p depths interval q told. told q };
+
+    fn look(&mut self, start: &TrickStart) -> Option<(Interval, Depths)> {
+        self.behind.look(start)
+    }
+
+    fn settle(&mut self, start: &TrickStart, need: u8) -> Option<(Interval, Depths)> {
+        // The proof reads here that it is a start of a trick, and what a position covers.
+        let _ = start.position();
+        covered_positions();
+        let strings = OwnerStrings::of(start);
+        match self.own(&strings, need) {
+            Some(told) => Some(told),
+            None => self.behind.settle(start, need),
+        }
+    }
+
+    fn note(&mut self, start: &TrickStart, depths: Depths, interval: Interval) {
+        let _ = start.position();
+        covered_positions();
+        let strings = OwnerStrings::of(start);
+        let firsts = FirstOwners::of(strings, depths);
+        self.keep(strings.shape(), Told { firsts, interval });
+        self.behind.note(start, depths, interval);
+    }
+}
+
+// Where the pages of a shape are found.
+#[inline]
+fn place(shape: Shape) -> usize {
+    (shape.mixed() >> 48) as usize
+}

@@ -1,0 +1,51 @@
+//! Bounds, and the owners of the highest cards under which they hold.
+ghost use Rattle.std.specs.Prelude.{◌≡◌, ◌<◌, ◌≤◌, ◌⊎◌, IsTrue};
+ghost use Rattle.dd_rank.specs.FirstOwners.{AreFirst};
+
+use dd_play::interval::Interval;
+use dd_rank::first_owners::FirstOwners;
+use dd_rank::owner_strings::OwnerStrings;
+use std::marker::Model;
+
+/// Bounds of the value of each position of a shape whose highest cards have these owners.
+#[derive(Debug, Drop)]
+pub(crate) struct Told {
+    pub(crate) firsts: FirstOwners,
+    pub(crate) interval: Interval,
+}
+
+impl Model for Told {
+    ghost use Rattle.dd_cache.specs.Told.{ToldOf};
+
+    ghost Value = { ToldOf };
+
+    ghost view = { λ t. record { firsts = t.firsts; interval = t.interval } };
+}
+
+impl Default for Told {
+    fn default() -> Told {
+        Told {
+            firsts: FirstOwners::default(),
+            interval: Interval { lo: 0, hi: 13 },
+        }
+    }
+}
+
+impl Told {
+    /// Does it hold of the position with these strings, and settle whether the leader's side takes so many tricks?
+    #[inline]
+    pub(crate) fn answers(&self, strings: &OwnerStrings, need: u8) -> bool
+        ensures firsts { IsTrue result → AreFirst self.now.firsts strings.now }
+        ensures settles { IsTrue result → (need ≤ self.now.interval.lo) ⊎ (self.now.interval.hi < need) }
+    {
+        (need <= self.interval.lo || self.interval.hi < need) && self.firsts.are_in(strings)
+    }
+
+    /// Does it make the other needless, which is of its shape: it says as much of no fewer positions?
+    #[inline]
+    pub(crate) fn replaces(&self, other: &Told) -> bool {
+        other.interval.lo <= self.interval.lo
+            && self.interval.hi <= other.interval.hi
+            && self.firsts.include(&other.firsts)
+    }
+}
