@@ -3,4 +3,6 @@
 
 pub mod cache;
 mod page;
+#[cfg(test)]
+mod tests;
 mod told;

@@ -1,0 +1,91 @@
+use crate::cache::Cache;
+use dd_cards::card::Card;
+use dd_cards::hands::Hands;
+use dd_cards::rank::Rank;
+use dd_cards::seat::Seat;
+use dd_cards::strain::Strain;
+use dd_cards::suit::Suit;
+use dd_play::interval::Interval;
+use dd_play::position::Position;
+use dd_play::trick_start::TrickStart;
+use dd_search::bounds::{Bounds, NoTable};
+use dd_search::meter::Endless;
+use dd_search::start::start_value;
+use std::alloc::AllocError;
+
+// North and the others clockwise with two spades each, at notrump with this leader.
+fn start(ranks: [u8; 8], first: Seat) -> Option<TrickStart> {
+    let mut hands = Hands::new();
+    for (place, rank) in ranks.iter().enumerate() {
+        let seat = Seat::from_code((place / 2) as u8)?;
+        let rank = Rank::from_code(*rank)?;
+        let suit = Suit::Spades;
+        hands.insert(seat, Card { suit, rank });
+    }
+    let position = Position::new(hands, Strain::Notrump, first, &[]).ok()?;
+    TrickStart::of(&position)
+}
+
+// Finds the value over the table, and notes it with its depths.
+fn noted<B: Bounds>(start: &TrickStart, table: &mut B) -> Option<u8> {
+    let (tricks, depths) = start_value(start, table, &mut Endless).ok()?;
+    let interval = Interval {
+        lo: tricks,
+        hi: tricks,
+    };
+    table.note(start, depths, interval);
+    Some(tricks)
+}
+
+#[test]
+fn what_was_noted_settles_the_positions_that_it_covers(rt: HostRuntime) -> Result<(), AllocError> {
+    let mut cache = Cache::new(rt.alloc(), NoTable)?;
+    let caught = start([3, 2, 13, 4, 14, 12, 6, 5], Seat::North).expect(&rt, "two cards a hand");
+    assert!(rt;
+        cache.settle(&caught, 2).is_none(),
+        "it has learned nothing"
+    );
+    assert_eq!(rt;
+        noted(&caught, &mut cache),
+        Some(2),
+        "the king before ace and queen is caught"
+    );
+    let told = cache.settle(&caught, 2).expect(&rt, "the position itself");
+    assert_eq!(rt; (told.0.lo, told.0.hi), (2, 2));
+    assert_eq!(rt;
+        told.1.of(Suit::Spades),
+        3,
+        "it rests on ace, king and queen"
+    );
+    let lower = start([6, 2, 13, 3, 14, 12, 5, 4], Seat::North).expect(&rt, "two cards a hand");
+    assert!(rt;
+        cache.settle(&lower, 2).is_some(),
+        "other cards below the queen"
+    );
+    let turned = start([6, 5, 3, 2, 13, 4, 14, 12], Seat::East).expect(&rt, "two cards a hand");
+    assert!(rt;
+        cache.settle(&turned, 2).is_some(),
+        "all seats turned by one"
+    );
+    let behind = start([3, 2, 6, 5, 14, 12, 13, 4], Seat::North).expect(&rt, "two cards a hand");
+    assert!(rt;
+        cache.settle(&behind, 2).is_none(),
+        "the king behind ace and queen is not caught"
+    );
+    Ok(())
+}
+
+#[test]
+fn what_is_noted_reaches_the_table_behind(rt: HostRuntime) -> Result<(), AllocError> {
+    let near = Cache::new(rt.alloc(), NoTable)?;
+    let mut cache = Cache::new(rt.alloc(), near)?;
+    let caught = start([3, 2, 13, 4, 14, 12, 6, 5], Seat::North).expect(&rt, "two cards a hand");
+    assert_eq!(rt; noted(&caught, &mut cache), Some(2));
+    assert!(rt; cache.behind().settle(&caught, 2).is_some());
+    let mut fresh = Cache::new(rt.alloc(), NoTable)?;
+    assert!(rt;
+        fresh.look(&caught).is_none(),
+        "a look asks the table behind"
+    );
+    Ok(())
+}
