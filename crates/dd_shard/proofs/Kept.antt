@@ -1,178 +1,161 @@
 -- What a shard keeps of its cache.
-use Rattle.std.proofs.Common.{◌≡◌, ℕ, zero, suc, ◌-◌, ◌≤◌, true, false, refl, sym, ap, ◌∙◌, subst, ap₂, arith, List, [], ◌∷◌, ◌++◌, map, take, max, min, Contains, Some, None, inl, inr, ◌⊎◌}
-use Rattle.std.specs.Prelude.{◌↔◌, slice_get, option_map}
+use Rattle.std.proofs.Common.{◌≡◌, ℕ, zero, suc, ◌-◌, ◌≤◌, true, false, refl, sym, ap, ◌∙◌, subst, ap₂, arith, List, [], ◌∷◌, ◌++◌, map, take, length, Contains, Option, Some, None, inl, inr, ◌⊎◌}
+use Rattle.std.specs.Prelude.{slice_get, option_map}
 use Rattle.std.proofs.lemmas.Option.{slice_get-map}
 use Rattle.std.specs.List.{IsDistinct, take-map}
-use Rattle.std.proofs.lemmas.List.{map-append}
+use Rattle.std.proofs.lemmas.List.{map-append, length-map}
+use Rattle.std.specs.Option.{UnwrapsOrElse}
 use Rattle.std.specs.Map.{keys_of, lookup, lookup_entry, remove_entry}
 use Rattle.lru.specs.LruCache.{LruCache, lru_cache, promoted, put_entries}
 use Rattle.lru.proofs.Splits.{Contains-cons, Contains-nil, Contains-middle, cons_head, cons_tail, all_at, all_unmap}
 use Rattle.lru.proofs.CallerLemmas.{Contains-promoted, Contains-put_entries}
-use Rattle.dd_play.specs.Board.{Board, IsBoard}
-use Rattle.dd_play.specs.Value.{lead}
-use Rattle.dd_play.specs.Intervals.{Holds}
-use Rattle.dd_play.specs.declared.interval.Interval.{Interval}
-use Rattle.dd_shard.specs.declared.key.Key.{Key}
-use Rattle.dd_shard.specs.declared.slot.Slot.{Slot}
-use Rattle.dd_shard.specs.Entries.{Entry, Class, class_of, IsAbsent, IsSound, EachOnce, AreEntries, Renews, narrowed, Adds}
-use Rattle.dd_shard.specs.Kept.{entry_of, entries_of, IsFiled, IsKept}
-use Rattle.dd_shard.proofs.Keys.{same_key, same-board, same_key-refl}
-use Rattle.dd_shard.proofs.Lists.{Contains-map, Contains-at, cut-found, none-passes, no-entry}
+use Rattle.dd_play.specs.Board.{Board}
+use Rattle.dd_rank.specs.Strings.{ShapeOf, shape_of}
+use Rattle.dd_shard.specs.Entries.{most_pairs, Pair, Told, Entry, IsPair, IsEntry, IsAbsent, EachOnce, AreEntries, ToFront, Tells, Looks, PutsFirst, Notes, pair_at}
+use Rattle.dd_shard.specs.Kept.{entry_of, entries_of, IsKept}
+use Rattle.dd_rank.specs.Strings.{same_shape}
+use Rattle.dd_rank.proofs.Alikes.{shapes-tell}
+use Rattle.dd_shard.proofs.Told.{puts-entry, puts-alone}
+use Rattle.dd_shard.proofs.Lists.{Contains-map, Contains-at, Cut, cut-found, none-passes, no-entry}
 
--- the class of a start of a trick
-pub record IsClass (k : Class) : Type 0 where
-  pub board : IsBoard k
-  pub no_trick : k.trick ≡ []
-
--- a key that is that of a start of a trick
-pub is-class : (k p : Class) → k ≡ p → IsBoard p → p.trick ≡ [] → IsClass k
-is-class k p same board no_trick = subst IsClass (sym same) (record { board = board; no_trick = no_trick })
-
--- a pair whose key is found by a class stands under that class
-pub filed-key : (k : Class) (pair : Key × Slot) → IsClass k → IsFiled pair → same_key k pair.0 ≡ true → pair.0 ≡ k
-filed-key k pair x y e =
-    sym (same-board k pair.0 x.board (subst IsBoard y.class y.board) x.no_trick (subst (λ (b : Board). b.trick ≡ []) y.class y.no_trick) e)
-
--- a class that isn't found has no entry
-pub absent : (k : Class) (es : List (Key × Slot)) → lookup (same_key k) es ≡ None → IsAbsent k (map entry_of es)
+-- a shape that isn't found has no entry
+pub absent : (k : ShapeOf) (es : List (ShapeOf × List Pair)) → lookup (same_shape k) es ≡ None → IsAbsent k (map entry_of es)
 absent k es none e c same =
     let on = Contains-map entry_of es e c in
-    let key : on.0.0 ≡ k = ap (λ (x : Entry). x.class) on.2 ∙ same in
-    let no : same_key k k ≡ false = subst (λ (x : Class). same_key k x ≡ false) key (none-passes (same_key k) es none on.0 on.1) in
-    let yes : same_key k k ≡ true = same_key-refl k in
+    let key : on.0.0 ≡ k = ap (λ (x : Entry). x.shape) on.2 ∙ same in
+    let no : same_shape k k ≡ false = subst (λ (x : ShapeOf). same_shape k x ≡ false) key (none-passes (same_shape k) es none on.0 on.1) in
+    let yes : same_shape k k ≡ true = (shapes-tell k k).1 refl in
     absurd (cc)
 
--- what is known where the class k has the slot v
-pub record Hit (k : Class) (es : List (Key × Slot)) (v : Slot) : Type 0 where
-  pub pair : Key × Slot
-  pub slot : pair.1 ≡ v
-  pub class : pair.0 ≡ k
-  pub filed : IsFiled pair
-  pub found : lookup_entry (same_key k) es ≡ Some pair
-  pub renews : (w : Slot) → Renews k (map entry_of es) (map entry_of ((pair.0, w) ∷ remove_entry (same_key k) es)) (entry_of pair) (entry_of (pair.0, w))
+-- what is known where the shape k has the pairs v
+pub record Hit (k : ShapeOf) (es : List (ShapeOf × List Pair)) (v : List Pair) : Type 0 where
+  pub entry : IsEntry (entry_of (k, v))
+  pub found : lookup_entry (same_shape k) es ≡ Some (k, v)
+  pub moves : (w : List Pair) → ToFront k (map entry_of es) (map entry_of ((k, w) ∷ remove_entry (same_shape k) es)) (entry_of (k, v)) (entry_of (k, w))
 
--- a class that is found has one entry, which a use moves to the front
-pub hit : (k : Class) (es : List (Key × Slot)) (v : Slot) → IsClass k → ((pair : Key × Slot) → Contains es pair → IsFiled pair)
-    → lookup (same_key k) es ≡ Some v → Hit k es v
-hit k es v x all found =
-    let on = cut-found (same_key k) es v found in
-    let pair = on.0 in
-    let cut = on.2 in
-    let filed : IsFiled pair = all pair (subst (λ l. Contains l pair) (sym cut.cut) (Contains-middle cut.front pair cut.back)) in
-    let class : pair.0 ≡ k = filed-key k pair x filed cut.passes in
+-- a shape that is found has one entry, which a use moves to the front
+pub hit : (k : ShapeOf) (es : List (ShapeOf × List Pair)) (v : List Pair) → ((x : ShapeOf × List Pair) → Contains es x → IsEntry (entry_of x))
+    → lookup (same_shape k) es ≡ Some v → Hit k es v
+hit k es v all found =
+    let on = cut-found (same_shape k) es v found in
+    let key : k ≡ on.0.0 = (shapes-tell k on.0.0).0 on.2.passes in
+    let both : on.0 ≡ (k, v) = ap₂ (λ (j : ShapeOf) (ps : List Pair). let x : ShapeOf × List Pair = (j, ps) in x) (sym key) on.1 in
+    let cut : Cut (same_shape k) es (k, v) = subst (Cut (same_shape k) es) both on.2 in
     record {
-      pair = pair;
-      slot = on.1;
-      class = class;
-      filed = filed;
+      entry = all (k, v) (subst (λ l. Contains l (k, v)) (sym cut.cut) (Contains-middle cut.front (k, v) cut.back));
       found = cut.found;
-      renews = λ w. record {
-        of_class = class;
+      moves = λ w. record {
+        of_shape = refl;
         moved = (
           map entry_of cut.front,
           map entry_of cut.back,
-          ap (map entry_of) cut.cut ∙ map-append entry_of cut.front (pair ∷ cut.back),
-          ap (λ l. entry_of (pair.0, w) ∷ map entry_of l) cut.rest ∙ ap (λ l. entry_of (pair.0, w) ∷ l) (map-append entry_of cut.front cut.back),
+          ap (map entry_of) cut.cut ∙ map-append entry_of cut.front ((k, v) ∷ cut.back),
+          ap (λ l. entry_of (k, w) ∷ map entry_of l) cut.rest ∙ ap (λ l. entry_of (k, w) ∷ l) (map-append entry_of cut.front cut.back),
         );
       };
     }
 
--- the bounds of a hit hold the value
-pub hit-holds : (k : Class) (es : List (Key × Slot)) (v : Slot) → IsClass k → Hit k es v → Holds v.bounds (lead k)
-hit-holds k es v x h =
-    subst (λ (s : Slot). Holds s.bounds (lead k)) h.slot (h.filed.sound k x.board x.no_trick (sym h.class))
-
 -- a look keeps a shard's cache
-pub promote-kept : (c : LruCache Key Slot) (k : Class) → IsKept c → IsKept (lru_cache (promoted (same_key k) c.entries) c.cap)
-promote-kept c k kept = record {
-  filed = λ pair d. kept.filed pair (Contains-promoted (same_key k) c.entries pair d);
+pub look-kept : (c : LruCache ShapeOf (List Pair)) (k : ShapeOf) → IsKept c → IsKept (lru_cache (promoted (same_shape k) c.entries) c.cap)
+look-kept c k kept = record {
+  filed = λ x d. kept.filed x (Contains-promoted (same_shape k) c.entries x d);
   least = kept.least;
   most = kept.most;
 }
 
--- a look moves the entry to the front as it is
-pub look-renews : (k : Class) (es : List (Key × Slot)) (v : Slot) → Hit k es v
-    → (e : Entry) × Renews k (map entry_of es) (map entry_of (promoted (same_key k) es)) e e × (v.bounds.lo ≡ e.lo) × (v.bounds.hi ≡ e.hi)
-look-renews k es v h =
-    (entry_of h.pair, rw h.found (h.renews h.pair.1), ap (λ (s : Slot). s.bounds.lo) (sym h.slot), ap (λ (s : Slot). s.bounds.hi) (sym h.slot))
-
--- the numbers that two intervals hold lie between the greater lower and the lesser upper bound, where they share one
-pub meet-narrows : (a b both : Interval) (n : ℕ) → Holds a n → Holds b n → ((m : ℕ) → Holds both m ↔ (Holds a m × Holds b m))
-    → (both.lo ≡ max a.lo b.lo) × (both.hi ≡ min a.hi b.hi)
-meet-narrows a b both n x y f =
-    let z : Holds both n = (f n).1 (x, y) in
-    let low = (f both.lo).0 (omega arith, omega arith) in
-    let high = (f both.hi).0 (omega arith, omega arith) in
-    let l : Holds both (max a.lo b.lo) = (f (max a.lo b.lo)).1 ((omega arith, omega arith), (omega arith, omega arith)) in
-    let h : Holds both (min a.hi b.hi) = (f (min a.hi b.hi)).1 ((omega arith, omega arith), (omega arith, omega arith)) in
-    (omega arith, omega arith)
-
--- a position with bounds of its value may stand under its class
-pub new-filed : (k : Class) (w : Slot) → IsClass k → w.start ≡ k → Holds w.bounds (lead k) → IsFiled (k, w)
-new-filed k w x same h = record {
-  board = subst IsBoard (sym same) x.board;
-  no_trick = ap (λ (b : Board). b.trick) same ∙ x.no_trick;
-  class = same;
-  sound = λ p _ _ e. subst (λ (b : Board). Holds w.bounds (lead b)) (sym e) h;
+-- a look at a shape that is there
+pub look-found : (p : Board) (k : ShapeOf) (c : LruCache ShapeOf (List Pair)) (v : List Pair) (answer : Option Told) → k ≡ shape_of p → Hit k c.entries v → Tells p v answer
+    → Looks p answer (entries_of c) (entries_of (lru_cache (promoted (same_shape k) c.entries) c.cap))
+look-found p k c v answer same h tells = record {
+  limit = refl;
+  looked = inl (entry_of (k, v), rw h.found (subst (λ (j : ShapeOf). ToFront j (map entry_of c.entries) (map entry_of ((k, v) ∷ remove_entry (same_shape k) c.entries)) (entry_of (k, v)) (entry_of (k, v))) same (h.moves v)), tells);
 }
+
+-- .. and at one that isn't
+pub look-missed : (p : Board) (k : ShapeOf) (c : LruCache ShapeOf (List Pair)) (answer : Option Told) → k ≡ shape_of p → lookup (same_shape k) c.entries ≡ None → answer ≡ None
+    → Looks p answer (entries_of c) (entries_of (lru_cache (promoted (same_shape k) c.entries) c.cap))
+look-missed p k c answer same none is = record {
+  limit = refl;
+  looked = inr (subst (λ (j : ShapeOf). IsAbsent j (map entry_of c.entries)) same (absent k c.entries none), is, rw (no-entry (same_shape k) c.entries none) refl);
+}
+
+-- the slot that a note fills: that of the shape, or an empty one where there is none
+abbrev pub IsOpen : ShapeOf → List (ShapeOf × List Pair) → List Pair → Type 0
+IsOpen k es v = (lookup (same_shape k) es ≡ Some v) ⊎ ((lookup (same_shape k) es ≡ None) × (v ≡ []))
+
+-- what a look-up found, or else an empty slot
+pub opened : (k : ShapeOf) (es : List (ShapeOf × List Pair)) (P : List Pair → Type 0) (v : List Pair) → ((w : List Pair) → P w → w ≡ []) → UnwrapsOrElse (lookup (same_shape k) es) P v → IsOpen k es v
+opened k es P v empty h = go (lookup (same_shape k) es) h where
+  go : (o : Option (List Pair)) → UnwrapsOrElse o P v → (o ≡ Some v) ⊎ ((o ≡ None) × (v ≡ []))
+  go None h = inr (refl, empty v h)
+  go (Some w) h = inl (ap (λ (ps : List Pair). Some ps) (sym h))
+
+-- its pairs are of the shape, and at most eight
+pub open-pairs : (k : ShapeOf) (c : LruCache ShapeOf (List Pair)) (v : List Pair) → IsKept c → IsOpen k c.entries v → (length v ≤ most_pairs) × ((x : Pair) → Contains v x → IsPair k x)
+open-pairs k c v kept (inl found) = let h = hit k c.entries v kept.filed found in (h.entry.few, h.entry.each)
+open-pairs k c v kept (inr none) = (rw none.1 (omega arith), λ x d. absurd (Contains-nil x (subst (λ l. Contains l x) none.1 d)))
 
 -- a note keeps a shard's cache
-pub put-kept : (c : LruCache Key Slot) (k : Class) (w : Slot) → IsKept c → IsClass k → w.start ≡ k → Holds w.bounds (lead k)
-    → IsKept (lru_cache (put_entries same_key c k w) c.cap)
-put-kept c k w kept x same h = record {
-  filed = λ pair d. elim (Contains-put_entries same_key c k w pair d) [
-    | inl old ↦ kept.filed pair old
-    | inr put ↦ (
-        let key : pair.0 ≡ k = elim put.1 [
-          | inl e ↦ e
-          | inr was ↦ filed-key k (pair.0, was.0) x (kept.filed (pair.0, was.0) was.1) was.2
-        ] in
-        let both : (k, w) ≡ pair = sym (ap (λ (j : Key). let p : Key × Slot = (j, pair.1) in p) key ∙ ap (λ (s : Slot). let p : Key × Slot = (k, s) in p) put.0) in
-        subst IsFiled both (new-filed k w x same h))
-  ];
-  least = kept.least;
-  most = kept.most;
-}
-
--- where the class is known, a note narrows its entry
-pub note-renews : (c : LruCache Key Slot) (k : Class) (v w : Slot) (b : Interval) → IsClass k → Hit k c.entries v → Holds b (lead k)
-    → ((m : ℕ) → Holds w.bounds m ↔ (Holds v.bounds m × Holds b m))
-    → (e : Entry) × Renews k (map entry_of c.entries) (map entry_of (put_entries same_key c k w)) e (narrowed e b.lo b.hi)
-note-renews c k v w b x h holds meets =
-    let both = meet-narrows v.bounds b w.bounds (lead k) (hit-holds k c.entries v x h) holds meets in
-    let lo : w.bounds.lo ≡ max h.pair.1.bounds.lo b.lo = both.0 ∙ ap (λ (s : Slot). max s.bounds.lo b.lo) (sym h.slot) in
-    let hi : w.bounds.hi ≡ min h.pair.1.bounds.hi b.hi = both.1 ∙ ap (λ (s : Slot). min s.bounds.hi b.hi) (sym h.slot) in
-    let same : entry_of (h.pair.0, w) ≡ narrowed (entry_of h.pair) b.lo b.hi =
-    ap₂ (λ (l u : ℕ). let e : Entry = record { class = h.pair.0; lo = l; hi = u } in e) lo hi in
-    (entry_of h.pair, rw h.found (subst (Renews k (map entry_of c.entries) (map entry_of ((h.pair.0, w) ∷ remove_entry (same_key k) c.entries)) (entry_of h.pair)) same (h.renews w)))
+pub note-kept : (c : LruCache ShapeOf (List Pair)) (k : ShapeOf) (x : Pair) (v new : List Pair) → IsKept c → IsOpen k c.entries v → IsPair k x → PutsFirst x v new
+    → IsKept (lru_cache (put_entries same_shape c k new) c.cap)
+note-kept c k x v new kept filled good puts =
+    let before = open-pairs k c v kept filled in
+    let entry : IsEntry (entry_of (k, new)) = puts-entry k x v new good before.0 before.1 puts in
+    record {
+      filed = λ pair d. elim (Contains-put_entries same_shape c k new pair d) [
+        | inl old ↦ kept.filed pair old
+        | inr put ↦ (
+            let key : pair.0 ≡ k = elim put.1 [ inl e ↦ e | inr was ↦ sym ((shapes-tell k pair.0).0 was.2) ] in
+            let both : (k, new) ≡ pair = ap₂ (λ (j : ShapeOf) (ps : List Pair). let y : ShapeOf × List Pair = (j, ps) in y) (sym key) (sym put.0) in
+            subst (λ y. IsEntry (entry_of y)) both entry)
+      ];
+      least = kept.least;
+      most = kept.most;
+    }
 
 -- the first of n elements, and n - 1 more
 take-first : {X : Type 0} (n : ℕ) (x : X) (xs : List X) → 1 ≤ n → take n (x ∷ xs) ≡ x ∷ take (n - 1) xs
 take-first zero x xs h = absurd (omega arith)
 take-first (suc n) x xs h = let e : suc n - 1 ≡ n = omega arith in rw e refl
 
--- where the class is new, a note puts it in front, and the last of a full list goes
-pub note-adds : (c : LruCache Key Slot) (k : Class) (w : Slot) → IsKept c → lookup (same_key k) c.entries ≡ None
-    → Adds k (entries_of c) (entries_of (lru_cache (put_entries same_key c k w) c.cap)) w.bounds.lo w.bounds.hi
-note-adds c k w kept none = record {
-  absent = absent k c.entries none;
-  added = rw (no-entry (same_key k) c.entries none) (
-      ap (λ l. entry_of (k, w) ∷ l) (sym (take-map entry_of (c.cap - 1) c.entries)) ∙ sym (take-first c.cap (entry_of (k, w)) (map entry_of c.entries) kept.least));
+-- a note of a shape that is there, or of a new one
+pub note-notes : (p : Board) (k : ShapeOf) (c : LruCache ShapeOf (List Pair)) (told : Told) (v new : List Pair) → k ≡ shape_of p → IsKept c → IsOpen k c.entries v → PutsFirst (pair_at p told) v new
+    → Notes p told (entries_of c) (entries_of (lru_cache (put_entries same_shape c k new) c.cap))
+note-notes p k c told v new same kept (inl found) puts =
+    let h = hit k c.entries v kept.filed found in
+    record {
+      limit = refl;
+      noted = inl (
+        entry_of (k, v),
+        new,
+        rw h.found (subst (λ (j : ShapeOf). ToFront j (map entry_of c.entries) (map entry_of ((k, new) ∷ remove_entry (same_shape k) c.entries)) (entry_of (k, v)) (entry_of (k, new))) same (h.moves new)),
+        puts,
+      );
+    }
+note-notes p k c told v new same kept (inr none) puts = record {
+  limit = refl;
+  noted = inr (
+    subst (λ (j : ShapeOf). IsAbsent j (map entry_of c.entries)) same (absent k c.entries none.0),
+    rw (no-entry (same_shape k) c.entries none.0) (
+        ap₂ (λ (e : Entry) l. e ∷ l) (ap₂ (λ (j : ShapeOf) (ps : List Pair). let e : Entry = record { shape = j; pairs = ps } in e) same (puts-alone (pair_at p told) v new none.1 puts)) (sym (take-map entry_of (c.cap - 1) c.entries))
+        ∙ sym (take-first c.cap (record { shape = shape_of p; pairs = pair_at p told ∷ [] }) (map entry_of c.entries) kept.least)),
+  );
 }
 
--- a key that differs from all others has no other entry
-apart : (p : Key × Slot) (es : List (Key × Slot)) → IsDistinct same_key (keys_of (p ∷ es)) → IsAbsent p.0 (map entry_of es)
+-- a shape that differs from all others has no other entry
+apart : (p : ShapeOf × List Pair) (es : List (ShapeOf × List Pair)) → IsDistinct same_shape (keys_of (p ∷ es)) → IsAbsent p.0 (map entry_of es)
 unfolding IsDistinct
 apart p es d e c same =
     let on = Contains-map entry_of es e c in
-    let no : same_key p.0 on.0.0 ≡ false = all_at (λ (q : Key × Slot). same_key p.0 q.0 ≡ false) es on.0 (all_unmap (λ (q : Key × Slot). q.0) (λ (j : Key). same_key p.0 j ≡ false) es d.0) on.1 in
-    let key : on.0.0 ≡ p.0 = ap (λ (x : Entry). x.class) on.2 ∙ same in
-    let differs : same_key p.0 p.0 ≡ false = subst (λ (j : Class). same_key p.0 j ≡ false) key no in
-    let equals : same_key p.0 p.0 ≡ true = same_key-refl p.0 in
+    let no : same_shape p.0 on.0.0 ≡ false =
+    all_at (λ (q : ShapeOf × List Pair). same_shape p.0 q.0 ≡ false) es on.0 (all_unmap (λ (q : ShapeOf × List Pair). q.0) (λ (j : ShapeOf). same_shape p.0 j ≡ false) es d.0) on.1 in
+    let key : on.0.0 ≡ p.0 = ap (λ (x : Entry). x.shape) on.2 ∙ same in
+    let differs : same_shape p.0 p.0 ≡ false = subst (λ (j : ShapeOf). same_shape p.0 j ≡ false) key no in
+    let equals : same_shape p.0 p.0 ≡ true = (shapes-tell p.0 p.0).1 refl in
     absurd (cc)
 
--- keys that differ are classes that differ
-each-once : (es : List (Key × Slot)) → IsDistinct same_key (keys_of es) → EachOnce (map entry_of es)
+-- no shape of a cache stands twice
+pub each-once : (es : List (ShapeOf × List Pair)) → IsDistinct same_shape (keys_of es) → EachOnce (map entry_of es)
 unfolding IsDistinct
 each-once [] d [] back e h = absurd (cc)
 each-once [] d (f ∷ front) back e h = absurd (cc)
@@ -180,7 +163,7 @@ each-once (p ∷ es) d [] back e h =
     let here : entry_of p ≡ e = cons_head _ _ _ _ h in
     let rest : map entry_of es ≡ back = cons_tail _ _ _ _ h in (
       λ x c. absurd (Contains-nil x c),
-      λ x c same. apart p es d x (subst (λ l. Contains l x) (sym rest) c) (same ∙ ap (λ (y : Entry). y.class) (sym here)),
+      λ x c same. apart p es d x (subst (λ l. Contains l x) (sym rest) c) (same ∙ ap (λ (y : Entry). y.shape) (sym here)),
     )
 each-once (p ∷ es) d (f ∷ front) back e h =
     let here : entry_of p ≡ f = cons_head _ _ _ _ h in
@@ -189,50 +172,21 @@ each-once (p ∷ es) d (f ∷ front) back e h =
       λ x c same. elim (Contains-cons f front x c) [
         | inl first ↦ (
             let later : Contains (map entry_of es) e = subst (λ l. Contains l e) (sym rest) (Contains-middle front e back) in
-            apart p es d e later (sym same ∙ ap (λ (y : Entry). y.class) (sym first) ∙ ap (λ (y : Entry). y.class) (sym here)))
+            apart p es d e later (sym same ∙ ap (λ (y : Entry). y.shape) (sym first) ∙ ap (λ (y : Entry). y.shape) (sym here)))
         | inr d' ↦ on.0 x d' same
       ],
       on.1,
     )
 
 -- what a shard keeps are entries
-pub kept-entries : (c : LruCache Key Slot) → IsKept c → IsDistinct same_key (keys_of c.entries) → AreEntries (entries_of c)
-kept-entries c kept d = record {
+pub kept-entries : (c : LruCache ShapeOf (List Pair)) → IsKept c → IsDistinct same_shape (keys_of c.entries) → length c.entries ≤ c.cap → AreEntries (entries_of c)
+kept-entries c kept d few = record {
   once = each-once c.entries d;
-  sound = λ e has. (let on = Contains-map entry_of c.entries e has in subst IsSound on.2 (kept.filed on.0 on.1).sound);
+  few = rw length-map few;
+  each = λ e has. (let on = Contains-map entry_of c.entries e has in subst IsEntry on.2 (kept.filed on.0 on.1));
 }
 
--- an empty cache may be kept
-pub empty-kept : (n : ℕ) → 1 ≤ n → n ≤ 65536 → IsKept (lru_cache [] n)
-empty-kept n low high = record { filed = λ pair c. absurd (Contains-nil pair c); least = low; most = high }
-
--- what a note of the bounds b puts down, the bounds w: what is known already and b, or b alone
-pub record Noted (c : LruCache Key Slot) (k : Class) (b w : Interval) : Type 0 where
-  pub holds : Holds w (lead k)
-  pub known : ((v : Slot) × Hit k c.entries v × ((m : ℕ) → Holds w m ↔ (Holds v.bounds m × Holds b m))) ⊎ ((lookup (same_key k) c.entries ≡ None) × (w ≡ b))
-
--- where the class is known
-pub noted-hit : (c : LruCache Key Slot) (k : Class) (v : Slot) (b w : Interval) → IsKept c → IsClass k → lookup (same_key k) c.entries ≡ Some v → Holds b (lead k)
-    → ((m : ℕ) → Holds w m ↔ (Holds v.bounds m × Holds b m)) → Noted c k b w
-noted-hit c k v b w kept x found given meets =
-    let h : Hit k c.entries v = hit k c.entries v x kept.filed found in
-    record { holds = (meets (lead k)).1 (hit-holds k c.entries v x h, given); known = inl (v, h, meets) }
-
--- where it is new
-pub noted-new : (c : LruCache Key Slot) (k : Class) (b w : Interval) → lookup (same_key k) c.entries ≡ None → Holds b (lead k) → w ≡ b → Noted c k b w
-noted-new c k b w none given same = record { holds = subst (λ (i : Interval). Holds i (lead k)) (sym same) given; known = inr (none, same) }
-
--- a note narrows the entry of its class or adds one
-pub note-changes : (c : LruCache Key Slot) (k : Class) (b : Interval) (w : Slot) → IsKept c → IsClass k → Holds b (lead k) → Noted c k b w.bounds
-    → ((e : Entry) × Renews k (map entry_of c.entries) (map entry_of (put_entries same_key c k w)) e (narrowed e b.lo b.hi))
-    ⊎ Adds k (entries_of c) (entries_of (lru_cache (put_entries same_key c k w) c.cap)) b.lo b.hi
-note-changes c k b w kept x given n = elim n.known [
-  | inl h ↦ inl (note-renews c k h.0 w b x h.1 given h.2)
-  | inr new ↦ inr (subst (λ (i : Interval). Adds k (entries_of c) (entries_of (lru_cache (put_entries same_key c k w) c.cap)) i.lo i.hi) new.1 (note-adds c k w kept new.0))
-]
-
--- the pair at a place of a kept cache is that of the entry there
-pub entry-at : (c : LruCache Key Slot) (place : ℕ) (pair : Key × Slot) → IsKept c → slice_get c.entries place ≡ Some pair
-    → (e : Entry) × (slice_get (map entry_of c.entries) place ≡ Some e) × (class_of pair.1.start ≡ e.class) × (pair.1.bounds.lo ≡ e.lo) × (pair.1.bounds.hi ≡ e.hi)
-entry-at c place pair kept here =
-    (entry_of pair, slice_get-map entry_of c.entries place ∙ ap (option_map entry_of) here, (kept.filed pair (Contains-at c.entries place pair here)).class, refl, refl)
+-- what a kept cache has at a place is the entry there
+pub entry-at : (c : LruCache ShapeOf (List Pair)) (place : ℕ) (x : ShapeOf × List Pair) → IsKept c → slice_get c.entries place ≡ Some x
+    → (slice_get (map entry_of c.entries) place ≡ Some (entry_of x)) × IsEntry (entry_of x)
+entry-at c place x kept here = (slice_get-map entry_of c.entries place ∙ ap (option_map entry_of) here, kept.filed x (Contains-at c.entries place x here))

@@ -1,3 +1,5 @@
-pub mod Keys
 pub mod Lists
+pub mod Places
+pub mod Slots
+pub mod Told
 pub mod Kept

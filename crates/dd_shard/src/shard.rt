@@ -1,21 +1,32 @@
-ghost use Rattle.std.specs.Prelude.{◌≡◌, ◌≤◌, ◌⊎◌, [], length, slice_get, Some, IfSome, IfNone, MatchOption, IfOk, IsOk, OnOk, OnErr, Contains};
+//! The shard.
+ghost use Rattle.std.specs.Prelude.{◌≡◌, ◌≤◌, List, [], ◌∷◌, length, slice_get, Some, IfSome, MatchOption, IfOk, IsOk, OnOk, OnErr, Contains, option_map};
+ghost use Rattle.dd_cards.specs.declared.suit.Suit.{Suit};
+ghost use Rattle.dd_play.specs.Board.{Board, IsBoard};
+ghost use Rattle.dd_play.specs.Covers.{count_of};
 ghost use Rattle.dd_play.specs.Value.{lead};
 ghost use Rattle.dd_play.specs.Intervals.{Holds};
-ghost use Rattle.dd_shard.specs.Entries.{class_of, Entry, IsAbsent, AreEntries, Renews, narrowed, Adds};
+ghost use Rattle.dd_rank.specs.Depths.{depth_in, all_cards, Covers};
+ghost use Rattle.dd_rank.specs.Strings.{shape_of};
+ghost use Rattle.dd_shard.specs.Entries.{Pair, Entry, IsAbsent, AreEntries, Looks, Notes};
+ghost use Rattle.dd_shard.specs.Slots.{told_of};
 
-use crate::key::Key;
 use crate::slot::Slot;
 use dd_play::interval::Interval;
 use dd_play::trick_start::TrickStart;
+use dd_rank::cover::Cover;
+use dd_rank::depths::Depths;
+use dd_rank::owner_strings::OwnerStrings;
+use dd_rank::shape::Shape;
 use lru::LruCache;
 use std::alloc::{AllocError, Global};
 use std::marker::Model;
 use std::num::NonZeroUsize;
 
-/// Bounds of the values of positions, the last used first, and at most a fixed number of them.
+/// Bounds of the values of positions, by shapes: the last used first, and at most a fixed number of them. A shape has one
+/// to eight pairs, each a cover with bounds of the value of each position that it covers, the newest first.
 #[derive(Drop)]
 pub struct Shard {
-    cache: LruCache<Key, Slot>,
+    cache: LruCache<Shape, Slot>,
 }
 
 impl Model for Shard {
@@ -31,8 +42,8 @@ impl Model for Shard {
 }
 
 impl Shard {
-    /// A shard that remembers nothing and has room for this number of entries, 1 to 65,536. It takes memory for an
-    /// entry when it comes. The error says that memory ran out.
+    /// A shard that remembers nothing and has room for this number of shapes, 1 to 65,536. It takes memory for a shape
+    /// when it comes. The error says that memory ran out.
     pub fn new(alloc: Global, entries: u32) -> Result<Shard, AllocError>
         requires { (1 ≤ entries) × (entries ≤ 65536) }
         ensures { IfOk result (λ shard. (shard.list ≡ []) × (shard.limit ≡ entries)) }
@@ -45,42 +56,43 @@ impl Shard {
         Ok(Shard { cache })
     }
 
-    /// The bounds of the position's value, and nothing where its class has no entry. A look is a use of the entry.
-    pub fn look(&mut self, position: &TrickStart) -> Option<Interval>
-        ensures none { IfNone result (IsAbsent (class_of position.now) self.old.list × (self.new ≡ self.old)) }
-        ensures some { IfSome result (λ bounds. (e : Entry) × Renews (class_of position.now) self.old.list self.new.list e e × (bounds.lo ≡ e.lo) × (bounds.hi ≡ e.hi)) }
-        ensures limit { self.new.limit ≡ self.old.limit }
-        ensures holds { IfSome result (λ bounds. Holds bounds (lead position.now)) }
+    /// Bounds of the value of each position that this one covers at the depths that come with them: those of the newest
+    /// pair of its shape that covers this position. Nothing where none does. A look is a use of the shape.
+    pub fn look(&mut self, position: &TrickStart) -> Option<(Interval, Depths)>
+        ensures looks { Looks position.now (option_map told_of result) self.old self.new }
+        ensures holds { IfSome result (λ told. (q : Board) → IsBoard q → Covers position.now (depth_in told.1) q → Holds told.0 (lead q)) }
+        ensures within { IfSome result (λ told. (u : Suit) → depth_in told.1 u ≤ count_of u (all_cards position.now)) }
     {
-        let key = Key::of(position);
-        let bounds = self.cache.peek(&key)?.bounds;
-        self.cache.promote(&key);
-        Some(bounds)
+        // The proof reads here that the position is a legal one.
+        let _ = position.position();
+        let strings = OwnerStrings::of(position);
+        self.cache.get(&strings.shape())?.look(&strings)
     }
 
-    /// Remembers bounds of the position's value beside those that were known before. The error says that memory ran
-    /// out; it never comes where the class of the position has an entry already.
-    pub fn note(&mut self, position: &TrickStart, bounds: Interval) -> Result<(), AllocError>
-        requires { Holds bounds (lead position.now) }
-        ensures ok { OnOk result (((e : Entry) × Renews (class_of position.now) self.old.list self.new.list e (narrowed e bounds.lo bounds.hi)) ⊎ Adds (class_of position.now) self.old self.new bounds.lo bounds.hi) }
-        ensures limit { self.new.limit ≡ self.old.limit }
-        ensures err { OnErr result ((self.new ≡ self.old) × IsAbsent (class_of position.now) self.old.list) }
-        ensures succeeds { (e : Entry) → Contains self.old.list e → e.class ≡ class_of position.now → IsOk result }
+    /// Remembers bounds of the value of each position that this one covers at these depths, beside what is known of its
+    /// shape. The error says that memory ran out; it never comes where the shape is known already.
+    pub fn note(
+        &mut self,
+        position: &TrickStart,
+        depths: Depths,
+        interval: Interval,
+    ) -> Result<(), AllocError>
+        requires within { (u : Suit) → depth_in depths u ≤ count_of u (all_cards position.now) }
+        requires holds { (q : Board) → IsBoard q → Covers position.now (depth_in depths) q → Holds interval (lead q) }
+        ensures ok { OnOk result (Notes position.now (told_of (interval, depths)) self.old self.new) }
+        ensures err { OnErr result ((self.new ≡ self.old) × IsAbsent (shape_of position.now) self.old.list) }
+        ensures succeeds { (e : Entry) → Contains self.old.list e → e.shape ≡ shape_of position.now → IsOk result }
     {
-        let key = Key::of(position);
-        let bounds = match self.cache.peek(&key) {
-            Some(slot) => match slot.bounds.meet(bounds) {
-                Some(both) => both,
-                None => unreachable!(),
-            },
-            None => bounds,
-        };
-        let start = position.copy();
-        self.cache.put(key, Slot { start, bounds })?;
+        // The proof reads here that the position is a legal one.
+        let _ = position.position();
+        let strings = OwnerStrings::of(position);
+        let cover = Cover::new(position, depths, strings);
+        let slot = self.cache.get_or_insert_mut(strings.shape(), Slot::new)?;
+        slot.note(cover, interval);
         Ok(())
     }
 
-    /// The number of entries.
+    /// The number of shapes.
     pub fn len(&self) -> u32
         ensures len { result ≡ length self.now.list }
         ensures bound { result ≤ self.now.limit }
@@ -89,7 +101,7 @@ impl Shard {
         self.cache.len() as u32
     }
 
-    /// The number of entries that there may be.
+    /// The number of shapes that there may be.
     pub fn limit(&self) -> u32
         ensures limit { result ≡ self.now.limit }
         ensures bound { (1 ≤ result) × (result ≤ 65536) }
@@ -97,11 +109,15 @@ impl Shard {
         self.cache.cap().get() as u32
     }
 
-    /// A position of the class of the entry at this place, 0 for the last used, and its bounds. It is no use of the entry.
-    pub fn entry(&self, place: u32) -> Option<(&TrickStart, Interval)>
-        ensures { MatchOption result (length self.now.list ≤ place) (λ found. (e : Entry) × (slice_get self.now.list place ≡ Some e) × (class_of found.0.now ≡ e.class) × (found.1.lo ≡ e.lo) × (found.1.hi ≡ e.hi)) }
+    /// The newest pair of the shape at this place, 0 for the last used: its position, depths and bounds. It is no use of
+    /// the shape.
+    pub fn entry(&self, place: u32) -> Option<(&TrickStart, Depths, Interval)>
+        ensures { MatchOption result (length self.now.list ≤ place) (λ found. (e : Entry) × (x : Pair) × (rest : List Pair)
+            × (slice_get self.now.list place ≡ Some e) × (e.pairs ≡ x ∷ rest)
+            × (found.0.now ≡ x.board) × (found.1 ≡ x.depths) × (found.2.lo ≡ x.lo) × (found.2.hi ≡ x.hi)) }
     {
         let (_, slot) = self.cache.iter().nth(place as usize)?;
-        Some((&slot.start, slot.bounds))
+        let newest = slot.newest()?;
+        Some((newest.cover.start(), newest.cover.depths(), newest.bounds))
     }
 }

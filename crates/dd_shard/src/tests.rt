@@ -1,5 +1,6 @@
 ghost use Rattle.std.specs.Prelude.{◌≡◌, ◌≤◌, IsTrue, IfSome};
 ghost use Rattle.dd_play.specs.Value.{lead};
+ghost use Rattle.dd_play.specs.Intervals.{Holds};
 ghost use Rattle.dd_play.specs.Deals.{spades, deal};
 
 use crate::shard::Shard;
@@ -14,21 +15,38 @@ use dd_play::interval::Interval;
 use dd_play::laws::worked_deals;
 use dd_play::position::Position;
 use dd_play::trick_start::TrickStart;
+use dd_rank::depths::Depths;
+use std::alloc::AllocError;
 use std::process::Abort;
 use std::test::Fail;
 
-// The start of a trick with these spades, which come in this order.
-fn start(cards: &[(Seat, u8)], strain: Strain, first: Seat) -> Option<TrickStart>
+const HEARTS: Strain = Strain::Trump(Suit::Hearts);
+
+// A spade.
+fn spade(rank: u8) -> Option<Card> {
+    let rank = Rank::from_code(rank)?;
+    let suit = Suit::Spades;
+    Some(Card { suit, rank })
+}
+
+// The start of a trick with spades of these ranks, dealt to North, East, South, West and North again.
+fn start(ranks: &[u8], strain: Strain, first: Seat) -> Option<TrickStart>
     ensures { IfSome result (λ start. (start.strain ≡ strain) × (start.first ≡ first)) }
 {
     let mut hands = Hands::new();
-    for (seat, rank) in cards {
-        let suit = Suit::Spades;
-        let rank = Rank::from_code(*rank)?;
-        hands.insert(*seat, Card { suit, rank });
+    for (place, rank) in ranks.iter().enumerate() {
+        let seat = Seat::from_code((place % 4) as u8)?;
+        hands.insert(seat, spade(*rank)?);
     }
     let position = Position::new(hands, strain, first, &[]).ok()?;
     TrickStart::of(&position)
+}
+
+// .. at notrump, led by North
+fn dealt(rt: &impl Abort, ranks: &[u8]) -> TrickStart
+    ensures { (result.strain ≡ Strain.Notrump) × (result.first ≡ Seat.North) }
+{
+    start(ranks, Strain::Notrump, Seat::North).expect(rt, "a position")
 }
 
 // Are the cards the spades of these ranks, in this order?
@@ -58,58 +76,32 @@ fn is_deal(start: &TrickStart, north: &[u8], east: &[u8], south: &[u8], west: &[
         && are_spades(hands.hand(Seat::West), west)
 }
 
-// A king before the ace and queen is caught.
+// N:32 K4 AQ 65. A king before the ace and queen is caught.
 fn caught(rt: &impl Abort) -> TrickStart
     ensures { lead result ≡ 2 }
 {
     worked_deals();
-    let cards = [
-        (Seat::North, 3),
-        (Seat::North, 2),
-        (Seat::East, 13),
-        (Seat::East, 4),
-        (Seat::South, 14),
-        (Seat::South, 12),
-        (Seat::West, 6),
-        (Seat::West, 5),
-    ];
-    let start = start(&cards, Strain::Notrump, Seat::North).expect(rt, "a position");
+    let start = dealt(rt, &[3, 13, 14, 6, 2, 4, 12, 5]);
     assert!(rt; is_deal(&start, &[3, 2], &[13, 4], &[14, 12], &[6, 5]));
     start
 }
 
-// A king behind the ace and queen is not.
+// N:32 65 AQ K4. A king behind the ace and queen is not.
 fn safe(rt: &impl Abort) -> TrickStart
     ensures { lead result ≡ 1 }
 {
     worked_deals();
-    let cards = [
-        (Seat::North, 3),
-        (Seat::North, 2),
-        (Seat::East, 6),
-        (Seat::East, 5),
-        (Seat::South, 14),
-        (Seat::South, 12),
-        (Seat::West, 13),
-        (Seat::West, 4),
-    ];
-    let start = start(&cards, Strain::Notrump, Seat::North).expect(rt, "a position");
+    let start = dealt(rt, &[3, 6, 14, 13, 2, 5, 12, 4]);
     assert!(rt; is_deal(&start, &[3, 2], &[6, 5], &[14, 12], &[13, 4]));
     start
 }
 
-// An ace takes its trick.
+// N:A K Q J. An ace takes its trick.
 fn ace(rt: &impl Abort) -> TrickStart
     ensures { lead result ≡ 1 }
 {
     worked_deals();
-    let cards = [
-        (Seat::North, 14),
-        (Seat::East, 13),
-        (Seat::South, 12),
-        (Seat::West, 11),
-    ];
-    let start = start(&cards, Strain::Notrump, Seat::North).expect(rt, "a position");
+    let start = dealt(rt, &[14, 13, 12, 11]);
     assert!(rt; is_deal(&start, &[14], &[13], &[12], &[11]));
     start
 }
@@ -124,81 +116,197 @@ fn bounds(lo: u8, hi: u8) -> Interval
     }
 }
 
-// West's spades and the bounds. The DDS manual writes 65 as 96, K4 as 8208 and the knave as 2048.
-fn listed(shard: &Shard, place: u32) -> Option<(u16, u8, u8)> {
-    let (start, bounds) = shard.entry(place)?;
+// Notes bounds of the value at the depths of all cards: covered positions are alike, and have that value too.
+fn note_value(shard: &mut Shard, start: &TrickStart, bounds: Interval) -> Result<(), AllocError>
+    requires { Holds bounds (lead start.now) }
+{
+    let _ = start.position();
+    shard.note(start, Depths::full(start), bounds)
+}
+
+// Notes that the leader's side takes no more tricks than are left, at depths down to this spade, or at none.
+fn note_most(shard: &mut Shard, start: &TrickStart, rank: u8) -> Result<(), AllocError> {
+    let left = start.position().tricks_left();
+    let cards = match spade(rank) {
+        Some(card) => Hand::new().with(card),
+        None => Hand::new(),
+    };
+    shard.note(start, Depths::reached(start, cards), bounds(0, left))
+}
+
+// What is told of a position: the bounds, and the four depths.
+fn told(shard: &mut Shard, start: &TrickStart) -> Option<(u8, u8, [u8; 4])> {
+    let (bounds, depths) = shard.look(start)?;
+    let depths = [
+        depths.of(Suit::Spades),
+        depths.of(Suit::Hearts),
+        depths.of(Suit::Diamonds),
+        depths.of(Suit::Clubs),
+    ];
+    Some((bounds.lo, bounds.hi, depths))
+}
+
+// Of the newest pair at a place West's spades, the bounds and the depth of spades. The DDS manual writes 65 as 96, 54 as
+// 48, K4 as 8208 and the knave as 2048.
+fn listed(shard: &Shard, place: u32) -> Option<(u16, u8, u8, u8)> {
+    let Some((start, depths, bounds)) = shard.entry(place) else {
+        return None;
+    };
     let spades = start.position().hands().holding(Seat::West, Suit::Spades);
-    Some((spades.mask(), bounds.lo, bounds.hi))
+    Some((spades.mask(), bounds.lo, bounds.hi, depths.of(Suit::Spades)))
 }
 
 #[test]
-fn the_last_used_stands_first_and_the_last_goes(rt: HostRuntime) -> Result<(), Fail> {
-    let (a, b, c) = (caught(&rt), safe(&rt), ace(&rt));
+fn a_pair_tells_of_each_position_with_the_same_high_cards(rt: HostRuntime) -> Result<(), Fail> {
+    let (a, b) = (caught(&rt), safe(&rt));
+    let mut shard = Shard::new(rt.alloc(), 1)?;
+    note_most(&mut shard, &a, 12)?;
+    let table = [
+        ("the position itself", [3, 13, 14, 6, 2, 4, 12, 5], true),
+        ("other low cards", [6, 13, 14, 5, 2, 3, 12, 4], true),
+        ("the queen is East's", [3, 13, 14, 6, 2, 12, 4, 5], false),
+        ("the king is West's", [3, 6, 14, 13, 2, 5, 12, 4], false),
+    ];
+    for (what, ranks, known) in table {
+        let want = if known {
+            Some((0, 2, [3, 0, 0, 0]))
+        } else {
+            None
+        };
+        assert_eq!(rt; told(&mut shard, &dealt(&rt, &ranks)), want, "{what}");
+    }
+    let turned = start(&[5, 3, 4, 14, 6, 2, 13, 12], Strain::Notrump, Seat::East);
+    let turned = turned.expect(&rt, "a position");
+    assert_eq!(rt;
+        told(&mut shard, &turned),
+        Some((0, 2, [3, 0, 0, 0])),
+        "all seats turned"
+    );
+    note_value(&mut shard, &b, bounds(1, 1))?;
+    assert_eq!(rt; (shard.len(), shard.limit()), (1, 1), "one shape");
+    assert_eq!(rt;
+        told(&mut shard, &a),
+        Some((0, 2, [3, 0, 0, 0])),
+        "the older pair"
+    );
+    assert_eq!(rt;
+        told(&mut shard, &b),
+        Some((1, 1, [8, 0, 0, 0])),
+        "the newer pair"
+    );
+    assert_eq!(rt; listed(&shard, 0), Some((8208, 1, 1, 8)));
+    assert_eq!(rt; listed(&shard, 1), None);
+    Ok(())
+}
+
+#[test]
+fn bounds_at_the_same_cover_meet(rt: HostRuntime) -> Result<(), Fail> {
+    let mut shard = Shard::new(rt.alloc(), 1)?;
+    let a = caught(&rt);
+    note_most(&mut shard, &a, 2)?;
+    assert_eq!(rt; told(&mut shard, &a), Some((0, 2, [8, 0, 0, 0])));
+    note_value(&mut shard, &a, bounds(1, 2))?;
+    assert_eq!(rt; told(&mut shard, &a), Some((1, 2, [8, 0, 0, 0])));
+    note_value(&mut shard, &a, bounds(2, 5))?;
+    assert_eq!(rt;
+        told(&mut shard, &a),
+        Some((2, 2, [8, 0, 0, 0])),
+        "2 to 2 alone is in all three"
+    );
+    note_most(&mut shard, &dealt(&rt, &[6, 13, 14, 5, 2, 4, 12, 3]), 12)?;
+    assert_eq!(rt;
+        listed(&shard, 0),
+        Some((40, 0, 2, 3)),
+        "another cover is another pair"
+    );
+    assert_eq!(rt;
+        told(&mut shard, &a),
+        Some((0, 2, [3, 0, 0, 0])),
+        "the newest that covers"
+    );
+    note_most(&mut shard, &a, 12)?;
+    assert_eq!(rt;
+        listed(&shard, 0),
+        Some((96, 0, 2, 3)),
+        "the same cover of another position"
+    );
+    Ok(())
+}
+
+#[test]
+fn a_ninth_pair_drops_the_oldest(rt: HostRuntime) -> Result<(), Fail> {
+    let mut shard = Shard::new(rt.alloc(), 1)?;
+    let a = caught(&rt);
+    let other = dealt(&rt, &[14, 13, 3, 6, 2, 4, 12, 5]);
+    note_most(&mut shard, &a, 0)?;
+    for rank in [14, 13, 12, 6, 5, 4, 3] {
+        note_most(&mut shard, &a, rank)?;
+        assert_eq!(rt;
+            told(&mut shard, &other),
+            Some((0, 2, [0, 0, 0, 0])),
+            "down to {rank}"
+        );
+    }
+    note_most(&mut shard, &a, 2)?;
+    assert_eq!(rt; told(&mut shard, &other), None, "the first of nine");
+    assert_eq!(rt;
+        told(&mut shard, &dealt(&rt, &[3, 12, 14, 6, 2, 4, 13, 5])),
+        Some((0, 2, [1, 0, 0, 0])),
+        "the second"
+    );
+    assert_eq!(rt; shard.len(), 1);
+    Ok(())
+}
+
+#[test]
+fn the_last_used_shape_stands_first_and_the_last_goes(rt: HostRuntime) -> Result<(), Fail> {
+    let (a, one) = (caught(&rt), ace(&rt));
+    let trumps = start(&[3, 13, 14, 6, 2, 4, 12, 5], HEARTS, Seat::North).expect(&rt, "a position");
     let mut shard = Shard::new(rt.alloc(), 2)?;
     assert_eq!(rt; (shard.len(), shard.limit()), (0, 2));
-    shard.note(&a, bounds(0, 2))?;
-    assert_eq!(rt; listed(&shard, 0), Some((96, 0, 2)));
-    assert_eq!(rt; listed(&shard, 1), None);
-    shard.note(&b, bounds(1, 1))?;
-    assert_eq!(rt; listed(&shard, 0), Some((8208, 1, 1)));
-    assert_eq!(rt; listed(&shard, 1), Some((96, 0, 2)));
-    assert_eq!(rt; shard.look(&a), Interval::new(0, 2));
-    assert_eq!(rt; listed(&shard, 0), Some((96, 0, 2)));
-    assert_eq!(rt; listed(&shard, 1), Some((8208, 1, 1)));
-    shard.note(&c, bounds(1, 1))?;
-    assert_eq!(rt; listed(&shard, 0), Some((2048, 1, 1)));
-    assert_eq!(rt; listed(&shard, 1), Some((96, 0, 2)));
-    assert_eq!(rt; shard.look(&b), None, "it went where the list was full");
-    shard.note(&a, bounds(2, 2))?;
-    assert_eq!(rt; listed(&shard, 0), Some((96, 2, 2)));
-    assert_eq!(rt; listed(&shard, 1), Some((2048, 1, 1)));
-    assert_eq!(rt; listed(&shard, 2), None);
+    note_value(&mut shard, &a, bounds(2, 2))?;
+    note_value(&mut shard, &one, bounds(1, 1))?;
+    assert_eq!(rt; listed(&shard, 0), Some((2048, 1, 1, 4)));
+    assert_eq!(rt; listed(&shard, 1), Some((96, 2, 2, 8)));
+    assert_eq!(rt; told(&mut shard, &trumps), None, "another strain");
+    assert_eq!(rt;
+        told(&mut shard, &safe(&rt)),
+        None,
+        "a shape that is known, and no cover"
+    );
+    assert_eq!(rt; listed(&shard, 0), Some((96, 2, 2, 8)), "a look is a use");
+    note_most(&mut shard, &trumps, 14)?;
+    assert_eq!(rt; listed(&shard, 0), Some((96, 0, 2, 1)));
+    assert_eq!(rt;
+        told(&mut shard, &one),
+        None,
+        "it went where the list was full"
+    );
+    assert_eq!(rt; told(&mut shard, &a), Some((2, 2, [8, 0, 0, 0])));
     assert_eq!(rt; shard.len(), 2);
     Ok(())
 }
 
 #[test]
-fn a_position_is_found_by_its_cards_strain_and_leader(rt: HostRuntime) -> Result<(), Fail> {
-    let mut shard = Shard::new(rt.alloc(), 2)?;
-    shard.note(&ace(&rt), bounds(1, 1))?;
-    let cards = [
-        (Seat::South, 12),
-        (Seat::West, 11),
-        (Seat::East, 13),
-        (Seat::North, 14),
-    ];
-    let again = start(&cards, Strain::Notrump, Seat::North).expect(&rt, "a position");
-    assert_eq!(rt; shard.look(&again), Interval::new(1, 1));
-    for strain in [Strain::Trump(Suit::Spades), Strain::Trump(Suit::Clubs)] {
-        let other = start(&cards, strain, Seat::North).expect(&rt, "a position");
-        assert_eq!(rt; shard.look(&other), None, "at {strain:?}");
-    }
-    for leader in [Seat::East, Seat::South, Seat::West] {
-        let other = start(&cards, Strain::Notrump, leader).expect(&rt, "a position");
-        assert_eq!(rt; shard.look(&other), None, "led by {leader:?}");
-    }
-    Ok(())
-}
-
-#[test]
 fn a_note_for_which_there_is_no_memory_changes_nothing(rt: HostRuntime) -> Result<(), Fail> {
-    let (a, b) = (caught(&rt), safe(&rt));
+    let (a, one) = (caught(&rt), ace(&rt));
     let Ok(mut shard) = Shard::new(rt.alloc(), 2) else {
         return Ok(());
     };
-    if shard.note(&a, bounds(0, 2)).is_err() {
+    if note_most(&mut shard, &a, 2).is_err() {
         assert_eq!(rt; shard.len(), 0);
         return Ok(());
     }
-    if shard.note(&b, bounds(1, 1)).is_err() {
-        assert_eq!(rt; shard.len(), 1);
-    }
-    let place = shard.len() - 1;
-    assert_eq!(rt; listed(&shard, place), Some((96, 0, 2)));
+    let place = match note_value(&mut shard, &one, bounds(1, 1)) {
+        Ok(()) => 1,
+        Err(_) => 0,
+    };
+    assert_eq!(rt; shard.len(), place + 1);
+    assert_eq!(rt; listed(&shard, place), Some((96, 0, 2, 8)));
     assert!(rt;
-        shard.note(&a, bounds(1, 2)).is_ok(),
-        "its class has an entry"
+        note_value(&mut shard, &a, bounds(1, 2)).is_ok(),
+        "its shape is known"
     );
-    assert_eq!(rt; listed(&shard, 0), Some((96, 1, 2)));
+    assert_eq!(rt; listed(&shard, 0), Some((96, 1, 2, 8)));
     Ok(())
 }
