@@ -4,8 +4,6 @@ use std::collections::HashMap;
 use std::fmt;
 use std::hash::{BuildHasherDefault, Hasher};
 
-
-
 const PAIRS: usize = 8;
 const NONE: u32 = u32::MAX;
 
