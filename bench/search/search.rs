@@ -74,13 +74,13 @@ impl Seat {
         }
     }
 
-    fn is_north_south(self) -> bool {
+    pub fn is_north_south(self) -> bool {
         matches!(self, Seat::North | Seat::South)
     }
 }
 
 impl Card {
-    fn place(self) -> u32 {
+    pub fn place(self) -> u32 {
         self.suit.shift() + self.rank as u32
     }
 
