@@ -553,7 +553,8 @@ impl<B: Bounds> Search<B> {
         if position.mover().is_north_south() { tricks } else { position.tricks_left() - tricks }
     }
 
-    /// The tricks that the mover's side takes at the start of a trick, and depths down to which it rests on the cards.
+    /// The tricks that the mover's side takes from this start of a trick on, and depths at which each covered position has
+    /// the same value.
     pub fn value(&mut self, position: &Position) -> (u8, [u8; 4]) {
         let (tricks, rests) = self.north_souths_tricks(position);
         let at_most = self.rest(position, rests[0], tricks + 1);
