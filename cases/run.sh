@@ -1,19 +1,23 @@
 #!/usr/bin/env bash
 # Runs the built program over recorded positions, and compares its replies with those of DDS 2.9: `written` are deals of up
 # to four cards a hand in the written form, `small` 600 positions of up to five, 0 to 3 cards on the trick, solutions 1 to
-# 3. Where there is rustc, exhaustive play (`play.rs`) answers them all too.
+# 3, `full` 40 opening leads of full deals, 8 of each strain. Exhaustive play (`play.rs`) answers all but the full deals
+# too.
 set -eu
 here=$(cd -- "$(dirname -- "$0")" && pwd)
-for name in written small; do
-    "$here/../ddserve" solve < "$here/$name.jsonl" | cmp - "$here/$name.expected"
+for tool in cmp rustc; do
+    command -v "$tool" > /dev/null || { echo "cases: the command $tool is missing" >&2; exit 1; }
+done
+work=$(mktemp -d)
+trap 'rm -rf "$work"' EXIT
+for name in written small full; do
+    "$here/../ddserve" solve < "$here/$name.jsonl" > "$work/replies"
+    cmp "$work/replies" "$here/$name.expected"
     echo "$name: $(wc -l < "$here/$name.jsonl") replies agree with DDS"
 done
-if command -v rustc > /dev/null; then
-    work=$(mktemp -d)
-    trap 'rm -rf "$work"' EXIT
-    rustc -O --edition 2021 -o "$work/play" "$here/play.rs"
-    for name in written small; do
-        "$work/play" < "$here/$name.jsonl" | cmp - "$here/$name.expected"
-        echo "$name: exhaustive play agrees"
-    done
-fi
+rustc -O --edition 2021 -o "$work/play" "$here/play.rs"
+for name in written small; do
+    "$work/play" < "$here/$name.jsonl" > "$work/replies"
+    cmp "$work/replies" "$here/$name.expected"
+    echo "$name: exhaustive play agrees"
+done

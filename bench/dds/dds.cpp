@@ -1,5 +1,5 @@
 // The same lines by DDS: reads request lines in the written form, with no card played, and prints the reply lines of
-// `ddserve solve`. SolveBoard with target -1, mode 1, one thread. It takes good input for granted.
+// `ddserve solve`, each at once. SolveBoard with target -1, mode 1, one thread. It takes good input for granted.
 #include <dds/dll.h>
 
 #include <algorithm>
@@ -50,6 +50,7 @@ int main() {
         int status = SolveBoard(d, -1, atoi(field(line, "solutions").c_str()), 1, &found, 0);
         if (status != RETURN_NO_FAULT) {
             std::printf("DDS: %d\n", status);
+            std::fflush(stdout);
             continue;
         }
         std::vector<Scored> cards;
@@ -64,5 +65,6 @@ int main() {
         for (size_t i = 0; i < cards.size(); i++)
             std::printf("%s{\"equals\":%d,\"rank\":%d,\"score\":%d,\"suit\":%d}", i ? "," : "", cards[i].equals, cards[i].rank, cards[i].score, cards[i].suit);
         std::printf("]}\n");
+        std::fflush(stdout);
     }
 }

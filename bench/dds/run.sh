@@ -1,42 +1,105 @@
 #!/usr/bin/env bash
-# `ddserve solve` beside DDS (package libdds-dev; SolveBoard, target -1, mode 1, one thread) over the same request lines:
-# deals of 6, 8 and 9 cards a hand from a fixed seed. Prints the least time of several runs of each over all lines, taken
-# in turns, their ratio, and whether the replies agree.
+# `ddserve solve` beside DDS (package libdds-dev; SolveBoard, target -1, mode 1, one thread) over the same request lines,
+# with the scores of all leads. First deals of 6, 8 and 9 cards a hand: the least time of several runs of each over all
+# lines, taken in turns, and their ratio. Then full deals, 8 of each strain, line by line through a pipe to each program in
+# one run, over a table of 65,536 entries: the time of each reply, and of these the mean, the geometric mean and the
+# slowest. Deals are from fixed seeds; it says whether the replies agree, and ends with status 1 where some don't.
+# Words: the number of runs (5), and of full deals (40).
 set -eu
 here=$(cd -- "$(dirname -- "$0")" && pwd)
 top=$(cd -- "$here/../.." && pwd)
 runs=${1:-5}
+full=${2:-40}
+
+for tool in python3 g++; do
+    command -v "$tool" > /dev/null || { echo "bench/dds: the command $tool is missing" >&2; exit 1; }
+done
+[ -e /usr/include/dds/dll.h ] || { echo 'bench/dds: the package libdds-dev is missing' >&2; exit 1; }
+
 work=$(mktemp -d)
 trap 'rm -rf "$work"' EXIT
-
-if [ ! -e /usr/include/dds/dll.h ]; then
-    echo 'DDS is not installed: it is the package libdds-dev' >&2
-    exit 1
-fi
 g++ -O2 -o "$work/dds" "$here/dds.cpp" -ldds
 "$top/ddserve" solve < /dev/null
 for cards in 6 8 9; do
-    python3 "$here/lines.py" "$cards" 40 > "$work/$cards.jsonl"
+    python3 "$top/bench/deals.py" "$cards" 40 --seed $((1000 + cards)) --requests > "$work/$cards.jsonl"
 done
+python3 "$top/bench/deals.py" 13 "$full" --seed 1013 --requests > "$work/13.jsonl"
 
 python3 - "$runs" "$top/crates/ddserve/out/ddserve" "$work" <<'PY'
+import math
 import subprocess
 import sys
 import time
 
 runs, ours, work = int(sys.argv[1]), sys.argv[2], sys.argv[3]
-commands = {"ddserve": [ours, "solve"], "dds": [f"{work}/dds"]}
+commands = {"ddserve": [ours, "solve", "--entries", "65536"], "DDS": [f"{work}/dds"]}
+differing = 0
+
+
+def both(replies):
+    global differing
+    same = replies["ddserve"] == replies["DDS"]
+    differing += not same
+    return "agree" if same else "DIFFER"
+
+
+print(f"all lines at once, least of {runs} runs")
 print("cards a hand  lines  ddserve s    DDS s  ratio  replies")
 for cards in (6, 8, 9):
-    lines = open(f"{work}/{cards}.jsonl").read()
-    least, replies = dict.fromkeys(commands, 1e9), {}
+    with open(f"{work}/{cards}.jsonl") as file:
+        lines = file.read()
+    least, replies = dict.fromkeys(commands, math.inf), {}
     for _ in range(runs):
         for name, command in commands.items():
             start = time.perf_counter()
             done = subprocess.run(command, input=lines, capture_output=True, text=True, check=True)
             least[name] = min(least[name], time.perf_counter() - start)
             replies[name] = done.stdout
-    a, b = least["ddserve"], least["dds"]
-    agree = "agree" if replies["ddserve"] == replies["dds"] else "DIFFER"
-    print(f"{cards:>12}  {lines.count(chr(10)):>5}  {a:9.3f}  {b:7.3f}  {a / b:5.2f}  {agree}")
+    a, b = least["ddserve"], least["DDS"]
+    print(f"{cards:>12}  {lines.count(chr(10)):>5}  {a:9.3f}  {b:7.3f}  {a / b:5.2f}  {both(replies)}")
+
+
+def answer(program, line):
+    start = time.perf_counter()
+    program.stdin.write(line)
+    program.stdin.flush()
+    reply = program.stdout.readline()
+    if not reply.endswith("\n"):
+        sys.exit(f"bench/dds: {program.args[0]} ended without a reply to {line}")
+    return time.perf_counter() - start, reply
+
+
+def geometric_mean(numbers):
+    return math.exp(sum(map(math.log, numbers)) / len(numbers))
+
+
+programs = {name: subprocess.Popen(command, stdin=subprocess.PIPE, stdout=subprocess.PIPE, text=True) for name, command in commands.items()}
+with open(f"{work}/13.jsonl") as file:
+    lines = file.readlines()
+# One card a hand first, so that no deal waits for a program to start.
+for program in programs.values():
+    answer(program, '{"do":"solve","deal":"N:A... K... Q... J...","trump":4,"first":0,"solutions":3}\n')
+times, agreed = {name: [] for name in commands}, 0
+print(f"\n{len(lines)} full deals, one by one, milliseconds")
+print("deal  strain  ddserve ms    DDS ms  ratio  replies")
+for number, line in enumerate(lines):
+    replies = {}
+    for name, program in programs.items():
+        taken, replies[name] = answer(program, line)
+        times[name].append(1000 * taken)
+    a, b = times["ddserve"][-1], times["DDS"][-1]
+    agreed += replies["ddserve"] == replies["DDS"]
+    print(f"{number + 1:>4}  {'SHDCN'[number % 5]:>6}  {a:10.1f}  {b:8.1f}  {a / b:5.2f}  {both(replies)}", flush=True)
+for program in programs.values():
+    program.stdin.close()
+    if program.wait() != 0:
+        sys.exit(f"bench/dds: {program.args[0]} ended with status {program.returncode}")
+
+ratios = [a / b for a, b in zip(times["ddserve"], times["DDS"])]
+print(f"\n{'':15}  {'mean':>8}  {'geom. mean':>10}  {'slowest':>8}")
+for name, list_of in [("ddserve ms", times["ddserve"]), ("DDS ms", times["DDS"]), ("ratio of a deal", ratios)]:
+    print(f"{name:15}  {sum(list_of) / len(list_of):8.2f}  {geometric_mean(list_of):10.2f}  {max(list_of):8.2f}")
+a, b = times["ddserve"], times["DDS"]
+print(f"sums {sum(a) / sum(b):.2f}, slowest over slowest {max(a) / max(b):.2f}; {agreed} of {len(lines)} replies agree")
+sys.exit(1 if differing else 0)
 PY

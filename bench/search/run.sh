@@ -1,82 +1,143 @@
 #!/usr/bin/env bash
-# The search over no table: (a) beside the same search in plain Rust at -O3 on deals of 8 cards a hand, positions a second,
-# the least time of several runs taken in turns; (b) on deals of 9 cards a hand, the positions that it comes to beside the
-# same search with cards in the order in which they are listed. Deals from a fixed seed. It takes some minutes: the
-# program `ticks`, a few lines over `dd_search`, is proved and built in a copy of the crates, once with each order.
+# The search beside the same search in plain Rust at -O3, which comes to the same positions: positions a second, the least
+# time of several runs taken in turns. (a) Over no table, deals of 10 cards a hand. (b) Over the table of the program, with
+# 65,536 entries and empty for each deal: the scores of all leads of full deals. (c) Over no table, deals of 9 cards a hand:
+# the positions come to beside those with the cards in the order in which they are listed. Deals are from fixed seeds. It
+# takes some minutes: the programs `ticks` (over no table) and `table`, a few lines each, are proved and built in a copy of
+# the crates, `ticks` once with each order. Words: the number of runs (5), of full deals (20), and the parts (abc).
 set -eu
 here=$(cd -- "$(dirname -- "$0")" && pwd)
 top=$(cd -- "$here/../.." && pwd)
 runs=${1:-5}
+full=${2:-20}
+parts=${3:-abc}
+
+for tool in git python3 rt rustc; do
+    command -v "$tool" > /dev/null || { echo "bench/search: the command $tool is missing" >&2; exit 1; }
+done
 work=$(mktemp -d)
 trap 'rm -rf "$work"' EXIT
 
-# build FOLDER: the program over the crates as they are in the folder
-build() {
-    mkdir -p "$1/crates/ticks/src"
-    cp "$here/ticks.txt" "$1/crates/ticks/src/main.rt"
-    echo 'ticks: dd_cards dd_play dd_pbn dd_equal dd_search' >> "$1/crates.txt"
-    (cd "$1/crates/ticks" && rt run > "$1/build.log" 2>&1) || true
-    [ -x "$1/crates/ticks/out/ticks" ] || { tail -n 20 "$1/build.log" >&2; exit 1; }
+# copy FOLDER: the crates as they are in the last commit
+copy() {
+    mkdir "$1"
+    git -C "$top" archive HEAD crates crates.txt HANDLES | tar -x -C "$1"
 }
 
-for order in weighed listed; do
-    mkdir "$work/$order"
-    git -C "$top" archive HEAD crates crates.txt HANDLES | tar -x -C "$work/$order"
-done
-sed -i 's/let weight = outlook.weight(card);/let _ = outlook;\n        let weight = 0;/' "$work/listed/crates/dd_search/src/order.rt"
-build "$work/weighed"
-build "$work/listed"
+# build FOLDER NAME CRATES: the program over the crates as they are in the folder
+build() {
+    mkdir -p "$1/crates/$2/src"
+    cp "$here/$2.txt" "$1/crates/$2/src/main.rt"
+    if [ "$2" = table ]; then
+        cp "$1/crates/ddserve/src/one_shard.rt" "$1/crates/table/src/"
+    fi
+    echo "$2: $3" >> "$1/crates.txt"
+    # With no word the program ends at once, with status 1.
+    (cd "$1/crates/$2" && rt run < /dev/null > "$1/$2.log" 2>&1) || true
+    if ! grep -q '^logic=proved' "$1/$2.log" || [ ! -x "$1/crates/$2/out/$2" ]; then
+        tail -n 20 "$1/$2.log" >&2
+        echo "bench/search: the program $2 is not proved, so it was not built" >&2
+        exit 1
+    fi
+}
+
+# replace FILE OLD NEW: fails where the file hasn't the text OLD once
+replace() {
+    python3 - "$@" <<'PY'
+import sys
+
+path, old, new = sys.argv[1:]
+with open(path) as file:
+    text = file.read()
+if text.count(old) != 1:
+    sys.exit(f"bench/search: {path} has the text {old!r} {text.count(old)} times, and not once")
+with open(path, "w") as file:
+    file.write(text.replace(old, new))
+PY
+}
+
+below='dd_cards dd_play dd_pbn'
+copy "$work/weighed"
+case $parts in *[ac]*) build "$work/weighed" ticks "$below dd_equal dd_search" ;; esac
+case $parts in *b*)
+    program=$(sed -n 's/^ddserve: //p' "$top/crates.txt")
+    build "$work/weighed" table "$(printf '%s\n' $below $program | grep '^dd_' | sort -u | paste -sd ' ')"
+    ;;
+esac
+case $parts in *c*)
+    copy "$work/listed"
+    replace "$work/listed/crates/dd_search/src/order.rt" 'let weight = outlook.weight(card);' 'let _ = outlook; let weight = 0;'
+    build "$work/listed" ticks "$below dd_equal dd_search"
+    ;;
+esac
 rustc -C opt-level=3 -C target-cpu=x86-64-v2 --edition 2021 -o "$work/search" "$here/search.rs"
 
-python3 - "$runs" "$work" "$here/deals.py" <<'PY'
+python3 - "$runs" "$full" "$parts" "$work" "$top/bench/deals.py" <<'PY'
 import math
 import subprocess
 import sys
 import time
 
-runs, work, deals = int(sys.argv[1]), sys.argv[2], sys.argv[3]
-names = {"4": "notrump", "0": "spades"}
+runs, full, parts, work, deals = int(sys.argv[1]), int(sys.argv[2]), *sys.argv[3:]
+names = ["spades", "hearts", "diamonds", "clubs", "notrump"]
 
 
-def lines(cards, number, strain):
-    done = subprocess.run(["python3", deals, str(cards), str(number), strain], capture_output=True, text=True, check=True)
+def lines(cards, number, *words):
+    done = subprocess.run(["python3", deals, str(cards), str(number), *words], capture_output=True, text=True, check=True)
     return done.stdout.splitlines()
 
 
-def ticks(order, line):
-    words = line.split(" ", 2)
+def timed(command, given=None):
     start = time.perf_counter()
-    done = subprocess.run([f"{work}/{order}/crates/ticks/out/ticks", *words], capture_output=True, text=True, check=True)
-    return int(done.stdout.split()[0]), time.perf_counter() - start
+    done = subprocess.run(command, input=given, capture_output=True, text=True, check=True)
+    return [int(word) for word in done.stdout.split()], time.perf_counter() - start
 
 
-def peer(line):
-    start = time.perf_counter()
-    done = subprocess.run([f"{work}/search"], input=line + "\n", capture_output=True, text=True, check=True)
-    return int(done.stdout.split()[0]), time.perf_counter() - start
+def proved(order, program, line):
+    (ticks, scores), seconds = timed([f"{work}/{order}/crates/{program}/out/{program}", *line.split(" ", 2)])
+    return (ticks, scores), seconds
+
+
+# The program's words are the scores as the digits of a number: of the classes in their order, or the greatest first.
+def peer(line, *words, greatest_first=False):
+    (ticks, *scores), seconds = timed([f"{work}/search", *words], line + "\n")
+    number = 0
+    for score in sorted(scores, reverse=True) if greatest_first else scores:
+        number = (14 * number + score) % 2**64
+    return (ticks, number), seconds
 
 
 def mean(ratios):
     return math.exp(sum(map(math.log, ratios)) / len(ratios))
 
 
-print("(a) 8 cards a hand, positions a second: 10 deals of each strain, the time of all of them, least of", runs)
-print("strain    positions   dd_search s  rust -O3 s  dd_search M/s  rust M/s  rate")
-for strain in names:
-    count, ours, theirs = 0, 0.0, 0.0
-    for line in lines(8, 10, strain):
-        mine = [1e9, 1e9]
-        for _ in range(runs):
-            (a, s), (b, t) = ticks("weighed", line), peer(line)
-            if a != b:
-                sys.exit(f"the positions differ: {a} and {b} for {line}")
-            mine = [min(mine[0], s), min(mine[1], t)]
-        count, ours, theirs = count + a, ours + mine[0], theirs + mine[1]
-    print(f"{names[strain]:8} {count:>10}  {ours:11.3f} {theirs:11.3f}  {count / ours / 1e6:12.1f} {count / theirs / 1e6:9.1f}  {theirs / ours:5.2f}")
+def rates(rows, program, *words, greatest_first=False):
+    print("strain    positions   dd_search s  rust -O3 s  dd_search M/s  rust M/s  rate")
+    for strain in sorted({int(line.split()[0]) for line in rows}, reverse=True):
+        count, ours, theirs = 0, 0.0, 0.0
+        for line in rows:
+            if int(line.split()[0]) != strain:
+                continue
+            mine = [math.inf, math.inf]
+            for _ in range(runs):
+                (a, s), (b, t) = proved("weighed", program, line), peer(line, *words, greatest_first=greatest_first)
+                if a != b:
+                    sys.exit(f"bench/search: positions and scores differ: {a} and {b} for {line}")
+                mine = [min(mine[0], s), min(mine[1], t)]
+            count, ours, theirs = count + a[0], ours + mine[0], theirs + mine[1]
+        print(f"{names[strain]:8} {count:>10}  {ours:11.3f} {theirs:11.3f}  {count / ours / 1e6:12.1f} {count / theirs / 1e6:9.1f}  {theirs / ours:5.2f}", flush=True)
 
-print("(b) 9 cards a hand, positions come to: 20 deals of each strain")
-print("strain    in the order listed  by the order of moves  geometric mean of the ratios")
-for strain in names:
-    pairs = [(ticks("listed", line)[0], ticks("weighed", line)[0]) for line in lines(9, 20, strain)]
-    print(f"{names[strain]:8} {sum(a for a, _ in pairs):>20} {sum(b for _, b in pairs):>22}  {mean([b / a for a, b in pairs]):.3f} (one {mean([a / b for a, b in pairs]):.1f}th)")
+
+if "a" in parts:
+    print("(a) no table, 10 cards a hand: 10 deals of each strain, the time of all of them, least of", runs)
+    rates(lines(10, 10, "--strain", "4") + lines(10, 10, "--strain", "0"), "ticks", "singly")
+if "b" in parts:
+    print(f"(b) a table of 65,536 entries, {full} full deals, each strain in turn, the time of all of a strain, least of", runs)
+    rates(lines(13, full, "--seed", "1013"), "table", "65536", greatest_first=True)
+if "c" in parts:
+    print("(c) no table, 9 cards a hand, positions come to: 20 deals of each strain")
+    print("strain    in the order listed  by the order of moves  geometric mean of the ratios")
+    for strain in (4, 0):
+        pairs = [(proved("listed", "ticks", line)[0][0], proved("weighed", "ticks", line)[0][0]) for line in lines(9, 20, "--strain", str(strain))]
+        print(f"{names[strain]:8} {sum(a for a, _ in pairs):>20} {sum(b for _, b in pairs):>22}  {mean([b / a for a, b in pairs]):.3f} (one {mean([a / b for a, b in pairs]):.1f}th)")
 PY

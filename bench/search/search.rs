@@ -1,11 +1,19 @@
-// The search of `dd_search` over no table in plain Rust, with the same layout of data, bounds and order of moves. For each
-// line `trump first deal` of the standard input (codes of DDS, the deal in its written form) it prints the positions come to
-// and the score of the highest card of each class, in the order of the classes. It takes good input for granted. With the
-// word `legal` cards are tried in the order in which they are listed, without weights.
+//! The search of `dd_search` in plain Rust, with the same layout of data, bounds and order of moves, so that it comes to the
+//! same positions. It takes good input for granted. Lines `trump first deal` of the standard input (codes of DDS, the deal
+//! in its written form) are answered by the positions come to and the score of the highest card of each class, in the order
+//! of the classes. Words: a number, for a table of so many shapes, empty at each line, and `keep`, which keeps it from line
+//! to line; `singly` scores each card for itself, not all from the value down; `legal` tries cards in the order in which
+//! they are listed, without weights; `times` adds the nanoseconds of the line and what the table counted.
+mod order;
+pub mod shard;
+
+use order::{first_guess, moves};
+use shard::Shard;
 use std::io::{self, BufRead, Write};
+use std::time::Instant;
 
 #[derive(Clone, Copy, PartialEq, Eq)]
-enum Suit {
+pub enum Suit {
     Spades,
     Hearts,
     Diamonds,
@@ -13,13 +21,13 @@ enum Suit {
 }
 
 #[derive(Clone, Copy, PartialEq, Eq)]
-enum Strain {
+pub enum Strain {
     Trump(Suit),
     Notrump,
 }
 
 #[derive(Clone, Copy)]
-enum Seat {
+pub enum Seat {
     North,
     East,
     South,
@@ -27,23 +35,23 @@ enum Seat {
 }
 
 #[derive(Clone, Copy)]
-struct Card {
-    suit: Suit,
-    rank: u8,
+pub struct Card {
+    pub suit: Suit,
+    pub rank: u8,
 }
 
-struct Position {
-    hands: [u64; 4],
-    strain: Strain,
-    first: Seat,
-    trick: [Card; 3],
-    played: u8,
+pub struct Position {
+    pub hands: [u64; 4],
+    pub strain: Strain,
+    pub first: Seat,
+    pub trick: [Card; 3],
+    pub played: u8,
 }
 
 #[derive(Clone, Copy)]
-struct Interval {
-    lo: u8,
-    hi: u8,
+pub struct Interval {
+    pub lo: u8,
+    pub hi: u8,
 }
 
 const SUITS: [Suit; 4] = [Suit::Spades, Suit::Hearts, Suit::Diamonds, Suit::Clubs];
@@ -66,13 +74,13 @@ impl Seat {
         }
     }
 
-    fn is_north_south(self) -> bool {
+    pub fn is_north_south(self) -> bool {
         matches!(self, Seat::North | Seat::South)
     }
 }
 
 impl Card {
-    fn place(self) -> u32 {
+    pub fn place(self) -> u32 {
         self.suit.shift() + self.rank as u32
     }
 
@@ -121,6 +129,13 @@ impl Position {
 
     fn holding(&self, seat: Seat, suit: Suit) -> u16 {
         (self.hands[seat as usize] >> suit.shift()) as u16
+    }
+
+    fn strain_code(&self) -> u8 {
+        match self.strain {
+            Strain::Trump(suit) => suit as u8,
+            Strain::Notrump => 4,
+        }
     }
 
     fn tricks_left(&self) -> u8 {
@@ -184,292 +199,417 @@ impl Position {
     }
 }
 
+// ------------------------------------------------------------------ sets of cards
+
+fn lane(set: u64, suit: Suit) -> u16 {
+    (set >> suit.shift()) as u16
+}
+
+// The lowest rank of a holding, or 0.
+fn lowest(holding: u16) -> u8 {
+    if holding == 0 { 0 } else { holding.trailing_zeros() as u8 }
+}
+
+fn below(holding: u16, rank: u8) -> u16 {
+    holding & ((1 << rank) - 1)
+}
+
+fn above(holding: u16, rank: u8) -> u16 {
+    (holding as u32 >> (rank + 1) << (rank + 1)) as u16
+}
+
+fn with(set: u64, suit: Suit, rank: u8) -> u64 {
+    set | 1 << Card { suit, rank }.place()
+}
+
 // ------------------------------------------------------------------ quick tricks
 
-fn run(own: u16, others: u16) -> u8 {
-    let floor = highest(others);
-    (own as u32 >> (floor as u32 + (floor > 0) as u32)).count_ones() as u8
+// The seat's winners of a suit: the highest cards without a gap.
+fn winners(position: &Position, seat: Seat, suit: Suit) -> u16 {
+    let [left, partner, right] = others(seat);
+    let own = position.holding(seat, suit);
+    let others = position.holding(left, suit) | position.holding(partner, suit) | position.holding(right, suit);
+    if others == 0 { own } else { above(own, highest(others)) }
+}
+
+fn others(seat: Seat) -> [Seat; 3] {
+    [seat.next(), seat.next().next(), seat.next().next().next()]
+}
+
+fn run(position: &Position, seat: Seat, suit: Suit) -> u8 {
+    winners(position, seat, suit).count_ones() as u8
+}
+
+fn with_winners(position: &Position, cards: u64, seat: Seat, suit: Suit) -> u64 {
+    match winners(position, seat, suit) {
+        0 => cards,
+        winners => with(cards, suit, lowest(winners)),
+    }
+}
+
+fn cashed(position: &Position, suit: Suit) -> u8 {
+    let run = run(position, position.first, suit);
+    match position.strain {
+        Strain::Trump(trump) if trump != suit => {
+            let lengths = others(position.first).map(|seat| position.holding(seat, suit).count_ones() as u8);
+            run.min(lengths[0]).min(lengths[1]).min(lengths[2])
+        }
+        _ => run,
+    }
+}
+
+fn leaders_tricks(position: &Position) -> u8 {
+    cashed(position, Suit::Spades)
+        + cashed(position, Suit::Hearts)
+        + cashed(position, Suit::Diamonds)
+        + cashed(position, Suit::Clubs)
+}
+
+fn top_trumps(position: &Position, seat: Seat) -> u8 {
+    match position.strain {
+        Strain::Trump(trump) => run(position, seat, trump),
+        Strain::Notrump => 0,
+    }
 }
 
 fn bounds(position: &Position) -> Interval {
+    let [left, partner, right] = others(position.first);
+    let ours = leaders_tricks(position).max(top_trumps(position, partner));
+    let theirs = top_trumps(position, left).max(top_trumps(position, right));
+    Interval { lo: ours, hi: position.tricks_left() - theirs }
+}
+
+fn for_leader(position: &Position, need: u8) -> Option<u64> {
     let leader = position.first;
-    let left = leader.next();
-    let partner = left.next();
-    let right = partner.next();
-    let mut lo = 0;
-    let mut hi = position.tricks_left();
-    let mut helped = 0;
-    for suit in SUITS {
-        let own = position.holding(leader, suit);
-        let before = position.holding(left, suit);
-        let ours = position.holding(partner, suit);
-        let behind = position.holding(right, suit);
-        let sure = run(own, before | ours | behind);
-        match position.strain {
-            Strain::Trump(trump) if trump == suit => {
-                helped = run(ours, own | before | behind);
-                let against = run(before, own | ours | behind).max(run(behind, own | before | ours));
-                hi -= against;
-                lo += sure;
-            }
-            Strain::Trump(_) => {
-                let shortest = before.count_ones().min(ours.count_ones()).min(behind.count_ones());
-                lo += sure.min(shortest as u8);
-            }
-            Strain::Notrump => lo += sure,
-        }
+    if leaders_tricks(position) >= need {
+        return Some(SUITS.iter().fold(0, |cards, &suit| with_winners(position, cards, leader, suit)));
     }
-    Interval { lo: lo.max(helped), hi }
+    trumps_of(position, leader.next().next(), need)
 }
 
-// ------------------------------------------------------------------ order of moves
-
-#[derive(Clone, Copy)]
-struct SuitView {
-    weight: u8,
-    against: u8,
-    partner_wins: bool,
+fn against_leader(position: &Position, need: u8) -> Option<u64> {
+    let [left, _, right] = others(position.first);
+    trumps_of(position, left, need).or_else(|| trumps_of(position, right, need))
 }
 
-#[derive(Clone, Copy)]
-struct Following {
-    strain: Strain,
-    led: Suit,
-    best: u8,
-    contested: u8,
-    partner_takes: bool,
-    forces: bool,
-}
-
-fn suit_view(position: &Position, suit: Suit) -> SuitView {
-    let leader = position.mover();
-    let left = leader.next();
-    let partner = left.next();
-    let right = partner.next();
-    let before = position.holding(left, suit);
-    let ours = position.holding(partner, suit);
-    let behind = position.holding(right, suit);
-    let others = position.holding(leader, suit) | ours | before;
-    let above = (others as u32 >> (highest(behind) + 1)).count_ones();
-    let away = if behind == 0 || above >= 2 { 5 } else { 0 };
-    let safe = |own: u16, seat: Seat, trump: Suit| if own == 0 && position.holding(seat, trump) != 0 { 0 } else { 40 };
-    let ruffs = match position.strain {
-        Strain::Trump(trump) if trump == suit => 80,
-        Strain::Trump(trump) => {
-            20 + safe(before, left, trump)
-                + safe(behind, right, trump)
-                + if ours == 0 && position.holding(partner, trump) != 0 { 10 } else { 0 }
-        }
-        Strain::Notrump => 0,
-    };
-    let against = highest(before | behind);
-    SuitView {
-        weight: before.count_ones() as u8 + behind.count_ones() as u8 + away + ruffs,
-        against,
-        partner_wins: highest(ours) > against,
-    }
-}
-
-impl SuitView {
-    fn weight(self, rank: u8) -> u8 {
-        self.weight
-            + if rank > self.against {
-                22
-            } else if self.partner_wins {
-                27 - rank / 2
-            } else {
-                7 - rank / 2
-            }
-    }
-}
-
-fn reach(position: &Position, seat: Seat, led: Suit) -> u8 {
-    let own = position.holding(seat, led);
-    if own != 0 {
-        return strength(position.strain, led, Card { suit: led, rank: highest(own) });
-    }
+fn trumps_of(position: &Position, seat: Seat, need: u8) -> Option<u64> {
     match position.strain {
-        Strain::Trump(suit) => match position.holding(seat, suit) {
-            0 => 0,
-            trumps => 20 + highest(trumps),
-        },
-        Strain::Notrump => 0,
+        Strain::Trump(trump) if run(position, seat, trump) >= need => Some(with_winners(position, 0, seat, trump)),
+        _ => None,
     }
 }
 
-impl Following {
-    fn of(position: &Position, led: Suit) -> Following {
-        let strain = position.strain;
-        let (mut best, mut place) = (0, 0);
-        for (at, card) in position.trick[..position.played as usize].iter().enumerate() {
-            let strength = strength(strain, led, *card);
-            if strength > best {
-                (best, place) = (strength, at);
-            }
-        }
-        let next = position.mover().next();
-        let (contested, partner_takes, forces) = match position.played {
-            1 => {
-                let contested = best.max(reach(position, next, led));
-                (contested, reach(position, next.next(), led) > contested, false)
-            }
-            2 => {
-                let contested = best.max(reach(position, next, led));
-                (contested, place == 0 && contested == best, place != 0)
-            }
-            _ => (best, place == 1, false),
-        };
-        Following { strain, led, best, contested, partner_takes, forces }
-    }
+// ------------------------------------------------------------------ what answers rest on
 
-    fn weight(self, card: Card) -> u8 {
-        let strength = strength(self.strain, self.led, card);
-        if self.partner_takes || strength <= self.best {
-            if self.strain == Strain::Trump(card.suit) { 14 - card.rank } else { 34 - card.rank }
-        } else if strength > self.contested {
-            100 - strength
-        } else if self.forces {
-            41 + strength / 2
-        } else {
-            66 - strength
+/// The cards left in the four hands.
+pub fn cards_left(position: &Position) -> u64 {
+    position.hands[0] | position.hands[1] | position.hands[2] | position.hands[3]
+}
+
+/// How many of the highest cards of each suit are one of these cards or higher than one.
+pub fn depths_of(position: &Position, cards: u64) -> [u8; 4] {
+    let all = cards_left(position);
+    SUITS.map(|suit| match lane(cards, suit) {
+        0 => 0,
+        cards => (lane(all, suit) >> lowest(cards)).count_ones() as u8,
+    })
+}
+
+// The lowest card of each depth.
+fn cards_of(position: &Position, depths: [u8; 4]) -> u64 {
+    let all = cards_left(position);
+    let mut cards = 0;
+    for (suit, depth) in SUITS.into_iter().zip(depths) {
+        let mut rest = lane(all, suit);
+        for _ in 1..depth {
+            rest &= !(1 << highest(rest));
         }
+        if depth > 0 {
+            cards = with(cards, suit, highest(rest));
+        }
+    }
+    cards
+}
+
+// The winner's card of the trick that this card completes, if another card of its suit lies there, and the cards.
+fn settled_by(position: &Position, card: Card, winner: Option<Seat>, cards: u64) -> u64 {
+    let Some(seat) = winner else {
+        return cards;
+    };
+    let [a, b, c] = position.trick;
+    let trick = [a, b, c, card];
+    let won = trick[(seat as usize + 4 - position.first as usize) % 4];
+    if trick.iter().filter(|card| card.suit == won.suit).count() > 1 { cards | 1 << won.place() } else { cards }
+}
+
+fn is_spared(spared: u64, card: Card) -> bool {
+    card.rank <= highest(lane(spared, card.suit))
+}
+
+fn also_spared(spared: u64, card: Card, cards: u64) -> u64 {
+    match lane(cards, card.suit) {
+        0 => with(spared, card.suit, 14),
+        cards if card.rank < lowest(cards) => with(spared, card.suit, lowest(cards) - 1),
+        _ => spared,
     }
 }
 
-fn moves(position: &Position, legal: bool, moves: &mut [(Card, u8); 13]) -> usize {
-    let mut tops = [Card { suit: Suit::Spades, rank: 2 }; 13];
-    let count = position.tops(&mut tops);
-    if legal {
-        for (place, card) in tops[..count].iter().enumerate() {
-            moves[place] = (*card, 0);
-        }
-        return count;
-    }
-    if position.played == 0 {
-        let views = SUITS.map(|suit| suit_view(position, suit));
-        for (place, card) in tops[..count].iter().enumerate() {
-            put(moves, place, *card, views[card.suit as usize].weight(card.rank));
-        }
-    } else {
-        let following = Following::of(position, position.trick[0].suit);
-        for (place, card) in tops[..count].iter().enumerate() {
-            put(moves, place, *card, following.weight(*card));
+// The lowest card of each class of the mover that the cards reach in part.
+fn whole(position: &Position, reached: u64) -> u64 {
+    let choices = position.choices();
+    let mover = position.mover();
+    let mut others = 0;
+    for seat in SEATS {
+        if seat as u8 != mover as u8 {
+            others |= position.hands[seat as usize];
         }
     }
-    count
+    for card in &position.trick[..position.played as usize] {
+        others |= 1 << card.place();
+    }
+    SUITS.iter().fold(reached, |reached, &suit| whole_suit(reached, suit, lane(choices, suit), lane(others, suit)))
 }
 
-fn put(moves: &mut [(Card, u8); 13], end: usize, card: Card, weight: u8) {
-    let mut place = end;
-    while place > 0 && moves[place - 1].1 < weight {
-        moves[place] = moves[place - 1];
-        place -= 1;
+fn whole_suit(reached: u64, suit: Suit, own: u16, others: u16) -> u64 {
+    let cards = lane(reached, suit);
+    if cards == 0 {
+        return reached;
     }
-    moves[place] = (card, weight);
+    let floor = lowest(cards);
+    let under = below(own, floor);
+    let least = own & !below(!0, floor);
+    if under == 0 || least == 0 {
+        return reached;
+    }
+    let between = below(others, lowest(least));
+    let cut = if between == 0 { under } else { above(under, highest(between)) };
+    if cut == 0 { reached } else { with(reached, suit, lowest(cut)) }
 }
 
 // ------------------------------------------------------------------ the search
 
-struct Search {
-    ticks: u64,
-    legal: bool,
-}
+/// What a search is told of positions at the start of a trick, and tells of them. A value is the leader's side's.
+pub trait Bounds {
+    fn look(&mut self, position: &Position) -> Option<(Interval, [u8; 4])>;
 
-// North-South's bounds.
-fn turned(position: &Position, leaders: Interval) -> Interval {
-    let left = position.tricks_left();
-    if position.first.is_north_south() {
-        leaders
-    } else {
-        Interval { lo: left - leaders.hi, hi: left - leaders.lo }
+    fn note(&mut self, position: &Position, depths: [u8; 4], interval: Interval);
+
+    fn settle(&mut self, position: &Position, need: u8) -> Option<(Interval, [u8; 4])> {
+        self.look(position).filter(|told| need <= told.0.lo || told.0.hi < need)
     }
 }
 
-impl Search {
-    fn takes(&mut self, position: &Position, need: u8) -> bool {
+pub struct NoTable;
+
+impl Bounds for NoTable {
+    fn look(&mut self, _position: &Position) -> Option<(Interval, [u8; 4])> {
+        None
+    }
+
+    fn note(&mut self, _position: &Position, _depths: [u8; 4], _interval: Interval) {}
+}
+
+#[derive(Clone, Copy)]
+struct Answer {
+    yes: bool,
+    cards: u64,
+}
+
+pub struct Search<B> {
+    pub bounds: B,
+    pub ticks: u64,
+    pub legal: bool,
+}
+
+// The leader's bounds as North-South's, and the other way round.
+fn turned(position: &Position, interval: Interval) -> Interval {
+    let left = position.tricks_left();
+    if position.first.is_north_south() {
+        Interval { lo: interval.lo, hi: interval.hi.min(left) }
+    } else {
+        Interval { lo: left.saturating_sub(interval.hi), hi: left - interval.lo }
+    }
+}
+
+fn trick_of(winner: Option<Seat>) -> u8 {
+    winner.is_some_and(Seat::is_north_south) as u8
+}
+
+fn counted(position: &Position, need: u8) -> Option<bool> {
+    if need == 0 {
+        Some(true)
+    } else if need > position.tricks_left() {
+        Some(false)
+    } else {
+        None
+    }
+}
+
+// How many the leader's side must take, or where it isn't North and South may not.
+fn leaders_need(position: &Position, need: u8) -> u8 {
+    if position.first.is_north_south() { need } else { position.tricks_left() + 1 - need }
+}
+
+fn quick(position: &Position, leaders: u8) -> Option<Answer> {
+    let leads = position.first.is_north_south();
+    if let Some(cards) = for_leader(position, leaders) {
+        return Some(Answer { yes: leads, cards });
+    }
+    let cards = against_leader(position, position.tricks_left() + 1 - leaders)?;
+    Some(Answer { yes: !leads, cards })
+}
+
+impl<B: Bounds> Search<B> {
+    fn known(&mut self, position: &Position, need: u8) -> Option<Answer> {
+        let leads = position.first.is_north_south();
+        let leaders = leaders_need(position, need);
+        if let Some((interval, depths)) = self.bounds.settle(position, leaders) {
+            return Some(Answer { yes: (leaders <= interval.lo) == leads, cards: cards_of(position, depths) });
+        }
+        quick(position, leaders)
+    }
+
+    fn teach(&mut self, position: &Position, need: u8, answer: Answer) {
+        let window = if answer.yes {
+            Interval { lo: need, hi: position.tricks_left() }
+        } else {
+            Interval { lo: 0, hi: need - 1 }
+        };
+        self.bounds.note(position, depths_of(position, answer.cards), turned(position, window));
+    }
+
+    fn takes(&mut self, position: &Position, need: u8) -> Answer {
         self.ticks += 1;
         if position.played == 0 {
-            let known = turned(position, bounds(position));
-            if need <= known.lo {
-                return true;
-            }
-            if need > known.hi {
-                return false;
+            if let Some(answer) = self.known(position, need) {
+                return answer;
             }
         }
         let ours = position.mover().is_north_south();
         let mut list = [(Card { suit: Suit::Spades, rank: 2 }, 0); 13];
         let count = moves(position, self.legal, &mut list);
-        for (card, _) in &list[..count] {
-            let (next, winner) = position.play(*card);
-            let need = need - winner.is_some_and(Seat::is_north_south) as u8;
-            let yes = if need == 0 {
-                true
-            } else if need > next.tricks_left() {
-                false
-            } else {
-                self.takes(&next, need)
-            };
-            if yes == ours {
-                return ours;
+        let (mut found, mut cards, mut spared) = (None, 0, 0);
+        for &(card, _) in &list[..count] {
+            if is_spared(spared, card) {
+                continue;
             }
+            let (next, winner) = position.play(card);
+            let rest = need - trick_of(winner);
+            let later = match counted(&next, rest) {
+                Some(yes) => Answer { yes, cards: 0 },
+                None => self.takes(&next, rest),
+            };
+            let by = settled_by(position, card, winner, later.cards);
+            if later.yes == ours {
+                found = Some(by);
+                break;
+            }
+            cards |= by;
+            spared = also_spared(spared, card, by);
         }
-        !ours
+        let answer = match found {
+            Some(cards) => Answer { yes: ours, cards },
+            None => Answer { yes: !ours, cards: whole(position, cards) },
+        };
+        if position.played == 0 {
+            self.teach(position, need, answer);
+        }
+        answer
     }
 
-    fn score(&mut self, position: &Position, card: Card) -> u8 {
-        let (next, winner) = position.play(card);
-        self.ticks += 1;
-        let mut window = Interval { lo: 0, hi: next.tricks_left() };
-        if next.played == 0 && window.hi > 0 {
-            window = turned(&next, bounds(&next));
+    fn window(&mut self, position: &Position) -> Interval {
+        let left = position.tricks_left();
+        if position.played > 0 || left == 0 {
+            return Interval { lo: 0, hi: left };
         }
-        let mut need = first_guess(&next).clamp(window.lo + (window.lo < window.hi) as u8, window.hi);
-        while window.lo < window.hi {
-            if self.takes(&next, need) {
-                window.lo = need;
-                need += 1;
+        let quick = bounds(position);
+        let both = match self.bounds.look(position) {
+            Some((told, _)) => Interval { lo: told.lo.max(quick.lo), hi: told.hi.min(quick.hi) },
+            None => quick,
+        };
+        turned(position, both)
+    }
+
+    // North-South's tricks, and the cards that the last yes and the last no rest on, where there was such an answer.
+    fn north_souths_tricks(&mut self, position: &Position) -> (u8, [Option<u64>; 2]) {
+        self.ticks += 1;
+        let Interval { mut lo, mut hi } = self.window(position);
+        let mut rests = [None; 2];
+        let mut need = first_guess(position);
+        while lo < hi {
+            need = need.max(lo + 1).min(hi);
+            let answer = self.takes(position, need);
+            rests[answer.yes as usize] = Some(answer.cards);
+            if answer.yes {
+                lo = need;
             } else {
-                window.hi = need - 1;
-                need -= 1;
+                hi = need - 1;
             }
         }
-        let tricks = window.lo + winner.is_some_and(Seat::is_north_south) as u8;
+        (lo, rests)
+    }
+
+    fn movers(position: &Position, tricks: u8) -> u8 {
         if position.mover().is_north_south() { tricks } else { position.tricks_left() - tricks }
     }
-}
 
-// Half the tricks, and more or less by the side's share of the four highest cards of each suit and of the trumps.
-fn first_guess(position: &Position) -> u8 {
-    let (mut ours, mut theirs) = (0, 0);
-    for suit in SUITS {
-        let [n, e, s, w] = SEATS.map(|seat| position.holding(seat, suit));
-        let (mut us, mut them) = (n | s, e | w);
-        if position.strain == Strain::Trump(suit) {
-            ours += 2 * us.count_ones() as i32;
-            theirs += 2 * them.count_ones() as i32;
+    /// The tricks that the mover's side takes from this start of a trick on, and depths at which each covered position has
+    /// the same value.
+    pub fn value(&mut self, position: &Position) -> (u8, [u8; 4]) {
+        let (tricks, rests) = self.north_souths_tricks(position);
+        let at_most = self.rest(position, rests[0], tricks + 1);
+        let at_least = self.rest(position, rests[1], tricks);
+        (Self::movers(position, tricks), depths_of(position, at_most | at_least))
+    }
+
+    // What the answer to this question rests on: that which was found, or the quick tricks, or else all cards.
+    fn rest(&self, position: &Position, found: Option<u64>, need: u8) -> u64 {
+        if counted(position, need).is_some() {
+            return 0;
         }
-        for points in [4, 3, 2, 1] {
-            if us > them {
-                ours += points;
-                us &= !(1 << highest(us));
-            } else if them > 0 {
-                theirs += points;
-                them &= !(1 << highest(them));
+        let quickly = || quick(position, leaders_need(position, need)).map(|answer| answer.cards);
+        found.or_else(quickly).unwrap_or(cards_left(position))
+    }
+
+    pub fn score(&mut self, position: &Position, card: Card) -> u8 {
+        let (next, winner) = position.play(card);
+        let (tricks, _) = self.north_souths_tricks(&next);
+        Self::movers(position, tricks + trick_of(winner))
+    }
+
+    fn reaches(&mut self, position: &Position, card: Card, tricks: u8) -> bool {
+        let ours = position.mover().is_north_south();
+        let need = if ours { tricks } else { position.tricks_left() + 1 - tricks };
+        let (next, winner) = position.play(card);
+        let rest = need.saturating_sub(trick_of(winner));
+        let yes = counted(&next, rest).unwrap_or_else(|| self.takes(&next, rest).yes);
+        yes == ours
+    }
+
+    /// The scores of the highest cards of the classes: the value first, and then of each class from there down.
+    pub fn scores(&mut self, position: &Position) -> Vec<(Card, u8)> {
+        let mut tops = [Card { suit: Suit::Spades, rank: 2 }; 13];
+        let count = position.tops(&mut tops);
+        let exactly = |tricks| Interval { lo: tricks, hi: tricks };
+        let (best, depths) = self.value(position);
+        if position.played == 0 {
+            self.bounds.note(position, depths, exactly(best));
+        }
+        let mut scores = Vec::new();
+        for &card in &tops[..count] {
+            let mut tricks = best;
+            while tricks > 0 && !self.reaches(position, card, tricks) {
+                tricks -= 1;
             }
+            scores.push((card, tricks));
         }
+        scores
     }
-    let left = position.tricks_left() as i32;
-    let all = ours + theirs;
-    if all == 0 {
-        return 0;
-    }
-    ((left * all + 2 * left * (ours - theirs) + all) / (2 * all)).clamp(0, left) as u8
 }
 
 // ------------------------------------------------------------------ lines
 
-fn read(line: &str) -> Position {
+pub fn read(line: &str) -> Position {
     let mut words = line.splitn(3, ' ');
     let trump: usize = words.next().expect("trump").parse().expect("trump");
     let first: usize = words.next().expect("first").parse().expect("first");
@@ -491,15 +631,46 @@ fn read(line: &str) -> Position {
     }
 }
 
+fn solve<B: Bounds>(search: &mut Search<B>, position: &Position, singly: bool) -> Vec<u8> {
+    if singly {
+        let mut tops = [Card { suit: Suit::Spades, rank: 2 }; 13];
+        let count = position.tops(&mut tops);
+        return tops[..count].iter().map(|&card| search.score(position, card)).collect();
+    }
+    search.scores(position).into_iter().map(|scored| scored.1).collect()
+}
+
 fn main() {
-    let legal = std::env::args().any(|word| word == "legal");
+    let words: Vec<String> = std::env::args().skip(1).collect();
+    let has = |word: &str| words.iter().any(|w| w == word);
+    let entries = words.iter().find_map(|word| word.parse::<usize>().ok());
+    let mut table = entries.map(Shard::new);
     let mut out = io::stdout().lock();
     for line in io::stdin().lock().lines() {
         let position = read(&line.expect("line"));
-        let mut search = Search { ticks: 0, legal };
-        let mut tops = [Card { suit: Suit::Spades, rank: 2 }; 13];
-        let count = position.tops(&mut tops);
-        let scores: Vec<String> = tops[..count].iter().map(|&card| search.score(&position, card).to_string()).collect();
-        writeln!(out, "{} {}", search.ticks, scores.join(" ")).expect("write");
+        let start = Instant::now();
+        let (ticks, scores) = match &mut table {
+            Some(shard) => {
+                if !has("keep") {
+                    shard.clear();
+                }
+                let mut search = Search { bounds: &mut *shard, ticks: 0, legal: has("legal") };
+                let scores = solve(&mut search, &position, has("singly"));
+                (search.ticks, scores)
+            }
+            None => {
+                let mut search = Search { bounds: NoTable, ticks: 0, legal: has("legal") };
+                let scores = solve(&mut search, &position, has("singly"));
+                (search.ticks, scores)
+            }
+        };
+        let time = start.elapsed().as_nanos();
+        let scores: Vec<String> = scores.iter().map(u8::to_string).collect();
+        write!(out, "{} {}", ticks, scores.join(" ")).expect("write");
+        match &table {
+            Some(shard) if has("times") => writeln!(out, " | {time} {shard}").expect("write"),
+            None if has("times") => writeln!(out, " | {time}").expect("write"),
+            _ => writeln!(out).expect("write"),
+        }
     }
 }

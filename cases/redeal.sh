@@ -1,0 +1,31 @@
+#!/usr/bin/env bash
+# Deals the cards below noted depths anew and solves again (`redeal.rs`). (a) Entries that the search in plain Rust
+# (`bench/search/search.rs`, which follows `dd_search` move for move) notes on small deals, against exhaustive play. (b)
+# Full deals and the same with the cards below the depths of their value dealt anew: the program must give both one best
+# score. Says how many were tried; ends with status 1 at a difference. Words: the number of entries (20000), and of full
+# deals (500).
+set -eu
+here=$(cd -- "$(dirname -- "$0")" && pwd)
+entries=${1:-20000}
+deals=${2:-500}
+command -v rustc > /dev/null || { echo 'cases: the command rustc is missing' >&2; exit 1; }
+work=$(mktemp -d)
+trap 'rm -rf "$work"' EXIT
+rustc -C opt-level=3 --edition 2021 -o "$work/redeal" "$here/redeal.rs"
+
+"$work/redeal" small "$entries"
+
+"$work/redeal" full "$deals" > "$work/pairs.jsonl"
+"$here/../ddserve" solve --entries 65536 < "$work/pairs.jsonl" > "$work/replies"
+# Each reply is the one card of a best score that was asked for.
+sed -n 's/.*"score":\([0-9]*\),.*/\1/p' "$work/replies" > "$work/scores"
+if [ "$(wc -l < "$work/scores")" -ne $((2 * deals)) ]; then
+    echo "cases: $(wc -l < "$work/scores") scores for $((2 * deals)) full deals" >&2
+    exit 1
+fi
+# A row of each deal: both scores and both requests.
+paste <(paste - - < "$work/scores") <(paste - - < "$work/pairs.jsonl") | awk -F '\t' '$1 != $2' > "$work/differing"
+cat "$work/differing" >&2
+wrong=$(wc -l < "$work/differing")
+echo "$deals full deals dealt anew below the depths of their value, $wrong with another best score"
+[ "$wrong" -eq 0 ]
