@@ -1,4 +1,3 @@
 pub mod CommandLine
 pub mod Program
 pub mod Status
-pub mod FullDepths

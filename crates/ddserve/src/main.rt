@@ -16,6 +16,7 @@ mod one_shard;
 use clap::Error;
 use clap::error::ErrorKind;
 use command_line::{Args, not_text, read_args};
+use dd_cache::cache::Cache;
 use dd_reply::counting::Counting;
 use dd_reply::engine::solve_lines;
 use one_shard::OneShard;
@@ -59,7 +60,7 @@ fn show(rt: &(impl Print + Eprint), error: &Error) -> ExitCode
     }
 }
 
-/// Answers the lines of the standard input, each within the budget, over one table of so many entries.
+/// Answers the lines of the standard input, each within the budget, over one table of so many shapes behind a cache.
 fn solve(
     rt: &(impl Input + Print + Eprint + AllocGlobal),
     budget: Option<u64>,
@@ -68,7 +69,10 @@ fn solve(
     requires { (1 ≤ entries) × (entries ≤ 65536) }
     ensures { EndsWith 0 (exit_status result) }
 {
-    let Ok(mut table) = OneShard::new(rt.alloc(), entries) else {
+    let Ok(table) = OneShard::new(rt.alloc(), entries) else {
+        return fail(rt, "out of memory");
+    };
+    let Ok(mut table) = Cache::new(rt.alloc(), table) else {
         return fail(rt, "out of memory");
     };
     let mut reader = Counting::new(rt.reader());
@@ -88,5 +92,7 @@ fn fail(rt: &impl Eprint, reason: impl Display + Drop) -> ExitCode
     ExitCode::FAILURE
 }
 
+#[cfg(test)]
+mod table_tests;
 #[cfg(test)]
 mod tests;

@@ -15,7 +15,7 @@ pub struct OneShard {
 }
 
 impl OneShard {
-    /// A table that remembers nothing and has room for this number of entries, 1 to 65,536. The error says that memory
+    /// A table that remembers nothing and has room for this number of shapes, 1 to 65,536. The error says that memory
     /// ran out.
     pub fn new(alloc: Global, entries: u32) -> Result<OneShard, AllocError>
         requires { (1 ≤ entries) × (entries ≤ 65536) }
@@ -23,27 +23,30 @@ impl OneShard {
         let shard = Shard::new(alloc, entries)?;
         Ok(OneShard { shard })
     }
+
+    /// The number of shapes that it remembers.
+    pub fn len(&self) -> u32 {
+        self.shard.len()
+    }
 }
 
 impl Bounds for OneShard {
-    ghost use Rattle.ddserve.specs.FullDepths.{IsFull, full-holds};
+    ghost use Rattle.dd_play.specs.Board.{Board, IsBoard};
+    ghost use Rattle.dd_play.specs.Intervals.{Holds};
+    ghost use Rattle.dd_play.specs.Value.{lead};
+    ghost use Rattle.dd_rank.specs.Depths.{depth_in, Covers};
 
-    // What it tells holds of the position, and at full depths. Which entries it still has depends on what came since.
-    ghost tells = { λ table p depths interval. IsFull p depths interval };
+    // What it tells holds. Which entries it still has depends on what came since.
+    ghost tells = { λ table p depths interval. (q : Board) → IsBoard q → Covers p (depth_in depths) q → Holds interval (lead q) };
 
-    ghost holds = { λ table p depths interval q told valid covers. full-holds p depths interval q told valid covers };
+    ghost holds = { λ table p depths interval q told. told q };
 
     fn look(&mut self, start: &TrickStart) -> Option<(Interval, Depths)> {
-        // The proof reads here that it is a position.
-        let _ = start.position();
-        let interval = self.shard.look(start)?;
-        Some((interval, Depths::full(start)))
+        self.shard.look(start)
     }
 
-    fn note(&mut self, start: &TrickStart, _depths: Depths, interval: Interval) {
-        // The proof reads here that it is a start of a trick.
-        let _ = start.position();
+    fn note(&mut self, start: &TrickStart, depths: Depths, interval: Interval) {
         // An entry more that finds no memory is an entry less to look at, and no fault.
-        let _ = self.shard.note(start, interval);
+        let _ = self.shard.note(start, depths, interval);
     }
 }
