@@ -26,6 +26,9 @@ const PAGES: u32 = 0x1_0000;
 
 const PLACES: usize = 0x1_0000;
 
+// From so many tricks on the table behind is asked and told too: below, to search anew costs less than to ask.
+const WORTH_SHARING: u8 = 7;
+
 // So many pages at most are looked at in one place.
 const MOST_PAGES: usize = 64;
 
@@ -140,7 +143,12 @@ impl<B: Bounds> Bounds for Cache<B> {
         let strings = OwnerStrings::of(start);
         match self.own(&strings, need) {
             Some(told) => Some(told),
-            None => self.behind.settle(start, need),
+            None => {
+                if start.position().tricks_left() < WORTH_SHARING {
+                    return None;
+                }
+                self.behind.settle(start, need)
+            }
         }
     }
 
@@ -150,7 +158,10 @@ impl<B: Bounds> Bounds for Cache<B> {
         let strings = OwnerStrings::of(start);
         let firsts = FirstOwners::of(strings, depths);
         self.keep(strings.shape(), Told { firsts, interval });
-        self.behind.note(start, depths, interval);
+        let exact = interval.lo == interval.hi;
+        if exact || start.position().tricks_left() >= WORTH_SHARING {
+            self.behind.note(start, depths, interval);
+        }
     }
 }
 
