@@ -1,10 +1,10 @@
 #!/usr/bin/env bash
 # The search beside the same search in plain Rust at -O3, which comes to the same positions: positions a second, the least
-# time of several runs taken in turns. (a) Over no table, deals of 10 cards a hand. (b) Over the table of the program, with
-# 65,536 entries and empty for each deal: the scores of all leads of full deals. (c) Over no table, deals of 9 cards a hand:
-# the positions come to beside those with the cards in the order in which they are listed. Deals are from fixed seeds. It
-# takes some minutes: the programs `ticks` (over no table) and `table`, a few lines each, are proved and built in a copy of
-# the crates, `ticks` once with each order. Words: the number of runs (5), of full deals (20), and the parts (abc).
+# time of several runs taken in turns. (a) Over no table, deals of 10 cards a hand. (b) Over a shard of 65,536 shapes, empty
+# for each deal and without the program's cache before it: the scores of all leads of full deals. (c) Over no table, deals of
+# 9 cards a hand, by the Rust peer alone: the positions come to beside those with the cards in the order in which they are
+# listed. Deals are from fixed seeds. It takes some minutes: the programs `ticks` (over no table) and `table`, a few lines
+# each, are proved and built in a copy of the crates. Words: the number of runs (5), of full deals (20), the parts (abc).
 set -eu
 here=$(cd -- "$(dirname -- "$0")" && pwd)
 top=$(cd -- "$here/../.." && pwd)
@@ -41,33 +41,12 @@ build() {
     fi
 }
 
-# replace FILE OLD NEW: fails where the file hasn't the text OLD once
-replace() {
-    python3 - "$@" <<'PY'
-import sys
-
-path, old, new = sys.argv[1:]
-with open(path) as file:
-    text = file.read()
-if text.count(old) != 1:
-    sys.exit(f"bench/search: {path} has the text {old!r} {text.count(old)} times, and not once")
-with open(path, "w") as file:
-    file.write(text.replace(old, new))
-PY
-}
-
 below='dd_cards dd_play dd_pbn'
 copy "$work/weighed"
-case $parts in *[ac]*) build "$work/weighed" ticks "$below dd_equal dd_search" ;; esac
+case $parts in *a*) build "$work/weighed" ticks "$below dd_equal dd_search" ;; esac
 case $parts in *b*)
     program=$(sed -n 's/^ddserve: //p' "$top/crates.txt")
     build "$work/weighed" table "$(printf '%s\n' $below $program | grep '^dd_' | sort -u | paste -sd ' ')"
-    ;;
-esac
-case $parts in *c*)
-    copy "$work/listed"
-    replace "$work/listed/crates/dd_search/src/order.rt" 'let weight = outlook.weight(card);' 'let _ = outlook; let weight = 0;'
-    build "$work/listed" ticks "$below dd_equal dd_search"
     ;;
 esac
 rustc -C opt-level=3 -C target-cpu=x86-64-v2 --edition 2021 -o "$work/search" "$here/search.rs"
@@ -132,12 +111,12 @@ if "a" in parts:
     print("(a) no table, 10 cards a hand: 10 deals of each strain, the time of all of them, least of", runs)
     rates(lines(10, 10, "--strain", "4") + lines(10, 10, "--strain", "0"), "ticks", "singly")
 if "b" in parts:
-    print(f"(b) a table of 65,536 entries, {full} full deals, each strain in turn, the time of all of a strain, least of", runs)
+    print(f"(b) a shard of 65,536 shapes, {full} full deals, each strain in turn, the time of all of a strain, least of", runs)
     rates(lines(13, full, "--seed", "1013"), "table", "65536", greatest_first=True)
 if "c" in parts:
     print("(c) no table, 9 cards a hand, positions come to: 20 deals of each strain")
     print("strain    in the order listed  by the order of moves  geometric mean of the ratios")
     for strain in (4, 0):
-        pairs = [(proved("listed", "ticks", line)[0][0], proved("weighed", "ticks", line)[0][0]) for line in lines(9, 20, "--strain", str(strain))]
+        pairs = [(peer(line, "singly", "legal")[0][0], peer(line, "singly")[0][0]) for line in lines(9, 20, "--strain", str(strain))]
         print(f"{names[strain]:8} {sum(a for a, _ in pairs):>20} {sum(b for _, b in pairs):>22}  {mean([b / a for a, b in pairs]):.3f} (one {mean([a / b for a, b in pairs]):.1f}th)")
 PY

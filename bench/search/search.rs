@@ -7,7 +7,7 @@
 mod order;
 pub mod shard;
 
-use order::{first_guess, moves};
+use order::{guess, moves};
 use shard::Shard;
 use std::io::{self, BufRead, Write};
 use std::time::Instant;
@@ -535,7 +535,7 @@ impl<B: Bounds> Search<B> {
         self.ticks += 1;
         let Interval { mut lo, mut hi } = self.window(position);
         let mut rests = [None; 2];
-        let mut need = first_guess(position);
+        let mut need = guess(position);
         while lo < hi {
             need = need.max(lo + 1).min(hi);
             let answer = self.takes(position, need);
