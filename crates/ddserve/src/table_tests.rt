@@ -1,14 +1,20 @@
 use crate::one_shard::OneShard;
+use dd_cards::card::Card;
+use dd_cards::rank::Rank;
 use dd_cards::seat::Seat;
 use dd_cards::strain::Strain;
+use dd_cards::suit::Suit;
 use dd_pbn::read_deal;
+use dd_play::interval::Interval;
 use dd_play::position::Position;
 use dd_play::trick_start::TrickStart;
 use dd_reply::reply::write_answer;
 use dd_reply::request::Request;
 use dd_reply::solve::solve;
-use dd_search::bounds::Bounds;
+use dd_search::bounds::{Bounds, NoTable};
 use dd_search::meter::Endless;
+use dd_search::start::start_value;
+use dd_shard::shard::Shard;
 use std::alloc::AllocError;
 use std::process::Abort;
 
@@ -117,5 +123,53 @@ fn a_table_of_one_shape_drops_the_one_before(rt: HostRuntime) -> Result<(), Allo
         None,
         "another shape"
     );
+    Ok(())
+}
+
+// Remembers the value of the start of a trick, with the depths that it rests on.
+fn remembered(shard: &mut Shard, start: &TrickStart) -> Option<u8> {
+    let (tricks, depths) = start_value(start, &mut NoTable, &mut Endless).ok()?;
+    let interval = Interval {
+        lo: tricks,
+        hi: tricks,
+    };
+    shard.note(start, depths, interval).ok()?;
+    Some(tricks)
+}
+
+#[test]
+fn a_shape_keeps_a_value_for_each_cover(rt: HostRuntime) -> Result<(), AllocError> {
+    let mut shard = Shard::new(rt.alloc(), 1)?;
+    let caught = start(&rt, CAUGHT, Seat::North);
+    let lower = start(&rt, "N:62... K3... AQ... 54...", Seat::North);
+    let behind = start(&rt, "N:32... 65... AQ... K4...", Seat::North);
+    assert_eq!(rt; remembered(&mut shard, &caught), Some(2));
+    let (interval, depths) = shard.look(&lower).expect(&rt, "it is covered");
+    assert_eq!(rt; (interval.lo, interval.hi), (2, 2));
+    assert_eq!(rt; depths.of(Suit::Spades), 3, "ace, king and queen");
+    assert_eq!(rt;
+        depths.of(Suit::Hearts) | depths.of(Suit::Diamonds) | depths.of(Suit::Clubs),
+        0
+    );
+    assert!(rt;
+        shard.look(&behind).is_none(),
+        "the king is behind ace and queen"
+    );
+    assert_eq!(rt; remembered(&mut shard, &behind), Some(1));
+    assert_eq!(rt; shard.len(), 1, "one shape");
+    let (interval, _) = shard.look(&caught).expect(&rt, "its cover is there too");
+    assert_eq!(rt; (interval.lo, interval.hi), (2, 2));
+    let Some((newest, _, interval)) = shard.entry(0) else {
+        panic!(rt; "one shape");
+    };
+    let king = Card {
+        suit: Suit::Spades,
+        rank: Rank::of(13),
+    };
+    assert!(rt;
+        newest.position().hands().has(Seat::West, king),
+        "the one noted last"
+    );
+    assert_eq!(rt; (interval.lo, interval.hi), (1, 1));
     Ok(())
 }
