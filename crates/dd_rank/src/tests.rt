@@ -2,6 +2,8 @@ use crate::alike::alike;
 use crate::cover::Cover;
 use crate::covers::covers;
 use crate::depths::Depths;
+use crate::first_owners::FirstOwners;
+use crate::laws::covered_positions;
 use crate::owner_strings::OwnerStrings;
 use crate::rank_key::RankKey;
 use dd_cards::card::Card;
@@ -177,4 +179,30 @@ fn equal_shapes_have_one_mixing_number(rt: HostRuntime) {
         OwnerStrings::of(&one) == RankKey::of(&one).strings(),
         "a key's strings"
     );
+}
+
+#[test]
+fn first_owners_are_those_of_the_highest_cards(rt: HostRuntime) {
+    let one = start(&SPADES, Strain::Notrump, Seat::North).expect(&rt, "two cards a hand");
+    // The proof reads here that a suit has thirteen cards at most.
+    let _ = one.position();
+    covered_positions();
+    let strings = OwnerStrings::of(&one);
+    let all = FirstOwners::of(strings, Depths::full(&one));
+    let none = FirstOwners::default();
+    assert_eq!(rt; all.depths().of(Suit::Spades), 8);
+    assert_eq!(rt; none.depths().of(Suit::Spades), 0);
+    assert!(rt; all.are_in(&strings) && none.are_in(&strings));
+    assert!(rt;
+        none.include(&all) && all.include(&all),
+        "none are the beginning of all"
+    );
+    assert!(rt; !all.include(&none), "eight are more than none");
+    let behind = start(&[3, 6, 14, 13, 2, 5, 12, 4], Strain::Notrump, Seat::North).expect(
+        &rt,
+        "two cards a hand",
+    );
+    let behind = OwnerStrings::of(&behind);
+    assert!(rt; !all.are_in(&behind), "the king is in another hand");
+    assert!(rt; none.are_in(&behind));
 }
