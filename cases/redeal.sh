@@ -16,9 +16,11 @@ rustc -C opt-level=3 --edition 2021 -o "$work/redeal" "$here/redeal.rs"
 "$work/redeal" small "$entries"
 
 "$work/redeal" full "$deals" > "$work/pairs.jsonl"
-"$here/../ddserve" solve --entries 65536 < "$work/pairs.jsonl" > "$work/replies"
+# The deals in one run, those dealt anew in another: else what the one left in the table could answer the other.
+sed -n 'p;n' "$work/pairs.jsonl" | "$here/../ddserve" solve --entries 65536 > "$work/first"
+sed -n 'n;p' "$work/pairs.jsonl" | "$here/../ddserve" solve --entries 65536 > "$work/anew"
 # Each reply is the one card of a best score that was asked for.
-sed -n 's/.*"score":\([0-9]*\),.*/\1/p' "$work/replies" > "$work/scores"
+paste -d '\n' "$work/first" "$work/anew" | sed -n 's/.*"score":\([0-9]*\),.*/\1/p' > "$work/scores"
 if [ "$(wc -l < "$work/scores")" -ne $((2 * deals)) ]; then
     echo "cases: $(wc -l < "$work/scores") scores for $((2 * deals)) full deals" >&2
     exit 1

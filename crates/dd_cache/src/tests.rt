@@ -84,3 +84,60 @@ fn what_is_noted_reaches_the_table_behind(rt: HostRuntime) -> Result<(), AllocEr
     assert!(rt; cache.behind().settle(&caught, 2).is_some());
     Ok(())
 }
+
+// A suit in each hand, from the ace down, so many cards each, with North on lead at notrump: it takes all tricks.
+fn suits(tricks: u8) -> Option<TrickStart> {
+    let mut hands = Hands::new();
+    for seat in 0..4 {
+        for lower in 0..tricks.min(13) {
+            let suit = Suit::from_code(seat)?;
+            let rank = Rank::from_code(14 - lower)?;
+            hands.insert(Seat::from_code(seat)?, Card { suit, rank });
+        }
+    }
+    let position = Position::new(hands, Strain::Notrump, Seat::North, &[]).ok()?;
+    TrickStart::of(&position)
+}
+
+// Notes that the value is no more than it is, with its depths.
+fn noted_above<B: Bounds>(start: &TrickStart, table: &mut B) -> Option<u8> {
+    let (tricks, depths) = start_value(start, &mut NoTable, &mut Endless).ok()?;
+    let interval = Interval { lo: 0, hi: tricks };
+    table.note(start, depths, interval);
+    Some(tricks)
+}
+
+#[test]
+fn bounds_of_seven_tricks_reach_the_table_behind_and_of_six_do_not(
+    rt: HostRuntime,
+) -> Result<(), AllocError> {
+    let near = Cache::new(rt.alloc(), NoTable)?;
+    let mut cache = Cache::new(rt.alloc(), near)?;
+    for tricks in 6..8 {
+        let start = suits(tricks).expect(&rt, "a suit in each hand");
+        assert_eq!(rt; noted_above(&start, &mut cache), Some(tricks));
+        let beyond = tricks + 1;
+        assert!(rt; cache.settle(&start, beyond).is_some(), "it is kept");
+        assert!(rt;
+            cache.settle(&start, tricks).is_none(),
+            "the bounds leave it open"
+        );
+        let behind = cache.behind().settle(&start, beyond);
+        assert_eq!(rt; behind.is_some(), tricks == 7, "{tricks} tricks");
+    }
+    Ok(())
+}
+
+#[test]
+fn narrower_bounds_take_the_place_of_wider_ones(rt: HostRuntime) -> Result<(), AllocError> {
+    let mut cache = Cache::new(rt.alloc(), NoTable)?;
+    let start = suits(3).expect(&rt, "a suit in each hand");
+    assert_eq!(rt; noted_above(&start, &mut cache), Some(3));
+    assert!(rt; cache.settle(&start, 3).is_none(), "0 to 3");
+    assert_eq!(rt; noted(&start, &mut cache), Some(3));
+    let told = cache.settle(&start, 3).expect(&rt, "3 to 3");
+    assert_eq!(rt; (told.0.lo, told.0.hi), (3, 3));
+    let told = cache.settle(&start, 4).expect(&rt, "no more than 3");
+    assert_eq!(rt; (told.0.lo, told.0.hi), (3, 3), "the wider bounds are gone");
+    Ok(())
+}

@@ -2,13 +2,13 @@
 //! long as each other hand follows suit and so cannot ruff. The highest trumps of any hand each take a trick, whatever is
 //! played. So a side's quick tricks are no more than it takes, and they rest on these winners alone: it takes as many
 //! where the lower cards are others.
-ghost use Rattle.std.specs.Prelude.{◌≡◌, ◌<◌, ◌≤◌, ◌+◌, ◌⊎◌, ℕ, [], max, true, MatchOption, IfSome, filter, nat_lt, slice_get};
+ghost use Rattle.std.specs.Prelude.{◌≡◌, ◌<◌, ◌≤◌, ◌+◌, ◌-◌, ◌⊎◌, IsSome, ℕ, [], max, true, MatchOption, IfSome, filter, nat_lt, slice_get};
 ghost use mathlib.Core.Bool.{not};
 ghost use Rattle.dd_cards.specs.declared.suit.Suit.{Suit as SuitOf};
 ghost use Rattle.dd_cards.specs.PlayingCard.{PlayingCard};
 ghost use Rattle.dd_cards.specs.Cards.{has_card};
 ghost use Rattle.dd_cards.specs.Seats.{is_north_south, seat_after};
-ghost use Rattle.dd_play.specs.Board.{Board, IsBoard};
+ghost use Rattle.dd_play.specs.Board.{Board, IsBoard, left};
 ghost use Rattle.dd_play.specs.Covers.{count_of};
 ghost use Rattle.dd_play.specs.Intervals.{Holds};
 ghost use Rattle.dd_play.specs.Reach.{reach, TakesBy};
@@ -67,14 +67,16 @@ pub fn bounds(start: &TrickStart) -> (Interval, Depths)
 
 /// The winners on which it rests that the leader's side takes at least `need` tricks, where its quick tricks are so many.
 pub fn for_leader(start: &TrickStart, need: u8) -> Option<Hand>
-    ensures { IfSome result (λ cards. TakesBy (reach cards) (is_north_south start.now.first) start.now need) }
+    ensures found { need ≤ quick_lo start.now → IsSome result }
+    ensures claim { IfSome result (λ cards. TakesBy (reach cards) (is_north_south start.now.first) start.now need) }
 {
     enough(leaders(start.position()), need)
 }
 
 /// The winners on which it rests that the other side takes at least `need` tricks, where its quick tricks are so many.
 pub fn against_leader(start: &TrickStart, need: u8) -> Option<Hand>
-    ensures { IfSome result (λ cards. TakesBy (reach cards) (not (is_north_south start.now.first)) start.now need) }
+    ensures found { need ≤ left start.now - quick_hi start.now → IsSome result }
+    ensures claim { IfSome result (λ cards. TakesBy (reach cards) (not (is_north_south start.now.first)) start.now need) }
 {
     enough(others(start.position()), need)
 }

@@ -21,7 +21,8 @@ use dd_play::position::Position;
 use dd_play::trick_start::TrickStart;
 
 /// Do North and South take at least `need` of the tricks left? It ticks first; at a start of a trick a look or the quick
-/// bounds may settle it; else one card of each class is tried until one does, and what that taught is noted.
+/// bounds may settle it; else one card of each class that isn't spared is tried until one does, and what that taught is
+/// noted.
 pub(crate) fn takes<B: Bounds, M: Meter>(
     position: &Position,
     need: u8,

@@ -288,7 +288,7 @@ fn the_last_used_shape_stands_first_and_the_last_goes(rt: HostRuntime) -> Result
 }
 
 #[test]
-fn a_note_for_which_there_is_no_memory_changes_nothing(rt: HostRuntime) -> Result<(), Fail> {
+fn a_note_of_a_shape_that_is_there_succeeds(rt: HostRuntime) -> Result<(), Fail> {
     let (a, one) = (caught(&rt), ace(&rt));
     let Ok(mut shard) = Shard::new(rt.alloc(), 2) else {
         return Ok(());

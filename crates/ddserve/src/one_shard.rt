@@ -25,6 +25,7 @@ impl OneShard {
     }
 
     /// The number of shapes that it remembers.
+    #[cfg(test)]
     pub fn len(&self) -> u32 {
         self.shard.len()
     }

@@ -1,4 +1,5 @@
 use crate::one_shard::OneShard;
+use dd_cache::cache::Cache;
 use dd_cards::card::Card;
 use dd_cards::rank::Rank;
 use dd_cards::seat::Seat;
@@ -31,7 +32,7 @@ fn start(rt: &impl Abort, deal: &str, first: Seat) -> TrickStart {
 }
 
 // Does the answer for all classes over the table read so?
-fn answers(table: &mut OneShard, deal: &str, first: Seat, want: &str) -> bool {
+fn answers<B: Bounds>(table: &mut B, deal: &str, first: Seat, want: &str) -> bool {
     let Some(position) = position(deal, first) else {
         return false;
     };
@@ -171,5 +172,23 @@ fn a_shape_keeps_a_value_for_each_cover(rt: HostRuntime) -> Result<(), AllocErro
         "the one noted last"
     );
     assert_eq!(rt; (interval.lo, interval.hi), (1, 1));
+    Ok(())
+}
+
+#[test]
+fn the_cache_and_the_table_behind_it_remember_a_solved_position(
+    rt: HostRuntime,
+) -> Result<(), AllocError> {
+    let table = OneShard::new(rt.alloc(), 4096)?;
+    let mut table = Cache::new(rt.alloc(), table)?;
+    let want = r#"{"cards":[{"equals":4,"rank":3,"score":2,"suit":0}]}"#;
+    assert!(rt; answers(&mut table, CAUGHT, Seat::North, want));
+    let lower = start(&rt, "N:62... K3... AQ... 54...", Seat::North);
+    assert!(rt; table.settle(&lower, 2).is_some(), "the cache");
+    assert_eq!(rt;
+        told(table.behind(), &lower),
+        Some((2, 2)),
+        "the table behind"
+    );
     Ok(())
 }
