@@ -26,7 +26,7 @@ const PAGES: u32 = 0x1_0000;
 
 const PLACES: usize = 0x1_0000;
 
-// From so many tricks on the table behind is asked and told too: below, to search anew costs less than to ask.
+// From so many tricks on the table behind is asked and told too: to ask it of all took longer on the deals tried.
 const WORTH_SHARING: u8 = 7;
 
 // So many pages at most are looked at in one place.

@@ -25,7 +25,7 @@ struct Worths {
     trump: u32,
 }
 
-// Fitted by eye to random full deals.
+// Taken over from a prototype: they bear on the time alone.
 const NOTRUMP: Worths = Worths {
     lead: 800,
     point: 224,
