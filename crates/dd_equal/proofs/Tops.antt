@@ -15,7 +15,7 @@ use Rattle.dd_play.specs.Claims.{Takes}
 use Rattle.dd_play.proofs.Boards.{card-real, has-first, in-rest}
 use Rattle.dd_play.proofs.Plays.{own-card, filter-has}
 use Rattle.dd_play.proofs.Rules.{won_with}
-use Rattle.dd_play.proofs.Claims.{every-card}
+use Rattle.dd_play.proofs.ClaimRules.{every-card}
 use Rattle.dd_equal.specs.EqualCards.{are_equal, is_top, tops}
 use Rattle.dd_equal.proofs.Equal.{tells-equal}
 use Rattle.dd_equal.proofs.Swaps.{equal-won}

@@ -11,7 +11,7 @@ pub mod Plays
 pub mod Winners
 pub mod Steps
 pub mod Twins
-pub mod Claims
+pub mod ClaimRules
 pub mod HandsAfter
 pub mod Fewer
 pub mod Worth

@@ -19,7 +19,7 @@ use Rattle.dd_play.proofs.Plays.{suit-of, of-suit'}
 use Rattle.dd_play.proofs.Rules.{won_with, can, least}
 use Rattle.dd_play.proofs.Steps.{answer, answer', stepped}
 use Rattle.dd_play.proofs.Twins.{sides-turned}
-use Rattle.dd_play.proofs.Claims.{some-legal}
+use Rattle.dd_play.proofs.ClaimRules.{some-legal}
 use Rattle.dd_play.proofs.Fewer.{cover-fewer, answers-fewer, strict-fewer, strict-after}
 
 -- cards that are upward are so among those that can meet

@@ -38,7 +38,7 @@ use Rattle.dd_rank.proofs.Told.{noted}
 use Rattle.dd_quick.specs.QuickTricks.{AreReached, AreTrumpsReached, SureTricks, beats, is_winner, run, length_at, shortest, cashed, leaders_tricks, top_trumps}
 use Rattle.dd_quick.proofs.Hands.{no-higher}
 use Rattle.dd_quick.proofs.Sound.{bounded}
-use Rattle.dd_play.proofs.Claims.{all, both}
+use Rattle.dd_play.proofs.ClaimRules.{all, both}
 
 -- a card of the list that passes
 some-card : (test : PlayingCard → Bool) (cards : List PlayingCard) → list_any test cards ≡ true → (d : PlayingCard) × (has_card cards d ≡ true) × (test d ≡ true)

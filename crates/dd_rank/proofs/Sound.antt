@@ -9,7 +9,7 @@ use Rattle.dd_cards.specs.Seats.{seat_after, is_north_south}
 use Rattle.dd_play.specs.Board.{Board, IsBoard, cards_at, left, mover}
 use Rattle.dd_play.specs.Value.{lead}
 use Rattle.dd_play.proofs.Boards.{flag_of}
-use Rattle.dd_play.proofs.Claims.{all}
+use Rattle.dd_play.proofs.ClaimRules.{all}
 use Rattle.dd_play.specs.Won.{won}
 use Rattle.dd_play.specs.Covers.{IsCover, count_of}
 use Rattle.dd_rank.specs.Depths.{IsCoverAt, depths_of}

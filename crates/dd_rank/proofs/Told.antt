@@ -11,7 +11,7 @@ use Rattle.dd_play.specs.Value.{lead}
 use Rattle.dd_play.specs.Won.{won}
 use Rattle.dd_play.specs.Reach.{reach, TakesBy}
 use Rattle.dd_play.proofs.Counts.{not-has}
-use Rattle.dd_play.proofs.Claims.{all}
+use Rattle.dd_play.proofs.ClaimRules.{all}
 use Rattle.dd_play.proofs.Worth.{reach-some, reach-upward}
 use Rattle.dd_rank.specs.Depths.{Covers, depths_of}
 use Rattle.dd_rank.proofs.AlikeLead.{won-lead}

@@ -15,7 +15,7 @@ use Rattle.dd_play.specs.Simulations.{IsLegal}
 use Rattle.dd_play.specs.Claims.{Takes}
 use Rattle.dd_play.proofs.Boards.{legal-leads, has-first, in-rest}
 use Rattle.dd_play.proofs.Rules.{won_with, won-true, won-false, can}
-use Rattle.dd_play.proofs.Claims.{all, exactly, one-point}
+use Rattle.dd_play.proofs.ClaimRules.{all, exactly, one-point}
 use Rattle.dd_equal.specs.EqualCards.{tops}
 use Rattle.dd_equal.proofs.Tops.{every-class}
 use Rattle.dd_search.proofs.Orders.{top-legal}

@@ -21,7 +21,7 @@ use Rattle.dd_play.specs.Claims.{Takes}
 use Rattle.dd_play.specs.Covers.{IsSettled, count_of}
 use Rattle.dd_play.specs.Reach.{reach, TakesBy, IsWorth}
 use Rattle.dd_play.proofs.Boards.{legal-leads}
-use Rattle.dd_play.proofs.Claims.{one-point, both}
+use Rattle.dd_play.proofs.ClaimRules.{one-point, both}
 use Rattle.dd_play.proofs.Worth.{by-nothing, by-fewer, by-more, by-one, by-here, worth-after, worth-fewer, worth-more, worth-low, reach-within, reach-upward, reach-some, reach-of}
 use Rattle.dd_play.proofs.Counts.{not-has}
 use Rattle.dd_equal.specs.EqualCards.{tops, IsWhole}

@@ -2,21 +2,30 @@
 #![tactic(auto)]
 
 mod answer;
-pub mod bounds;
+mod bounds;
 mod claim;
 mod follow;
 mod guess;
 mod known;
-pub mod laws;
+mod laws;
 mod lead;
-pub mod meter;
+mod meter;
 mod order;
-pub mod reaches;
+mod card_reaches;
 mod rests;
-pub mod score;
-pub mod start;
+mod card_scores;
+mod start;
 mod strength;
 mod takes;
+mod position_value;
+
+pub use bounds::{Bounds, NoTable};
+pub use laws::value_is_the_greatest_score;
+pub use meter::{Budget, Endless, Halt, Meter, Tick};
+pub use card_reaches::reaches;
+pub use card_scores::{score, score_up_to};
+pub use start::{start_scores, start_value};
+pub use position_value::value;
+
 #[cfg(test)]
 mod tests;
-pub mod value;

@@ -1,5 +1,5 @@
 use super::*;
-use dd_cards::suit::Suit;
+use dd_cards::Suit;
 use std::alloc::AllocError;
 use std::test::Fail;
 
