@@ -11,9 +11,9 @@ ghost use Rattle.dd_reply.specs.Served.{ended_lines, begun_line, last_line, Wrot
 use crate::counting::Counting;
 use crate::fault::Fault;
 use crate::line::Line;
-use crate::request_reader::read_request;
 use crate::reply::{LONGEST_REPLY, write_answer, write_fault, write_spent};
 use crate::request::Request;
+use crate::request_reader::read_request;
 use crate::solving::solve;
 use arrayvec::ArrayString;
 use dd_search::{Bounds, Budget, Endless};

@@ -7,9 +7,9 @@ mod engine;
 mod fault;
 mod laws;
 mod line;
-mod request_reader;
 mod reply;
 mod request;
+mod request_reader;
 mod solving;
 
 pub use answer::{Answer, Scored};
@@ -18,9 +18,9 @@ pub use engine::{LineFault, solve_lines};
 pub use fault::Fault;
 pub use laws::{one_meaning, worked_lines};
 pub use line::{LONGEST_LINE, Line};
-pub use request_reader::read_request;
 pub use reply::{LONGEST_REPLY, write_answer, write_fault, write_spent};
 pub use request::Request;
+pub use request_reader::read_request;
 pub use solving::{Solved, solve};
 
 #[cfg(test)]
