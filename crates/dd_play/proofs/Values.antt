@@ -10,7 +10,7 @@ use Rattle.dd_cards.specs.declared.seat.Seat.TheVariants.{North, East, South, We
 use Rattle.dd_cards.specs.PlayingCard.{PlayingCard}
 use Rattle.dd_cards.specs.Cards.{is_of, same_card, has_card, without}
 use Rattle.dd_cards.specs.Seats.{is_north_south}
-use Rattle.dd_cards.specs.Hands.{hand_of, with_hand, times}
+use Rattle.dd_cards.specs.Hands.{FourHands, hand_of, with_hand, times}
 use Rattle.dd_play.specs.Board.{Board, IsBoard, cards_at, mover, cards_left}
 use Rattle.dd_play.specs.Tricks.{or_else}
 use Rattle.dd_cards.proofs.Sets.{times-set}
@@ -52,20 +52,20 @@ length-without cards c once has =
     let k = times-has cards c has in
     omega arith
 
-unfoldable pub total : List (List PlayingCard) → ℕ
+-- the number of cards in the four hands
+unfoldable pub total : FourHands → ℕ
 total hands = length (hand_of hands North) + length (hand_of hands East) + length (hand_of hands South) + length (hand_of hands West)
 
 -- one hand loses a card
-pub total-with_hand : (hands : List (List PlayingCard)) (s : Seat) (cards : List PlayingCard) → length hands ≡ 4 → length cards + 1 ≡ length (hand_of hands s) → total (with_hand hands s cards) + 1 ≡ total hands
+pub total-with_hand : (hands : FourHands) (s : Seat) (cards : List PlayingCard) → length cards + 1 ≡ length (hand_of hands s) → total (with_hand hands s cards) + 1 ≡ total hands
 unfolding total
-total-with_hand (a ∷ b ∷ c ∷ d ∷ []) North cards four e = omega arith
-total-with_hand (a ∷ b ∷ c ∷ d ∷ []) East cards four e = omega arith
-total-with_hand (a ∷ b ∷ c ∷ d ∷ []) South cards four e = omega arith
-total-with_hand (a ∷ b ∷ c ∷ d ∷ []) West cards four e = omega arith
-total-with_hand hands s cards four e = absurd (omega arith)
+total-with_hand hands North cards e = omega arith
+total-with_hand hands East cards e = omega arith
+total-with_hand hands South cards e = omega arith
+total-with_hand hands West cards e = omega arith
 
 -- two boards of the same hands
-pub pick : (b : Bool) (r s : Board) (hands : List (List PlayingCard)) → r.hands ≡ hands → s.hands ≡ hands → (cond b r s).hands ≡ hands
+pub pick : (b : Bool) (r s : Board) (hands : FourHands) → r.hands ≡ hands → s.hands ≡ hands → (cond b r s).hands ≡ hands
 pick true r s hands e f = e
 pick false r s hands e f = f
 
@@ -79,7 +79,7 @@ unfolding total
 cards_left-after p c valid has =
     let own : has_card (cards_at p (mover p)) c ≡ true = in-following p.trick (cards_at p (mover p)) c has in
     ap (λ hands. total hands + 1) (hands-after p c)
-    ∙ total-with_hand p.hands (mover p) (without (cards_at p (mover p)) c) valid.four (length-without (cards_at p (mover p)) c (times-set (cards_at p (mover p)) c (valid.sets (mover p))) own)
+    ∙ total-with_hand p.hands (mover p) (without (cards_at p (mover p)) c) (length-without (cards_at p (mover p)) c (times-set (cards_at p (mover p)) c (valid.sets (mover p))) own)
 
 -- a disjunction by its second part
 pub or-right : (a b : Bool) → b ≡ true → (a || b) ≡ true
