@@ -10,3 +10,4 @@ pub mod Counts
 pub mod HandsLaws
 pub mod Codes
 pub mod Unions
+pub mod SideLaws

@@ -16,6 +16,8 @@ use Rattle.dd_play.specs.Board.{Board, IsBoard, cards_at, cards_left, mover, lef
 use Rattle.dd_play.specs.Tricks.{winner_of}
 use Rattle.dd_play.specs.Play.{legal, completes, trick_with, hands_after, after}
 use Rattle.dd_cards.specs.Suits.{suit_code}
+use Rattle.dd_cards.specs.Sides.{side_of}
+use Rattle.dd_cards.specs.declared.side.Side.{Side}
 use Rattle.dd_play.specs.Value.{better, best, gain, ns_within, ns}
 use Rattle.dd_cards.proofs.Sets.{times-cons}
 use Rattle.dd_play.proofs.Values.{in-following, length-without, times-has, or-right}
@@ -304,13 +306,13 @@ pub in-rest : (c d : PlayingCard) (cards : List PlayingCard) → has_card cards 
 in-rest c d cards h = or-right (same_card c d) (has_card cards d) h
 
 -- ---- North and South take no more tricks than are left
-pub fold-le : (side : Bool) (m x : ℕ) (cards : List PlayingCard) (f : PlayingCard → ℕ) → x ≤ m → ((c : PlayingCard) → has_card cards c ≡ true → f c ≤ m) → fold (better side) x (map f cards) ≤ m
+pub fold-le : (side : Side) (m x : ℕ) (cards : List PlayingCard) (f : PlayingCard → ℕ) → x ≤ m → ((c : PlayingCard) → has_card cards c ≡ true → f c ≤ m) → fold (better side) x (map f cards) ≤ m
 fold-le side m x [] f h each = h
 fold-le true m x (c ∷ cards) f h each = fold-le true m (max x (f c)) cards f (let k = each c (has-first c cards) in omega arith) (λ d has. each d (in-rest c d cards has))
 fold-le false m x (c ∷ cards) f h each = fold-le false m (min x (f c)) cards f (let k = each c (has-first c cards) in omega arith) (λ d has. each d (in-rest c d cards has))
 
 -- the best of numbers up to m is at most m
-pub best-le : (side : Bool) (m : ℕ) (cards : List PlayingCard) (f : PlayingCard → ℕ) → ((c : PlayingCard) → has_card cards c ≡ true → f c ≤ m) → best side (map f cards) ≤ m
+pub best-le : (side : Side) (m : ℕ) (cards : List PlayingCard) (f : PlayingCard → ℕ) → ((c : PlayingCard) → has_card cards c ≡ true → f c ≤ m) → best side (map f cards) ≤ m
 best-le side m [] f each = zero-le
 best-le side m (c ∷ cards) f each = fold-le side m (f c) cards f (each c (has-first c cards)) (λ d has. each d (in-rest c d cards has))
 
@@ -325,7 +327,7 @@ pub ns_within-le : (n : ℕ) (p : Board) → IsBoard p → ns_within n p ≤ lef
 unfolding ns_within
 ns_within-le zero p valid = zero-le
 ns_within-le (suc n) p valid =
-    best-le (is_north_south (mover p)) (left p) (legal p) (λ c. gain p c + ns_within n (after p c)) (λ c has.
+    best-le (side_of (mover p)) (left p) (legal p) (λ c. gain p c + ns_within n (after p c)) (λ c has.
     let q : Follows p (after p c) = legal-leads p c valid has in
     let ih : ns_within n (after p c) ≤ left (after p c) = ns_within-le n (after p c) q.valid in
     let g : gain p c ≤ flag_of (completes p) = gain-le (completes p) (is_north_south (winner_of (trick_with p c) p.first p.strain)) in

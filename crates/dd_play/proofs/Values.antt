@@ -9,8 +9,8 @@ use Rattle.dd_cards.specs.declared.seat.Seat.{Seat}
 use Rattle.dd_cards.specs.declared.seat.Seat.TheVariants.{North, East, South, West}
 use Rattle.dd_cards.specs.PlayingCard.{PlayingCard}
 use Rattle.dd_cards.specs.Cards.{is_of, same_card, has_card, without}
-use Rattle.dd_cards.specs.Seats.{is_north_south}
 use Rattle.dd_cards.specs.Hands.{FourHands, hand_of, with_hand, times}
+use Rattle.dd_cards.specs.Sides.{side_of}
 use Rattle.dd_play.specs.Board.{Board, IsBoard, cards_at, mover, cards_left}
 use Rattle.dd_play.specs.Tricks.{or_else}
 use Rattle.dd_cards.proofs.Sets.{times-set}
@@ -94,23 +94,23 @@ map-where f g (c ∷ cards) e =
     rw (e c here, map-where f g cards (λ d has. e d (or-right (same_card c d) (has_card cards d) has))) refl
 
 -- the value is the best of the values after each legal card
-pub ns-legal : (p : Board) → IsBoard p → ns p ≡ best (is_north_south (mover p)) (map (ns_with p) (legal p))
+pub ns-legal : (p : Board) → IsBoard p → ns p ≡ best (side_of (mover p)) (map (ns_with p) (legal p))
 unfolding ns_within
 ns-legal p valid = go (cards_left p) refl
   where
     step : (c : PlayingCard) → has_card (legal p) c ≡ true → cards_left (after p c) + 1 ≡ cards_left p
     step c has = cards_left-after p c valid has
 
-    none : (cards : List PlayingCard) → ((c : PlayingCard) → has_card cards c ≡ true → cards_left (after p c) + 1 ≡ cards_left p) → cards_left p ≡ 0 → 0 ≡ best (is_north_south (mover p)) (map (ns_with p) cards)
+    none : (cards : List PlayingCard) → ((c : PlayingCard) → has_card cards c ≡ true → cards_left (after p c) + 1 ≡ cards_left p) → cards_left p ≡ 0 → 0 ≡ best (side_of (mover p)) (map (ns_with p) cards)
     none [] f e = refl
     none (c ∷ cards) f e =
         let here : has_card (c ∷ cards) c ≡ true = rw (eq-eqb (suit_code c.suit) (suit_code c.suit) refl, eq-eqb c.rank c.rank refl) refl in
         absurd (let k = f c here in omega arith)
 
-    go : (n : ℕ) → cards_left p ≡ n → ns p ≡ best (is_north_south (mover p)) (map (ns_with p) (legal p))
+    go : (n : ℕ) → cards_left p ≡ n → ns p ≡ best (side_of (mover p)) (map (ns_with p) (legal p))
     go zero e = ap (λ n. ns_within n p) e ∙ none (legal p) step e
     go (suc n) e =
         ap (λ n. ns_within n p) e
-        ∙ ap (best (is_north_south (mover p))) (map-where (λ c. gain p c + ns_within n (after p c)) (ns_with p) (legal p) (λ c has.
+        ∙ ap (best (side_of (mover p))) (map-where (λ c. gain p c + ns_within n (after p c)) (ns_with p) (legal p) (λ c has.
         let same : n ≡ cards_left (after p c) = (let k = step c has in omega arith) in
         ap (λ k. gain p c + ns_within k (after p c)) same))

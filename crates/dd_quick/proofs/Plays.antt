@@ -6,10 +6,12 @@ use Rattle.std.proofs.lemmas.Bool.{cases_lt}
 use Rattle.dd_cards.specs.PlayingCard.{PlayingCard}
 use Rattle.dd_cards.specs.Cards.{has_card, without}
 use Rattle.dd_cards.specs.Hands.{times}
+use Rattle.dd_cards.specs.Sides.{is_side}
+use Rattle.dd_cards.specs.declared.side.Side.{Side}
 use Rattle.dd_play.specs.Board.{Board, IsBoard, cards_at, mover, left}
 use Rattle.dd_play.specs.Play.{legal, after}
 use Rattle.dd_play.specs.Simulations.{IsLegal}
-use Rattle.dd_play.specs.Won.{is_side, won}
+use Rattle.dd_play.specs.Won.{won}
 use Rattle.dd_play.proofs.Values.{times-has}
 use Rattle.dd_play.proofs.Boards.{flag_of, has-first, in-rest}
 use Rattle.dd_play.proofs.Counts.{count, count-cons, count-without}
@@ -17,7 +19,7 @@ use Rattle.dd_play.proofs.Rules.{won_with, can, least, no-legal}
 use Rattle.dd_play.proofs.Plays.{own-card, hand-own, once-in}
 
 -- what each legal card leaves the side, it takes, whoever is to play
-pub whoever : (s : Bool) (p : Board) (b : ℕ) → IsBoard p → 1 ≤ left p → ((c : PlayingCard) → IsLegal p c → b ≤ won_with s p c) → b ≤ won s p
+pub whoever : (s : Side) (p : Board) (b : ℕ) → IsBoard p → 1 ≤ left p → ((c : PlayingCard) → IsLegal p c → b ≤ won_with s p c) → b ≤ won s p
 whoever s p b valid some each = go (is_side s (mover p)) refl (legal p) refl
   where
     go : (a : Bool) → is_side s (mover p) ≡ a → (cards : List PlayingCard) → legal p ≡ cards → b ≤ won s p

@@ -4,6 +4,7 @@ use Rattle.dd_play.specs.Reach.{reach, TakesBy}
 use Rattle.dd_search.specs.Answers.{AnswerBy, ClaimBy, IsAnswerBy}
 use Rattle.dd_search.proofs.Relied.{claims-within, claim-wider}
 use Rattle.dd_search.proofs.value.north_souths_tricks.Goals as goal
+use Rattle.dd_cards.specs.declared.side.Side.TheVariants.{NorthSouth, EastWest}
 
 pub window-init : goal.window-init
 window-init g c = record {
@@ -19,7 +20,7 @@ window-preserved-then-answer g c =
     let said : c.in_ok-answer.answer.yes ≡ true = sym (ap (λ (a : AnswerBy). a.yes) c.answer.view_is) ∙ c.if-answer.true in
     let cards = ap (λ (a : AnswerBy). a.cards) (sym c.answer.view_is) in
     let answer : IsAnswerBy p need c.in_ok-answer.answer.cards true = subst (λ (b : Bool). IsAnswerBy p need c.in_ok-answer.answer.cards b) said c.in_ok-answer.ensures.rests in
-    let here : TakesBy (reach c.answer.inside.cards) true p need = subst (λ x. TakesBy (reach x) true p need) cards answer in
+    let here : TakesBy (reach c.answer.inside.cards) NorthSouth p need = subst (λ x. TakesBy (reach x) NorthSouth p need) cards answer in
     let ours : ClaimBy = record { tricks = need; cards = c.answer.inside.cards } in
     record {
       window = (here, c.window.invariant.window.1);
@@ -35,7 +36,7 @@ window-preserved g c =
     let cards = ap (λ (a : AnswerBy). a.cards) (sym c.answer.view_is) in
     let answer : IsAnswerBy p need c.in_ok-answer.answer.cards false = subst (λ (b : Bool). IsAnswerBy p need c.in_ok-answer.answer.cards b) said c.in_ok-answer.ensures.rests in
     let rest = ap (λ n. n + 1 - need) (sym c.tricks_left-left.ensures.tricks) in
-    let here : TakesBy (reach c.answer.inside.cards) false p (c.tricks_left-left.result + 1 - need) = subst (λ n. TakesBy (reach c.answer.inside.cards) false p n) rest (subst (λ x. TakesBy (reach x) false p (left p + 1 - need)) cards answer) in
+    let here : TakesBy (reach c.answer.inside.cards) EastWest p (c.tricks_left-left.result + 1 - need) = subst (λ n. TakesBy (reach c.answer.inside.cards) EastWest p n) rest (subst (λ x. TakesBy (reach x) EastWest p (left p + 1 - need)) cards answer) in
     let theirs : ClaimBy = record { tricks = c.tricks_left-left.result + 1 - need; cards = c.answer.inside.cards } in
     record {
       window = (c.window.invariant.window.0, here);
