@@ -11,3 +11,5 @@ pub mod HandsLaws
 pub mod Codes
 pub mod Unions
 pub mod SideLaws
+pub mod General
+pub mod CallerLemmas

@@ -3,10 +3,10 @@ use Rattle.std.proofs.Common.{◌≡◌, ℕ, suc, ◌+◌, ◌-◌, ◌≤◌, 
 use Rattle.std.specs.Prelude.{map, fold, filter, ◌&&◌}
 use Rattle.dd_cards.specs.PlayingCard.{PlayingCard}
 use Rattle.dd_cards.specs.Cards.{is_of, has_card, same_card}
+use Rattle.dd_cards.proofs.CallerLemmas.{same_card-eq}
 use Rattle.dd_cards.specs.Sides.{side_of, same_side, is_side}
 use Rattle.dd_cards.specs.declared.side.Side.{Side}
 use Rattle.dd_cards.specs.declared.side.Side.TheVariants.{NorthSouth, EastWest}
-use Rattle.dd_cards.proofs.CardLists.{same_card-eq}
 use Rattle.dd_play.specs.Board.{Board, IsBoard, cards_at, mover, left}
 use Rattle.dd_play.specs.Tricks.{or_else, winner_of}
 use Rattle.dd_play.specs.Play.{legal, following, completes, trick_with, after}

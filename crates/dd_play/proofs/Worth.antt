@@ -5,10 +5,9 @@ use Rattle.std.proofs.lemmas.Bool.{le-leb, leb-true}
 use Rattle.std.proofs.lemmas.Bool.Decides.{nat_tests}
 use Rattle.dd_cards.specs.PlayingCard.{PlayingCard}
 use Rattle.dd_cards.specs.Cards.{is_of, has_card, same_card}
+use Rattle.dd_cards.proofs.CallerLemmas.{and-left, and-right, same_card-eq}
 use Rattle.dd_cards.specs.Sides.{is_side}
 use Rattle.dd_cards.specs.declared.side.Side.{Side}
-use Rattle.dd_cards.proofs.HandLists.{and-left, and-right}
-use Rattle.dd_cards.proofs.CardLists.{same_card-eq}
 use Rattle.dd_play.specs.Board.{Board, IsBoard, mover, left}
 use Rattle.dd_play.specs.Play.{after}
 use Rattle.dd_play.specs.Won.{won, point}
@@ -21,7 +20,7 @@ use Rattle.dd_play.proofs.Plays.{suit-of, of-suit'}
 use Rattle.dd_play.proofs.Rules.{won_with, can, least}
 use Rattle.dd_play.proofs.Steps.{answer, answer', stepped}
 use Rattle.dd_play.proofs.Twins.{sides-turned}
-use Rattle.dd_play.proofs.Claims.{some-legal}
+use Rattle.dd_play.proofs.ClaimRules.{some-legal}
 use Rattle.dd_play.proofs.Fewer.{cover-fewer, answers-fewer, strict-fewer, strict-after}
 
 -- cards that are upward are so among those that can meet

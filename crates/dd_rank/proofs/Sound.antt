@@ -10,15 +10,13 @@ use Rattle.dd_cards.specs.Sides.{side_of, other_side}
 use Rattle.dd_cards.specs.declared.side.Side.{Side}
 use Rattle.dd_play.specs.Board.{Board, IsBoard, cards_at, left, mover}
 use Rattle.dd_play.specs.Value.{lead}
-use Rattle.dd_play.proofs.Boards.{flag_of}
-use Rattle.dd_play.proofs.Claims.{all, lead-won}
+use Rattle.dd_play.proofs.CallerLemmas.{all, count-cons, flag_of, lead-won}
 use Rattle.dd_play.specs.Won.{won}
 use Rattle.dd_play.specs.Covers.{IsCover, count_of}
 use Rattle.dd_rank.specs.Depths.{IsCoverAt, depths_of}
 use Rattle.dd_play.specs.Reach.{TakesBy}
-use Rattle.dd_play.proofs.Counts.{count-cons}
 use Rattle.dd_rank.proofs.Covered.{to_of, covers-cover, IsLifted, lifted-top, by-covered}
-use Rattle.dd_cards.proofs.SideLaws.{same-not}
+use Rattle.dd_cards.proofs.CallerLemmas.{same-not}
 
 -- the other two sides are related too
 pub other-sides : (top : PlayingCard → Bool) (k : ℕ) (to from : PlayingCard → PlayingCard) (s : Side) (p : Board) (t : Side) (q : Board) → IsCover top k to from s p t q → IsCover top k to from (other_side s) p (other_side t) q
