@@ -18,6 +18,7 @@ use Rattle.dd_play.specs.Play.{legal, completes, trick_with, hands_after, after}
 use Rattle.dd_cards.specs.Suits.{suit_code}
 use Rattle.dd_cards.specs.Sides.{side_of}
 use Rattle.dd_cards.specs.declared.side.Side.{Side}
+use Rattle.dd_cards.specs.declared.side.Side.TheVariants.{NorthSouth, EastWest}
 use Rattle.dd_play.specs.Value.{better, best, gain, ns_within, ns}
 use Rattle.dd_play.proofs.Values.{in-following, length-without, times-has}
 use Rattle.std.proofs.lemmas.List.Folds.{list_any-append}
@@ -302,10 +303,12 @@ pub in-rest : (c d : PlayingCard) (cards : List PlayingCard) → has_card cards 
 in-rest c d cards h = or-right (same_card c d) (has_card cards d) h
 
 -- ---- North and South take no more tricks than are left
+
+-- the best of numbers up to m, from one of them on, is at most m
 pub fold-le : (side : Side) (m x : ℕ) (cards : List PlayingCard) (f : PlayingCard → ℕ) → x ≤ m → ((c : PlayingCard) → has_card cards c ≡ true → f c ≤ m) → fold (better side) x (map f cards) ≤ m
 fold-le side m x [] f h each = h
-fold-le true m x (c ∷ cards) f h each = fold-le true m (max x (f c)) cards f (let k = each c (has-first c cards) in omega arith) (λ d has. each d (in-rest c d cards has))
-fold-le false m x (c ∷ cards) f h each = fold-le false m (min x (f c)) cards f (let k = each c (has-first c cards) in omega arith) (λ d has. each d (in-rest c d cards has))
+fold-le NorthSouth m x (c ∷ cards) f h each = fold-le NorthSouth m (max x (f c)) cards f (let k = each c (has-first c cards) in omega arith) (λ d has. each d (in-rest c d cards has))
+fold-le EastWest m x (c ∷ cards) f h each = fold-le EastWest m (min x (f c)) cards f (let k = each c (has-first c cards) in omega arith) (λ d has. each d (in-rest c d cards has))
 
 -- the best of numbers up to m is at most m
 pub best-le : (side : Side) (m : ℕ) (cards : List PlayingCard) (f : PlayingCard → ℕ) → ((c : PlayingCard) → has_card cards c ≡ true → f c ≤ m) → best side (map f cards) ≤ m

@@ -20,7 +20,7 @@ use Rattle.dd_play.specs.Tricks.{is_trump}
 use Rattle.dd_play.specs.Value.{ns, lead}
 use Rattle.dd_play.specs.Covers.{count_of}
 use Rattle.dd_play.specs.Won.{won}
-use Rattle.dd_play.proofs.CallerLemmas.{card-real, count, filter-has, filter-passes, has-first, in-rest, ns-le, same-or, suit-of, lead-won}
+use Rattle.dd_play.proofs.CallerLemmas.{all, card-real, count, filter-has, filter-passes, has-first, in-rest, ns-le, same-or, suit-of, lead-won}
 use Rattle.dd_quick.specs.QuickTricks.{is_winner, run, shortest, cashed, leaders_tricks, top_trumps}
 use Rattle.dd_quick.proofs.Hands.{no-higher}
 use Rattle.dd_quick.proofs.Plays.{count-where}
