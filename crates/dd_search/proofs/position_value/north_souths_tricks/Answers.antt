@@ -47,7 +47,7 @@ window-preserved g c =
 pub returns-clause-theirs : goal.returns-clause-theirs
 returns-clause-theirs g c =
     let tricks = ap (λ (a : ClaimBy). a.tricks) c.ours.view_is in
-    claim-wider true c.args.position.now c.window.ours c.union.result c.ours.inside.tricks c.window.invariant.window.0 (rw (← ap (λ (a : ClaimBy). a.cards) c.ours.view_is) c.union.ensures.left) (omega (arith, tricks))
+    claim-wider NorthSouth c.args.position.now c.window.ours c.union.result c.ours.inside.tricks c.window.invariant.window.0 (rw (← ap (λ (a : ClaimBy). a.cards) c.ours.view_is) c.union.ensures.left) (omega (arith, tricks))
 
 pub returns-clause-others : goal.returns-clause-others
 returns-clause-others g c =
@@ -55,4 +55,4 @@ returns-clause-others g c =
     let theirs = ap (λ (a : ClaimBy). a.tricks) c.theirs.view_is in
     let left_is = c.tricks_left-left.ensures.tricks in
     let done = c.window-test.false in
-    claim-wider false c.args.position.now c.window.theirs c.union.result _ c.window.invariant.window.1 (rw (← ap (λ (a : ClaimBy). a.cards) c.theirs.view_is) c.union.ensures.right) (omega (arith, ours, theirs, left_is, done))
+    claim-wider EastWest c.args.position.now c.window.theirs c.union.result _ c.window.invariant.window.1 (rw (← ap (λ (a : ClaimBy). a.cards) c.theirs.view_is) c.union.ensures.right) (omega (arith, ours, theirs, left_is, done))
