@@ -1,15 +1,13 @@
 -- a hand's bits and its cards
 use Rattle.std.proofs.Common.{◌≡◌, ◌≢◌, ℕ, ◌*◌, ◌%◌, ◌^◌, ◌<◌, ◌≤◌, Bool, true, false, cond, refl, sym, ap, ◌∙◌, arith, List, [], ◌∷◌, nat_eq, inl, inr, ◌⊎◌, eq-eqb, length, bit_and, bit_or, w64, min, get_or, set, get_or-set_same, get_or-set_other, Option, None, Some}
-use Rattle.std.specs.Prelude.{filter, map, ◌==◌, ◌||◌, ◌&&◌, is_some, IfNone}
+use Rattle.std.specs.Prelude.{filter, ◌==◌, ◌||◌, ◌&&◌, is_some, IfNone}
 use mathlib.Core.Bool.{not}
 use Rattle.std.specs.List.{list_all}
 use Rattle.std.specs.Int.{bit_at, bit_not}
-use Rattle.std.proofs.Math.ListN as listn
 use Rattle.std.proofs.lemmas.Bool.{eqb-true}
 use Rattle.std.proofs.lemmas.Bool.Decides.{eqb_tells}
 use Rattle.std.proofs.lemmas.Nat.{one_shl, pow_pos}
 use Rattle.std.proofs.lemmas.Nat.Bits.{and_pow, bit_at-lt, bit_at_set_same, bit_at_set_other, bit_at_clear_same, bit_at_clear_other, bit_at_and}
-use Rattle.std.proofs.lemmas.List.{map-set}
 use Rattle.std.proofs.lemmas.Map.Views.{any-filter_same}
 use Rattle.dd_cards.specs.declared.seat.Seat.{Seat}
 use Rattle.dd_cards.specs.declared.seat.Seat.TheVariants.{North, East, South, West}
@@ -17,8 +15,8 @@ use Rattle.dd_cards.specs.Seats.{seat_code}
 use Rattle.dd_cards.specs.Suits.{suit_code}
 use Rattle.dd_cards.specs.PlayingCard.{PlayingCard}
 use Rattle.dd_cards.specs.Cards.{same_card, deck, has_card, place_of, with_card, without}
-use Rattle.dd_cards.specs.HandMasks.{in_hand, cards_of, mask_at, AreHandMasks}
-use Rattle.dd_cards.specs.Hands.{hand_of, with_hand, AreDisjoint}
+use Rattle.dd_cards.specs.HandMasks.{in_hand, cards_of, mask_at, hands_of, AreHandMasks}
+use Rattle.dd_cards.specs.Hands.{dealt, hand_of, with_hand, hands_without, AreDisjoint}
 use Rattle.dd_cards.proofs.Masks.{bit_times}
 use Rattle.dd_cards.proofs.CardLists.{suit_code-lt, IsRank-from, compared, same_card-eq, has_card-deck, real_deck}
 use Rattle.dd_cards.specs.Ranks.{IsRank, is_rank}
@@ -90,9 +88,11 @@ pub seat_code-injective : (s t : Seat) → seat_code s ≡ seat_code t → s ≡
 seat_code-injective s t e = sym (seat_from-seat_code s) ∙ ap seat_from e ∙ seat_from-seat_code t
 
 -- a seat's cards are those of its mask
-pub hand_of-map : (masks : List ℕ) (s : Seat) → hand_of (map cards_of masks) s ≡ cards_of (mask_at masks s)
-hand_of-map masks s =
-    ap (λ d. get_or (map cards_of masks) (seat_code s) d) (sym cards_of-zero) ∙ listn.get_or-map cards_of masks (seat_code s) 0
+pub hand_of-masks : (masks : List ℕ) (s : Seat) → hand_of (hands_of masks) s ≡ cards_of (mask_at masks s)
+hand_of-masks masks North = refl
+hand_of-masks masks East = refl
+hand_of-masks masks South = refl
+hand_of-masks masks West = refl
 
 -- a seat's code is below 4
 pub seat_code-lt : (s : Seat) → seat_code s < 4
@@ -153,17 +153,17 @@ passes t c (x ∷ xs) all h =
     ] refl h
 
 -- the bit of a card of a hand
-pub holds : (masks : List ℕ) (c : PlayingCard) (s : Seat) → has_card (hand_of (map cards_of masks) s) c ≡ true → bit_at (mask_at masks s) (place_of c) ≡ 1
+pub holds : (masks : List ℕ) (c : PlayingCard) (s : Seat) → has_card (hand_of (hands_of masks) s) c ≡ true → bit_at (mask_at masks s) (place_of c) ≡ 1
 unfolding cards_of
 holds masks c s h =
     let m : ℕ = mask_at masks s in
     let e : has_card (cards_of m) c ≡ (in_hand m c && has_card deck c) = any-filter_same (λ d. same_card d c) (in_hand m) (in_hand m c) (λ d e. ap (in_hand m) (same_card-eq d c e)) deck in
-    let k : (in_hand m c && has_card deck c) ≡ true = sym e ∙ ap (λ cards. has_card cards c) (sym (hand_of-map masks s)) ∙ h in
+    let k : (in_hand m c && has_card deck c) ≡ true = sym e ∙ ap (λ cards. has_card cards c) (sym (hand_of-masks masks s)) ∙ h in
     eqb-true _ _ (and-left (in_hand m c) (has_card deck c) k)
 
 -- a new bit
 pub AreHandMasks-insert : (masks : List ℕ) (seat : Seat) (c : PlayingCard) → length masks ≡ 4 → AreHandMasks masks → IsRank c.rank
-    → ((t : Seat) → has_card (hand_of (map cards_of masks) t) c ≡ false)
+    → ((t : Seat) → has_card (hand_of (hands_of masks) t) c ≡ false)
     → AreHandMasks (set masks (seat_code seat) (bit_or (mask_at masks seat) (1 * 2 ^ place_of c % 2 ^ 64)))
 AreHandMasks-insert masks seat c four valid real absent =
     let m : ℕ = mask_at masks seat in
@@ -172,7 +172,7 @@ AreHandMasks-insert masks seat c four valid real absent =
     (λ i t h ne k. elim (bit_of-or m c i real h) [
       | inl old ↦ ne (valid.one_holder i t seat k old)
       | inr new ↦ (
-          let none : in_hand (mask_at masks t) c ≡ false = sym (has_card-cards_of (mask_at masks t) c real) ∙ ap (λ cards. has_card cards c) (sym (hand_of-map masks t)) ∙ absent t in
+          let none : in_hand (mask_at masks t) c ≡ false = sym (has_card-cards_of (mask_at masks t) c real) ∙ ap (λ cards. has_card cards c) (sym (hand_of-masks masks t)) ∙ absent t in
           let one : in_hand (mask_at masks t) c ≡ true = eq-eqb _ _ (ap (bit_at (mask_at masks t)) (sym new) ∙ k) in
           cc
           )
@@ -187,7 +187,7 @@ AreHandMasks-remove masks seat n four valid =
     (λ i t h ne k. ne (valid.one_holder i t seat k (bit_of-and (mask_at masks seat) n i h)))
 
 -- no card is in two hands
-pub AreDisjoint-masks : (masks : List ℕ) → AreHandMasks masks → AreDisjoint (map cards_of masks)
+pub AreDisjoint-masks : (masks : List ℕ) → AreHandMasks masks → AreDisjoint (hands_of masks)
 AreDisjoint-masks masks valid c s t h k =
     let one = holds masks c s h in
     let two = holds masks c t k in
@@ -195,14 +195,18 @@ AreDisjoint-masks masks valid c s t h k =
 
 -- ---- what the answers cite
 pub has_test : (masks : List ℕ) (s : Seat) (c : PlayingCard) (k p : ℕ) → k ≡ seat_code s → p ≡ place_of c → IsRank c.rank
-    → not (nat_eq (bit_and (get_or masks k 0) (1 * 2 ^ p % 2 ^ 64)) 0) ≡ has_card (hand_of (map cards_of masks) s) c
+    → not (nat_eq (bit_and (get_or masks k 0) (1 * 2 ^ p % 2 ^ 64)) 0) ≡ has_card (hand_of (hands_of masks) s) c
 has_test masks s c k p ke pe real =
     rw (ke, pe) (bit_test (mask_at masks s) (place_of c) (place_of-lt c real))
-    ∙ sym (has_card-cards_of (mask_at masks s) c real) ∙ ap (λ cards. has_card cards c) (sym (hand_of-map masks s))
+    ∙ sym (has_card-cards_of (mask_at masks s) c real) ∙ ap (λ cards. has_card cards c) (sym (hand_of-masks masks s))
 
 -- a mask that is written is a hand that is written
-pub hand-set : (masks : List ℕ) (s : Seat) (v : ℕ) (cards : List PlayingCard) → cards_of v ≡ cards → map cards_of (set masks (seat_code s) v) ≡ with_hand (map cards_of masks) s cards
-hand-set masks s v cards e = map-set cards_of masks (seat_code s) v ∙ ap (λ x. set (map cards_of masks) (seat_code s) x) e
+pub hand-set : (masks : List ℕ) (s : Seat) (v : ℕ) (cards : List PlayingCard) → length masks ≡ 4 → cards_of v ≡ cards → hands_of (set masks (seat_code s) v) ≡ with_hand (hands_of masks) s cards
+hand-set (a ∷ b ∷ c ∷ d ∷ []) North v cards four e = ap (λ x. dealt x (cards_of b) (cards_of c) (cards_of d)) e
+hand-set (a ∷ b ∷ c ∷ d ∷ []) East v cards four e = ap (λ x. dealt (cards_of a) x (cards_of c) (cards_of d)) e
+hand-set (a ∷ b ∷ c ∷ d ∷ []) South v cards four e = ap (λ x. dealt (cards_of a) (cards_of b) x (cards_of d)) e
+hand-set (a ∷ b ∷ c ∷ d ∷ []) West v cards four e = ap (λ x. dealt (cards_of a) (cards_of b) (cards_of c) x) e
+hand-set masks s v cards four e = absurd (omega (arith, four))
 
 -- what holds of None, where the answer is not a Some
 pub none_of : {X : Type 0} (o : Option X) (P : Type 0) → is_some o ≡ false → IfNone o P → P
@@ -229,18 +233,9 @@ AreHandMasks-kept masks n valid =
       one_holder = λ i s t h k. valid.one_holder i s t (bit_of-and (mask_at masks s) n i (rw (mask_at-kept masks n s) at h)) (bit_of-and (mask_at masks t) n i (rw (mask_at-kept masks n t) at k));
     }
 
--- four numbers, one by one
-four-places : (masks : List ℕ) → length masks ≡ 4 → masks ≡ get_or masks 0 0 ∷ get_or masks 1 0 ∷ get_or masks 2 0 ∷ get_or masks 3 0 ∷ []
-four-places [] four = absurd (omega (arith, four))
-four-places (a ∷ []) four = absurd (omega (arith, four))
-four-places (a ∷ b ∷ []) four = absurd (omega (arith, four))
-four-places (a ∷ b ∷ c ∷ []) four = absurd (omega (arith, four))
-four-places (a ∷ b ∷ c ∷ d ∷ []) four = refl
-four-places (a ∷ b ∷ c ∷ d ∷ e ∷ rest) four = absurd (omega (arith, four))
-
 -- clearing a card's bit in all hands takes the card out of each
-pub cards_of-kept : (masks : List ℕ) (c : PlayingCard) → length masks ≡ 4 → IsRank c.rank → place_of c < 64
-    → map cards_of (kept_bits masks (bit_not w64 (1 * 2 ^ place_of c % 2 ^ 64))) ≡ map (λ cards. without cards c) (map cards_of masks)
-cards_of-kept masks c four real within =
+pub cards_of-kept : (masks : List ℕ) (c : PlayingCard) → IsRank c.rank → place_of c < 64
+    → hands_of (kept_bits masks (bit_not w64 (1 * 2 ^ place_of c % 2 ^ 64))) ≡ hands_without (hands_of masks) c
+cards_of-kept masks c real within =
     let out = λ (k : ℕ). cards_of-remove (get_or masks k 0) c real within in
-    rw (out 0, out 1, out 2, out 3) (ap (λ ms. map (λ cards. without cards c) (map cards_of ms)) (sym (four-places masks four)))
+    rw (out 0, out 1, out 2, out 3) refl

@@ -10,5 +10,6 @@ pub mod Counts
 pub mod HandsLaws
 pub mod Codes
 pub mod Unions
+pub mod SideLaws
 pub mod General
 pub mod CallerLemmas

@@ -14,7 +14,7 @@ use Rattle.dd_cards.specs.PlayingCard.{PlayingCard}
 use Rattle.dd_cards.specs.Ranks.{IsRank, is_rank, has_rank, all_ranks, lowest_ranks}
 use Rattle.dd_cards.specs.Masks.{in_mask, ranks_of}
 use Rattle.dd_cards.specs.Cards.{is_of, same_card, card_of, suit_cards, deck, has_card, with_card, without}
-use Rattle.dd_cards.specs.Hands.{hand_of, times, IsSet, AreHands}
+use Rattle.dd_cards.specs.Hands.{hand_of, times, IsSet, AreHands, FourHands}
 use Rattle.dd_cards.proofs.CardLists.{same_card-eq, has_card-deck, real_deck, IsRank-from}
 use Rattle.dd_cards.proofs.HandLists.{filter-deck, passes}
 use Rattle.dd_cards.proofs.Lanes.{parts, four-parts}
@@ -163,7 +163,7 @@ length-suit s cards set =
     rw (suit-part s cards set) (omega arith)
 
 -- four hands hold at most 52 cards
-pub length-hands : (hands : List (List PlayingCard)) → AreHands hands
+pub length-hands : (hands : FourHands) → AreHands hands
     → length (hand_of hands North) + length (hand_of hands East) + length (hand_of hands South) + length (hand_of hands West) ≤ 52
 length-hands hands valid =
     let has = λ (s : Seat). has_card (hand_of hands s) in

@@ -1,14 +1,13 @@
 -- a hand is a set
 use Rattle.std.proofs.Common.{◌≡◌, ℕ, ◌+◌, ◌≤◌, Bool, true, false, cond, refl, ap, ◌∙◌, subst, arith, List, [], ◌∷◌, length}
-use Rattle.std.specs.Prelude.{filter, map, nat_lt}
+use Rattle.std.specs.Prelude.{filter, nat_lt}
 use Rattle.std.specs.List.{list_all}
-use Rattle.std.proofs.lemmas.List.{length-map}
 use Rattle.std.proofs.lemmas.List.Filters.{length-filter_both}
 use Rattle.dd_cards.specs.PlayingCard.{PlayingCard}
 use Rattle.dd_cards.specs.Cards.{same_card, has_card, deck, place_of}
-use Rattle.dd_cards.specs.HandMasks.{in_hand, cards_of, mask_at, AreHandMasks}
+use Rattle.dd_cards.specs.HandMasks.{in_hand, cards_of, mask_at, hands_of, AreHandMasks}
 use Rattle.dd_cards.specs.Hands.{times, IsSet, AreHands}
-use Rattle.dd_cards.proofs.HandLists.{hand_of-map, filter-deck, has_card-cards_of, AreDisjoint-masks}
+use Rattle.dd_cards.proofs.HandLists.{filter-deck, has_card-cards_of, AreDisjoint-masks, hand_of-masks}
 use Rattle.dd_cards.proofs.CardLists.{same_card-eq}
 use Rattle.dd_cards.proofs.Firsts.{falls, falls-deck, lower-differs}
 use Rattle.dd_cards.proofs.General.{and-left, and-right}
@@ -77,11 +76,10 @@ length-set_of_cards cards set =
     omega arith
 
 -- the hands of four masks are four hands
-pub AreHands-masks : (masks : List ℕ) → length masks ≡ 4 → AreHandMasks masks → AreHands (map cards_of masks)
-AreHands-masks masks four valid =
+pub AreHands-masks : (masks : List ℕ) → AreHandMasks masks → AreHands (hands_of masks)
+AreHands-masks masks valid =
     record {
-      four = length-map masks cards_of ∙ four;
-      sets = λ s. rw (hand_of-map masks s) (IsSet-cards_of (mask_at masks s));
+      sets = λ s. rw (hand_of-masks masks s) (IsSet-cards_of (mask_at masks s));
       disjoint = AreDisjoint-masks masks valid;
     }
 

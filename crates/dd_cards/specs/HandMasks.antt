@@ -3,8 +3,10 @@ use Rattle.std.specs.Prelude.{◌≡◌, ℕ, ◌==◌, ◌<◌, ◌≤◌, ◌%
 use Rattle.std.specs.Int.{bit_at}
 use Rattle.dd_cards.specs.PlayingCard.{PlayingCard}
 use Rattle.dd_cards.specs.declared.seat.Seat.{Seat}
+use Rattle.dd_cards.specs.declared.seat.Seat.TheVariants.{North, East, South, West}
 use Rattle.dd_cards.specs.Seats.{seat_code}
 use Rattle.dd_cards.specs.Cards.{deck, place_of}
+use Rattle.dd_cards.specs.Hands.{FourHands, dealt}
 
 -- is the card's bit set?
 abbrev pub in_hand : ℕ → PlayingCard → Bool
@@ -22,6 +24,10 @@ hand_mask_of (c ∷ cards) = bit_or (2 ^ place_of c) (hand_mask_of cards)
 -- the mask of a seat, of four from North clockwise
 abbrev pub mask_at : List ℕ → Seat → ℕ
 mask_at masks seat = slice_index_or masks (seat_code seat) 0
+
+-- the hands whose cards have their bits set
+abbrev pub hands_of : List ℕ → FourHands
+hands_of masks = dealt (cards_of (mask_at masks North)) (cards_of (mask_at masks East)) (cards_of (mask_at masks South)) (cards_of (mask_at masks West))
 
 -- only bits of cards are set
 abbrev pub IsHandMask : ℕ → Type 0

@@ -1,6 +1,8 @@
-use Rattle.std.specs.Prelude.{ℕ, zero, suc, Bool, true, false}
+use Rattle.std.specs.Prelude.{ℕ, zero, suc, Bool}
 use Rattle.dd_cards.specs.declared.seat.Seat.{Seat}
 use Rattle.dd_cards.specs.declared.seat.Seat.TheVariants.{North, East, South, West}
+use Rattle.dd_cards.specs.declared.side.Side.TheVariants.{NorthSouth}
+use Rattle.dd_cards.specs.Sides.{is_side}
 
 -- the code of a seat (DDS hand)
 abbrev pub seat_code : Seat → ℕ
@@ -23,7 +25,4 @@ seat_after seat (suc k) = next_seat (seat_after seat k)
 
 -- is it North or South?
 abbrev pub is_north_south : Seat → Bool
-is_north_south North = true
-is_north_south East = false
-is_north_south South = true
-is_north_south West = false
+is_north_south seat = is_side NorthSouth seat

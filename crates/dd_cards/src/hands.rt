@@ -1,6 +1,6 @@
-ghost use Rattle.std.specs.Prelude.{◌≡◌, ◌∷◌, [], ◌↔◌, Bool, true, false, IsTrue, IfSome, IfNone, if◌then◌else◌, map, filter, length};
+ghost use Rattle.std.specs.Prelude.{◌≡◌, [], ◌↔◌, Bool, true, false, IsTrue, IfSome, IfNone, if◌then◌else◌, map, filter, length};
 ghost use Rattle.dd_cards.specs.Cards.{card_of, is_of, has_card, with_card, without};
-ghost use Rattle.dd_cards.specs.Hands.{hand_of, with_hand, AreHands};
+ghost use Rattle.dd_cards.specs.Hands.{dealt, hand_of, with_hand, hands_without, AreHands};
 
 use crate::card::Card;
 use crate::hand::Hand;
@@ -9,7 +9,7 @@ use crate::seat::Seat;
 use crate::suit::Suit;
 use std::marker::Model;
 
-/// A set of cards for each seat, no card in two of them, seen as the list of the four hands from North clockwise.
+/// A set of cards for each seat, no card in two of them, seen as the four lists of their cards.
 // Each hand is 64 bits, sixteen for each suit, the spades on top.
 #[derive(Drop)]
 pub struct Hands {
@@ -17,13 +17,12 @@ pub struct Hands {
 }
 
 impl Model for Hands {
-    ghost use Rattle.std.specs.Prelude.{List, map};
-    ghost use Rattle.dd_cards.specs.PlayingCard.{PlayingCard};
-    ghost use Rattle.dd_cards.specs.HandMasks.{cards_of, AreHandMasks};
+    ghost use Rattle.dd_cards.specs.Hands.{FourHands};
+    ghost use Rattle.dd_cards.specs.HandMasks.{hands_of, AreHandMasks};
 
-    ghost Value = { List (List PlayingCard) };
+    ghost Value = { FourHands };
 
-    ghost view = { λ h. map cards_of h.masks };
+    ghost view = { λ h. hands_of h.masks };
 
     ghost invariant = { λ h. AreHandMasks h.masks };
 }
@@ -31,7 +30,7 @@ impl Model for Hands {
 impl Hands {
     /// Four hands without cards.
     pub fn new() -> Hands
-        ensures { result ≡ [] ∷ [] ∷ [] ∷ [] ∷ [] }
+        ensures { result ≡ dealt [] [] [] [] }
     {
         Hands { masks: [0; 4] }
     }
@@ -120,7 +119,7 @@ impl Hands {
     // All four in registers: a hand that was changed in place would be read again before its write is done.
     #[inline]
     pub fn without(&self, card: Card) -> Hands
-        ensures { result ≡ map (λ cards. without cards card) self.now }
+        ensures { result ≡ hands_without self.now card }
     {
         let kept = !(1 << card.place());
         let [north, east, south, west] = self.masks;

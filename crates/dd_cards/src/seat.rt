@@ -1,5 +1,5 @@
 ghost use Rattle.std.specs.Prelude.{◌≡◌, ◌<◌, ◌↔◌, IsSome, IfSome};
-ghost use Rattle.dd_cards.specs.Seats.{seat_code, next_seat, is_north_south};
+ghost use Rattle.dd_cards.specs.Seats.{seat_code, next_seat, seat_after, is_north_south};
 ghost use Rattle.dd_cards.specs.Sides.{side_of};
 
 use crate::side::Side;
@@ -50,6 +50,37 @@ impl Seat {
             Seat::East => Seat::South,
             Seat::South => Seat::West,
             Seat::West => Seat::North,
+        }
+    }
+
+    /// The left-hand opponent, who sits next clockwise.
+    pub fn left(self) -> Seat
+        ensures { result ≡ seat_after self 1 }
+    {
+        self.next()
+    }
+
+    /// The partner, who sits opposite.
+    pub fn partner(self) -> Seat
+        ensures { result ≡ seat_after self 2 }
+    {
+        match self {
+            Seat::North => Seat::South,
+            Seat::East => Seat::West,
+            Seat::South => Seat::North,
+            Seat::West => Seat::East,
+        }
+    }
+
+    /// The right-hand opponent.
+    pub fn right(self) -> Seat
+        ensures { result ≡ seat_after self 3 }
+    {
+        match self {
+            Seat::North => Seat::West,
+            Seat::East => Seat::North,
+            Seat::South => Seat::East,
+            Seat::West => Seat::South,
         }
     }
 

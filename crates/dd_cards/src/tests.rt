@@ -119,14 +119,15 @@ fn a_card_code_is_sixteen_times_the_suit_plus_the_rank(rt: HostRuntime) {
 
 #[test]
 fn play_goes_clockwise_and_partners_sit_opposite(rt: HostRuntime) {
-    for (seat, next, side) in [
-        (Seat::North, Seat::East, Side::NorthSouth),
-        (Seat::East, Seat::South, Side::EastWest),
-        (Seat::South, Seat::West, Side::NorthSouth),
-        (Seat::West, Seat::North, Side::EastWest),
+    for (seat, next, partner, side) in [
+        (Seat::North, Seat::East, Seat::South, Side::NorthSouth),
+        (Seat::East, Seat::South, Seat::West, Side::EastWest),
+        (Seat::South, Seat::West, Seat::North, Side::NorthSouth),
+        (Seat::West, Seat::North, Seat::East, Side::EastWest),
     ] {
-        assert_eq!(rt; seat.next(), next);
-        assert_eq!(rt; seat.side(), side);
+        assert_eq!(rt; (seat.next(), seat.left()), (next, next));
+        assert_eq!(rt; (seat.partner(), seat.right()), (partner, partner.next()));
+        assert_eq!(rt; (seat.side(), partner.side()), (side, side));
         assert_eq!(rt; seat.is_north_south(), side == Side::NorthSouth);
     }
 }

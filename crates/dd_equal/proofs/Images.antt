@@ -12,9 +12,10 @@ use Rattle.dd_cards.specs.PlayingCard.{PlayingCard}
 use Rattle.dd_cards.specs.Cards.{is_of, has_card}
 use Rattle.dd_cards.specs.Seats.{seat_code, seat_after}
 use Rattle.dd_cards.proofs.CallerLemmas.{and-left, and-right, else-false}
+use Rattle.dd_cards.specs.Sides.{is_side}
+use Rattle.dd_cards.specs.declared.side.Side.{Side}
 use Rattle.dd_play.specs.Board.{Board, IsBoard, cards_at, mover, left}
 use Rattle.dd_play.specs.Play.{legal}
-use Rattle.dd_play.specs.Won.{is_side}
 use Rattle.dd_play.specs.Simulations.{IsLegal}
 use Rattle.dd_play.specs.Covers.{ForMet, Keeps, IsOver, Answers, IsCover}
 use Rattle.dd_play.specs.Reach.{IsUpward, TakesBy, IsWorth}
@@ -60,7 +61,7 @@ not-between top to from suited e f y te tf suits ey ye fy yf there = λ yes. go 
         let b = lower y.rank f.rank (fy.0 tf ty (suits ∙ sym ye_suit)) in
         (a.1 ∙ sym b.1, a.0 ∙ sym b.0)
 
-pub equal-images : (top : PlayingCard → Bool) (k : ℕ) (to from : PlayingCard → PlayingCard) (s : Bool) (p : Board) (t : Bool) (q : Board) → IsCover top k to from s p t q
+pub equal-images : (top : PlayingCard → Bool) (k : ℕ) (to from : PlayingCard → PlayingCard) (s : Side) (p : Board) (t : Side) (q : Board) → IsCover top k to from s p t q
     → (c d : PlayingCard) → top c ≡ true → top d ≡ true → AreEqual p c d → AreEqual q (to c) (to d)
 equal-images top k to from s p t q r c d tc td eq =
     record { has_c = own_c; has_d = own_d; suit = r.to_suit d ∙ eq.suit ∙ sym (r.to_suit c); hands = hands; trick = trick }
@@ -106,7 +107,7 @@ equal-images top k to from s p t q r c d tc td eq =
         (λ ty. pull y (eq.trick (from y) (trick-back to from top p.trick q.trick r.trick y h ty).0))
 
 -- of two equal cards that a claim rests on, one is worth as much as the other
-worth-equal : (top : PlayingCard → Bool) (s : Bool) (p : Board) (c d : PlayingCard) (n : ℕ) → IsLegal p c → IsLegal p d → top c ≡ true → top d ≡ true → AreEqual p c d → IsWorth top s p d n → IsWorth top s p c n
+worth-equal : (top : PlayingCard → Bool) (s : Side) (p : Board) (c d : PlayingCard) (n : ℕ) → IsLegal p c → IsLegal p d → top c ≡ true → top d ≡ true → AreEqual p c d → IsWorth top s p d n → IsWorth top s p c n
 worth-equal top s p c d n hc hd tc td eq worth k to from t q r strict e le a =
     let f = r.forth (mover p) d eq.has_d td in
     let b : Answers to from top d (to d) = record { suit = r.to_suit d; kind = ap top f.1; same = λ h. (refl, f.1) } in
@@ -165,7 +166,7 @@ highest-of p c valid has = highest-from 15 p c valid has (omega arith)
 
 -- Where the other side is to play, the highest card of each class stands for the class, if a class of which it is a card that
 -- the claim rests on is so wholly.
-pub each-class-by : (top : PlayingCard → Bool) (s : Bool) (p : Board) (n : ℕ) → IsUpward top → IsBoard p → is_side s (mover p) ≡ false → 1 ≤ left p
+pub each-class-by : (top : PlayingCard → Bool) (s : Side) (p : Board) (n : ℕ) → IsUpward top → IsBoard p → is_side s (mover p) ≡ false → 1 ≤ left p
     → ((t c : PlayingCard) → has_card (tops p) t ≡ true → IsLegal p c → AreEqual p t c → c.rank ≤ t.rank → top t ≡ true → top c ≡ true)
     → ((c : PlayingCard) → has_card (tops p) c ≡ true → IsWorth top s p c n) → TakesBy top s p n
 each-class-by top s p n up valid turn some whole each =
@@ -226,7 +227,7 @@ equal-tells p c d a = rw (of-suit' c.suit d a.suit, none) refl
     none = else-false _ (λ hit. let e = some-card (is_between c d) (other_cards p) hit in absurd (let z : false ≡ true = sym (not-apart c d e.0 (each e.0 e.1)) ∙ e.2 in cc))
 
 -- the law, in the words of the test
-pub each-class-whole : (top : PlayingCard → Bool) (s : Bool) (p : Board) (n : ℕ) → IsUpward top → IsBoard p → is_side s (mover p) ≡ false → 1 ≤ left p
+pub each-class-whole : (top : PlayingCard → Bool) (s : Side) (p : Board) (n : ℕ) → IsUpward top → IsBoard p → is_side s (mover p) ≡ false → 1 ≤ left p
     → IsWhole top p → ((c : PlayingCard) → has_card (tops p) c ≡ true → IsWorth top s p c n) → TakesBy top s p n
 each-class-whole top s p n up valid turn some whole each =
     each-class-by top s p n up valid turn some (λ t c has legal eq low h. whole t c has legal (equal-tells p t c eq) h) each

@@ -9,6 +9,7 @@ use Rattle.dd_cards.specs.Cards.{same_card, has_card}
 use Rattle.dd_cards.specs.Seats.{seat_code, seat_after}
 use Rattle.dd_cards.specs.Hands.{times, hand_of}
 use Rattle.dd_cards.proofs.CallerLemmas.{else-false, same_card-eq, same_card-self}
+use Rattle.dd_cards.specs.declared.side.Side.{Side}
 use Rattle.dd_play.specs.Board.{Board, IsBoard, cards_at, mover, times_in}
 use Rattle.dd_play.specs.Play.{after}
 use Rattle.dd_play.specs.Simulations.{IsLegal}
@@ -119,7 +120,7 @@ not-on-trick p valid x c hand trick =
     omega (arith, a, b, o, t)
 
 -- a position is related to itself by the swap
-equal-cover : (s : Bool) (p : Board) (c d : PlayingCard) → IsBoard p → same_card d c ≡ false → AreEqual p c d → IsCover any_card 0 (swap c d) (swap c d) s p s p
+equal-cover : (s : Side) (p : Board) (c d : PlayingCard) → IsBoard p → same_card d c ≡ false → AreEqual p c d → IsCover any_card 0 (swap c d) (swap c d) s p s p
 equal-cover s p c d good apart eq =
     record {
       valid_p = good;
@@ -210,7 +211,7 @@ equal-cover s p c d good apart eq =
     coming k a b low high ha hb = (λ t u e. (against b a (eq.trick a ha) (fixed-trick a ha) e).1, λ t u e. (against b a (eq.trick a ha) (fixed-trick a ha) (sym e)).0)
 
 -- what either side takes is the same with either card
-pub equal-won : (s : Bool) (p : Board) (c d : PlayingCard) → IsBoard p → IsLegal p c → IsLegal p d → AreEqual p c d → won_with s p d ≡ won_with s p c
+pub equal-won : (s : Side) (p : Board) (c d : PlayingCard) → IsBoard p → IsLegal p c → IsLegal p d → AreEqual p c d → won_with s p d ≡ won_with s p c
 equal-won s p c d good has has' eq = go (same_card d c) refl
   where
     go : (b : Bool) → same_card d c ≡ b → won_with s p d ≡ won_with s p c

@@ -7,10 +7,12 @@ use Rattle.std.proofs.lemmas.Bool.{ltb-true}
 use Rattle.dd_cards.specs.PlayingCard.{PlayingCard}
 use Rattle.dd_cards.specs.Cards.{has_card}
 use Rattle.dd_cards.proofs.CallerLemmas.{and-left, and-right}
+use Rattle.dd_cards.specs.Sides.{is_side}
+use Rattle.dd_cards.specs.declared.side.Side.{Side}
 use Rattle.dd_play.specs.Board.{Board, IsBoard, mover, left}
 use Rattle.dd_play.specs.Play.{legal, after}
 use Rattle.dd_play.specs.Simulations.{IsLegal}
-use Rattle.dd_play.specs.Won.{is_side, point, won}
+use Rattle.dd_play.specs.Won.{point, won}
 use Rattle.dd_play.specs.Claims.{Takes}
 use Rattle.dd_play.proofs.CallerLemmas.{card-real, every-card, filter-has, has-first, in-rest, own-card, won_with}
 use Rattle.dd_equal.specs.EqualCards.{are_equal, is_top, tops}
@@ -28,11 +30,11 @@ some-card test (c ∷ cards) h = go (test c) refl (some-card test cards)
     go false e rest = let d = rest (rw e at h) in (d.0, in-rest c d.0 cards d.1, d.2)
 
 -- a card that is the highest of its class and wins as much as c
-abbrev TopFor : Bool → Board → PlayingCard → Type 0
+abbrev TopFor : Side → Board → PlayingCard → Type 0
 TopFor side p c = (t : PlayingCard) × (has_card (tops p) t ≡ true) × (won_with side p t ≡ won_with side p c)
 
 -- From a card that is not the highest of its class there is a higher equal one, and ranks end at the ace.
-climb : (n : ℕ) (side : Bool) (p : Board) (c : PlayingCard) → IsBoard p → IsLegal p c → 15 ≤ c.rank + n → TopFor side p c
+climb : (n : ℕ) (side : Side) (p : Board) (c : PlayingCard) → IsBoard p → IsLegal p c → 15 ≤ c.rank + n → TopFor side p c
 climb zero side p c valid has h = absurd (let r = card-real p (mover p) c valid (own-card p c has) in omega (arith, h, r.1))
 climb (suc n) side p c valid has h = go (list_any (λ d. are_equal p c d && nat_lt c.rank d.rank) (legal p)) refl (climb n side p)
   where
@@ -47,7 +49,7 @@ climb (suc n) side p c valid has h = go (list_any (λ d. are_equal p c d && nat_
         (t.0, t.1, t.2 ∙ equal-won side p c d.0 valid has d.1 (tells-equal p c d.0 valid (own-card p c has) (own-card p d.0 d.1) equal))
 
 -- where the other side is to play, the highest card of each class stands for the class
-pub every-class : (side : Bool) (p : Board) (n : ℕ) → IsBoard p → is_side side (mover p) ≡ false → 1 ≤ left p
+pub every-class : (side : Side) (p : Board) (n : ℕ) → IsBoard p → is_side side (mover p) ≡ false → 1 ≤ left p
     → ((c : PlayingCard) → has_card (tops p) c ≡ true → (m : ℕ) × Takes side (after p c) m × (n ≤ m + point side p c)) → Takes side p n
 every-class side p n valid turn some each =
     every-card side p n valid turn some (λ c has.

@@ -3,11 +3,13 @@
 ghost use Rattle.std.specs.Prelude.{◌≡◌, ℕ, ◌+◌, ◌≤◌, Bool, true, false};
 ghost use Rattle.dd_cards.specs.PlayingCard.{PlayingCard};
 ghost use Rattle.dd_cards.specs.Cards.{has_card};
+ghost use Rattle.dd_cards.specs.Sides.{is_side};
+ghost use Rattle.dd_cards.specs.declared.side.Side.{Side};
 ghost use Rattle.dd_play.specs.Board.{Board, IsBoard, mover, left};
 ghost use Rattle.dd_play.specs.Play.{after};
 ghost use Rattle.dd_play.specs.Simulations.{IsLegal};
 ghost use Rattle.dd_play.specs.Value.{score};
-ghost use Rattle.dd_play.specs.Won.{is_side, point};
+ghost use Rattle.dd_play.specs.Won.{point};
 ghost use Rattle.dd_play.specs.Claims.{Takes};
 ghost use Rattle.dd_play.specs.Reach.{IsUpward, TakesBy, IsWorth};
 ghost use Rattle.dd_equal.specs.EqualCards.{are_equal, tops, IsWhole};
@@ -20,13 +22,13 @@ pub fn equal_cards_score_alike()
 
 /// Where the other side is to play, it is enough that one card of each class, its highest, leaves the side as many.
 pub fn one_card_of_each_class()
-    ensures { (side : Bool) (p : Board) (n : ℕ) → IsBoard p → is_side side (mover p) ≡ false → 1 ≤ left p
+    ensures { (side : Side) (p : Board) (n : ℕ) → IsBoard p → is_side side (mover p) ≡ false → 1 ≤ left p
         → ((c : PlayingCard) → has_card (tops p) c ≡ true → (m : ℕ) × Takes side (after p c) m × (n ≤ m + point side p c))
         → Takes side p n }
 {}
 
 /// The same of claims that rest on high cards, if a class of which they rest on the highest card is among these cards wholly.
 pub fn one_card_of_each_class_by_high_cards()
-    ensures { (top : PlayingCard → Bool) (side : Bool) (p : Board) (n : ℕ) → IsUpward top → IsBoard p → is_side side (mover p) ≡ false → 1 ≤ left p
+    ensures { (top : PlayingCard → Bool) (side : Side) (p : Board) (n : ℕ) → IsUpward top → IsBoard p → is_side side (mover p) ≡ false → 1 ≤ left p
         → IsWhole top p → ((c : PlayingCard) → has_card (tops p) c ≡ true → IsWorth top side p c n) → TakesBy top side p n }
 {}

@@ -98,9 +98,10 @@ pub(crate) fn legal_ranks(position: &Position, suit: Suit) -> Holding
 pub(crate) fn other_ranks(position: &Position, suit: Suit) -> Holding
     ensures { result ≡ filter (λ r. has_card (other_cards position.now) (card_of suit r)) all_ranks }
 {
-    let left = position.mover().next();
-    let partner = left.next();
-    let right = partner.next();
+    let mover = position.mover();
+    let left = mover.left();
+    let partner = mover.partner();
+    let right = mover.right();
     let hands = position.hands();
     let mut ranks = hands
         .holding(left, suit)

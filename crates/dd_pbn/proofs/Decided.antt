@@ -3,7 +3,7 @@ use Rattle.std.proofs.Common.{◌≡◌, ◌↔◌, ℕ, true, false, refl, sym,
 use Rattle.std.specs.Prelude.{IfOk}
 use Rattle.std.proofs.lemmas.Bool.{cases_Bool}
 use Rattle.dd_cards.specs.PlayingCard.{PlayingCard}
-use Rattle.dd_cards.specs.Hands.{AreHands}
+use Rattle.dd_cards.specs.Hands.{FourHands, AreHands}
 use Rattle.dd_pbn.specs.declared.fault.PbnFault.{PbnFault}
 use Rattle.dd_pbn.specs.declared.fault.PbnFault.TheVariants.{Grammar, Absent, Twice}
 use Rattle.dd_pbn.specs.declared.seen.Seen.{Seen}
@@ -14,15 +14,15 @@ use Rattle.dd_pbn.proofs.ValueTexts.{seen_of, Reads, Reads-value, Reads-tag}
 use Rattle.dd_pbn.proofs.Meanings.{Tells, tells, same-deal, Spells-holds}
 
 -- some value of the form spells this deal
-abbrev pub Spelled : (Value → Type 0) → List (List PlayingCard) → Type 0
+abbrev pub Spelled : (Value → Type 0) → FourHands → Type 0
 Spelled Form deal = (value : Value) × Form value × Spells value deal
 
 -- a result has one value
-ok-is : (result : Result (List (List PlayingCard)) PbnFault) (a b : List (List PlayingCard)) → result ≡ Ok a → result ≡ Ok b → a ≡ b
+ok-is : (result : Result FourHands PbnFault) (a b : FourHands) → result ≡ Ok a → result ≡ Ok b → a ≡ b
 ok-is result a b was is = cc
 
 -- and one fault
-err-is : (result : Result (List (List PlayingCard)) PbnFault) (a b : PbnFault) → result ≡ Err a → result ≡ Err b → a ≡ b
+err-is : (result : Result FourHands PbnFault) (a b : PbnFault) → result ≡ Err a → result ≡ Err b → a ≡ b
 err-is result a b was is = cc
 
 -- a hand that is left out is the outcome
@@ -40,7 +40,7 @@ outcome-ok read seen is present once = rw (is, present, once) refl
 -- ---- of a form that is read
 module _ (Form : Value → Type 0) (read : Option Seen) (reads : Reads Form read) where
   -- a deal that a value of the form spells is the outcome
-  pub spelled-read : (deal : List (List PlayingCard)) → AreHands deal → Spelled Form deal → outcome read ≡ Ok deal
+  pub spelled-read : (deal : FourHands) → AreHands deal → Spelled Form deal → outcome read ≡ Ok deal
   spelled-read deal are (value, form, spells) =
       let seen = seen_of value in
       let told = tells value in
@@ -69,10 +69,10 @@ module _ (Form : Value → Type 0) (read : Option Seen) (reads : Reads Form read
       outcome-twice read seen (reads.complete value form) (told.absent ∙ whole) twice
 
   -- a deal or a fault there is
-  pub decided : ((deal : List (List PlayingCard)) × AreHands deal × Spelled Form deal) ⊎ ((fault : PbnFault) × Fails Form fault)
+  pub decided : ((deal : FourHands) × AreHands deal × Spelled Form deal) ⊎ ((fault : PbnFault) × Fails Form fault)
   decided = go read refl
     where
-      of_seen : (seen : Seen) (value : Value) → Form value → seen ≡ seen_of value → ((deal : List (List PlayingCard)) × AreHands deal × Spelled Form deal) ⊎ ((fault : PbnFault) × Fails Form fault)
+      of_seen : (seen : Seen) (value : Value) → Form value → seen ≡ seen_of value → ((deal : FourHands) × AreHands deal × Spelled Form deal) ⊎ ((fault : PbnFault) × Fails Form fault)
       of_seen seen value form is =
           let told : Tells value seen = subst (λ (s : Seen). Tells value s) (sym is) (tells value) in
           elim (cases_Bool seen.absent) [
@@ -84,23 +84,23 @@ module _ (Form : Value → Type 0) (read : Option Seen) (reads : Reads Form read
             ]
           ]
 
-      go : (r : Option Seen) → read ≡ r → ((deal : List (List PlayingCard)) × AreHands deal × Spelled Form deal) ⊎ ((fault : PbnFault) × Fails Form fault)
+      go : (r : Option Seen) → read ≡ r → ((deal : FourHands) × AreHands deal × Spelled Form deal) ⊎ ((fault : PbnFault) × Fails Form fault)
       go None none = inr (Grammar, λ value form. (let some = reads.complete value form in cc))
       go (Some seen) some = let v = reads.sound seen some in of_seen seen v.0 v.1 v.2
 
   -- ---- the clauses of a reader, of a result that is the outcome
   -- a deal that is answered is spelled
-  pub result-read : (result : Result (List (List PlayingCard)) PbnFault) → result ≡ outcome read → IfOk result (λ deal. AreHands deal × Spelled Form deal)
+  pub result-read : (result : Result FourHands PbnFault) → result ≡ outcome read → IfOk result (λ deal. AreHands deal × Spelled Form deal)
   result-read (Err fault) is = tt
   result-read (Ok deal) is =
       elim decided [
         | inl found ↦ (let same : found.0 ≡ deal = ok-is (outcome read) found.0 deal (spelled-read found.0 found.1 found.2) (sym is) in
-            subst (λ (d : List (List PlayingCard)). AreHands d × Spelled Form d) same (found.1, found.2))
+            subst (λ (d : FourHands). AreHands d × Spelled Form d) same (found.1, found.2))
         | inr failed ↦ absurd (let e = failed-read failed.0 failed.1 in cc)
       ]
 
   -- a fault is answered just where it holds
-  pub result-fault : (result : Result (List (List PlayingCard)) PbnFault) → result ≡ outcome read → (fault : PbnFault) → (result ≡ Err fault) ↔ Fails Form fault
+  pub result-fault : (result : Result FourHands PbnFault) → result ≡ outcome read → (fault : PbnFault) → (result ≡ Err fault) ↔ Fails Form fault
   result-fault result is fault = (
     λ err. elim decided [
       | inl found ↦ absurd (let e = spelled-read found.0 found.1 found.2 in cc)
@@ -111,18 +111,18 @@ module _ (Form : Value → Type 0) (read : Option Seen) (reads : Reads Form read
 
 -- ---- values
 -- a text spells some deal, or it has a fault
-pub deal-decided : (text : List ℕ) → ((deal : List (List PlayingCard)) × AreHands deal × DealText text deal) ⊎ ((fault : PbnFault) × DealFault text fault)
+pub deal-decided : (text : List ℕ) → ((deal : FourHands) × AreHands deal × DealText text deal) ⊎ ((fault : PbnFault) × DealFault text fault)
 deal-decided text = decided (IsValue text) (value_of text) (Reads-value text)
 
 -- a text that spells a deal has no fault
-pub deal-or-fault : (text : List ℕ) (deal : List (List PlayingCard)) (fault : PbnFault) → AreHands deal → DealText text deal → DealFault text fault → ⊥
+pub deal-or-fault : (text : List ℕ) (deal : FourHands) (fault : PbnFault) → AreHands deal → DealText text deal → DealFault text fault → ⊥
 deal-or-fault text deal fault are spells fails =
     let ok = spelled-read (IsValue text) (value_of text) (Reads-value text) deal are spells in
     let err = failed-read (IsValue text) (value_of text) (Reads-value text) fault fails in
     cc
 
 -- a text spells no two deals
-pub one-deal : (text : List ℕ) (a b : List (List PlayingCard)) → AreHands a → AreHands b → DealText text a → DealText text b → a ≡ b
+pub one-deal : (text : List ℕ) (a b : FourHands) → AreHands a → AreHands b → DealText text a → DealText text b → a ≡ b
 one-deal text a b x y in_x in_y =
     let reads = Reads-value text in
     ok-is (outcome (value_of text)) a b (spelled-read (IsValue text) (value_of text) reads a x in_x) (spelled-read (IsValue text) (value_of text) reads b y in_y)
@@ -134,11 +134,11 @@ one-fault text a b in_a in_b =
     err-is (outcome (value_of text)) a b (failed-read (IsValue text) (value_of text) reads a in_a) (failed-read (IsValue text) (value_of text) reads b in_b)
 
 -- each text, as a tag, spells a deal or has a fault
-pub tag-decided : (text : List ℕ) → ((deal : List (List PlayingCard)) × AreHands deal × TagText text deal) ⊎ ((fault : PbnFault) × TagFault text fault)
+pub tag-decided : (text : List ℕ) → ((deal : FourHands) × AreHands deal × TagText text deal) ⊎ ((fault : PbnFault) × TagFault text fault)
 tag-decided text = decided (IsTag text) (tag_of text) (Reads-tag text)
 
 -- a tag spells no two deals
-pub one-tag-deal : (text : List ℕ) (a b : List (List PlayingCard)) → AreHands a → AreHands b → TagText text a → TagText text b → a ≡ b
+pub one-tag-deal : (text : List ℕ) (a b : FourHands) → AreHands a → AreHands b → TagText text a → TagText text b → a ≡ b
 one-tag-deal text a b x y in_x in_y =
     let reads = Reads-tag text in
     ok-is (outcome (tag_of text)) a b (spelled-read (IsTag text) (tag_of text) reads a x in_x) (spelled-read (IsTag text) (tag_of text) reads b y in_y)

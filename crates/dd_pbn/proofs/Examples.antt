@@ -4,7 +4,7 @@ use Rattle.std.specs.Prelude.{codes}
 use Rattle.dd_cards.specs.PlayingCard.{PlayingCard}
 use Rattle.dd_cards.specs.Cards.{deck, suit_cards}
 use Rattle.dd_cards.specs.Ranks.{all_ranks, lowest_ranks}
-use Rattle.dd_cards.specs.Hands.{AreHands}
+use Rattle.dd_cards.specs.Hands.{FourHands, AreHands}
 use Rattle.dd_pbn.specs.declared.fault.PbnFault.{PbnFault}
 use Rattle.dd_pbn.specs.declared.fault.PbnFault.TheVariants.{Grammar, Absent, Twice}
 use Rattle.dd_pbn.specs.Letters.{rank_of}
@@ -16,7 +16,7 @@ use Rattle.dd_pbn.proofs.ValueTexts.{Reads-value, Reads-tag}
 use Rattle.dd_pbn.proofs.Decided.{result-read, result-fault}
 
 -- a text whose reading is computed spells what is read, or has that fault
-value-spells : (text : List ℕ) (deal : List (List PlayingCard)) → Ok deal ≡ outcome (value_of text) → AreHands deal × DealText text deal
+value-spells : (text : List ℕ) (deal : FourHands) → Ok deal ≡ outcome (value_of text) → AreHands deal × DealText text deal
 value-spells text deal is = result-read (IsValue text) (value_of text) (Reads-value text) (Ok deal) is
 
 -- a text whose reading is computed has the fault that is met
@@ -24,7 +24,7 @@ value-fails : (text : List ℕ) (fault : PbnFault) → Err fault ≡ outcome (va
 value-fails text fault is = (result-fault (IsValue text) (value_of text) (Reads-value text) (Err fault) is fault).0 refl
 
 -- a tag whose reading is computed spells what is read
-tag-spells : (text : List ℕ) (deal : List (List PlayingCard)) → Ok deal ≡ outcome (tag_of text) → AreHands deal × TagText text deal
+tag-spells : (text : List ℕ) (deal : FourHands) → Ok deal ≡ outcome (tag_of text) → AreHands deal × TagText text deal
 tag-spells text deal is = result-read (IsTag text) (tag_of text) (Reads-tag text) (Ok deal) is
 
 -- ---- values

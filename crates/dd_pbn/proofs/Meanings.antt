@@ -10,7 +10,7 @@ use Rattle.dd_cards.specs.Seats.{next_seat, seat_after}
 use Rattle.dd_cards.specs.PlayingCard.{PlayingCard}
 use Rattle.dd_cards.specs.Ranks.{IsRank}
 use Rattle.dd_cards.specs.Cards.{has_card}
-use Rattle.dd_cards.specs.Hands.{hand_of, times, AreHands}
+use Rattle.dd_cards.specs.Hands.{hand_of, times, AreHands, FourHands, dealt}
 use Rattle.dd_cards.proofs.CallerLemmas.{AreHands-new, real-set, same-members}
 use Rattle.dd_pbn.specs.declared.seen.Seen.{Seen}
 use Rattle.dd_pbn.specs.Letters.{rank_of}
@@ -161,7 +161,7 @@ Sees-nothing =
     }
 
 -- each seat has just the cards written for it
-pub record HoldsAll (value : Value) (deal : List (List PlayingCard)) : Type 0 where
+pub record HoldsAll (value : Value) (deal : FourHands) : Type 0 where
   pub holds1 : Holds (hand_of deal value.first) value.hand1
   pub holds2 : Holds (hand_of deal (seat_after value.first 1)) value.hand2
   pub holds3 : Holds (hand_of deal (seat_after value.first 2)) value.hand3
@@ -242,28 +242,19 @@ tells value =
     }
 
 -- ---- no two deals
--- four hands are those of the four seats
-four-hands : (hands : List (List PlayingCard)) → length hands ≡ 4 → hands ≡ hand_of hands North ∷ hand_of hands East ∷ hand_of hands South ∷ hand_of hands West ∷ []
-four-hands [] four = absurd (omega arith)
-four-hands (a ∷ []) four = absurd (omega arith)
-four-hands (a ∷ b ∷ []) four = absurd (omega arith)
-four-hands (a ∷ b ∷ c ∷ []) four = absurd (omega arith)
-four-hands (a ∷ b ∷ c ∷ d ∷ []) four = refl
-four-hands (a ∷ b ∷ c ∷ d ∷ e ∷ hands) four = absurd (omega arith)
-
 -- two deals with the same hand at each seat are one
-same-hands : (xs ys : List (List PlayingCard)) → length xs ≡ 4 → length ys ≡ 4 → ((s : Seat) → hand_of xs s ≡ hand_of ys s) → xs ≡ ys
-same-hands xs ys x y same =
-    let go : (a b c d a' b' c' d' : List PlayingCard) → a ≡ a' → b ≡ b' → c ≡ c' → d ≡ d' → a ∷ b ∷ c ∷ d ∷ [] ≡ a' ∷ b' ∷ c' ∷ d' ∷ [] = λ a b c d a' b' c' d' p q r s. rw (p, q, r, s) refl in
-    four-hands xs x ∙ go _ _ _ _ _ _ _ _ (same North) (same East) (same South) (same West) ∙ sym (four-hands ys y)
+same-hands : (xs ys : FourHands) → ((s : Seat) → hand_of xs s ≡ hand_of ys s) → xs ≡ ys
+same-hands xs ys same =
+    let go : (a b c d a' b' c' d' : List PlayingCard) → a ≡ a' → b ≡ b' → c ≡ c' → d ≡ d' → dealt a b c d ≡ dealt a' b' c' d' = λ a b c d a' b' c' d' p q r s. rw (p, q, r, s) refl in
+    go _ _ _ _ _ _ _ _ (same North) (same East) (same South) (same West)
 
 -- two deals with the cards of one value are one
-pub same-deal : (value : Value) (xs ys : List (List PlayingCard)) → AreHands xs → AreHands ys → HoldsAll value xs → HoldsAll value ys → xs ≡ ys
+pub same-deal : (value : Value) (xs ys : FourHands) → AreHands xs → AreHands ys → HoldsAll value xs → HoldsAll value ys → xs ≡ ys
 same-deal value xs ys x y in_x in_y =
-    same-hands xs ys x.four y.four (λ s. same-members (hand_of xs s) (hand_of ys s) (x.sets s) (y.sets s) (λ card real.
+    same-hands xs ys (λ s. same-members (hand_of xs s) (hand_of ys s) (x.sets s) (y.sets s) (λ card real.
     all-seats (λ (t : Seat). has_card (hand_of xs t) card ≡ has_card (hand_of ys t) card) value.first
     (in_x.holds1 card ∙ sym (in_y.holds1 card)) (in_x.holds2 card ∙ sym (in_y.holds2 card)) (in_x.holds3 card ∙ sym (in_y.holds3 card)) (in_x.holds4 card ∙ sym (in_y.holds4 card)) s))
 
 -- a deal that the value spells has its cards
-pub Spells-holds : (value : Value) (deal : List (List PlayingCard)) → Spells value deal → HoldsAll value deal
+pub Spells-holds : (value : Value) (deal : FourHands) → Spells value deal → HoldsAll value deal
 Spells-holds value deal spells = record { holds1 = spells.holds1; holds2 = spells.holds2; holds3 = spells.holds3; holds4 = spells.holds4 }

@@ -10,7 +10,7 @@ use Rattle.dd_cards.specs.Suits.{suit_code}
 use Rattle.dd_cards.specs.PlayingCard.{PlayingCard}
 use Rattle.dd_cards.specs.Ranks.{IsRank}
 use Rattle.dd_cards.specs.Cards.{same_card, has_card, with_card}
-use Rattle.dd_cards.specs.Hands.{hand_of, with_hand, times, AreHands}
+use Rattle.dd_cards.specs.Hands.{hand_of, with_hand, times, AreHands, FourHands}
 use Rattle.dd_cards.proofs.CallerLemmas.{AreHands-with_card, hand_of-with_hand, has_card-with_card, same_card-eq, same_card-self, times-cons}
 use Rattle.dd_pbn.specs.declared.seen.Seen.{Seen}
 use Rattle.dd_pbn.specs.Reading.{is_free, note}
@@ -128,11 +128,11 @@ pub record Sees (past : List PlayingCard) (seen : Seen) : Type 0 where
   pub twice : seen.twice ≡ doubled past
 
 -- whether a card is free depends on which hands have it
-is_free-same : (xs ys : List (List PlayingCard)) (card : PlayingCard) → ((s : Seat) → has_card (hand_of xs s) card ≡ has_card (hand_of ys s) card) → is_free xs card ≡ is_free ys card
+is_free-same : (xs ys : FourHands) (card : PlayingCard) → ((s : Seat) → has_card (hand_of xs s) card ≡ has_card (hand_of ys s) card) → is_free xs card ≡ is_free ys card
 is_free-same xs ys card same = rw (same North, same East, same South, same West) refl
 
 -- the hands with one more card
-abbrev put : List (List PlayingCard) → Seat → PlayingCard → List (List PlayingCard)
+abbrev put : FourHands → Seat → PlayingCard → FourHands
 put hands seat card = with_hand hands seat (with_card (hand_of hands seat) card)
 
 -- what is seen with one more card, where it is free and where it is not
@@ -140,24 +140,24 @@ abbrev noted : Bool → Seat → PlayingCard → Seen → Seen
 noted free seat card seen = cond free (record { hands = put seen.hands seat card; absent = seen.absent; twice = seen.twice }) (record { hands = seen.hands; absent = seen.absent; twice = true })
 
 -- the hand has the card that is put in, and those that it had
-pub has_card-put : (hands : List (List PlayingCard)) (seat : Seat) (card other : PlayingCard) → AreHands hands → IsRank other.rank
+pub has_card-put : (hands : FourHands) (seat : Seat) (card other : PlayingCard) → AreHands hands → IsRank other.rank
     → has_card (hand_of (put hands seat card) seat) other ≡ (same_card card other || has_card (hand_of hands seat) other)
 has_card-put hands seat card other are real =
-    elim (hand_of-with_hand hands seat (with_card (hand_of hands seat) card) seat are.four) [
+    elim (hand_of-with_hand hands seat (with_card (hand_of hands seat) card) seat) [
       | inr other_seat ↦ absurd (other_seat.0 refl)
       | inl same ↦ ap (λ (cards : List PlayingCard). has_card cards other) same.1 ∙ has_card-with_card (hand_of hands seat) card other real ∙ ap (λ b. b || has_card (hand_of hands seat) other) (same_card-swap other card)
     ]
 
 -- the other hands stay
-pub hand_of-put : (hands : List (List PlayingCard)) (seat : Seat) (card : PlayingCard) (s : Seat) → AreHands hands → s ≢ seat → hand_of (put hands seat card) s ≡ hand_of hands s
+pub hand_of-put : (hands : FourHands) (seat : Seat) (card : PlayingCard) (s : Seat) → AreHands hands → s ≢ seat → hand_of (put hands seat card) s ≡ hand_of hands s
 hand_of-put hands seat card s are differs =
-    elim (hand_of-with_hand hands seat (with_card (hand_of hands seat) card) s are.four) [
+    elim (hand_of-with_hand hands seat (with_card (hand_of hands seat) card) s) [
       | inl same ↦ absurd (differs same.0)
       | inr other ↦ other.1
     ]
 
 -- a card that is put in is free no more
-is_free-here : (hands : List (List PlayingCard)) (seat : Seat) (card other : PlayingCard) → AreHands hands → IsRank other.rank → same_card card other ≡ true → is_free (put hands seat card) other ≡ false
+is_free-here : (hands : FourHands) (seat : Seat) (card other : PlayingCard) → AreHands hands → IsRank other.rank → same_card card other ≡ true → is_free (put hands seat card) other ≡ false
 is_free-here hands seat card other are real same =
     elim (cases_Bool (is_free (put hands seat card) other)) [
       | inr taken ↦ taken
@@ -169,10 +169,10 @@ is_free-here hands seat card other are real same =
     ]
 
 -- another card is free as before
-is_free-there : (hands : List (List PlayingCard)) (seat : Seat) (card other : PlayingCard) → AreHands hands → IsRank other.rank → same_card card other ≡ false
+is_free-there : (hands : FourHands) (seat : Seat) (card other : PlayingCard) → AreHands hands → IsRank other.rank → same_card card other ≡ false
     → is_free (put hands seat card) other ≡ is_free hands other
 is_free-there hands seat card other are real differs =
-    is_free-same (put hands seat card) hands other (λ s. elim (hand_of-with_hand hands seat (with_card (hand_of hands seat) card) s are.four) [
+    is_free-same (put hands seat card) hands other (λ s. elim (hand_of-with_hand hands seat (with_card (hand_of hands seat) card) s) [
       | inl same ↦ ap (λ (t : Seat). has_card (hand_of (put hands seat card) t) other) same.0 ∙ has_card-put hands seat card other are real ∙ rw differs (ap (λ (t : Seat). has_card (hand_of hands t) other) (sym same.0))
       | inr apart ↦ ap (λ (cards : List PlayingCard). has_card cards other) apart.1
     ])

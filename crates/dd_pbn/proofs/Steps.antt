@@ -8,7 +8,7 @@ use Rattle.dd_cards.specs.declared.seat.Seat.TheVariants.{North, East, South, We
 use Rattle.dd_cards.specs.declared.suit.Suit.{Suit}
 use Rattle.dd_cards.specs.PlayingCard.{PlayingCard}
 use Rattle.dd_cards.specs.Cards.{card_of, has_card}
-use Rattle.dd_cards.specs.Hands.{hand_of}
+use Rattle.dd_cards.specs.Hands.{FourHands, hand_of}
 use Rattle.dd_pbn.specs.declared.seen.Seen.{Seen}
 use Rattle.dd_pbn.specs.Letters.{rank_of, is_blank}
 use Rattle.dd_pbn.specs.Reading.{is_free, note, after_blanks, suit_at}
@@ -58,11 +58,11 @@ suit_at-end seat suit seen (byte ∷ text) none_left = absurd (omega arith)
 
 -- ---- a card
 -- a card is free where each hand lacks it
-pub free : (hands : List (List PlayingCard)) (card : PlayingCard) → ((seat : Seat) → has_card (hand_of hands seat) card ≡ false) → is_free hands card ≡ true
+pub free : (hands : FourHands) (card : PlayingCard) → ((seat : Seat) → has_card (hand_of hands seat) card ≡ false) → is_free hands card ≡ true
 free hands card none = rw (none North, none East, none South, none West) refl
 
 -- each hand lacks a free card
-pub lacks : (hands : List (List PlayingCard)) (card : PlayingCard) → is_free hands card ≡ true → (seat : Seat) → has_card (hand_of hands seat) card ≡ false
+pub lacks : (hands : FourHands) (card : PlayingCard) → is_free hands card ≡ true → (seat : Seat) → has_card (hand_of hands seat) card ≡ false
 lacks hands card h seat = go (has_card (hand_of hands North) card) (has_card (hand_of hands East) card) (has_card (hand_of hands South) card) (has_card (hand_of hands West) card) refl refl refl refl h seat
   where
     go : (n e s w : Bool) → has_card (hand_of hands North) card ≡ n → has_card (hand_of hands East) card ≡ e → has_card (hand_of hands South) card ≡ s → has_card (hand_of hands West) card ≡ w
@@ -77,7 +77,7 @@ lacks hands card h seat = go (has_card (hand_of hands North) card) (has_card (ha
     go false false false true en ee es ew h seat = absurd (cc)
 
 -- a test that tells whether each hand lacks a card tells whether it is free
-pub is_free-by : (inserted : Bool) (hands : List (List PlayingCard)) (card : PlayingCard) → (IsTrue inserted ↔ ((seat : Seat) → has_card (hand_of hands seat) card ≡ false)) → is_free hands card ≡ inserted
+pub is_free-by : (inserted : Bool) (hands : FourHands) (card : PlayingCard) → (IsTrue inserted ↔ ((seat : Seat) → has_card (hand_of hands seat) card ≡ false)) → is_free hands card ≡ inserted
 is_free-by true hands card h = free hands card (h.0 refl)
 is_free-by false hands card h = go (is_free hands card) refl
   where

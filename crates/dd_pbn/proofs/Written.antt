@@ -11,7 +11,7 @@ use Rattle.dd_cards.specs.Suits.{suit_code}
 use Rattle.dd_cards.specs.PlayingCard.{PlayingCard}
 use Rattle.dd_cards.specs.Ranks.{is_rank}
 use Rattle.dd_cards.specs.Cards.{is_of, card_of, deck, has_card}
-use Rattle.dd_cards.specs.Hands.{hand_of, times, IsSet, AreHands}
+use Rattle.dd_cards.specs.Hands.{hand_of, times, IsSet, AreHands, FourHands}
 use Rattle.dd_cards.proofs.CallerLemmas.{IsRank-from, at-most-one, real_deck, set-by-suits, suit_code-injective, times-has_card}
 use Rattle.dd_pbn.specs.Letters.{letter_of}
 use Rattle.dd_pbn.specs.Values.{HandText, suits, IsSuit, IsHand, hand_bytes, Value}
@@ -96,7 +96,7 @@ text_of-bytes cards =
 
 -- ---- the text of a deal
 -- what is written, as a value
-abbrev value_of_deal : List (List PlayingCard) → Value
+abbrev value_of_deal : FourHands → Value
 value_of_deal deal = record { first = North; hand1 = text_of (hand_of deal North); hand2 = text_of (hand_of deal East); hand3 = text_of (hand_of deal South); hand4 = text_of (hand_of deal West) }
 
 -- N, a colon, and four texts with a space between each two
@@ -113,7 +113,7 @@ written-form : (n e s w n' e' s' w' : List ℕ) → n ≡ n' → e ≡ e' → s 
 written-form n e s w n' e' s' w' p q r t = rw (p, q, r, t) (spaced n' e' s' w')
 
 -- no card stands twice in four hands
-once : (deal : List (List PlayingCard)) → AreHands deal → (card : PlayingCard) → times (hand_of deal North ++ hand_of deal East ++ hand_of deal South ++ hand_of deal West) card ≤ 1
+once : (deal : FourHands) → AreHands deal → (card : PlayingCard) → times (hand_of deal North ++ hand_of deal East ++ hand_of deal South ++ hand_of deal West) card ≤ 1
 once deal are card =
     let n = hand_of deal North in
     let e = hand_of deal East in
@@ -132,7 +132,7 @@ once deal are card =
     omega (arith, one, tn, te, ts, tw, two, three, four)
 
 -- what is written spells the deal
-pub written-spells : (deal : List (List PlayingCard)) → AreHands deal → DealText (written deal) deal
+pub written-spells : (deal : FourHands) → AreHands deal → DealText (written deal) deal
 written-spells deal are =
     let n = hand_of deal North in
     let e = hand_of deal East in

@@ -7,7 +7,7 @@ use Rattle.dd_cards.specs.declared.suit.Suit.TheVariants.{Spades, Hearts, Diamon
 use Rattle.dd_cards.specs.PlayingCard.{PlayingCard}
 use Rattle.dd_cards.specs.Seats.{seat_after}
 use Rattle.dd_cards.specs.Cards.{card_of, is_of, has_card}
-use Rattle.dd_cards.specs.Hands.{hand_of, times}
+use Rattle.dd_cards.specs.Hands.{FourHands, hand_of, times}
 use Rattle.dd_pbn.specs.declared.fault.PbnFault.{PbnFault}
 use Rattle.dd_pbn.specs.declared.fault.PbnFault.TheVariants.{Grammar, Absent, Twice}
 use Rattle.dd_pbn.specs.Letters.{letter_of, rank_of}
@@ -40,7 +40,7 @@ abbrev pub Holds : List PlayingCard → HandText → Type 0
 Holds cards hand = (card : PlayingCard) → has_card cards card ≡ has_card (cards_of_hand hand) card
 
 -- no hand is left out, no card stands twice, and each seat, from the first one clockwise, has just the cards written for it
-pub record Spells (value : Value) (deal : List (List PlayingCard)) : Type 0 where
+pub record Spells (value : Value) (deal : FourHands) : Type 0 where
   pub whole : IsFalse (leaves_out value)
   pub once : (card : PlayingCard) → times (cards_of_value value) card ≤ 1
   pub holds1 : Holds (hand_of deal value.first) value.hand1
@@ -55,7 +55,7 @@ Fails Form Absent = (value : Value) × Form value × IsTrue (leaves_out value)
 Fails Form Twice = (value : Value) × Form value × IsFalse (leaves_out value) × (card : PlayingCard) × (2 ≤ times (cards_of_value value) card)
 
 -- the text, as a value, spells this deal
-abbrev pub DealText : List ℕ → List (List PlayingCard) → Type 0
+abbrev pub DealText : List ℕ → FourHands → Type 0
 DealText text deal = (value : Value) × IsValue text value × Spells value deal
 
 -- the text, as a value, spells no deal, and this is why
@@ -63,7 +63,7 @@ abbrev pub DealFault : List ℕ → PbnFault → Type 0
 DealFault text fault = Fails (IsValue text) fault
 
 -- the text, as a tag, spells this deal
-abbrev pub TagText : List ℕ → List (List PlayingCard) → Type 0
+abbrev pub TagText : List ℕ → FourHands → Type 0
 TagText text deal = (value : Value) × IsTag text value × Spells value deal
 
 -- the tag spells no deal, and this is why
@@ -80,5 +80,5 @@ abbrev pub hand_text : List PlayingCard → List ℕ
 hand_text cards = join_with_byte 46 (map (suit_text cards) (Spades ∷ Hearts ∷ Diamonds ∷ Clubs ∷ []))
 
 -- N, a colon, and the hands of North, East, South and West with a space between each two
-abbrev pub written : List (List PlayingCard) → List ℕ
-written hands = codes "N:" ++ join_with_byte 32 (map (λ seat. hand_text (hand_of hands seat)) (North ∷ East ∷ South ∷ West ∷ []))
+abbrev pub written : FourHands → List ℕ
+written hands = codes "N:" ++ join_with_byte 32 (hand_text hands.north ∷ hand_text hands.east ∷ hand_text hands.south ∷ hand_text hands.west ∷ [])

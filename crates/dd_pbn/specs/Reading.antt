@@ -9,7 +9,7 @@ use Rattle.dd_cards.specs.declared.suit.Suit.TheVariants.{Spades, Hearts, Diamon
 use Rattle.dd_cards.specs.PlayingCard.{PlayingCard}
 use Rattle.dd_cards.specs.Seats.{next_seat}
 use Rattle.dd_cards.specs.Cards.{card_of, has_card, with_card}
-use Rattle.dd_cards.specs.Hands.{hand_of, with_hand}
+use Rattle.dd_cards.specs.Hands.{FourHands, dealt, hand_of, with_hand}
 use Rattle.dd_pbn.specs.declared.fault.PbnFault.{PbnFault}
 use Rattle.dd_pbn.specs.declared.fault.PbnFault.TheVariants.{Grammar, Absent, Twice}
 use Rattle.dd_pbn.specs.declared.seen.Seen.{Seen}
@@ -29,10 +29,10 @@ Gives view (Some x) read = read ≡ Some (view x)
 -- ---- what is seen
 -- nothing yet
 abbrev pub nothing : Seen
-nothing = record { hands = [] ∷ [] ∷ [] ∷ [] ∷ []; absent = false; twice = false }
+nothing = record { hands = dealt [] [] [] []; absent = false; twice = false }
 
 -- is the card in no hand?
-abbrev pub is_free : List (List PlayingCard) → PlayingCard → Bool
+abbrev pub is_free : FourHands → PlayingCard → Bool
 is_free hands card =
     not (has_card (hand_of hands North) card || has_card (hand_of hands East) card || has_card (hand_of hands South) card || has_card (hand_of hands West) card)
 
@@ -48,7 +48,7 @@ abbrev pub leave_out : Seen → Seen
 leave_out seen = record { hands = seen.hands; absent = true; twice = seen.twice }
 
 -- the deal, or why there is none
-abbrev pub outcome : Option Seen → Result (List (List PlayingCard)) PbnFault
+abbrev pub outcome : Option Seen → Result FourHands PbnFault
 outcome None = Err Grammar
 outcome (Some seen) = (if seen.absent then Err Absent else if seen.twice then Err Twice else Ok seen.hands)
 

@@ -1,6 +1,6 @@
 ghost use Rattle.std.specs.Prelude.{◌≡◌, ◌↔◌, List, Ok, Err, IfOk, if◌then◌else◌};
 ghost use Rattle.dd_cards.specs.PlayingCard.{PlayingCard};
-ghost use Rattle.dd_cards.specs.Hands.{AreHands};
+ghost use Rattle.dd_cards.specs.Hands.{FourHands, AreHands};
 ghost use Rattle.dd_pbn.specs.Deals.{DealText, DealFault, TagText, TagFault};
 ghost use Rattle.dd_pbn.specs.Reading.{Gives, after_blanks, gap_at, byte_at, letter_at, name_at, seat_at, suit_at, next_suit, hand_at, next_hand, hands_at, value_at, value_of, quoted_at, tag_of};
 
@@ -20,7 +20,7 @@ use dd_cards::{Card, Hands, Seat, Suit};
 pub fn read_deal(text: &[u8]) -> Result<Hands, PbnFault>
     ensures read { IfOk result (λ deal. DealText text.now deal) }
     ensures hands { IfOk result (λ deal. AreHands deal) }
-    ensures only { (deal : List (List PlayingCard)) → AreHands deal → DealText text.now deal → result ≡ Ok deal }
+    ensures only { (deal : FourHands) → AreHands deal → DealText text.now deal → result ≡ Ok deal }
     ensures fault { (fault : PbnFault) → (result ≡ Err fault) ↔ DealFault text.now fault }
 {
     outcome(seen_in_value(text))
@@ -31,7 +31,7 @@ pub fn read_deal(text: &[u8]) -> Result<Hands, PbnFault>
 pub fn read_tag(text: &[u8]) -> Result<Hands, PbnFault>
     ensures read { IfOk result (λ deal. TagText text.now deal) }
     ensures hands { IfOk result (λ deal. AreHands deal) }
-    ensures only { (deal : List (List PlayingCard)) → AreHands deal → TagText text.now deal → result ≡ Ok deal }
+    ensures only { (deal : FourHands) → AreHands deal → TagText text.now deal → result ≡ Ok deal }
     ensures fault { (fault : PbnFault) → (result ≡ Err fault) ↔ TagFault text.now fault }
 {
     outcome(seen_in_tag(text))

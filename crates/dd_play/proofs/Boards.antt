@@ -1,8 +1,8 @@
 -- playing a legal card leads from one legal state of play to another
-use Rattle.std.proofs.Common.{◌≡◌, ◌≢◌, ℕ, zero, suc, ◌+◌, ◌-◌, ◌%◌, ◌<◌, ◌≤◌, Bool, true, false, cond, refl, sym, ap, ◌∙◌, subst, arith, List, [], ◌∷◌, ◌++◌, length, length-append, inl, inr, get_or-set_same, get_or-set_other, length-set, eq-eqb, zero-le, max, min}
+use Rattle.std.proofs.Common.{◌≡◌, ◌≢◌, ℕ, zero, suc, ◌+◌, ◌-◌, ◌%◌, ◌<◌, ◌≤◌, Bool, true, false, cond, refl, sym, ap, ◌∙◌, subst, arith, List, [], ◌∷◌, ◌++◌, length, length-append, inl, inr, eq-eqb, zero-le, max, min}
 use Rattle.std.specs.Prelude.{nat_lt, filter, map, fold, ◌||◌, ◌&&◌, if◌then◌else◌}
 use mathlib.Core.Bool.{not}
-use Rattle.dd_cards.proofs.CallerLemmas.{IsSet-without, or-right, real-set, same_card-eq, seat_code-injective, times-cons}
+use Rattle.dd_cards.proofs.CallerLemmas.{IsSet-without, or-right, real-set, same_card-eq, seat_code-injective, times-cons, hand_of-with_hand}
 use Rattle.std.proofs.lemmas.Bool.Decides.{eqb_tells, nat_tests}
 use Rattle.std.proofs.lemmas.Bool.{lt-ltb, le-ltb, eqb-true}
 use Rattle.dd_cards.specs.declared.seat.Seat.{Seat}
@@ -10,12 +10,15 @@ use Rattle.dd_cards.specs.declared.seat.Seat.TheVariants.{North, East, South, We
 use Rattle.dd_cards.specs.PlayingCard.{PlayingCard}
 use Rattle.dd_cards.specs.Cards.{has_card, same_card, without}
 use Rattle.dd_cards.specs.Seats.{seat_code, next_seat, seat_after, is_north_south}
-use Rattle.dd_cards.specs.Hands.{hand_of, with_hand, times, IsSet}
+use Rattle.dd_cards.specs.Hands.{FourHands, hand_of, with_hand, times, IsSet}
 use Rattle.dd_cards.specs.Ranks.{IsRank}
 use Rattle.dd_play.specs.Board.{Board, IsBoard, cards_at, cards_left, mover, left, times_in}
 use Rattle.dd_play.specs.Tricks.{winner_of}
 use Rattle.dd_play.specs.Play.{legal, completes, trick_with, hands_after, after}
 use Rattle.dd_cards.specs.Suits.{suit_code}
+use Rattle.dd_cards.specs.Sides.{side_of}
+use Rattle.dd_cards.specs.declared.side.Side.{Side}
+use Rattle.dd_cards.specs.declared.side.Side.TheVariants.{NorthSouth, EastWest}
 use Rattle.dd_play.specs.Value.{better, best, gain, ns_within, ns}
 use Rattle.dd_play.proofs.Values.{in-following, length-without, times-has}
 use Rattle.std.proofs.lemmas.List.Folds.{list_any-append}
@@ -39,13 +42,13 @@ pub after-code : (s : Seat) (k : ℕ) → seat_code (seat_after s k) ≡ (seat_c
 after-code s zero = let b = code-lt s in omega arith
 after-code s (suc k) = next-code (seat_after s k) ∙ (let ih = after-code s k in omega arith)
 
--- the hand that is written, and the others
-pub hand-same : (hands : List (List PlayingCard)) (s : Seat) (cards : List PlayingCard) → length hands ≡ 4 → hand_of (with_hand hands s cards) s ≡ cards
-hand-same hands s cards four = get_or-set_same hands (seat_code s) cards [] (let b = code-lt s in omega arith)
+-- the hand that is written
+pub hand-same : (hands : FourHands) (s : Seat) (cards : List PlayingCard) → hand_of (with_hand hands s cards) s ≡ cards
+hand-same hands s cards = elim (hand_of-with_hand hands s cards s) [ inl here ↦ here.1 | inr other ↦ absurd (other.0 refl) ]
 
 -- and each other hand is as it was
-pub hand-other : (hands : List (List PlayingCard)) (s t : Seat) (cards : List PlayingCard) → seat_code t ≢ seat_code s → hand_of (with_hand hands s cards) t ≡ hand_of hands t
-hand-other hands s t cards other = get_or-set_other hands (seat_code s) (seat_code t) cards [] other
+pub hand-other : (hands : FourHands) (s t : Seat) (cards : List PlayingCard) → seat_code t ≢ seat_code s → hand_of (with_hand hands s cards) t ≡ hand_of hands t
+hand-other hands s t cards apart = elim (hand_of-with_hand hands s cards t) [ inl same ↦ absurd (apart (ap seat_code same.0)) | inr other ↦ other.1 ]
 
 -- the card goes on the trick
 abbrev open_after : Board → PlayingCard → Board
@@ -86,7 +89,7 @@ open-even p c valid short fewer k within =
     elim (eqb_tells k n) [
       | inl same ↦ (
           let hand : length (cards_at (open_after p c) (seat_after p.first k)) ≡ length (without (cards_at p (mover p)) c) =
-          ap (λ j. length (hand_of (hands_after p c) (seat_after p.first j))) same.1 ∙ ap length (hand-same p.hands (mover p) (without (cards_at p (mover p)) c) valid.four) in
+          ap (λ j. length (hand_of (hands_after p c) (seat_after p.first j))) same.1 ∙ ap length (hand-same p.hands (mover p) (without (cards_at p (mover p)) c)) in
           let flag : flag_of (nat_lt k (length (trick_with p c))) ≡ 1 = flag-true _ (lt-ltb k (length (trick_with p c)) (omega (arith, longer, same.1))) in
           omega (arith, hand, flag, same_left, fewer)
           )
@@ -119,7 +122,7 @@ closed-length p c valid full fewer s =
     elim (eqb_tells (seat_code s) (seat_code (mover p))) [
       | inl same ↦ (
           let hand : length (hand_of (hands_after p c) s) ≡ length (without (cards_at p (mover p)) c) =
-          ap (λ t. length (hand_of (hands_after p c) t)) (seat_code-injective s (mover p) same.1) ∙ ap length (hand-same p.hands (mover p) (without (cards_at p (mover p)) c) valid.four) in
+          ap (λ t. length (hand_of (hands_after p c) t)) (seat_code-injective s (mover p) same.1) ∙ ap length (hand-same p.hands (mover p) (without (cards_at p (mover p)) c)) in
           omega (arith, hand, fewer)
           )
       | inr other ↦ (
@@ -171,13 +174,12 @@ times-push (x ∷ cards) c d =
     omega (arith, one, two, ih)
 
 -- how often a card stands when one hand is written anew
-pub times_in-with_hand : (hands : List (List PlayingCard)) (s : Seat) (cards : List PlayingCard) (d : PlayingCard) → length hands ≡ 4
+pub times_in-with_hand : (hands : FourHands) (s : Seat) (cards : List PlayingCard) (d : PlayingCard)
     → times_in (with_hand hands s cards) d + times (hand_of hands s) d ≡ times_in hands d + times cards d
-times_in-with_hand (a ∷ b ∷ c ∷ e ∷ []) North cards d four = omega arith
-times_in-with_hand (a ∷ b ∷ c ∷ e ∷ []) East cards d four = omega arith
-times_in-with_hand (a ∷ b ∷ c ∷ e ∷ []) South cards d four = omega arith
-times_in-with_hand (a ∷ b ∷ c ∷ e ∷ []) West cards d four = omega arith
-times_in-with_hand hands s cards d four = absurd (omega arith)
+times_in-with_hand hands North cards d = omega arith
+times_in-with_hand hands East cards d = omega arith
+times_in-with_hand hands South cards d = omega arith
+times_in-with_hand hands West cards d = omega arith
 
 -- a card that moves from a hand to the trick still stands once
 pub after-once : (p : Board) (c : PlayingCard) → IsBoard p → has_card (cards_at p (mover p)) c ≡ true → (d : PlayingCard) → times_in (hands_after p c) d + times (trick_with p c) d ≤ 1
@@ -185,7 +187,7 @@ after-once p c valid own d = go (same_card c d) refl
   where
     go : (b : Bool) → same_card c d ≡ b → times_in (hands_after p c) d + times (trick_with p c) d ≤ 1
     go false e =
-        let moved = times_in-with_hand p.hands (mover p) (without (cards_at p (mover p)) c) d valid.four in
+        let moved = times_in-with_hand p.hands (mover p) (without (cards_at p (mover p)) c) d in
         let push = times-push p.trick c d in
         let k : flag_of (same_card c d) ≡ 0 = ap flag_of e in
         let less = times-filter (λ x. not (same_card x c)) d (cards_at p (mover p)) in
@@ -193,7 +195,7 @@ after-once p c valid own d = go (same_card c d) refl
         omega (arith, moved, push, k, less, once)
     go true e =
         let same : c ≡ d = same_card-eq c d e in
-        let moved = times_in-with_hand p.hands (mover p) (without (cards_at p (mover p)) c) d valid.four in
+        let moved = times_in-with_hand p.hands (mover p) (without (cards_at p (mover p)) c) d in
         let push = times-push p.trick c d in
         let k : flag_of (same_card c d) ≡ 1 = ap flag_of e in
         let gone : times (without (cards_at p (mover p)) c) d ≡ 0 = ap (times (without (cards_at p (mover p)) c)) (sym same) ∙ times-without c (cards_at p (mover p)) in
@@ -217,7 +219,7 @@ after-sets p c valid s =
     let gone : List PlayingCard = without (cards_at p (mover p)) c in
     elim (eqb_tells (seat_code s) (seat_code (mover p))) [
       | inl same ↦ (
-          let hand : hand_of (hands_after p c) s ≡ gone = ap (hand_of (hands_after p c)) (seat_code-injective s (mover p) same.1) ∙ hand-same p.hands (mover p) gone valid.four in
+          let hand : hand_of (hands_after p c) s ≡ gone = ap (hand_of (hands_after p c)) (seat_code-injective s (mover p) same.1) ∙ hand-same p.hands (mover p) gone in
           subst (λ (cards : List PlayingCard). IsSet cards) (sym hand) (IsSet-without (cards_at p (mover p)) c (valid.sets (mover p)))
           )
       | inr other ↦ subst (λ (cards : List PlayingCard). IsSet cards) (sym (hand-other p.hands (mover p) s gone other.1)) (valid.sets s)
@@ -245,9 +247,6 @@ legal-leads p c valid has = go (completes p) refl
     own : has_card (cards_at p (mover p)) c ≡ true
     own = in-following p.trick (cards_at p (mover p)) c has
 
-    four : length (hands_after p c) ≡ 4
-    four = length-set p.hands (seat_code (mover p)) (without (cards_at p (mover p)) c) ∙ valid.four
-
     go : (b : Bool) → completes p ≡ b → Follows p (after p c)
     go true e =
         let full : length p.trick ≡ 3 = eqb-true (length p.trick) 3 e in
@@ -257,7 +256,6 @@ legal-leads p c valid has = go (completes p) refl
         let f : after p c ≡ closed_after p c = ap (λ b. cond b (closed_after p c) (open_after p c)) e in
         let done : Follows p (closed_after p c) = record {
           valid = record {
-            four = four;
             sets = after-sets p c valid;
             short = omega arith;
             real = λ d h. absurd (cc);
@@ -278,7 +276,6 @@ legal-leads p c valid has = go (completes p) refl
         let f : after p c ≡ open_after p c = ap (λ b. cond b (closed_after p c) (open_after p c)) e in
         let done : Follows p (open_after p c) = record {
           valid = record {
-            four = four;
             sets = after-sets p c valid;
             short = omega (arith, longer, short);
             real = push-real p.trick c valid.real (real-set (cards_at p (mover p)) c (valid.sets (mover p)) own);
@@ -306,13 +303,15 @@ pub in-rest : (c d : PlayingCard) (cards : List PlayingCard) → has_card cards 
 in-rest c d cards h = or-right (same_card c d) (has_card cards d) h
 
 -- ---- North and South take no more tricks than are left
-pub fold-le : (side : Bool) (m x : ℕ) (cards : List PlayingCard) (f : PlayingCard → ℕ) → x ≤ m → ((c : PlayingCard) → has_card cards c ≡ true → f c ≤ m) → fold (better side) x (map f cards) ≤ m
+
+-- the best of numbers up to m, from one of them on, is at most m
+pub fold-le : (side : Side) (m x : ℕ) (cards : List PlayingCard) (f : PlayingCard → ℕ) → x ≤ m → ((c : PlayingCard) → has_card cards c ≡ true → f c ≤ m) → fold (better side) x (map f cards) ≤ m
 fold-le side m x [] f h each = h
-fold-le true m x (c ∷ cards) f h each = fold-le true m (max x (f c)) cards f (let k = each c (has-first c cards) in omega arith) (λ d has. each d (in-rest c d cards has))
-fold-le false m x (c ∷ cards) f h each = fold-le false m (min x (f c)) cards f (let k = each c (has-first c cards) in omega arith) (λ d has. each d (in-rest c d cards has))
+fold-le NorthSouth m x (c ∷ cards) f h each = fold-le NorthSouth m (max x (f c)) cards f (let k = each c (has-first c cards) in omega arith) (λ d has. each d (in-rest c d cards has))
+fold-le EastWest m x (c ∷ cards) f h each = fold-le EastWest m (min x (f c)) cards f (let k = each c (has-first c cards) in omega arith) (λ d has. each d (in-rest c d cards has))
 
 -- the best of numbers up to m is at most m
-pub best-le : (side : Bool) (m : ℕ) (cards : List PlayingCard) (f : PlayingCard → ℕ) → ((c : PlayingCard) → has_card cards c ≡ true → f c ≤ m) → best side (map f cards) ≤ m
+pub best-le : (side : Side) (m : ℕ) (cards : List PlayingCard) (f : PlayingCard → ℕ) → ((c : PlayingCard) → has_card cards c ≡ true → f c ≤ m) → best side (map f cards) ≤ m
 best-le side m [] f each = zero-le
 best-le side m (c ∷ cards) f each = fold-le side m (f c) cards f (each c (has-first c cards)) (λ d has. each d (in-rest c d cards has))
 
@@ -327,7 +326,7 @@ pub ns_within-le : (n : ℕ) (p : Board) → IsBoard p → ns_within n p ≤ lef
 unfolding ns_within
 ns_within-le zero p valid = zero-le
 ns_within-le (suc n) p valid =
-    best-le (is_north_south (mover p)) (left p) (legal p) (λ c. gain p c + ns_within n (after p c)) (λ c has.
+    best-le (side_of (mover p)) (left p) (legal p) (λ c. gain p c + ns_within n (after p c)) (λ c has.
     let q : Follows p (after p c) = legal-leads p c valid has in
     let ih : ns_within n (after p c) ≤ left (after p c) = ns_within-le n (after p c) q.valid in
     let g : gain p c ≤ flag_of (completes p) = gain-le (completes p) (is_north_south (winner_of (trick_with p c) p.first p.strain)) in

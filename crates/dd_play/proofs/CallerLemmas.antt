@@ -52,9 +52,9 @@ pub use Rattle.dd_play.proofs.Twice.{times_in-once}
 -- what the side takes when c is played
 pub use Rattle.dd_play.proofs.Rules.{won_with}
 -- what North and South take when a card is played
-pub use Rattle.dd_play.proofs.Rules.{won-true}
+pub use Rattle.dd_play.proofs.Rules.{won-north-south}
 -- what the one side takes when a card is played, the other does not
-pub use Rattle.dd_play.proofs.Rules.{won-false}
+pub use Rattle.dd_play.proofs.Rules.{won-east-west}
 -- where the side is to play, each legal card is within its reach
 pub use Rattle.dd_play.proofs.Rules.{can}
 -- against the other side it takes at least what each legal card leaves it
@@ -147,6 +147,8 @@ pub use Rattle.dd_play.proofs.ClaimRules.{one-point}
 pub use Rattle.dd_play.proofs.ClaimRules.{all}
 -- the two sides claim no more together than is left
 pub use Rattle.dd_play.proofs.ClaimRules.{both}
+-- the leader's tricks are those of its side
+pub use Rattle.dd_play.proofs.ClaimRules.{lead-won}
 -- where the claims of the two sides add up to all tricks, each takes what it claims
 pub use Rattle.dd_play.proofs.ClaimRules.{exactly}
 

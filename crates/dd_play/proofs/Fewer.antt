@@ -8,6 +8,7 @@ use Rattle.dd_cards.specs.PlayingCard.{PlayingCard}
 use Rattle.dd_cards.specs.Cards.{has_card, same_card}
 use Rattle.dd_cards.specs.Seats.{seat_after}
 use Rattle.dd_cards.proofs.CallerLemmas.{same_card-eq, seat_code-injective}
+use Rattle.dd_cards.specs.declared.side.Side.{Side}
 use Rattle.dd_play.specs.Board.{Board, IsBoard, cards_at}
 use Rattle.dd_play.specs.Play.{after}
 use Rattle.dd_play.specs.Covers.{ForMet, Keeps, IsOver, Answers, AllAnswer, IsCover}
@@ -65,7 +66,7 @@ abbrev pub Pulled : (PlayingCard → Bool) → (PlayingCard → PlayingCard) →
 Pulled top to from P c d = top (from c) ≡ true → top (from d) ≡ true → P (from c) (from d) × (to (from c) ≡ c) × (to (from d) ≡ d)
 
 -- two top cards of q that can meet come from two of p that can
-pub met-back : (top : PlayingCard → Bool) (k : ℕ) (to from : PlayingCard → PlayingCard) (s : Bool) (p : Board) (t : Bool) (q : Board) (P : PlayingCard → PlayingCard → Type 0) → IsCover top k to from s p t q
+pub met-back : (top : PlayingCard → Bool) (k : ℕ) (to from : PlayingCard → PlayingCard) (s : Side) (p : Board) (t : Side) (q : Board) (P : PlayingCard → PlayingCard → Type 0) → IsCover top k to from s p t q
     → ForMet p P → ForMet q (Pulled top to from P)
 met-back top k to from s p t q P r m = record {
   hands = λ x y c d n hc hd tc td. (
@@ -110,7 +111,7 @@ all-fewer to from few many within [] (y ∷ ds) a = absurd a
 all-fewer to from few many within (x ∷ cs) [] a = absurd a
 all-fewer to from few many within (x ∷ cs) (y ∷ ds) a = (answers-fewer to from few many within x y a.0, all-fewer to from few many within cs ds a.1)
 
-pub cover-fewer : (few many : PlayingCard → Bool) (k : ℕ) (to from : PlayingCard → PlayingCard) (s : Bool) (p : Board) (t : Bool) (q : Board)
+pub cover-fewer : (few many : PlayingCard → Bool) (k : ℕ) (to from : PlayingCard → PlayingCard) (s : Side) (p : Board) (t : Side) (q : Board)
     → ((c : PlayingCard) → few c ≡ true → many c ≡ true) → ForMet p (IsOver few) → IsCover many k to from s p t q → IsCover few k to from s p t q
 cover-fewer few many k to from s p t q within over r = record {
   valid_p = r.valid_p;
@@ -149,7 +150,7 @@ cover-fewer few many k to from s p t q within over r = record {
             let k : nat_le (to (from c)).rank (to (from d)).rank ≡ nat_le (from c).rank (from d).rank = g.0.1 (within (from c) fc) h suits in
             lower c.rank d.rank (sym (ap₂ (λ (x y : PlayingCard). nat_le x.rank y.rank) g.1 g.2) ∙ k ∙ not-le (from c).rank (from d).rank under)
 
-pub strict-fewer : (few many : PlayingCard → Bool) (k : ℕ) (to from : PlayingCard → PlayingCard) (s : Bool) (p : Board) (t : Bool) (q : Board)
+pub strict-fewer : (few many : PlayingCard → Bool) (k : ℕ) (to from : PlayingCard → PlayingCard) (s : Side) (p : Board) (t : Side) (q : Board)
     → ((c : PlayingCard) → few c ≡ true → many c ≡ true) → ((c d : PlayingCard) → IsOver few c d) → IsCover many k to from s p t q → IsStrict many to from p q → IsStrict few to from p q
 strict-fewer few many k to from s p t q within over r strict = record {
   keeps = λ x c d hc hd tc td e. strict.keeps x c d hc hd (within c tc) (within d td) e;

@@ -1,11 +1,11 @@
 -- taking a card out of all hands when one hand alone has it
-use Rattle.std.proofs.Common.{◌≡◌, ◌+◌, ◌≤◌, Bool, true, false, refl, sym, ap, ◌∙◌, arith, List, [], ◌∷◌, length}
-use Rattle.std.specs.Prelude.{map, if◌then◌else◌}
+use Rattle.std.proofs.Common.{◌≡◌, ◌+◌, ◌≤◌, Bool, true, false, refl, sym, ap, ◌∙◌, arith, List, [], ◌∷◌}
+use Rattle.std.specs.Prelude.{if◌then◌else◌}
 use Rattle.dd_cards.specs.declared.seat.Seat.{Seat}
 use Rattle.dd_cards.specs.declared.seat.Seat.TheVariants.{North, East, South, West}
 use Rattle.dd_cards.specs.PlayingCard.{PlayingCard}
 use Rattle.dd_cards.specs.Cards.{same_card, without}
-use Rattle.dd_cards.specs.Hands.{hand_of, with_hand, times}
+use Rattle.dd_cards.specs.Hands.{FourHands, hand_of, with_hand, hands_without, times}
 use Rattle.dd_play.specs.Board.{Board, IsBoard, cards_at, mover, times_in}
 use Rattle.dd_play.specs.Play.{hands_after}
 use Rattle.dd_play.specs.Simulations.{IsLegal}
@@ -25,20 +25,15 @@ without-absent (d ∷ cards) c none =
     go false e all rest = rw e (ap (λ ds. d ∷ ds) rest)
 
 -- a card of one hand alone leaves all hands when it leaves that one
-out-of-all : (hands : List (List PlayingCard)) (seat : Seat) (c : PlayingCard) → length hands ≡ 4 → 1 ≤ times (hand_of hands seat) c → times_in hands c ≤ 1
-    → map (λ cards. without cards c) hands ≡ with_hand hands seat (without (hand_of hands seat) c)
-out-of-all (n ∷ e ∷ s ∷ w ∷ []) North c four has once = rw (without-absent e c (omega (arith, has, once)), without-absent s c (omega (arith, has, once)), without-absent w c (omega (arith, has, once))) refl
-out-of-all (n ∷ e ∷ s ∷ w ∷ []) East c four has once = rw (without-absent n c (omega (arith, has, once)), without-absent s c (omega (arith, has, once)), without-absent w c (omega (arith, has, once))) refl
-out-of-all (n ∷ e ∷ s ∷ w ∷ []) South c four has once = rw (without-absent n c (omega (arith, has, once)), without-absent e c (omega (arith, has, once)), without-absent w c (omega (arith, has, once))) refl
-out-of-all (n ∷ e ∷ s ∷ w ∷ []) West c four has once = rw (without-absent n c (omega (arith, has, once)), without-absent e c (omega (arith, has, once)), without-absent s c (omega (arith, has, once))) refl
-out-of-all [] seat c four has once = absurd (omega (arith, four))
-out-of-all (a ∷ []) seat c four has once = absurd (omega (arith, four))
-out-of-all (a ∷ b ∷ []) seat c four has once = absurd (omega (arith, four))
-out-of-all (a ∷ b ∷ d ∷ []) seat c four has once = absurd (omega (arith, four))
-out-of-all (a ∷ b ∷ d ∷ e ∷ f ∷ rest) seat c four has once = absurd (omega (arith, four))
+out-of-all : (hands : FourHands) (seat : Seat) (c : PlayingCard) → 1 ≤ times (hand_of hands seat) c → times_in hands c ≤ 1
+    → hands_without hands c ≡ with_hand hands seat (without (hand_of hands seat) c)
+out-of-all hands North c has once = rw (without-absent hands.east c (omega (arith, has, once)), without-absent hands.south c (omega (arith, has, once)), without-absent hands.west c (omega (arith, has, once))) refl
+out-of-all hands East c has once = rw (without-absent hands.north c (omega (arith, has, once)), without-absent hands.south c (omega (arith, has, once)), without-absent hands.west c (omega (arith, has, once))) refl
+out-of-all hands South c has once = rw (without-absent hands.north c (omega (arith, has, once)), without-absent hands.east c (omega (arith, has, once)), without-absent hands.west c (omega (arith, has, once))) refl
+out-of-all hands West c has once = rw (without-absent hands.north c (omega (arith, has, once)), without-absent hands.east c (omega (arith, has, once)), without-absent hands.south c (omega (arith, has, once))) refl
 
 -- the hands after a legal card, by taking it out of each hand
-pub taken-out : (p : Board) (c : PlayingCard) → IsBoard p → IsLegal p c → map (λ cards. without cards c) p.hands ≡ hands_after p c
+pub taken-out : (p : Board) (c : PlayingCard) → IsBoard p → IsLegal p c → hands_without p.hands c ≡ hands_after p c
 taken-out p c board legal =
     let once = board.once c in
-    out-of-all p.hands (mover p) c board.four (times-has (cards_at p (mover p)) c (own-card p c legal)) (omega (arith, once))
+    out-of-all p.hands (mover p) c (times-has (cards_at p (mover p)) c (own-card p c legal)) (omega (arith, once))

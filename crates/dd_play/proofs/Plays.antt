@@ -11,7 +11,7 @@ use Rattle.dd_cards.specs.PlayingCard.{PlayingCard}
 use Rattle.dd_cards.specs.Suits.{suit_code}
 use Rattle.dd_cards.specs.Cards.{is_of, same_card, has_card, without}
 use Rattle.dd_cards.specs.Seats.{seat_code, seat_after}
-use Rattle.dd_cards.specs.Hands.{hand_of, times}
+use Rattle.dd_cards.specs.Hands.{hand_of, times, FourHands}
 use Rattle.dd_cards.proofs.CallerLemmas.{and-left, any-filter, has_card-filter, same_card-eq, same_card-self, seat_code-injective, suit_code-injective}
 use Rattle.dd_cards.specs.Ranks.{IsRank}
 use Rattle.dd_play.specs.Board.{Board, IsBoard, cards_at, mover, times_in}
@@ -55,7 +55,7 @@ own-card p c has = in-following p.trick (cards_at p (mover p)) c has
 
 -- the mover's hand after the play is without the card
 pub hand-own : (p : Board) (c : PlayingCard) → IsBoard p → cards_at (after p c) (mover p) ≡ without (cards_at p (mover p)) c
-hand-own p c valid = ap (λ h. hand_of h (mover p)) (hands-after p c) ∙ hand-same p.hands (mover p) (without (cards_at p (mover p)) c) valid.four
+hand-own p c valid = ap (λ h. hand_of h (mover p)) (hands-after p c) ∙ hand-same p.hands (mover p) (without (cards_at p (mover p)) c)
 
 -- the other hands are as they were
 pub hand-others : (p : Board) (c : PlayingCard) (x : Seat) → seat_code x ≢ seat_code (mover p) → cards_at (after p c) x ≡ cards_at p x
@@ -78,7 +78,7 @@ is-in p c valid x d has apart = elim (same-or x (mover p)) [
 ]
 
 -- a card stands in a hand no more often than in all four
-pub times-hand : (hands : List (List PlayingCard)) (x : Seat) (c : PlayingCard) → times (hand_of hands x) c ≤ times_in hands c
+pub times-hand : (hands : FourHands) (x : Seat) (c : PlayingCard) → times (hand_of hands x) c ≤ times_in hands c
 times-hand hands North c = omega arith
 times-hand hands East c = omega arith
 times-hand hands South c = omega arith

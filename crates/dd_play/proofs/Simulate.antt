@@ -2,16 +2,18 @@
 use Rattle.std.proofs.Common.{◌≡◌, ℕ, zero, suc, ◌+◌, ◌≤◌, Bool, true, false, refl, ap, ◌∙◌, arith, List, [], ◌∷◌}
 use Rattle.dd_cards.specs.PlayingCard.{PlayingCard}
 use Rattle.dd_cards.specs.Cards.{has_card}
+use Rattle.dd_cards.specs.Sides.{is_side}
+use Rattle.dd_cards.specs.declared.side.Side.{Side}
 use Rattle.dd_play.specs.Board.{Board, IsBoard, cards_left, mover}
 use Rattle.dd_play.specs.Play.{legal, after}
 use Rattle.dd_play.proofs.Boards.{has-first}
-use Rattle.dd_play.specs.Won.{is_side, won, point}
+use Rattle.dd_play.specs.Won.{won, point}
 use Rattle.dd_play.specs.Simulations.{IsLegal, IsSimulation}
 use Rattle.dd_play.proofs.Rules.{won_with, can, bears, most, least, none}
 use Rattle.dd_play.proofs.Values.{cards_left-after}
 
 -- the law for one position, if it holds after each card
-step : (R : Bool → Board → Bool → Board → Type 0) → IsSimulation R → (s : Bool) (p : Board) (t : Bool) (q : Board) → R s p t q
+step : (R : Side → Board → Side → Board → Type 0) → IsSimulation R → (s : Side) (p : Board) (t : Side) (q : Board) → R s p t q
     → ((c d : PlayingCard) → IsLegal p c → R s (after p c) t (after q d) → won s (after p c) ≤ won t (after q d)) → won s p ≤ won t q
 step R sim s p t q r later = go (is_side s (mover p)) refl
   where
@@ -46,12 +48,12 @@ step R sim s p t q r later = go (is_side s (mover p)) refl
     go false e = theirs e (legal q) refl
 
 -- the law for positions of at most n cards
-within : (R : Bool → Board → Bool → Board → Type 0) → IsSimulation R → (n : ℕ) (s : Bool) (p : Board) (t : Bool) (q : Board) → cards_left p ≤ n → R s p t q → won s p ≤ won t q
+within : (R : Side → Board → Side → Board → Type 0) → IsSimulation R → (n : ℕ) (s : Side) (p : Board) (t : Side) (q : Board) → cards_left p ≤ n → R s p t q → won s p ≤ won t q
 within R sim zero s p t q few r = step R sim s p t q r (λ c d has next. absurd (let k : cards_left (after p c) + 1 ≡ cards_left p = cards_left-after p c (sim.boards s p t q r).0 has in omega (arith, k, few)))
 within R sim (suc n) s p t q few r = step R sim s p t q r (λ c d has next.
     let k : cards_left (after p c) + 1 ≡ cards_left p = cards_left-after p c (sim.boards s p t q r).0 has in
     within R sim n s (after p c) t (after q d) (omega (arith, k, few)) next)
 
 -- The law of simulations: under such a relation the second side takes at least as many tricks.
-pub simulated : (R : Bool → Board → Bool → Board → Type 0) → IsSimulation R → (s : Bool) (p : Board) (t : Bool) (q : Board) → R s p t q → won s p ≤ won t q
+pub simulated : (R : Side → Board → Side → Board → Type 0) → IsSimulation R → (s : Side) (p : Board) (t : Side) (q : Board) → R s p t q → won s p ≤ won t q
 simulated R sim s p t q r = within R sim (cards_left p) s p t q (omega arith) r

@@ -11,12 +11,14 @@ use Rattle.dd_cards.specs.Cards.{is_of, same_card, has_card, without}
 use Rattle.dd_cards.specs.Seats.{seat_code, seat_after}
 use Rattle.dd_cards.specs.Hands.{times}
 use Rattle.dd_cards.proofs.CallerLemmas.{and-both, and-left, and-right, else-false, false-not, not-true, same_card-eq}
+use Rattle.dd_cards.specs.Sides.{is_side}
+use Rattle.dd_cards.specs.declared.side.Side.{Side}
 use Rattle.dd_play.specs.Board.{Board, IsBoard, cards_at, mover}
 use Rattle.dd_play.specs.Tricks.{winner_of, winning_place}
 use Rattle.dd_play.specs.Play.{completes, trick_with, after}
 use Rattle.dd_play.proofs.Values.{times-has}
 use Rattle.dd_play.proofs.Boards.{flag_of, legal-leads}
-use Rattle.dd_play.specs.Won.{is_side, point}
+use Rattle.dd_play.specs.Won.{point}
 use Rattle.dd_play.specs.Simulations.{IsLegal}
 use Rattle.dd_play.specs.Covers.{Keeps, IsOver, Answers, AllAnswer, count_of, IsCover, IsSettled}
 use Rattle.dd_play.proofs.Counts.{count, count-cons, count-some, count-has, count-without, inject}
@@ -40,14 +42,14 @@ count-split test other (c ∷ cards) =
     flags false b = omega arith
 
 -- the mover of the one is the mover of the other, turned
-pub mover-turned : (top : PlayingCard → Bool) (k : ℕ) (to from : PlayingCard → PlayingCard) (s : Bool) (p : Board) (t : Bool) (q : Board) → IsCover top k to from s p t q → mover q ≡ seat_after (mover p) k
+pub mover-turned : (top : PlayingCard → Bool) (k : ℕ) (to from : PlayingCard → PlayingCard) (s : Side) (p : Board) (t : Side) (q : Board) → IsCover top k to from s p t q → mover q ≡ seat_after (mover p) k
 mover-turned top k to from s p t q r =
     ap₂ seat_after r.first (answer-length to from top p.trick q.trick r.trick) ∙ turn-turn p.first k (length p.trick)
 
 -- ---- a card of p has an answer in q, in the same hand
 
 -- each card of a hand of p has an answer in that hand, turned, of q
-pub reply : (top : PlayingCard → Bool) (k : ℕ) (to from : PlayingCard → PlayingCard) (s : Bool) (p : Board) (t : Bool) (q : Board) → IsCover top k to from s p t q
+pub reply : (top : PlayingCard → Bool) (k : ℕ) (to from : PlayingCard → PlayingCard) (s : Side) (p : Board) (t : Side) (q : Board) → IsCover top k to from s p t q
     → (x : Seat) (c : PlayingCard) → has_card (cards_at p x) c ≡ true → (d : PlayingCard) × (has_card (cards_at q (seat_after x k)) d ≡ true) × Answers to from top c d
 reply top k to from s p t q r x c has = go (top c) refl
   where
@@ -78,7 +80,7 @@ reply top k to from s p t q r x c has = go (top c) refl
         )
 
 -- each card of a hand of q answers one of that hand of p
-pub reply' : (top : PlayingCard → Bool) (k : ℕ) (to from : PlayingCard → PlayingCard) (s : Bool) (p : Board) (t : Bool) (q : Board) → IsCover top k to from s p t q
+pub reply' : (top : PlayingCard → Bool) (k : ℕ) (to from : PlayingCard → PlayingCard) (s : Side) (p : Board) (t : Side) (q : Board) → IsCover top k to from s p t q
     → (x : Seat) (d : PlayingCard) → has_card (cards_at q (seat_after x k)) d ≡ true → (c : PlayingCard) × (has_card (cards_at p x) c ≡ true) × Answers to from top c d
 reply' top k to from s p t q r x d has = go (top (from d)) refl
   where
@@ -133,7 +135,7 @@ obeys-from to from top (x ∷ cs) (y ∷ ds) mine his c d a m each o = λ b has 
     sym m.suit ∙ o e.0 e.1 (e.2.suit ∙ suit ∙ sym a.0.suit) ∙ a.0.suit
 
 -- an answer to a legal card is legal
-pub legal-to : (top : PlayingCard → Bool) (k : ℕ) (to from : PlayingCard → PlayingCard) (s : Bool) (p : Board) (t : Bool) (q : Board) → IsCover top k to from s p t q
+pub legal-to : (top : PlayingCard → Bool) (k : ℕ) (to from : PlayingCard → PlayingCard) (s : Side) (p : Board) (t : Side) (q : Board) → IsCover top k to from s p t q
     → (c d : PlayingCard) → IsLegal p c → has_card (cards_at q (mover q)) d ≡ true → Answers to from top c d → IsLegal q d
 legal-to top k to from s p t q r c d has there m =
     legal-in q.trick (cards_at q (mover q)) d there (obeys-to to from top p.trick q.trick (cards_at p (mover p)) (cards_at q (mover q)) c d r.trick m
@@ -141,14 +143,14 @@ legal-to top k to from s p t q r c d has there m =
     (legal-out p.trick (cards_at p (mover p)) c has))
 
 -- each legal card of p has a legal answer in q
-pub answer : (top : PlayingCard → Bool) (k : ℕ) (to from : PlayingCard → PlayingCard) (s : Bool) (p : Board) (t : Bool) (q : Board) → IsCover top k to from s p t q
+pub answer : (top : PlayingCard → Bool) (k : ℕ) (to from : PlayingCard → PlayingCard) (s : Side) (p : Board) (t : Side) (q : Board) → IsCover top k to from s p t q
     → (c : PlayingCard) → IsLegal p c → (d : PlayingCard) × IsLegal q d × Answers to from top c d
 answer top k to from s p t q r c has =
     let d = reply top k to from s p t q r (mover p) c (own-card p c has) in
     (d.0, legal-to top k to from s p t q r c d.0 has (ap (λ y. has_card (cards_at q y) d.0) (mover-turned top k to from s p t q r) ∙ d.1) d.2, d.2)
 
 -- each legal card of q answers a legal one of p
-pub answer' : (top : PlayingCard → Bool) (k : ℕ) (to from : PlayingCard → PlayingCard) (s : Bool) (p : Board) (t : Bool) (q : Board) → IsCover top k to from s p t q
+pub answer' : (top : PlayingCard → Bool) (k : ℕ) (to from : PlayingCard → PlayingCard) (s : Side) (p : Board) (t : Side) (q : Board) → IsCover top k to from s p t q
     → (d : PlayingCard) → IsLegal q d → (c : PlayingCard) × IsLegal p c × Answers to from top c d
 answer' top k to from s p t q r d has =
     let turn : (e : PlayingCard) → has_card (cards_at q (mover q)) e ≡ true → has_card (cards_at q (seat_after (mover p) k)) e ≡ true = λ e h. ap (λ y. has_card (cards_at q y) e) (sym (mover-turned top k to from s p t q r)) ∙ h in
@@ -171,12 +173,12 @@ over-own top c t u e = absurd (let k : true ≡ false = sym t ∙ u in cc)
 -- ---- the step
 
 -- after a card and its answer the relation holds as before, and the two are worth the same
-pub record Step (top : PlayingCard → Bool) (k : ℕ) (to from : PlayingCard → PlayingCard) (s : Bool) (p : Board) (t : Bool) (q : Board) (c d : PlayingCard) : Type 0 where
+pub record Step (top : PlayingCard → Bool) (k : ℕ) (to from : PlayingCard → PlayingCard) (s : Side) (p : Board) (t : Side) (q : Board) (c d : PlayingCard) : Type 0 where
   pub cover : IsCover top k to from s (after p c) t (after q d)
   pub worth : point t q d ≡ point s p c
 
 -- a legal card and its legal answer keep the relation, where the winner of a trick that they complete is settled
-pub stepped : (top : PlayingCard → Bool) (k : ℕ) (to from : PlayingCard → PlayingCard) (s : Bool) (p : Board) (t : Bool) (q : Board) → IsCover top k to from s p t q
+pub stepped : (top : PlayingCard → Bool) (k : ℕ) (to from : PlayingCard → PlayingCard) (s : Side) (p : Board) (t : Side) (q : Board) → IsCover top k to from s p t q
     → (c d : PlayingCard) → IsLegal p c → IsLegal q d → Answers to from top c d → IsSettled top p c → Step top k to from s p t q c d
 stepped top k to from s p t q r c d has has' m settled =
     record {

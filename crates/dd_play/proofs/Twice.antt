@@ -1,5 +1,5 @@
 -- cards that are put into a hand one by one, and how often each stands then
-use Rattle.std.proofs.Common.{◌≡◌, ℕ, zero, suc, ◌+◌, ◌<◌, ◌≤◌, Bool, true, false, refl, sym, ap, ◌∙◌, subst, arith, List, [], ◌∷◌, ◌++◌, length, take, get_or, zero-le, length-set}
+use Rattle.std.proofs.Common.{◌≡◌, ℕ, zero, suc, ◌+◌, ◌<◌, ◌≤◌, Bool, true, false, refl, sym, ap, ◌∙◌, subst, arith, List, [], ◌∷◌, ◌++◌, length, take, get_or, zero-le}
 use Rattle.std.specs.Prelude.{◌||◌, ◌&&◌}
 use Rattle.std.proofs.lemmas.List.{take_more}
 use Rattle.dd_cards.specs.declared.seat.Seat.{Seat}
@@ -7,7 +7,7 @@ use Rattle.dd_cards.specs.declared.seat.Seat.TheVariants.{North, East, South, We
 use Rattle.dd_cards.specs.PlayingCard.{PlayingCard}
 use Rattle.dd_cards.specs.Ranks.{IsRank}
 use Rattle.dd_cards.specs.Cards.{same_card, has_card, with_card, deck}
-use Rattle.dd_cards.specs.Hands.{hand_of, with_hand, times, IsSet, AreHands}
+use Rattle.dd_cards.specs.Hands.{hand_of, with_hand, times, IsSet, AreHands, FourHands}
 use Rattle.dd_cards.proofs.CallerLemmas.{IsSet-with_card, at-most-one, has_card-deck, has_card-filter, real-set, same_card-eq, same_card-self, times-cons, times-has_card}
 use Rattle.dd_play.specs.Board.{times_in}
 use Rattle.dd_play.proofs.Values.{times-has}
@@ -46,15 +46,15 @@ times-with_card cards c d set absent real = go (same_card c d) refl
         omega (arith, rest, same, old, flag)
 
 -- the four hands with a card more in North's
-pub times_in-insert : (hands : List (List PlayingCard)) (c d : PlayingCard) → length hands ≡ 4 → IsSet (hand_of hands North) → has_card (hand_of hands North) c ≡ false → IsRank c.rank
+pub times_in-insert : (hands : FourHands) (c d : PlayingCard) → IsSet (hand_of hands North) → has_card (hand_of hands North) c ≡ false → IsRank c.rank
     → times_in (with_hand hands North (with_card (hand_of hands North) c)) d ≡ times_in hands d + flag_of (same_card c d)
-times_in-insert hands c d four set absent real =
-    let moved = times_in-with_hand hands North (with_card (hand_of hands North) c) d four in
+times_in-insert hands c d set absent real =
+    let moved = times_in-with_hand hands North (with_card (hand_of hands North) c) d in
     let one = times-with_card (hand_of hands North) c d set absent real in
     omega (arith, moved, one)
 
 -- a card stands in four hands at most once
-pub times_in-once : (hands : List (List PlayingCard)) (c : PlayingCard) → AreHands hands → times_in hands c ≤ 1
+pub times_in-once : (hands : FourHands) (c : PlayingCard) → AreHands hands → times_in hands c ≤ 1
 times_in-once hands c valid =
     let has = λ (s : Seat). has_card (hand_of hands s) c in
     let apart = λ (s t : Seat) (differ : s ≡ t → ⊥) (h : has s ≡ true) (k : has t ≡ true). differ (valid.disjoint c s t h k) in
@@ -67,7 +67,7 @@ times_in-once hands c valid =
     omega (arith, one, north, east, south, west)
 
 -- and not at all where no hand has it
-pub times_in-none : (hands : List (List PlayingCard)) (c : PlayingCard) → ((s : Seat) → has_card (hand_of hands s) c ≡ false) → times_in hands c ≡ 0
+pub times_in-none : (hands : FourHands) (c : PlayingCard) → ((s : Seat) → has_card (hand_of hands s) c ≡ false) → times_in hands c ≡ 0
 times_in-none hands c none =
     let north = times-none (hand_of hands North) c (none North) in
     let east = times-none (hand_of hands East) c (none East) in
@@ -101,7 +101,7 @@ times-next trick i card c within is =
     ∙ times-push (take i trick) card c
 
 -- A card of the trick that is already in one of the hands or earlier on the trick stands twice.
-pub second-time : (seen hands : List (List PlayingCard)) (trick : List PlayingCard) (i : ℕ) (card : PlayingCard) → i < length trick → card ≡ get_or trick i card
+pub second-time : (seen hands : FourHands) (trick : List PlayingCard) (i : ℕ) (card : PlayingCard) → i < length trick → card ≡ get_or trick i card
     → ((c : PlayingCard) → times_in seen c ≡ times_in hands c + times (take i trick) c)
     → ((c : PlayingCard) → times_in hands c + times trick c ≤ 1) → (s : Seat) → has_card (hand_of seen s) card ≡ false
 second-time seen hands trick i card within is counted once s = go (has_card (hand_of seen s) card) refl
@@ -125,18 +125,16 @@ second-time seen hands trick i card within is counted once s = go (has_card (han
         absurd (omega (arith, here, all, count, next, own, part, most))
 
 -- these cards were put into North's hand, each for the first time
-pub record Counted (seen hands : List (List PlayingCard)) (cards : List PlayingCard) : Type 0 where
-  pub four : length seen ≡ 4
+pub record Counted (seen hands : FourHands) (cards : List PlayingCard) : Type 0 where
   pub north : IsSet (hand_of seen North)
   pub once : (c : PlayingCard) → times_in seen c ≤ 1
   pub counted : (c : PlayingCard) → times_in seen c ≡ times_in hands c + times cards c
   pub real : (c : PlayingCard) → has_card cards c ≡ true → IsRank c.rank
 
 -- before the first card of the trick
-pub counted-none : (hands : List (List PlayingCard)) → AreHands hands → Counted hands hands []
+pub counted-none : (hands : FourHands) → AreHands hands → Counted hands hands []
 counted-none hands valid =
     record {
-      four = valid.four;
       north = valid.sets North;
       once = λ c. times_in-once hands c valid;
       counted = λ c. omega arith;
@@ -144,14 +142,13 @@ counted-none hands valid =
     }
 
 -- one card more
-pub counted-next : (seen hands : List (List PlayingCard)) (cards : List PlayingCard) (card : PlayingCard) → Counted seen hands cards → ((s : Seat) → has_card (hand_of seen s) card ≡ false) → IsRank card.rank
+pub counted-next : (seen hands : FourHands) (cards : List PlayingCard) (card : PlayingCard) → Counted seen hands cards → ((s : Seat) → has_card (hand_of seen s) card ≡ false) → IsRank card.rank
     → Counted (with_hand seen North (with_card (hand_of seen North) card)) hands (cards ++ card ∷ [])
 counted-next seen hands cards card before none real =
     let new : List PlayingCard = with_card (hand_of seen North) card in
-    let more = λ (c : PlayingCard). times_in-insert seen card c before.four before.north (none North) real in
+    let more = λ (c : PlayingCard). times_in-insert seen card c before.north (none North) real in
     record {
-      four = length-set seen 0 new ∙ before.four;
-      north = subst (λ (xs : List PlayingCard). IsSet xs) (sym (hand-same seen North new before.four)) (IsSet-with_card (hand_of seen North) card);
+      north = subst (λ (xs : List PlayingCard). IsSet xs) (sym (hand-same seen North new)) (IsSet-with_card (hand_of seen North) card);
       once = λ c. at_most_one c (same_card card c) refl (more c);
       counted = λ c. (let a = more c in let b = before.counted c in let d = times-push cards card c in omega (arith, a, b, d));
       real = push-real cards card before.real real;
@@ -169,7 +166,7 @@ counted-next seen hands cards card before none real =
         omega (arith, more, flag, old)
 
 -- the next card of the trick
-pub counted-take : (seen hands : List (List PlayingCard)) (trick : List PlayingCard) (i : ℕ) (card : PlayingCard) → i < length trick → card ≡ get_or trick i card → Counted seen hands (take i trick)
+pub counted-take : (seen hands : FourHands) (trick : List PlayingCard) (i : ℕ) (card : PlayingCard) → i < length trick → card ≡ get_or trick i card → Counted seen hands (take i trick)
     → ((s : Seat) → has_card (hand_of seen s) card ≡ false) → IsRank card.rank
     → Counted (with_hand seen North (with_card (hand_of seen North) card)) hands (take (i + 1) trick)
 counted-take seen hands trick i card within is before none real =

@@ -2,9 +2,11 @@
 use Rattle.std.proofs.Common.{◌≡◌, ℕ, Bool, true, false, refl, sym, ap, ◌∙◌, arith, List, [], ◌∷◌}
 use Rattle.dd_cards.specs.PlayingCard.{PlayingCard}
 use Rattle.dd_cards.specs.Cards.{has_card}
+use Rattle.dd_cards.specs.Sides.{is_side}
+use Rattle.dd_cards.specs.declared.side.Side.{Side}
 use Rattle.dd_play.specs.Board.{Board, mover}
 use Rattle.dd_play.specs.Play.{legal}
-use Rattle.dd_play.specs.Won.{is_side, won}
+use Rattle.dd_play.specs.Won.{won}
 use Rattle.dd_play.specs.Simulations.{IsLegal, IsSimulation}
 use Rattle.dd_play.specs.Covers.{IsCover, any_card, AreTwins}
 use Rattle.dd_play.proofs.Boards.{has-first}
@@ -22,7 +24,7 @@ ends-of p q each e = go (legal p) refl
         absurd (let k : false ≡ true = ap (λ l. has_card l d.0) (sym e) ∙ d.1 in cc)
 
 -- the movers are of the two sides, or neither is
-pub sides-turned : (top : PlayingCard → Bool) (k : ℕ) (to from : PlayingCard → PlayingCard) (s : Bool) (p : Board) (t : Bool) (q : Board) → IsCover top k to from s p t q → is_side t (mover q) ≡ is_side s (mover p)
+pub sides-turned : (top : PlayingCard → Bool) (k : ℕ) (to from : PlayingCard → PlayingCard) (s : Side) (p : Board) (t : Side) (q : Board) → IsCover top k to from s p t q → is_side t (mover q) ≡ is_side s (mover p)
 sides-turned top k to from s p t q r = ap (is_side t) (mover-turned top k to from s p t q r) ∙ r.sides (mover p)
 
 -- the one side does at least as well as the other
@@ -42,7 +44,7 @@ twins-simulate = record {
 }
 
 -- the relation, read from the other game
-abbrev Flipped : Bool → Board → Bool → Board → Type 0
+abbrev Flipped : Side → Board → Side → Board → Type 0
 Flipped t q s p = AreTwins s p t q
 
 -- and the other at least as well as the one
@@ -62,7 +64,7 @@ twins-simulate-back = record {
 }
 
 -- twins have one value
-pub twins-won : (s : Bool) (p : Board) (t : Bool) (q : Board) → AreTwins s p t q → won t q ≡ won s p
+pub twins-won : (s : Side) (p : Board) (t : Side) (q : Board) → AreTwins s p t q → won t q ≡ won s p
 twins-won s p t q r =
     let a = simulated AreTwins twins-simulate s p t q r in
     let b = simulated Flipped twins-simulate-back t q s p r in

@@ -9,8 +9,8 @@ use Rattle.dd_cards.specs.declared.seat.Seat.{Seat}
 use Rattle.dd_cards.specs.declared.seat.Seat.TheVariants.{North, East, South, West}
 use Rattle.dd_cards.specs.PlayingCard.{PlayingCard}
 use Rattle.dd_cards.specs.Cards.{is_of, same_card, has_card, without}
-use Rattle.dd_cards.specs.Seats.{is_north_south}
-use Rattle.dd_cards.specs.Hands.{hand_of, with_hand, times}
+use Rattle.dd_cards.specs.Hands.{FourHands, hand_of, with_hand, times}
+use Rattle.dd_cards.specs.Sides.{side_of}
 use Rattle.dd_play.specs.Board.{Board, IsBoard, cards_at, mover, cards_left}
 use Rattle.dd_play.specs.Tricks.{or_else}
 use Rattle.dd_cards.proofs.CallerLemmas.{any-filter, or-right, times-cons, times-set}
@@ -42,20 +42,20 @@ length-without cards c once has =
     let k = times-has cards c has in
     omega arith
 
-unfoldable pub total : List (List PlayingCard) → ℕ
+-- the number of cards in the four hands
+unfoldable pub total : FourHands → ℕ
 total hands = length (hand_of hands North) + length (hand_of hands East) + length (hand_of hands South) + length (hand_of hands West)
 
 -- one hand loses a card
-pub total-with_hand : (hands : List (List PlayingCard)) (s : Seat) (cards : List PlayingCard) → length hands ≡ 4 → length cards + 1 ≡ length (hand_of hands s) → total (with_hand hands s cards) + 1 ≡ total hands
+pub total-with_hand : (hands : FourHands) (s : Seat) (cards : List PlayingCard) → length cards + 1 ≡ length (hand_of hands s) → total (with_hand hands s cards) + 1 ≡ total hands
 unfolding total
-total-with_hand (a ∷ b ∷ c ∷ d ∷ []) North cards four e = omega arith
-total-with_hand (a ∷ b ∷ c ∷ d ∷ []) East cards four e = omega arith
-total-with_hand (a ∷ b ∷ c ∷ d ∷ []) South cards four e = omega arith
-total-with_hand (a ∷ b ∷ c ∷ d ∷ []) West cards four e = omega arith
-total-with_hand hands s cards four e = absurd (omega arith)
+total-with_hand hands North cards e = omega arith
+total-with_hand hands East cards e = omega arith
+total-with_hand hands South cards e = omega arith
+total-with_hand hands West cards e = omega arith
 
 -- two boards of the same hands
-pub pick : (b : Bool) (r s : Board) (hands : List (List PlayingCard)) → r.hands ≡ hands → s.hands ≡ hands → (cond b r s).hands ≡ hands
+pub pick : (b : Bool) (r s : Board) (hands : FourHands) → r.hands ≡ hands → s.hands ≡ hands → (cond b r s).hands ≡ hands
 pick true r s hands e f = e
 pick false r s hands e f = f
 
@@ -69,7 +69,7 @@ unfolding total
 cards_left-after p c valid has =
     let own : has_card (cards_at p (mover p)) c ≡ true = in-following p.trick (cards_at p (mover p)) c has in
     ap (λ hands. total hands + 1) (hands-after p c)
-    ∙ total-with_hand p.hands (mover p) (without (cards_at p (mover p)) c) valid.four (length-without (cards_at p (mover p)) c (times-set (cards_at p (mover p)) c (valid.sets (mover p))) own)
+    ∙ total-with_hand p.hands (mover p) (without (cards_at p (mover p)) c) (length-without (cards_at p (mover p)) c (times-set (cards_at p (mover p)) c (valid.sets (mover p))) own)
 
 -- two functions that agree on the cards of a list
 pub map-where : (f g : PlayingCard → ℕ) (cards : List PlayingCard) → ((c : PlayingCard) → has_card cards c ≡ true → f c ≡ g c) → map f cards ≡ map g cards
@@ -79,23 +79,23 @@ map-where f g (c ∷ cards) e =
     rw (e c here, map-where f g cards (λ d has. e d (or-right (same_card c d) (has_card cards d) has))) refl
 
 -- the value is the best of the values after each legal card
-pub ns-legal : (p : Board) → IsBoard p → ns p ≡ best (is_north_south (mover p)) (map (ns_with p) (legal p))
+pub ns-legal : (p : Board) → IsBoard p → ns p ≡ best (side_of (mover p)) (map (ns_with p) (legal p))
 unfolding ns_within
 ns-legal p valid = go (cards_left p) refl
   where
     step : (c : PlayingCard) → has_card (legal p) c ≡ true → cards_left (after p c) + 1 ≡ cards_left p
     step c has = cards_left-after p c valid has
 
-    none : (cards : List PlayingCard) → ((c : PlayingCard) → has_card cards c ≡ true → cards_left (after p c) + 1 ≡ cards_left p) → cards_left p ≡ 0 → 0 ≡ best (is_north_south (mover p)) (map (ns_with p) cards)
+    none : (cards : List PlayingCard) → ((c : PlayingCard) → has_card cards c ≡ true → cards_left (after p c) + 1 ≡ cards_left p) → cards_left p ≡ 0 → 0 ≡ best (side_of (mover p)) (map (ns_with p) cards)
     none [] f e = refl
     none (c ∷ cards) f e =
         let here : has_card (c ∷ cards) c ≡ true = rw (eq-eqb (suit_code c.suit) (suit_code c.suit) refl, eq-eqb c.rank c.rank refl) refl in
         absurd (let k = f c here in omega arith)
 
-    go : (n : ℕ) → cards_left p ≡ n → ns p ≡ best (is_north_south (mover p)) (map (ns_with p) (legal p))
+    go : (n : ℕ) → cards_left p ≡ n → ns p ≡ best (side_of (mover p)) (map (ns_with p) (legal p))
     go zero e = ap (λ n. ns_within n p) e ∙ none (legal p) step e
     go (suc n) e =
         ap (λ n. ns_within n p) e
-        ∙ ap (best (is_north_south (mover p))) (map-where (λ c. gain p c + ns_within n (after p c)) (ns_with p) (legal p) (λ c has.
+        ∙ ap (best (side_of (mover p))) (map-where (λ c. gain p c + ns_within n (after p c)) (ns_with p) (legal p) (λ c has.
         let same : n ≡ cards_left (after p c) = (let k = step c has in omega arith) in
         ap (λ k. gain p c + ns_within k (after p c)) same))

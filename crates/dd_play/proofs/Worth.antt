@@ -6,9 +6,11 @@ use Rattle.std.proofs.lemmas.Bool.Decides.{nat_tests}
 use Rattle.dd_cards.specs.PlayingCard.{PlayingCard}
 use Rattle.dd_cards.specs.Cards.{is_of, has_card, same_card}
 use Rattle.dd_cards.proofs.CallerLemmas.{and-left, and-right, same_card-eq}
+use Rattle.dd_cards.specs.Sides.{is_side}
+use Rattle.dd_cards.specs.declared.side.Side.{Side}
 use Rattle.dd_play.specs.Board.{Board, IsBoard, mover, left}
 use Rattle.dd_play.specs.Play.{after}
-use Rattle.dd_play.specs.Won.{is_side, won, point}
+use Rattle.dd_play.specs.Won.{won, point}
 use Rattle.dd_play.specs.Simulations.{IsLegal}
 use Rattle.dd_play.specs.Claims.{Takes}
 use Rattle.dd_play.specs.Covers.{ForMet, IsOver, AllAnswer, IsCover, IsSettled}
@@ -28,22 +30,22 @@ met-upward top p up = record { hands = λ x y c d n hc hd. up c d; trick = λ c 
 -- ---- what a position is worth
 
 -- no trick may be claimed at any time
-pub by-nothing : (top : PlayingCard → Bool) (s : Bool) (p : Board) → TakesBy top s p 0
+pub by-nothing : (top : PlayingCard → Bool) (s : Side) (p : Board) → TakesBy top s p 0
 by-nothing top s p k to from t q r strict = zero-le
 
 -- and fewer than are claimed
-pub by-fewer : (top : PlayingCard → Bool) (s : Bool) (p : Board) (n m : ℕ) → TakesBy top s p n → m ≤ n → TakesBy top s p m
+pub by-fewer : (top : PlayingCard → Bool) (s : Side) (p : Board) (n m : ℕ) → TakesBy top s p n → m ≤ n → TakesBy top s p m
 by-fewer top s p n m takes h k to from t q r strict = let a = takes k to from t q r strict in omega (arith, a, h)
 
 -- what rests on fewer cards rests on more
-pub by-more : (few many : PlayingCard → Bool) (s : Bool) (p : Board) (n : ℕ) → ((c : PlayingCard) → few c ≡ true → many c ≡ true) → IsUpward few → TakesBy few s p n → TakesBy many s p n
+pub by-more : (few many : PlayingCard → Bool) (s : Side) (p : Board) (n : ℕ) → ((c : PlayingCard) → few c ≡ true → many c ≡ true) → IsUpward few → TakesBy few s p n → TakesBy many s p n
 by-more few many s p n within up takes k to from t q r strict =
     takes k to from t q (cover-fewer few many k to from s p t q within (met-upward few p up) r) (strict-fewer few many k to from s p t q within up r strict)
 
 -- ---- what a card is worth
 
 -- a legal card is worth what is claimed after it, and the trick that it completes, if the winner is settled
-pub worth-after : (top : PlayingCard → Bool) (s : Bool) (p : Board) (c : PlayingCard) (n : ℕ) → IsLegal p c → IsSettled top p c → TakesBy top s (after p c) n → IsWorth top s p c (n + point s p c)
+pub worth-after : (top : PlayingCard → Bool) (s : Side) (p : Board) (c : PlayingCard) (n : ℕ) → IsLegal p c → IsSettled top p c → TakesBy top s (after p c) n → IsWorth top s p c (n + point s p c)
 worth-after top s p c n has settled takes k to from t q r strict d has' a =
     let g = stepped top k to from s p t q r c d has has' a settled in
     let later : n ≤ won t (after q d) = takes k to from t (after q d) g.cover (strict-after top to from p q c d r.valid_p r.valid_q strict) in
@@ -51,23 +53,23 @@ worth-after top s p c n has settled takes k to from t q r strict d has' a =
     omega (arith, later, w)
 
 -- and less
-pub worth-fewer : (top : PlayingCard → Bool) (s : Bool) (p : Board) (c : PlayingCard) (n m : ℕ) → IsWorth top s p c n → m ≤ n → IsWorth top s p c m
+pub worth-fewer : (top : PlayingCard → Bool) (s : Side) (p : Board) (c : PlayingCard) (n m : ℕ) → IsWorth top s p c n → m ≤ n → IsWorth top s p c m
 worth-fewer top s p c n m worth h k to from t q r strict d has a = let w = worth k to from t q r strict d has a in omega (arith, w, h)
 
 -- by more cards too
-pub worth-more : (few many : PlayingCard → Bool) (s : Bool) (p : Board) (c : PlayingCard) (n : ℕ) → ((c : PlayingCard) → few c ≡ true → many c ≡ true) → IsUpward few → IsWorth few s p c n → IsWorth many s p c n
+pub worth-more : (few many : PlayingCard → Bool) (s : Side) (p : Board) (c : PlayingCard) (n : ℕ) → ((c : PlayingCard) → few c ≡ true → many c ≡ true) → IsUpward few → IsWorth few s p c n → IsWorth many s p c n
 worth-more few many s p c n within up worth k to from t q r strict d has a =
     worth k to from t q (cover-fewer few many k to from s p t q within (met-upward few p up) r) (strict-fewer few many k to from s p t q within up r strict) d has (answers-fewer to from few many within c d a)
 
 -- one low card is worth as much as another of its suit
-pub worth-low : (top : PlayingCard → Bool) (s : Bool) (p : Board) (c d : PlayingCard) (n : ℕ) → top c ≡ false → top d ≡ false → d.suit ≡ c.suit → IsWorth top s p c n → IsWorth top s p d n
+pub worth-low : (top : PlayingCard → Bool) (s : Side) (p : Board) (c d : PlayingCard) (n : ℕ) → top c ≡ false → top d ≡ false → d.suit ≡ c.suit → IsWorth top s p c n → IsWorth top s p d n
 worth-low top s p c d n lowc lowd suits worth k to from t q r strict e has a =
     worth k to from t q r strict e has (record { suit = a.suit ∙ suits; kind = a.kind ∙ lowd ∙ sym lowc; same = λ h. absurd (let z : false ≡ true = sym lowc ∙ h in cc) })
 
 -- ---- from cards to the position
 
 -- where the side is to play, one card is enough
-pub by-one : (top : PlayingCard → Bool) (s : Bool) (p : Board) (c : PlayingCard) (n : ℕ) → is_side s (mover p) ≡ true → IsLegal p c → IsWorth top s p c n → TakesBy top s p n
+pub by-one : (top : PlayingCard → Bool) (s : Side) (p : Board) (c : PlayingCard) (n : ℕ) → is_side s (mover p) ≡ true → IsLegal p c → IsWorth top s p c n → TakesBy top s p n
 by-one top s p c n mine has worth k to from t q r strict =
     let d = answer top k to from s p t q r c has in
     let w : n ≤ won_with t q d.0 = worth k to from t q r strict d.0 d.1 d.2 in
@@ -75,7 +77,7 @@ by-one top s p c n mine has worth k to from t q r strict =
     omega (arith, w, reaches)
 
 -- where the other side is to play, each of its cards has to be worth as many
-pub by-each : (top : PlayingCard → Bool) (s : Bool) (p : Board) (n : ℕ) → is_side s (mover p) ≡ false → 1 ≤ left p → ((c : PlayingCard) → IsLegal p c → IsWorth top s p c n) → TakesBy top s p n
+pub by-each : (top : PlayingCard → Bool) (s : Side) (p : Board) (n : ℕ) → is_side s (mover p) ≡ false → 1 ≤ left p → ((c : PlayingCard) → IsLegal p c → IsWorth top s p c n) → TakesBy top s p n
 by-each top s p n theirs some each k to from t q r strict =
     let x = some-legal p some in
     let y = answer top k to from s p t q r x.0 x.1 in
@@ -94,7 +96,7 @@ answers-self top [] = tt
 answers-self top (c ∷ cards) = (record { suit = refl; kind = refl; same = λ h. (refl, refl) }, answers-self top cards)
 
 -- a position covers itself
-pub cover-self : (top : PlayingCard → Bool) (s : Bool) (p : Board) → IsBoard p → IsUpward top → IsCover top 0 itself itself s p s p
+pub cover-self : (top : PlayingCard → Bool) (s : Side) (p : Board) → IsBoard p → IsUpward top → IsCover top 0 itself itself s p s p
 cover-self top s p good up = record {
   valid_p = good;
   valid_q = good;
@@ -113,7 +115,7 @@ cover-self top s p good up = record {
 }
 
 -- a claim holds where it was made
-pub by-here : (top : PlayingCard → Bool) (s : Bool) (p : Board) (n : ℕ) → IsBoard p → IsUpward top → TakesBy top s p n → Takes s p n
+pub by-here : (top : PlayingCard → Bool) (s : Side) (p : Board) (n : ℕ) → IsBoard p → IsUpward top → TakesBy top s p n → Takes s p n
 by-here top s p n good up takes =
     takes 0 itself itself s p (cover-self top s p good up) (record { keeps = λ x c d hc hd tc td e. refl; over = λ x c d hc hd. up c d })
 

@@ -7,17 +7,17 @@ use Rattle.dd_cards.specs.PlayingCard.{PlayingCard}
 use Rattle.dd_cards.specs.Ranks.{IsRank}
 use Rattle.dd_cards.specs.Seats.{seat_after}
 use Rattle.dd_cards.specs.Cards.{has_card}
-use Rattle.dd_cards.specs.Hands.{hand_of, times, IsSet}
+use Rattle.dd_cards.specs.Hands.{FourHands, hand_of, times, IsSet}
 
--- four hands, from North clockwise; the strain; the seat that leads or led to the current trick; the cards played to it, in order
+-- four hands; the strain; the seat that leads or led to the current trick; the cards played to it, in order
 pub record Board : Type 0 where
-  pub hands : List (List PlayingCard)
+  pub hands : FourHands
   pub strain : Strain
   pub first : Seat
   pub trick : List PlayingCard
 
 -- these hands, and these cards on the trick that `first` led to
-abbrev pub board_of : List (List PlayingCard) → Strain → Seat → List PlayingCard → Board
+abbrev pub board_of : FourHands → Strain → Seat → List PlayingCard → Board
 board_of hands strain first trick = record { hands = hands; strain = strain; first = first; trick = trick }
 
 abbrev pub cards_at : Board → Seat → List PlayingCard
@@ -36,7 +36,7 @@ abbrev pub cards_left : Board → ℕ
 cards_left p = length (cards_at p North) + length (cards_at p East) + length (cards_at p South) + length (cards_at p West)
 
 -- how often a card stands in the four hands
-abbrev pub times_in : List (List PlayingCard) → PlayingCard → ℕ
+abbrev pub times_in : FourHands → PlayingCard → ℕ
 times_in hands c = times (hand_of hands North) c + times (hand_of hands East) c + times (hand_of hands South) c + times (hand_of hands West) c
 
 -- no card stands twice, the trick included
@@ -50,7 +50,6 @@ IsEven p = (k : ℕ) → k < 4 → length (cards_at p (seat_after p.first k)) + 
 -- A legal state of play: four sets of cards and at most three cards on the trick, no card twice among them, and each
 -- hand that has played to the trick holds one card fewer than the others.
 pub record IsBoard (p : Board) : Type 0 where
-  pub four : length p.hands ≡ 4
   pub sets : (s : Seat) → IsSet (cards_at p s)
   pub short : length p.trick ≤ 3
   pub real : (c : PlayingCard) → has_card p.trick c ≡ true → IsRank c.rank

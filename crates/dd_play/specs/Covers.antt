@@ -5,10 +5,11 @@ use Rattle.dd_cards.specs.declared.suit.Suit.{Suit}
 use Rattle.dd_cards.specs.PlayingCard.{PlayingCard}
 use Rattle.dd_cards.specs.Seats.{seat_after}
 use Rattle.dd_cards.specs.Cards.{is_of, has_card}
+use Rattle.dd_cards.specs.Sides.{is_side}
+use Rattle.dd_cards.specs.declared.side.Side.{Side}
 use Rattle.dd_play.specs.Board.{Board, IsBoard, cards_at}
 use Rattle.dd_play.specs.Tricks.{winning_place}
 use Rattle.dd_play.specs.Play.{completes, trick_with}
-use Rattle.dd_play.specs.Won.{is_side}
 
 -- P holds of each two cards that can still meet on a trick: two in different hands, two on the trick, or one on the trick and
 -- one in a hand that has not yet played to it. (Two cards of one hand never meet, nor do a card on the trick and one in a
@@ -45,7 +46,7 @@ count_of suit cards = length (filter (is_of suit) cards)
 
 -- Side t's game at q is related to side s's game at p: the seats are turned by k places, the maps `to` and `from` are
 -- one-to-one between the top cards of p and of q (q's top cards are those that come `from` one).
-pub record IsCover (top : PlayingCard → Bool) (k : ℕ) (to from : PlayingCard → PlayingCard) (s : Bool) (p : Board) (t : Bool) (q : Board) : Type 0 where
+pub record IsCover (top : PlayingCard → Bool) (k : ℕ) (to from : PlayingCard → PlayingCard) (s : Side) (p : Board) (t : Side) (q : Board) : Type 0 where
   pub valid_p : IsBoard p
   pub valid_q : IsBoard q
   pub sides : (x : Seat) → is_side t (seat_after x k) ≡ is_side s x
@@ -76,5 +77,5 @@ abbrev pub any_card : PlayingCard → Bool
 any_card c = true
 
 -- the relation with all cards as top cards, under which both games have one value
-abbrev pub AreTwins : Bool → Board → Bool → Board → Type 0
+abbrev pub AreTwins : Side → Board → Side → Board → Type 0
 AreTwins s p t q = (k : ℕ) × (to : PlayingCard → PlayingCard) × (from : PlayingCard → PlayingCard) × IsCover any_card k to from s p t q

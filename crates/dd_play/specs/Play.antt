@@ -2,7 +2,7 @@
 use Rattle.std.specs.Prelude.{List, [], ◌∷◌, ◌++◌, filter, length, Bool, ◌==◌, if◌then◌else◌}
 use Rattle.dd_cards.specs.PlayingCard.{PlayingCard}
 use Rattle.dd_cards.specs.Cards.{is_of, without}
-use Rattle.dd_cards.specs.Hands.{with_hand}
+use Rattle.dd_cards.specs.Hands.{FourHands, with_hand}
 use Rattle.dd_play.specs.Board.{Board, cards_at, mover}
 use Rattle.dd_play.specs.Tricks.{or_else, winner_of}
 
@@ -24,7 +24,7 @@ abbrev pub trick_with : Board → PlayingCard → List PlayingCard
 trick_with p c = p.trick ++ c ∷ []
 
 -- the card leaves the mover's hand
-abbrev pub hands_after : Board → PlayingCard → List (List PlayingCard)
+abbrev pub hands_after : Board → PlayingCard → FourHands
 hands_after p c = with_hand p.hands (mover p) (without (cards_at p (mover p)) c)
 
 -- The card leaves the mover's hand and goes last on the trick. A fourth card empties the trick, and its winner leads next.

@@ -4,6 +4,7 @@ use Rattle.std.specs.List.{list_any}
 use Rattle.dd_cards.specs.declared.seat.Seat.{Seat}
 use Rattle.dd_cards.specs.PlayingCard.{PlayingCard}
 use Rattle.dd_cards.specs.Cards.{is_of, has_card}
+use Rattle.dd_cards.specs.declared.side.Side.{Side}
 use Rattle.dd_play.specs.Board.{Board, cards_at}
 use Rattle.dd_play.specs.Play.{after}
 use Rattle.dd_play.specs.Won.{won, point}
@@ -25,10 +26,10 @@ pub record IsStrict (top : PlayingCard → Bool) (to from : PlayingCard → Play
   pub over : (x : Seat) (c d : PlayingCard) → has_card (cards_at q x) c ≡ true → has_card (cards_at q x) d ≡ true → IsOver (λ y. top (from y)) c d
 
 -- side s takes at least n of the tricks left, and so does its counterpart at each position that p covers with these top cards
-abbrev pub TakesBy : (PlayingCard → Bool) → Bool → Board → ℕ → Type 0
-TakesBy top s p n = (k : ℕ) (to from : PlayingCard → PlayingCard) (t : Bool) (q : Board) → IsCover top k to from s p t q → IsStrict top to from p q → n ≤ won t q
+abbrev pub TakesBy : (PlayingCard → Bool) → Side → Board → ℕ → Type 0
+TakesBy top s p n = (k : ℕ) (to from : PlayingCard → PlayingCard) (t : Side) (q : Board) → IsCover top k to from s p t q → IsStrict top to from p q → n ≤ won t q
 
 -- and when c is played, or there a card that answers it
-abbrev pub IsWorth : (PlayingCard → Bool) → Bool → Board → PlayingCard → ℕ → Type 0
-IsWorth top s p c n = (k : ℕ) (to from : PlayingCard → PlayingCard) (t : Bool) (q : Board) → IsCover top k to from s p t q → IsStrict top to from p q
+abbrev pub IsWorth : (PlayingCard → Bool) → Side → Board → PlayingCard → ℕ → Type 0
+IsWorth top s p c n = (k : ℕ) (to from : PlayingCard → PlayingCard) (t : Side) (q : Board) → IsCover top k to from s p t q → IsStrict top to from p q
     → (d : PlayingCard) → IsLegal q d → Answers to from top c d → n ≤ point t q d + won t (after q d)

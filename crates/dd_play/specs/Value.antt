@@ -3,19 +3,22 @@ use Rattle.std.specs.Prelude.{ℕ, zero, suc, ◌+◌, ◌-◌, Bool, true, fals
 use Rattle.dd_cards.specs.declared.seat.Seat.{Seat}
 use Rattle.dd_cards.specs.PlayingCard.{PlayingCard}
 use Rattle.dd_cards.specs.Seats.{is_north_south}
+use Rattle.dd_cards.specs.Sides.{side_of}
+use Rattle.dd_cards.specs.declared.side.Side.{Side}
+use Rattle.dd_cards.specs.declared.side.Side.TheVariants.{NorthSouth, EastWest}
 use Rattle.dd_play.specs.Board.{Board, cards_left, left, mover}
 use Rattle.dd_play.specs.Tricks.{winner_of}
 use Rattle.dd_play.specs.Play.{legal, completes, trick_with, after}
 
--- the greater, or the lesser
-abbrev pub better : Bool → ℕ → ℕ → ℕ
-better true a b = max a b
-better false a b = min a b
+-- of two numbers of North and South's tricks, the one that the side plays for
+abbrev pub better : Side → ℕ → ℕ → ℕ
+better NorthSouth a b = max a b
+better EastWest a b = min a b
 
--- the greatest of the numbers, or the least
-abbrev pub best : Bool → List ℕ → ℕ
-best greatest [] = 0
-best greatest (x ∷ xs) = fold (better greatest) x xs
+-- the greatest of the numbers for North and South, and the least for East and West
+abbrev pub best : Side → List ℕ → ℕ
+best side [] = 0
+best side (x ∷ xs) = fold (better side) x xs
 
 -- a trick that this seat won
 abbrev pub point_of : Option Seat → ℕ
@@ -29,7 +32,7 @@ gain p c = (if completes p && is_north_south (winner_of (trick_with p c) p.first
 -- North and South play for the greatest number, East and West for the least; at most n cards are looked ahead
 unfoldable pub ns_within : ℕ → Board → ℕ
 ns_within zero p = 0
-ns_within (suc n) p = best (is_north_south (mover p)) (map (λ c. gain p c + ns_within n (after p c)) (legal p))
+ns_within (suc n) p = best (side_of (mover p)) (map (λ c. gain p c + ns_within n (after p c)) (legal p))
 
 -- the tricks that North and South take from here on
 abbrev pub ns : Board → ℕ

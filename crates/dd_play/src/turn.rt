@@ -10,8 +10,8 @@ pub(crate) fn seat_after(first: Seat, places: u8) -> Seat
 {
     match places {
         0 => first,
-        1 => first.next(),
-        2 => first.next().next(),
-        _ => first.next().next().next(),
+        1 => first.left(),
+        2 => first.partner(),
+        _ => first.right(),
     }
 }

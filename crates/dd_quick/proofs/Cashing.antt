@@ -15,12 +15,14 @@ use Rattle.dd_cards.specs.Suits.{suit_code}
 use Rattle.dd_cards.specs.Cards.{is_of, same_card, has_card}
 use Rattle.dd_cards.specs.Seats.{seat_code, seat_after}
 use Rattle.dd_cards.proofs.CallerLemmas.{and-left, and-right, and-true, same_card-eq}
+use Rattle.dd_cards.specs.Sides.{is_side}
+use Rattle.dd_cards.specs.declared.side.Side.{Side}
 use Rattle.dd_play.specs.Board.{Board, IsBoard, cards_at, mover, left}
 use Rattle.dd_play.specs.Tricks.{is_trump, deciding, is_highest_of, winning_place, winner_of, or_else}
 use Rattle.dd_play.specs.Play.{completes, trick_with, after, following}
 use Rattle.dd_play.specs.Simulations.{IsLegal}
 use Rattle.dd_play.specs.Covers.{count_of}
-use Rattle.dd_play.specs.Won.{is_side, won, point}
+use Rattle.dd_play.specs.Won.{won, point}
 use Rattle.dd_play.proofs.CallerLemmas.{Obeys, after-code, can, code-lt, count, count-some, filter-has, flag_of, hand-others, has-first, in-push, in-rest, legal-leads, legal-out, of-suit', own-card, strain-after, suit-of, trick-after, trick-closed, was-in, won_with}
 use Rattle.dd_quick.proofs.Plays.{whoever, count-own}
 use Rattle.dd_quick.proofs.TopTrumps.{is_top, OwnsTops, tops-taken}
@@ -79,7 +81,7 @@ total n = n Spades + n Hearts + n Diamonds + n Clubs
 
 -- The leader has n cards of each suit to cash, none of them a trump, among those that pass the test, which are masters;
 -- and this many of the highest trumps.
-pub record CanCash (strain : Strain) (floor tops : ℕ) (sure : PlayingCard → Bool) (n : Suit → ℕ) (s : Bool) (p : Board) : Type 0 where
+pub record CanCash (strain : Strain) (floor tops : ℕ) (sure : PlayingCard → Bool) (n : Suit → ℕ) (s : Side) (p : Board) : Type 0 where
   pub valid : IsBoard p
   pub same : p.strain ≡ strain
   pub ours : is_side s p.first ≡ true
@@ -95,7 +97,7 @@ CanFollow strain n p = (t : Suit) → strain ≡ Trump t → (i : ℕ) → 1 ≤
 
 -- The card m, which was to be cashed, leads the trick. With trumps, each hand that has not played yet can follow suit to it
 -- and to the cards that are left to cash, and each that has played, to the latter.
-record Cashing (strain : Strain) (floor tops : ℕ) (sure : PlayingCard → Bool) (n : Suit → ℕ) (s : Bool) (p : Board) (m : PlayingCard) (rest : List PlayingCard) : Type 0 where
+record Cashing (strain : Strain) (floor tops : ℕ) (sure : PlayingCard → Bool) (n : Suit → ℕ) (s : Side) (p : Board) (m : PlayingCard) (rest : List PlayingCard) : Type 0 where
   cash : CanCash strain floor tops sure n s p
   trick : p.trick ≡ m ∷ rest
   plain_m : is_trump strain m ≡ false
@@ -112,7 +114,7 @@ same-trump (Trump t) c d e = ap (λ u. suit_code u == suit_code t) e
 same-trump Notrump c d e = refl
 
 -- a card c that is played to such a trick
-module _ (strain : Strain) (floor tops : ℕ) (sure : PlayingCard → Bool) (n : Suit → ℕ) (s : Bool) (p : Board) (m : PlayingCard) (rest : List PlayingCard) (c : PlayingCard)
+module _ (strain : Strain) (floor tops : ℕ) (sure : PlayingCard → Bool) (n : Suit → ℕ) (s : Side) (p : Board) (m : PlayingCard) (rest : List PlayingCard) (c : PlayingCard)
     (now : Cashing strain floor tops sure n s p m rest) (has : IsLegal p c) where
   -- the leader has played
   begun : 1 ≤ length p.trick
@@ -236,7 +238,7 @@ module _ (strain : Strain) (floor tops : ℕ) (sure : PlayingCard → Bool) (n :
 -- ---- one trick
 
 -- after the card led, each hand plays in turn, and the side takes the trick and what the next one brings
-mid : (strain : Strain) (floor tops : ℕ) (sure : PlayingCard → Bool) (n : Suit → ℕ) (s : Bool) (b : ℕ)
+mid : (strain : Strain) (floor tops : ℕ) (sure : PlayingCard → Bool) (n : Suit → ℕ) (s : Side) (b : ℕ)
     → ((q : Board) → q.trick ≡ [] → CanCash strain floor tops sure n s q → CanFollow strain n q → b ≤ won s q)
     → (j : ℕ) (p : Board) (m : PlayingCard) (rest : List PlayingCard) → length p.trick + j ≡ 4 → Cashing strain floor tops sure n s p m rest → b + 1 ≤ won s p
 mid strain floor tops sure n s b next zero p m rest size now = absurd (let h = now.cash.valid.short in omega (arith, h, size))
@@ -290,7 +292,7 @@ some-suit n h = elim (cases_lt 0 (n Spades)) [
 ]
 
 -- the leader leads such a card m, of a suit that has cards to cash
-module _ (strain : Strain) (floor tops : ℕ) (sure : PlayingCard → Bool) (n : Suit → ℕ) (s : Bool) (p : Board) (m : PlayingCard)
+module _ (strain : Strain) (floor tops : ℕ) (sure : PlayingCard → Bool) (n : Suit → ℕ) (s : Side) (p : Board) (m : PlayingCard)
     (start : p.trick ≡ []) (now : CanCash strain floor tops sure n s p) (follow : CanFollow strain n p)
     (own : has_card (cards_at p p.first) m ≡ true) (good : sure m ≡ true) (some_m : 1 ≤ n m.suit) where
   -- the leader is to play
@@ -389,7 +391,7 @@ module _ (strain : Strain) (floor tops : ℕ) (sure : PlayingCard → Bool) (n :
 -- ---- all of them
 
 -- the leader's side takes a trick for each card to cash and each of the leader's highest trumps
-pub cashed-all : (k : ℕ) (strain : Strain) (floor tops : ℕ) (sure : PlayingCard → Bool) (n : Suit → ℕ) (s : Bool) (p : Board) → total n ≡ k → p.trick ≡ []
+pub cashed-all : (k : ℕ) (strain : Strain) (floor tops : ℕ) (sure : PlayingCard → Bool) (n : Suit → ℕ) (s : Side) (p : Board) → total n ≡ k → p.trick ≡ []
     → CanCash strain floor tops sure n s p → CanFollow strain n p → k + tops ≤ won s p
 cashed-all zero strain floor tops sure n s p size start now follow =
     let owns : OwnsTops strain floor p.first p = record {

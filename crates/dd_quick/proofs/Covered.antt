@@ -2,7 +2,7 @@
 use Rattle.std.proofs.Common.{◌≡◌, ◌≢◌, ℕ, ◌+◌, ◌-◌, ◌<◌, ◌≤◌, Bool, true, false, refl, sym, ap, ◌∙◌, subst, arith, List, [], ◌∷◌, zero-le, length, ◌⊎◌, inl, inr}
 use Rattle.std.specs.Prelude.{filter, min, nat_le, nat_lt, ◌&&◌, ◌||◌, if◌then◌else◌}
 use Rattle.std.specs.List.{list_any}
-use mathlib.Core.Bool.{not, beq}
+use mathlib.Core.Bool.{not}
 use mathlib.Core.Path.{ap₂}
 use Rattle.std.proofs.lemmas.Bool.{ltb-true}
 use Rattle.std.proofs.lemmas.Bool.Decides.{nat_tests}
@@ -13,19 +13,21 @@ use Rattle.dd_cards.specs.declared.strain.Strain.{Strain}
 use Rattle.dd_cards.specs.declared.strain.Strain.TheVariants.{Trump, Notrump}
 use Rattle.dd_cards.specs.PlayingCard.{PlayingCard}
 use Rattle.dd_cards.specs.Cards.{is_of, has_card}
-use Rattle.dd_cards.specs.Seats.{seat_code, seat_after, is_north_south}
+use Rattle.dd_cards.specs.Seats.{seat_code, seat_after}
 use Rattle.dd_play.specs.Board.{Board, IsBoard, cards_at, left}
 use Rattle.dd_play.specs.Tricks.{is_trump}
 use Rattle.dd_play.specs.Value.{ns, lead}
-use Rattle.dd_play.specs.Won.{is_side, won}
+use Rattle.dd_play.specs.Won.{won}
 use Rattle.dd_play.specs.Covers.{IsCover, AllAnswer}
 use Rattle.dd_play.specs.Reach.{TakesBy}
-use Rattle.dd_play.proofs.CallerLemmas.{after-code, all, both, by-fewer, by-here, by-more, card-real, code-lt, has-first, in-rest, inject, of-suit', once-in, reach-of, reach-upward, reach-within, suit-of, turn-apart, turn-turn}
+use Rattle.dd_play.proofs.CallerLemmas.{after-code, all, both, by-fewer, by-here, by-more, card-real, code-lt, has-first, in-rest, inject, of-suit', once-in, reach-of, reach-upward, reach-within, suit-of, turn-apart, turn-turn, lead-won}
 use Rattle.std.proofs.Common.{Option, Some, None}
 use Rattle.std.specs.Prelude.{MatchOption, slice_get}
 use Rattle.dd_cards.specs.Ranks.{IsRank, has_rank}
 use Rattle.dd_cards.specs.Cards.{card_of, with_card, same_card}
-use Rattle.dd_cards.proofs.CallerLemmas.{and-left, and-right, else-false, has_card-with_card, has_rank-holding, same_card-self}
+use Rattle.dd_cards.proofs.CallerLemmas.{and-left, and-right, else-false, has_card-with_card, has_rank-holding, same_card-self, same-self, same-other, is-same, is-other}
+use Rattle.dd_cards.specs.Sides.{side_of, other_side, is_side}
+use Rattle.dd_cards.specs.declared.side.Side.{Side}
 use Rattle.dd_play.specs.Reach.{reach}
 use Rattle.dd_quick.proofs.Runs.{AreHeld, above-highest, has-part, run-above, run-all}
 use Rattle.dd_rank.specs.Depths.{Covers, depths_of}
@@ -49,7 +51,7 @@ abbrev pub AreTop : (PlayingCard → Bool) → Board → Seat → Suit → Type 
 AreTop top p x u = (c : PlayingCard) → has_card (cards_at p x) c ≡ true → is_of u c ≡ true → is_winner p x c ≡ true → top c ≡ true
 
 -- a winner's image is a winner
-winner-image : (top : PlayingCard → Bool) (k : ℕ) (to from : PlayingCard → PlayingCard) (s : Bool) (p : Board) (t : Bool) (q : Board) → IsCover top k to from s p t q
+winner-image : (top : PlayingCard → Bool) (k : ℕ) (to from : PlayingCard → PlayingCard) (s : Side) (p : Board) (t : Side) (q : Board) → IsCover top k to from s p t q
     → (x : Seat) (c : PlayingCard) → has_card (cards_at p x) c ≡ true → is_winner p x c ≡ true → top c ≡ true → is_winner q (seat_after x k) (to c) ≡ true
 winner-image top k to from s p t q r x c has wins tc = three (free 1 (omega arith) (omega arith)) (free 2 (omega arith) (omega arith)) (free 3 (omega arith) (omega arith))
   where
@@ -90,7 +92,7 @@ winner-image top k to from s p t q r x c has wins tc = three (free 1 (omega arit
         omega (arith, higher, below))
 
 -- so a run is no shorter
-pub run-covered : (top : PlayingCard → Bool) (k : ℕ) (to from : PlayingCard → PlayingCard) (s : Bool) (p : Board) (t : Bool) (q : Board) → IsCover top k to from s p t q
+pub run-covered : (top : PlayingCard → Bool) (k : ℕ) (to from : PlayingCard → PlayingCard) (s : Side) (p : Board) (t : Side) (q : Board) → IsCover top k to from s p t q
     → (x : Seat) (u : Suit) → AreTop top p x u → run p x u ≤ run q (seat_after x k) u
 run-covered top k to from s p t q r x u tops =
     inject to from (λ c. is_of u c && is_winner p x c) (λ c. is_of u c && is_winner q (seat_after x k) c) (cards_at p x) (cards_at q (seat_after x k)) (once-in p r.valid_p x) (λ c h test.
@@ -104,7 +106,7 @@ run-covered top k to from s p t q r x u tops =
     both h g = rw (h, g) refl
 
 -- and as much is cashed
-pub cashed-covered : (top : PlayingCard → Bool) (k : ℕ) (to from : PlayingCard → PlayingCard) (s : Bool) (p : Board) (t : Bool) (q : Board) → IsCover top k to from s p t q
+pub cashed-covered : (top : PlayingCard → Bool) (k : ℕ) (to from : PlayingCard → PlayingCard) (s : Side) (p : Board) (t : Side) (q : Board) → IsCover top k to from s p t q
     → (u : Suit) → AreTop top p p.first u → (strain : Strain) → cashed strain p u ≤ cashed strain q u
 cashed-covered top k to from s p t q r u tops strain = go strain
   where
@@ -125,95 +127,61 @@ cashed-covered top k to from s p t q r u tops strain = go strain
         at true = run_more
         at false = let e = shortest_same in let m = run_more in omega (arith, e, m)
 
+-- where no card was played to the one trick, none was to the other
+no-trick : (to from : PlayingCard → PlayingCard) (top : PlayingCard → Bool) (cs ds : List PlayingCard) → cs ≡ [] → AllAnswer to from top cs ds → ds ≡ []
+no-trick to from top [] [] e a = refl
+no-trick to from top [] (d ∷ ds) e a = absurd a
+no-trick to from top (c ∷ cs) ds e a = absurd (cc)
+
 -- what the leader cashes is a claim by its winners
-pub cashed-by : (top : PlayingCard → Bool) (p : Board) → p.trick ≡ [] → ((u : Suit) → AreTop top p p.first u) → TakesBy top (is_north_south p.first) p (leaders_tricks p)
+pub cashed-by : (top : PlayingCard → Bool) (p : Board) → p.trick ≡ [] → ((u : Suit) → AreTop top p p.first u) → TakesBy top (side_of p.first) p (leaders_tricks p)
 cashed-by top p start tops k to from t q r strict =
-    let a = cashed-covered top k to from (is_north_south p.first) p t q r Spades (tops Spades) p.strain in
-    let b = cashed-covered top k to from (is_north_south p.first) p t q r Hearts (tops Hearts) p.strain in
-    let c = cashed-covered top k to from (is_north_south p.first) p t q r Diamonds (tops Diamonds) p.strain in
-    let d = cashed-covered top k to from (is_north_south p.first) p t q r Clubs (tops Clubs) p.strain in
+    let a = cashed-covered top k to from (side_of p.first) p t q r Spades (tops Spades) p.strain in
+    let b = cashed-covered top k to from (side_of p.first) p t q r Hearts (tops Hearts) p.strain in
+    let c = cashed-covered top k to from (side_of p.first) p t q r Diamonds (tops Diamonds) p.strain in
+    let d = cashed-covered top k to from (side_of p.first) p t q r Clubs (tops Clubs) p.strain in
     let strains : leaders_tricks q ≡ cashed p.strain q Spades + cashed p.strain q Hearts + cashed p.strain q Diamonds + cashed p.strain q Clubs = ap (λ z. cashed z q Spades + cashed z q Hearts + cashed z q Diamonds + cashed z q Clubs) r.strain in
     let here = (bounded q r.valid_q (no-trick to from top p.trick q.trick start r.trick)).leader in
-    let value : lead q ≡ won (is_north_south q.first) q = won-lead (is_north_south q.first) q in
-    let side = same-side (is_north_south q.first) t (is_north_south p.first) (ap (is_side t) r.first ∙ r.sides p.first) in
+    let value : lead q ≡ won (side_of q.first) q = lead-won q in
+    let side = is-same (side_of q.first) t (ap (is_side t) r.first ∙ r.sides p.first ∙ same-self (side_of p.first)) in
     subst (λ z. leaders_tricks p ≤ won z q) side (omega (arith, a, b, c, d, strains, here, value))
-  where
-    no-trick : (to from : PlayingCard → PlayingCard) (top : PlayingCard → Bool) (cs ds : List PlayingCard) → cs ≡ [] → AllAnswer to from top cs ds → ds ≡ []
-    no-trick to from top [] [] e a = refl
-    no-trick to from top [] (d ∷ ds) e a = absurd a
-    no-trick to from top (c ∷ cs) ds e a = absurd (cc)
-
-    won-lead : (b : Bool) (q : Board) → (if b then ns q else (left q - ns q)) ≡ won b q
-    won-lead true q = refl
-    won-lead false q = refl
-
-    same-side : (a t b : Bool) → beq a t ≡ beq b b → a ≡ t
-    same-side true true b h = refl
-    same-side false false b h = refl
-    same-side true false true h = absurd (cc)
-    same-side true false false h = absurd (cc)
-    same-side false true true h = absurd (cc)
-    same-side false true false h = absurd (cc)
 
 -- a seat's highest trumps are those of its image
-trumps-covered : (top : PlayingCard → Bool) (k : ℕ) (to from : PlayingCard → PlayingCard) (s : Bool) (p : Board) (t : Bool) (q : Board) → IsCover top k to from s p t q
+trumps-covered : (top : PlayingCard → Bool) (k : ℕ) (to from : PlayingCard → PlayingCard) (s : Side) (p : Board) (t : Side) (q : Board) → IsCover top k to from s p t q
     → (x : Seat) (strain : Strain) → ((u : Suit) → strain ≡ Trump u → AreTop top p x u) → top_trumps strain p x ≤ top_trumps strain q (seat_after x k)
 trumps-covered top k to from s p t q r x Notrump tops = zero-le
 trumps-covered top k to from s p t q r x (Trump u) tops = run-covered top k to from s p t q r x u (tops u refl)
 
-no-trick' : (to from : PlayingCard → PlayingCard) (top : PlayingCard → Bool) (cs ds : List PlayingCard) → cs ≡ [] → AllAnswer to from top cs ds → ds ≡ []
-no-trick' to from top [] [] e a = refl
-no-trick' to from top [] (d ∷ ds) e a = absurd a
-no-trick' to from top (c ∷ cs) ds e a = absurd (cc)
-
-won-lead' : (b : Bool) (q : Board) → (if b then ns q else (left q - ns q)) ≡ won b q
-won-lead' true q = refl
-won-lead' false q = refl
-
 -- the partner's highest trumps are a claim of the leader's side
-pub partner-by : (top : PlayingCard → Bool) (p : Board) → p.trick ≡ [] → ((u : Suit) → p.strain ≡ Trump u → AreTop top p (seat_after p.first 2) u) → TakesBy top (is_north_south p.first) p (top_trumps p.strain p (seat_after p.first 2))
+pub partner-by : (top : PlayingCard → Bool) (p : Board) → p.trick ≡ [] → ((u : Suit) → p.strain ≡ Trump u → AreTop top p (seat_after p.first 2) u) → TakesBy top (side_of p.first) p (top_trumps p.strain p (seat_after p.first 2))
 partner-by top p start tops k to from t q r strict =
-    let m = trumps-covered top k to from (is_north_south p.first) p t q r (seat_after p.first 2) p.strain tops in
+    let m = trumps-covered top k to from (side_of p.first) p t q r (seat_after p.first 2) p.strain tops in
     let seat : seat_after (seat_after p.first 2) k ≡ seat_after q.first 2 = turn-turn p.first 2 k ∙ ap (λ z. seat_after z 2) (sym r.first) in
     let same : top_trumps q.strain q (seat_after q.first 2) ≡ top_trumps p.strain q (seat_after (seat_after p.first 2) k) = ap₂ (λ (z : Strain) (y : Seat). top_trumps z q y) r.strain (sym seat) in
-    let here = (bounded q r.valid_q (no-trick' to from top p.trick q.trick start r.trick)).partner in
-    let value : lead q ≡ won (is_north_south q.first) q = won-lead' (is_north_south q.first) q in
-    let side = same-side' (is_north_south q.first) t (is_north_south p.first) (ap (is_side t) r.first ∙ r.sides p.first) in
+    let here = (bounded q r.valid_q (no-trick to from top p.trick q.trick start r.trick)).partner in
+    let value : lead q ≡ won (side_of q.first) q = lead-won q in
+    let side = is-same (side_of q.first) t (ap (is_side t) r.first ∙ r.sides p.first ∙ same-self (side_of p.first)) in
     subst (λ z. top_trumps p.strain p (seat_after p.first 2) ≤ won z q) side (omega (arith, m, same, here, value))
-  where
-    same-side' : (a t b : Bool) → beq a t ≡ beq b b → a ≡ t
-    same-side' true true b h = refl
-    same-side' false false b h = refl
-    same-side' true false true h = absurd (cc)
-    same-side' true false false h = absurd (cc)
-    same-side' false true true h = absurd (cc)
-    same-side' false true false h = absurd (cc)
 
 -- and those of an opponent, one or three seats on, of the other side
 pub opponent-by : (top : PlayingCard → Bool) (p : Board) (i : ℕ) → p.trick ≡ [] → ((q : Board) → IsBoard q → q.trick ≡ [] → lead q + top_trumps q.strain q (seat_after q.first i) ≤ left q)
-    → ((u : Suit) → p.strain ≡ Trump u → AreTop top p (seat_after p.first i) u) → TakesBy top (not (is_north_south p.first)) p (top_trumps p.strain p (seat_after p.first i))
+    → ((u : Suit) → p.strain ≡ Trump u → AreTop top p (seat_after p.first i) u) → TakesBy top (other_side (side_of p.first)) p (top_trumps p.strain p (seat_after p.first i))
 opponent-by top p i start law tops k to from t q r strict =
-    let m = trumps-covered top k to from (not (is_north_south p.first)) p t q r (seat_after p.first i) p.strain tops in
+    let m = trumps-covered top k to from (other_side (side_of p.first)) p t q r (seat_after p.first i) p.strain tops in
     let seat : seat_after (seat_after p.first i) k ≡ seat_after q.first i = turn-turn p.first i k ∙ ap (λ z. seat_after z i) (sym r.first) in
     let same : top_trumps q.strain q (seat_after q.first i) ≡ top_trumps p.strain q (seat_after (seat_after p.first i) k) = ap₂ (λ (z : Strain) (y : Seat). top_trumps z q y) r.strain (sym seat) in
-    let here = law q r.valid_q (no-trick' to from top p.trick q.trick start r.trick) in
-    let value : lead q ≡ won (is_north_south q.first) q = won-lead' (is_north_south q.first) q in
-    let both : won (is_north_south q.first) q + won (not (is_north_south q.first)) q ≡ left q = all (is_north_south q.first) q r.valid_q in
-    let side = other-side (is_north_south q.first) t (is_north_south p.first) (ap (is_side t) r.first ∙ r.sides p.first) in
+    let here = law q r.valid_q (no-trick to from top p.trick q.trick start r.trick) in
+    let value : lead q ≡ won (side_of q.first) q = lead-won q in
+    let both : won (side_of q.first) q + won (other_side (side_of q.first)) q ≡ left q = all (side_of q.first) q r.valid_q in
+    let side = is-other (side_of q.first) t (ap (is_side t) r.first ∙ r.sides p.first ∙ same-other (side_of p.first)) in
     subst (λ z. top_trumps p.strain p (seat_after p.first i) ≤ won z q) side (omega (arith, m, same, here, value, both))
-  where
-    other-side : (a t b : Bool) → beq a t ≡ beq b (not b) → not a ≡ t
-    other-side true true true h = absurd (cc)
-    other-side true true false h = absurd (cc)
-    other-side true false b h = refl
-    other-side false true b h = refl
-    other-side false false true h = absurd (cc)
-    other-side false false false h = absurd (cc)
 
-pub next-by : (top : PlayingCard → Bool) (p : Board) → p.trick ≡ [] → ((u : Suit) → p.strain ≡ Trump u → AreTop top p (seat_after p.first 1) u) → TakesBy top (not (is_north_south p.first)) p (top_trumps p.strain p (seat_after p.first 1))
+-- .. of the next hand
+pub next-by : (top : PlayingCard → Bool) (p : Board) → p.trick ≡ [] → ((u : Suit) → p.strain ≡ Trump u → AreTop top p (seat_after p.first 1) u) → TakesBy top (other_side (side_of p.first)) p (top_trumps p.strain p (seat_after p.first 1))
 next-by top p start tops = opponent-by top p 1 start (λ q good e. (bounded q good e).next) tops
 
-pub last-by : (top : PlayingCard → Bool) (p : Board) → p.trick ≡ [] → ((u : Suit) → p.strain ≡ Trump u → AreTop top p (seat_after p.first 3) u) → TakesBy top (not (is_north_south p.first)) p (top_trumps p.strain p (seat_after p.first 3))
+-- .. and of the last
+pub last-by : (top : PlayingCard → Bool) (p : Board) → p.trick ≡ [] → ((u : Suit) → p.strain ≡ Trump u → AreTop top p (seat_after p.first 3) u) → TakesBy top (other_side (side_of p.first)) p (top_trumps p.strain p (seat_after p.first 3))
 last-by top p start tops = opponent-by top p 3 start (λ q good e. (bounded q good e).last) tops
 
 -- ---- which cards the winners are
@@ -288,15 +256,15 @@ winners-run p h suit own others winners (Some r) held first part = ap length par
 -- ---- what each side is sure of
 
 -- the side is sure of these tricks by these winners
-abbrev pub IsSure : Bool → Board → SureTricks → Type 0
+abbrev pub IsSure : Side → Board → SureTricks → Type 0
 IsSure side p s = TakesBy (reach s.cards) side p s.tricks
 
 -- the leader's side of the partner's highest trumps
-pub partner-sure : (p : Board) (s : SureTricks) (x : Seat) → x ≡ seat_after p.first 2 → p.trick ≡ [] → s.tricks ≡ top_trumps p.strain p x → AreTrumpsReached p.strain s.cards p x → IsSure (is_north_south p.first) p s
+pub partner-sure : (p : Board) (s : SureTricks) (x : Seat) → x ≡ seat_after p.first 2 → p.trick ≡ [] → s.tricks ≡ top_trumps p.strain p x → AreTrumpsReached p.strain s.cards p x → IsSure (side_of p.first) p s
 partner-sure p s x seat start tricks are =
     let a : AreTrumpsReached p.strain s.cards p (seat_after p.first 2) = subst (λ (y : Seat). AreTrumpsReached p.strain s.cards p y) seat are in
     let e = ap (top_trumps p.strain p) seat in
-    by-fewer (reach s.cards) (is_north_south p.first) p (top_trumps p.strain p (seat_after p.first 2)) s.tricks (partner-by (reach s.cards) p start (trumps-top s.cards p (seat_after p.first 2) p.strain a)) (omega (arith, tricks, e))
+    by-fewer (reach s.cards) (side_of p.first) p (top_trumps p.strain p (seat_after p.first 2)) s.tricks (partner-by (reach s.cards) p start (trumps-top s.cards p (seat_after p.first 2) p.strain a)) (omega (arith, tricks, e))
 
 next-law : (q : Board) → IsBoard q → q.trick ≡ [] → lead q + top_trumps q.strain q (seat_after q.first 1) ≤ left q
 next-law q good e = (bounded q good e).next
@@ -306,24 +274,24 @@ last-law q good e = (bounded q good e).last
 
 -- and the other side of those of the hand that is i seats on
 opponent-sure : (p : Board) (s : SureTricks) (x : Seat) (i : ℕ) → ((q : Board) → IsBoard q → q.trick ≡ [] → lead q + top_trumps q.strain q (seat_after q.first i) ≤ left q)
-    → x ≡ seat_after p.first i → p.trick ≡ [] → s.tricks ≡ top_trumps p.strain p x → AreTrumpsReached p.strain s.cards p x → IsSure (not (is_north_south p.first)) p s
+    → x ≡ seat_after p.first i → p.trick ≡ [] → s.tricks ≡ top_trumps p.strain p x → AreTrumpsReached p.strain s.cards p x → IsSure (other_side (side_of p.first)) p s
 opponent-sure p s x i law seat start tricks are =
     let a : AreTrumpsReached p.strain s.cards p (seat_after p.first i) = subst (λ (y : Seat). AreTrumpsReached p.strain s.cards p y) seat are in
     let e = ap (top_trumps p.strain p) seat in
-    by-fewer (reach s.cards) (not (is_north_south p.first)) p (top_trumps p.strain p (seat_after p.first i)) s.tricks (opponent-by (reach s.cards) p i start law (trumps-top s.cards p (seat_after p.first i) p.strain a)) (omega (arith, tricks, e))
+    by-fewer (reach s.cards) (other_side (side_of p.first)) p (top_trumps p.strain p (seat_after p.first i)) s.tricks (opponent-by (reach s.cards) p i start law (trumps-top s.cards p (seat_after p.first i) p.strain a)) (omega (arith, tricks, e))
 
 -- of the next hand
-pub next-sure : (p : Board) (s : SureTricks) (x : Seat) → x ≡ seat_after p.first 1 → p.trick ≡ [] → s.tricks ≡ top_trumps p.strain p x → AreTrumpsReached p.strain s.cards p x → IsSure (not (is_north_south p.first)) p s
+pub next-sure : (p : Board) (s : SureTricks) (x : Seat) → x ≡ seat_after p.first 1 → p.trick ≡ [] → s.tricks ≡ top_trumps p.strain p x → AreTrumpsReached p.strain s.cards p x → IsSure (other_side (side_of p.first)) p s
 next-sure p s x seat start tricks are = opponent-sure p s x 1 next-law seat start tricks are
 
 -- and of the last one
-pub last-sure : (p : Board) (s : SureTricks) (x : Seat) → x ≡ seat_after p.first 3 → p.trick ≡ [] → s.tricks ≡ top_trumps p.strain p x → AreTrumpsReached p.strain s.cards p x → IsSure (not (is_north_south p.first)) p s
+pub last-sure : (p : Board) (s : SureTricks) (x : Seat) → x ≡ seat_after p.first 3 → p.trick ≡ [] → s.tricks ≡ top_trumps p.strain p x → AreTrumpsReached p.strain s.cards p x → IsSure (other_side (side_of p.first)) p s
 last-sure p s x seat start tricks are = opponent-sure p s x 3 last-law seat start tricks are
 
 -- the leader's side of what the leader cashes, where the winners of each suit are put to those of the one before
 pub leader-sure : (p : Board) (a b c d : List PlayingCard) → p.trick ≡ [] → AreReached a p p.first Spades → AreReached b p p.first Hearts → AreReached c p p.first Diamonds → AreReached d p p.first Clubs
     → ((e : PlayingCard) → has_card a e ≡ true → has_card b e ≡ true) → ((e : PlayingCard) → has_card b e ≡ true → has_card c e ≡ true) → ((e : PlayingCard) → has_card c e ≡ true → has_card d e ≡ true)
-    → TakesBy (reach d) (is_north_south p.first) p (leaders_tricks p)
+    → TakesBy (reach d) (side_of p.first) p (leaders_tricks p)
 leader-sure p a b c d start sp he di cl ab bc cd = cashed-by (reach d) p start tops
   where
     tops : (u : Suit) → AreTop (reach d) p p.first u
@@ -333,21 +301,21 @@ leader-sure p a b c d start sp he di cl ab bc cd = cashed-by (reach d) p start t
     tops Clubs = cl
 
 -- of two that are sure, either one is
-pub either-sure : (side : Bool) (p : Board) (one other s : SureTricks) → (s ≡ one) ⊎ (s ≡ other) → IsSure side p one → IsSure side p other → IsSure side p s
+pub either-sure : (side : Side) (p : Board) (one other s : SureTricks) → (s ≡ one) ⊎ (s ≡ other) → IsSure side p one → IsSure side p other → IsSure side p s
 either-sure side p one other s is a b = elim is [ inl e ↦ subst (λ (z : SureTricks). IsSure side p z) (sym e) a | inr e ↦ subst (λ (z : SureTricks). IsSure side p z) (sym e) b ]
 
 -- what both sides are sure of is no more than what is left
-pub sure-within : (p : Board) (ours theirs : SureTricks) → IsBoard p → IsSure (is_north_south p.first) p ours → IsSure (not (is_north_south p.first)) p theirs → ours.tricks + theirs.tricks ≤ left p
+pub sure-within : (p : Board) (ours theirs : SureTricks) → IsBoard p → IsSure (side_of p.first) p ours → IsSure (other_side (side_of p.first)) p theirs → ours.tricks + theirs.tricks ≤ left p
 sure-within p ours theirs valid a b =
-    both (is_north_south p.first) p ours.tricks theirs.tricks valid (by-here (reach ours.cards) (is_north_south p.first) p ours.tricks valid (reach-upward ours.cards) a)
-    (by-here (reach theirs.cards) (not (is_north_south p.first)) p theirs.tricks valid (reach-upward theirs.cards) b)
+    both (side_of p.first) p ours.tricks theirs.tricks valid (by-here (reach ours.cards) (side_of p.first) p ours.tricks valid (reach-upward ours.cards) a)
+    (by-here (reach theirs.cards) (other_side (side_of p.first)) p theirs.tricks valid (reach-upward theirs.cards) b)
 
 -- and it bounds the value of each position that is covered at the depths of the winners of both
 pub sure-bounds : (p : Board) (ours theirs : SureTricks) (cards : List PlayingCard) (depths : Suit → ℕ) (lo hi : ℕ) → ((c : PlayingCard) → has_card cards c ≡ true → IsRank c.rank) → IsBoard p
     → ((c : PlayingCard) → has_card ours.cards c ≡ true → has_card cards c ≡ true) → ((c : PlayingCard) → has_card theirs.cards c ≡ true → has_card cards c ≡ true) → ((u : Suit) → depths u ≡ depths_of (reach cards) p u)
-    → lo ≡ ours.tricks → hi ≡ left p - theirs.tricks → IsSure (is_north_south p.first) p ours → IsSure (not (is_north_south p.first)) p theirs
+    → lo ≡ ours.tricks → hi ≡ left p - theirs.tricks → IsSure (side_of p.first) p ours → IsSure (other_side (side_of p.first)) p theirs
     → (q : Board) → IsBoard q → Covers p depths q → (lo ≤ lead q) × (lead q ≤ hi)
 sure-bounds p ours theirs cards depths lo hi real valid mine others deep low high a b =
     noted cards depths p lo hi real valid (λ u. let e = deep u in omega (arith, e))
-    (by-fewer (reach cards) (is_north_south p.first) p ours.tricks lo (by-more (reach ours.cards) (reach cards) (is_north_south p.first) p ours.tricks (reach-within ours.cards cards mine) (reach-upward ours.cards) a) (omega (arith, low)))
-    (by-fewer (reach cards) (not (is_north_south p.first)) p theirs.tricks (left p - hi) (by-more (reach theirs.cards) (reach cards) (not (is_north_south p.first)) p theirs.tricks (reach-within theirs.cards cards others) (reach-upward theirs.cards) b) (omega (arith, high)))
+    (by-fewer (reach cards) (side_of p.first) p ours.tricks lo (by-more (reach ours.cards) (reach cards) (side_of p.first) p ours.tricks (reach-within ours.cards cards mine) (reach-upward ours.cards) a) (omega (arith, low)))
+    (by-fewer (reach cards) (other_side (side_of p.first)) p theirs.tricks (left p - hi) (by-more (reach theirs.cards) (reach cards) (other_side (side_of p.first)) p theirs.tricks (reach-within theirs.cards cards others) (reach-upward theirs.cards) b) (omega (arith, high)))

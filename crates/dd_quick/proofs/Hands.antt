@@ -9,7 +9,7 @@ use Rattle.dd_cards.specs.declared.seat.Seat.{Seat}
 use Rattle.dd_cards.specs.PlayingCard.{PlayingCard}
 use Rattle.dd_cards.specs.Cards.{is_of, same_card, card_of, has_card}
 use Rattle.dd_cards.specs.Seats.{seat_code, seat_after}
-use Rattle.dd_cards.specs.Hands.{hand_of, with_hand, times}
+use Rattle.dd_cards.specs.Hands.{hand_of, with_hand, times, FourHands}
 use Rattle.dd_cards.proofs.CallerLemmas.{same_card-eq, seat_code-injective}
 use Rattle.dd_play.specs.Board.{Board, IsBoard, cards_at, times_in}
 use Rattle.dd_play.proofs.CallerLemmas.{after-code, code-lt, hand-other, of-suit', times-hand, times-has, times_in-with_hand}
@@ -18,8 +18,8 @@ use Rattle.dd_quick.specs.QuickTricks.{beats, is_winner}
 -- a card of one hand is in no other hand
 pub one-hand : (p : Board) → IsBoard p → (x h : Seat) (c : PlayingCard) → seat_code x ≢ seat_code h → has_card (cards_at p x) c ≡ true → has_card (cards_at p h) c ≡ true → ⊥
 one-hand p valid x h c apart hx hh =
-    let taken : List (List PlayingCard) = with_hand p.hands x [] in
-    let moved = times_in-with_hand p.hands x [] c valid.four in
+    let taken : FourHands = with_hand p.hands x [] in
+    let moved = times_in-with_hand p.hands x [] c in
     let rest : times (hand_of taken h) c ≤ times_in taken c = times-hand taken h c in
     let same : times (hand_of taken h) c ≡ times (cards_at p h) c = ap (λ cards. times cards c) (hand-other p.hands x h [] (λ e. apart (sym e))) in
     let one = times-has (cards_at p x) c hx in

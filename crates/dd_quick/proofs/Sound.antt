@@ -1,7 +1,6 @@
 -- the quick tricks of a side are no more than the tricks that it takes
 use Rattle.std.proofs.Common.{◌≡◌, ℕ, zero, suc, ◌+◌, ◌-◌, ◌<◌, ◌≤◌, Bool, true, false, refl, sym, ap, ◌∙◌, subst, arith, List, [], ◌∷◌, length, inl, inr, zero-le, min}
 use Rattle.std.specs.Prelude.{filter, nat_le, ◌&&◌, if◌then◌else◌}
-use mathlib.Core.Bool.{not}
 use mathlib.Core.Path.{ap₂}
 use Rattle.std.proofs.lemmas.Bool.{leb-true, le-leb, cases_lt}
 use Rattle.dd_cards.specs.declared.seat.Seat.{Seat}
@@ -12,14 +11,16 @@ use Rattle.dd_cards.specs.declared.strain.Strain.{Strain}
 use Rattle.dd_cards.specs.declared.strain.Strain.TheVariants.{Trump, Notrump}
 use Rattle.dd_cards.specs.PlayingCard.{PlayingCard}
 use Rattle.dd_cards.specs.Cards.{is_of, same_card, card_of, has_card}
-use Rattle.dd_cards.specs.Seats.{seat_after, is_north_south}
+use Rattle.dd_cards.specs.Seats.{seat_after}
 use Rattle.dd_cards.proofs.CallerLemmas.{and-left, and-right, any-filter, same_card-eq}
+use Rattle.dd_cards.specs.Sides.{side_of, other_side, is_side}
+use Rattle.dd_cards.specs.declared.side.Side.{Side}
 use Rattle.dd_play.specs.Board.{Board, IsBoard, cards_at, left}
 use Rattle.dd_play.specs.Tricks.{is_trump}
 use Rattle.dd_play.specs.Value.{ns, lead}
 use Rattle.dd_play.specs.Covers.{count_of}
-use Rattle.dd_play.specs.Won.{is_side, won}
-use Rattle.dd_play.proofs.CallerLemmas.{card-real, count, filter-has, filter-passes, has-first, in-rest, ns-le, same-or, suit-of}
+use Rattle.dd_play.specs.Won.{won}
+use Rattle.dd_play.proofs.CallerLemmas.{all, card-real, count, filter-has, filter-passes, has-first, in-rest, ns-le, same-or, suit-of, lead-won}
 use Rattle.dd_quick.specs.QuickTricks.{is_winner, run, shortest, cashed, leaders_tricks, top_trumps}
 use Rattle.dd_quick.proofs.Hands.{no-higher}
 use Rattle.dd_quick.proofs.Plays.{count-where}
@@ -107,7 +108,7 @@ floor-of (Trump t) p h valid = go (filter highest (cards_at p h)) refl
             ap₂ (λ a b. a && b) (and-left (is_of t d) (is_winner p h d) high) (le-leb floor d.rank over)
 
 -- the highest trumps of a seat take their tricks
-pub top_trumps-taken : (p : Board) (h : Seat) (s : Bool) → IsBoard p → p.trick ≡ [] → is_side s h ≡ true → top_trumps p.strain p h ≤ won s p
+pub top_trumps-taken : (p : Board) (h : Seat) (s : Side) → IsBoard p → p.trick ≡ [] → is_side s h ≡ true → top_trumps p.strain p h ≤ won s p
 top_trumps-taken p h s valid start ours =
     let low = floor-of p.strain p h valid in
     let taken = tops-taken p.strain low.0 h s p ours (record {
@@ -159,7 +160,7 @@ short-each p (suc (suc (suc zero))) l k u = omega arith
 short-each p (suc (suc (suc (suc i)))) l k u = absurd (omega (arith, k))
 
 -- the leader's side takes the leader's quick tricks
-pub leaders_tricks-taken : (p : Board) (s : Bool) → IsBoard p → p.trick ≡ [] → is_side s p.first ≡ true → leaders_tricks p ≤ won s p
+pub leaders_tricks-taken : (p : Board) (s : Side) → IsBoard p → p.trick ≡ [] → is_side s p.first ≡ true → leaders_tricks p ≤ won s p
 leaders_tricks-taken p s valid start ours =
     let low = floor-of p.strain p p.first valid in
     let sum = sum-cashed p.strain p in
@@ -178,34 +179,25 @@ leaders_tricks-taken p s valid start ours =
 -- ---- both sides
 
 -- a seat is on its own side
-own-side : (h : Seat) → is_side (is_north_south h) h ≡ true
+own-side : (h : Seat) → is_side (side_of h) h ≡ true
 own-side North = refl
 own-side East = refl
 own-side South = refl
 own-side West = refl
 
 -- and so is its partner
-partners-side : (h : Seat) → is_side (is_north_south h) (seat_after h 2) ≡ true
+partners-side : (h : Seat) → is_side (side_of h) (seat_after h 2) ≡ true
 partners-side North = refl
 partners-side East = refl
 partners-side South = refl
 partners-side West = refl
 
 -- the next seat and the last are on the other side
-other-side : (h : Seat) → (is_side (not (is_north_south h)) (seat_after h 1) ≡ true) × (is_side (not (is_north_south h)) (seat_after h 3) ≡ true)
-other-side North = (refl, refl)
-other-side East = (refl, refl)
-other-side South = (refl, refl)
-other-side West = (refl, refl)
-
--- the leader's side is the one that `lead` speaks of
-lead-won : (p : Board) → lead p ≡ won (is_north_south p.first) p
-lead-won p = elim (is_north_south p.first) as (λ b. (if b then ns p else (left p - ns p)) ≡ won b p) [ true ↦ refl | false ↦ refl ]
-
--- the two sides share the tricks that are left
-won-both : (s : Bool) (p : Board) → IsBoard p → won s p + won (not s) p ≡ left p
-won-both true p valid = (let most = ns-le p valid in omega (arith, most))
-won-both false p valid = (let most = ns-le p valid in omega (arith, most))
+opponents-side : (h : Seat) → (is_side (other_side (side_of h)) (seat_after h 1) ≡ true) × (is_side (other_side (side_of h)) (seat_after h 3) ≡ true)
+opponents-side North = (refl, refl)
+opponents-side East = (refl, refl)
+opponents-side South = (refl, refl)
+opponents-side West = (refl, refl)
 
 -- what a start of a trick is worth to the leader's side is bounded by the quick tricks of each hand
 pub record IsBounded (p : Board) : Type 0 where
@@ -217,13 +209,13 @@ pub record IsBounded (p : Board) : Type 0 where
 -- at each start of a trick
 pub bounded : (p : Board) → IsBoard p → p.trick ≡ [] → IsBounded p
 bounded p valid start =
-    let s : Bool = is_north_south p.first in
+    let s : Side = side_of p.first in
     let value : lead p ≡ won s p = lead-won p in
-    let both : won s p + won (not s) p ≡ left p = won-both s p valid in
+    let both : won s p + won (other_side s) p ≡ left p = all s p valid in
     let leader : leaders_tricks p ≤ won s p = leaders_tricks-taken p s valid start (own-side p.first) in
     let partner : top_trumps p.strain p (seat_after p.first 2) ≤ won s p = top_trumps-taken p (seat_after p.first 2) s valid start (partners-side p.first) in
-    let next : top_trumps p.strain p (seat_after p.first 1) ≤ won (not s) p = top_trumps-taken p (seat_after p.first 1) (not s) valid start (other-side p.first).0 in
-    let last : top_trumps p.strain p (seat_after p.first 3) ≤ won (not s) p = top_trumps-taken p (seat_after p.first 3) (not s) valid start (other-side p.first).1 in
+    let next : top_trumps p.strain p (seat_after p.first 1) ≤ won (other_side s) p = top_trumps-taken p (seat_after p.first 1) (other_side s) valid start (opponents-side p.first).0 in
+    let last : top_trumps p.strain p (seat_after p.first 3) ≤ won (other_side s) p = top_trumps-taken p (seat_after p.first 3) (other_side s) valid start (opponents-side p.first).1 in
     record {
       leader = omega (arith, value, leader);
       partner = omega (arith, value, partner);

@@ -16,12 +16,14 @@ use Rattle.dd_cards.specs.Ranks.{IsRank}
 use Rattle.dd_cards.specs.Cards.{is_of, has_card}
 use Rattle.dd_cards.specs.Seats.{seat_code, seat_after}
 use Rattle.dd_cards.proofs.CallerLemmas.{and-left, and-right, else-false, length-filter-le, passes}
+use Rattle.dd_cards.specs.Sides.{is_side}
+use Rattle.dd_cards.specs.declared.side.Side.{Side}
 use Rattle.dd_play.specs.Board.{Board, IsBoard, cards_at, cards_left, mover}
 use Rattle.dd_play.specs.Tricks.{is_trump, winning_place, winner_of}
 use Rattle.dd_play.specs.Strength.{strength, strongest_place}
 use Rattle.dd_play.specs.Play.{completes, trick_with, after}
 use Rattle.dd_play.specs.Simulations.{IsLegal}
-use Rattle.dd_play.specs.Won.{is_side, won, point}
+use Rattle.dd_play.specs.Won.{won, point}
 use Rattle.dd_play.proofs.CallerLemmas.{after-code, cards-tricks, cards_left-after, count, count-some, flag_of, hand-others, has-at, legal-leads, own-card, place-within, real-trick, same-or, strain-after, strength_by, trick-after, trick-closed, was-in, winning-strongest, won_with}
 use Rattle.dd_quick.proofs.Plays.{whoever, count-own, count-push, count-one, place-push}
 
@@ -96,7 +98,7 @@ top-wins strain floor (led ∷ rest) c d real has top =
 -- ---- one play
 
 -- any hand plays a card c
-module _ (strain : Strain) (floor : ℕ) (h : Seat) (s : Bool) (p : Board) (c : PlayingCard) (ours : is_side s h ≡ true) (owns : OwnsTops strain floor h p) (has : IsLegal p c) where
+module _ (strain : Strain) (floor : ℕ) (h : Seat) (s : Side) (p : Board) (c : PlayingCard) (ours : is_side s h ≡ true) (owns : OwnsTops strain floor h p) (has : IsLegal p c) where
   -- the trick with the card on it has none of them but the seat's
   played-with : (i : ℕ) (d : PlayingCard) → i < length (trick_with p c) → is_top strain floor (get_or (trick_with p c) i d) ≡ true → seat_after p.first i ≡ h
   played-with i d l t = elim (place-push p.trick c d i l) [
@@ -180,7 +182,7 @@ hand-in p South = omega arith
 hand-in p West = omega arith
 
 -- the seat's side takes a trick for each of them that is in its hand or on the trick
-tops-within : (n : ℕ) (strain : Strain) (floor : ℕ) (h : Seat) (s : Bool) (p : Board) → is_side s h ≡ true → OwnsTops strain floor h p → cards_left p ≡ n
+tops-within : (n : ℕ) (strain : Strain) (floor : ℕ) (h : Seat) (s : Side) (p : Board) → is_side s h ≡ true → OwnsTops strain floor h p → cards_left p ≡ n
     → count (is_top strain floor) (cards_at p h) + count (is_top strain floor) p.trick ≤ won s p
 tops-within zero strain floor h s p ours owns size =
     let four = cards-tricks p owns.valid in
@@ -197,7 +199,7 @@ tops-within (suc n) strain floor h s p ours owns size =
     kept strain floor h s p c ours owns has (tops-within n strain floor h s (after p c) ours (owns-after strain floor h s p c ours owns has) (omega (arith, fewer, size))))
 
 -- before a trick, the seat's side takes a trick for each of them that is in its hand
-pub tops-taken : (strain : Strain) (floor : ℕ) (h : Seat) (s : Bool) (p : Board) → is_side s h ≡ true → OwnsTops strain floor h p → p.trick ≡ [] → count (is_top strain floor) (cards_at p h) ≤ won s p
+pub tops-taken : (strain : Strain) (floor : ℕ) (h : Seat) (s : Side) (p : Board) → is_side s h ≡ true → OwnsTops strain floor h p → p.trick ≡ [] → count (is_top strain floor) (cards_at p h) ≤ won s p
 tops-taken strain floor h s p ours owns start =
     let all : count (is_top strain floor) (cards_at p h) + count (is_top strain floor) p.trick ≤ won s p = tops-within (cards_left p) strain floor h s p ours owns refl in
     omega (arith, all)

@@ -3,11 +3,11 @@
 //! played. So a side's quick tricks are no more than it takes, and they rest on these winners alone: it takes as many
 //! where the lower cards are others.
 ghost use Rattle.std.specs.Prelude.{◌≡◌, ◌<◌, ◌≤◌, ◌+◌, ◌-◌, ◌⊎◌, IsSome, ℕ, [], max, true, MatchOption, IfSome, filter, nat_lt, slice_get};
-ghost use mathlib.Core.Bool.{not};
 ghost use Rattle.dd_cards.specs.declared.suit.Suit.{Suit as SuitOf};
 ghost use Rattle.dd_cards.specs.PlayingCard.{PlayingCard};
 ghost use Rattle.dd_cards.specs.Cards.{has_card};
-ghost use Rattle.dd_cards.specs.Seats.{is_north_south, seat_after};
+ghost use Rattle.dd_cards.specs.Seats.{seat_after};
+ghost use Rattle.dd_cards.specs.Sides.{side_of, other_side};
 ghost use Rattle.dd_play.specs.Board.{Board, IsBoard, left};
 ghost use Rattle.dd_play.specs.Covers.{count_of};
 ghost use Rattle.dd_play.specs.Intervals.{Holds};
@@ -60,7 +60,7 @@ pub fn bounds(start: &TrickStart) -> (Interval, Depths)
 /// The winners on which it rests that the leader's side takes at least `need` tricks, where its quick tricks are so many.
 pub fn for_leader(start: &TrickStart, need: u8) -> Option<Hand>
     ensures found { need ≤ quick_lo start.now → IsSome result }
-    ensures claim { IfSome result (λ cards. TakesBy (reach cards) (is_north_south start.now.first) start.now need) }
+    ensures claim { IfSome result (λ cards. TakesBy (reach cards) (side_of start.now.first) start.now need) }
 {
     enough(leaders(start.position()), need)
 }
@@ -68,7 +68,7 @@ pub fn for_leader(start: &TrickStart, need: u8) -> Option<Hand>
 /// The winners on which it rests that the other side takes at least `need` tricks, where its quick tricks are so many.
 pub fn against_leader(start: &TrickStart, need: u8) -> Option<Hand>
     ensures found { need ≤ left start.now - quick_hi start.now → IsSome result }
-    ensures claim { IfSome result (λ cards. TakesBy (reach cards) (not (is_north_south start.now.first)) start.now need) }
+    ensures claim { IfSome result (λ cards. TakesBy (reach cards) (other_side (side_of start.now.first)) start.now need) }
 {
     enough(others(start.position()), need)
 }
@@ -89,9 +89,9 @@ fn enough(sure: Sure, need: u8) -> Option<Hand>
 fn leaders(position: &Position) -> Sure
     requires { position.now.trick ≡ [] }
     ensures tricks { result.tricks ≡ quick_lo position.now }
-    ensures claim { TakesBy (reach result.cards) (is_north_south position.now.first) position.now result.tricks }
+    ensures claim { TakesBy (reach result.cards) (side_of position.now.first) position.now result.tricks }
 {
-    let partner = position.first().next().next();
+    let partner = position.first().partner();
     better(leaders_tricks(position), top_trumps(position, partner))
 }
 
@@ -100,10 +100,11 @@ fn others(position: &Position) -> Sure
     requires { position.now.trick ≡ [] }
     ensures tricks { result.tricks ≡ max (top_trumps position.now.strain position.now (seat_after position.now.first 1))
         (top_trumps position.now.strain position.now (seat_after position.now.first 3)) }
-    ensures claim { TakesBy (reach result.cards) (not (is_north_south position.now.first)) position.now result.tricks }
+    ensures claim { TakesBy (reach result.cards) (other_side (side_of position.now.first)) position.now result.tricks }
 {
-    let left = position.first().next();
-    let right = left.next().next();
+    let leader = position.first();
+    let left = leader.left();
+    let right = leader.right();
     better(top_trumps(position, left), top_trumps(position, right))
 }
 
@@ -124,7 +125,7 @@ fn better(one: Sure, other: Sure) -> Sure
 fn leaders_tricks(position: &Position) -> Sure
     requires { position.now.trick ≡ [] }
     ensures tricks { result.tricks ≡ leaders_tricks position.now }
-    ensures claim { TakesBy (reach result.cards) (is_north_south position.now.first) position.now result.tricks }
+    ensures claim { TakesBy (reach result.cards) (side_of position.now.first) position.now result.tricks }
 {
     let spades = cashed(position, Hand::new(), Suit::Spades);
     let hearts = cashed(position, spades.cards, Suit::Hearts);
@@ -159,12 +160,10 @@ fn cashed(position: &Position, cards: Hand, suit: Suit) -> Sure
 fn shortest(position: &Position, suit: Suit) -> u8
     ensures { result ≡ shortest position.now suit }
 {
-    let left = position.first().next();
-    let partner = left.next();
-    let right = partner.next();
-    length(position, left, suit)
-        .min(length(position, partner, suit))
-        .min(length(position, right, suit))
+    let leader = position.first();
+    length(position, leader.left(), suit)
+        .min(length(position, leader.partner(), suit))
+        .min(length(position, leader.right(), suit))
 }
 
 // How many cards of the suit the seat holds.
@@ -198,9 +197,9 @@ fn run(position: &Position, cards: Hand, seat: Seat, suit: Suit) -> Sure
 {
     // The proof reads here that the cards are cards of the pack.
     let _ = cards.holding(suit);
-    let left = seat.next();
-    let partner = left.next();
-    let right = partner.next();
+    let left = seat.left();
+    let partner = seat.partner();
+    let right = seat.right();
     let hands = position.hands();
     let own = hands.holding(seat, suit);
     let others = hands

@@ -1,38 +1,25 @@
 -- alike positions have one value, also with the seats turned
 use Rattle.std.proofs.Common.{◌≡◌, ◌≢◌, ℕ, zero, suc, ◌-◌, ◌≤◌, Bool, true, false, refl, sym, ap, ◌∙◌, subst, arith, List, []}
 use Rattle.std.specs.Prelude.{if◌then◌else◌}
-use mathlib.Core.Bool.{not, beq}
 use Rattle.dd_cards.specs.declared.seat.Seat.{Seat}
 use Rattle.dd_cards.specs.declared.seat.Seat.TheVariants.{North, East, South, West}
 use Rattle.dd_cards.specs.declared.suit.Suit.{Suit}
 use Rattle.dd_cards.specs.PlayingCard.{PlayingCard}
 use Rattle.dd_cards.specs.Cards.{is_of, has_card}
-use Rattle.dd_cards.specs.Seats.{seat_after, next_seat, is_north_south}
+use Rattle.dd_cards.specs.Seats.{seat_after, next_seat}
+use Rattle.dd_cards.specs.Sides.{side_of, is_side}
 use Rattle.dd_play.specs.Board.{Board, IsBoard, cards_at, left}
 use Rattle.dd_play.specs.Value.{ns, lead}
-use Rattle.dd_play.specs.Won.{is_side, won}
+use Rattle.dd_play.specs.Won.{won}
 use Rattle.dd_play.specs.Covers.{ForMet, Keeps, IsOver, AllAnswer, count_of, IsCover, any_card}
-use Rattle.dd_play.proofs.CallerLemmas.{inject, of-suit', once-in, suit-of, twins-won}
+use Rattle.dd_play.proofs.CallerLemmas.{inject, of-suit', once-in, suit-of, twins-won, lead-won}
 use Rattle.dd_rank.specs.Alike.{IsAlikeBy, AreAlike, IsAlike}
-
--- the next seat is of the other side
-next-side : (x : Seat) → is_north_south (next_seat x) ≡ not (is_north_south x)
-next-side North = refl
-next-side East = refl
-next-side South = refl
-next-side West = refl
-
--- two tests turned agree as before
-not-beq : (a b : Bool) → beq (not a) (not b) ≡ beq a b
-not-beq true true = refl
-not-beq true false = refl
-not-beq false true = refl
-not-beq false false = refl
+use Rattle.dd_cards.proofs.CallerLemmas.{same-others, next-side}
 
 -- two seats of one side, one of them turned with the side, stay of one side
-pub turned-sides : (k : ℕ) (x y : Seat) → is_side (is_north_south (seat_after y k)) (seat_after x k) ≡ is_side (is_north_south y) x
+pub turned-sides : (k : ℕ) (x y : Seat) → is_side (side_of (seat_after y k)) (seat_after x k) ≡ is_side (side_of y) x
 turned-sides zero x y = refl
-turned-sides (suc k) x y = rw (next-side (seat_after x k), next-side (seat_after y k)) (not-beq _ _ ∙ turned-sides k x y)
+turned-sides (suc k) x y = rw (next-side (seat_after x k), next-side (seat_after y k)) (same-others _ _ ∙ turned-sides k x y)
 
 -- an empty trick has no card
 no-card : (trick : List PlayingCard) (c : PlayingCard) → trick ≡ [] → has_card trick c ≡ true → ⊥
@@ -47,12 +34,12 @@ met-start p P e each = record {
 }
 
 -- alike positions are related with all cards as top cards
-pub alike-cover : (k : ℕ) (to from : PlayingCard → PlayingCard) (p q : Board) → IsBoard p → IsBoard q → IsAlikeBy k to from p q → IsCover any_card k to from (is_north_south p.first) p (is_north_south q.first) q
+pub alike-cover : (k : ℕ) (to from : PlayingCard → PlayingCard) (p q : Board) → IsBoard p → IsBoard q → IsAlikeBy k to from p q → IsCover any_card k to from (side_of p.first) p (side_of q.first) q
 alike-cover k to from p q valid_p valid_q a =
     record {
       valid_p = valid_p;
       valid_q = valid_q;
-      sides = λ x. ap (λ y. is_side (is_north_south y) (seat_after x k)) a.first ∙ turned-sides k x p.first;
+      sides = λ x. ap (λ y. is_side (side_of y) (seat_after x k)) a.first ∙ turned-sides k x p.first;
       strain = a.strain;
       first = a.first;
       to_suit = a.to_suit;
@@ -76,17 +63,12 @@ alike-cover k to from p q valid_p valid_q a =
         let f = a.back x d h in (f.0, of-suit' u (from d) (a.from_suit d ∙ suit-of u d i), f.1)) in
         omega (arith, forth, back)
 
--- the leader's tricks are those of the leader's side
-pub won-lead : (b : Bool) (p : Board) → (if b then ns p else (left p - ns p)) ≡ won b p
-won-lead true p = refl
-won-lead false p = refl
-
 -- Alike positions have one value.
 pub alike-lead : (p q : Board) → IsBoard p → IsBoard q → AreAlike p q → lead q ≡ lead p
 alike-lead p q valid_p valid_q a =
-    won-lead (is_north_south q.first) q
-    ∙ twins-won (is_north_south p.first) p (is_north_south q.first) q (a.0, a.1, a.2, alike-cover a.0 a.1 a.2 p q valid_p valid_q a.3)
-    ∙ sym (won-lead (is_north_south p.first) p)
+    lead-won q
+    ∙ twins-won (side_of p.first) p (side_of q.first) q (a.0, a.1, a.2, alike-cover a.0 a.1 a.2 p q valid_p valid_q a.3)
+    ∙ sym (lead-won p)
 
 -- And so have those that are alike without a turn.
 pub is-alike-lead : (p q : Board) → IsBoard p → IsBoard q → IsAlike p q → lead q ≡ lead p

@@ -9,9 +9,9 @@ use Rattle.dd_cards.specs.declared.suit.Suit.{Suit}
 use Rattle.dd_cards.specs.declared.suit.Suit.TheVariants.{Spades, Hearts, Diamonds, Clubs}
 use Rattle.dd_cards.specs.PlayingCard.{PlayingCard}
 use Rattle.dd_cards.specs.Cards.{is_of}
-use Rattle.dd_cards.specs.Seats.{is_north_south}
 use Rattle.dd_cards.specs.Strains.{strain_code}
 use Rattle.dd_cards.proofs.CallerLemmas.{suit_code-injective, suit_code-lt}
+use Rattle.dd_cards.specs.Sides.{side_of}
 use Rattle.dd_play.specs.Board.{Board, IsBoard}
 use Rattle.dd_play.specs.Covers.{IsOver, any_card, count_of}
 use Rattle.dd_play.specs.Reach.{IsStrict}
@@ -43,15 +43,15 @@ over c d tc td suits =
 pub alike-full : (p q : Board) (depths : Suit → ℕ) → IsBoard p → IsBoard q → ((u : Suit) → depths u ≡ count_of u (all_cards p)) → AreAlike p q → Covers p depths q
 alike-full p q depths valid_p valid_q full a =
     let r = alike-cover a.0 a.1 a.2 p q valid_p valid_q a.3 in
-    let few = cover-fewer any_rank any_card a.0 a.1 a.2 (is_north_south p.first) p (is_north_south q.first) q (λ c t. refl) (met-start p (IsOver any_rank) a.3.start_p (λ x y c d n hc hd. over c d)) r in
+    let few = cover-fewer any_rank any_card a.0 a.1 a.2 (side_of p.first) p (side_of q.first) q (λ c t. refl) (met-start p (IsOver any_rank) a.3.start_p (λ x y c d n hc hd. over c d)) r in
     let strict : IsStrict any_card a.1 a.2 p q = record {
       keeps = λ x c d hc hd tc td suits. a.3.order x x c d hc hd suits;
       over = λ x c d hc hd tc td suits. absurd (cc);
     } in (
       a.0,
       covers-less a.0 depths _ p q many
-          (cover-covers any_rank a.0 a.1 a.2 (is_north_south p.first) p (is_north_south q.first) q (over, λ u. refl) a.3.start_p few
-          (strict-fewer any_rank any_card a.0 a.1 a.2 (is_north_south p.first) p (is_north_south q.first) q (λ c t. refl) over r strict)),
+          (cover-covers any_rank a.0 a.1 a.2 (side_of p.first) p (side_of q.first) q (over, λ u. refl) a.3.start_p few
+          (strict-fewer any_rank any_card a.0 a.1 a.2 (side_of p.first) p (side_of q.first) q (λ c t. refl) over r strict)),
     )
   where
     many : (u : Suit) → depths u ≤ length (filter (λ e. is_of u e && any_rank e) (all_cards p))

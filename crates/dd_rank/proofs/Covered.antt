@@ -10,11 +10,12 @@ use Rattle.dd_cards.specs.declared.seat.Seat.TheVariants.{North, East, South, We
 use Rattle.dd_cards.specs.declared.suit.Suit.{Suit}
 use Rattle.dd_cards.specs.PlayingCard.{PlayingCard}
 use Rattle.dd_cards.specs.Cards.{is_of, same_card, has_card}
-use Rattle.dd_cards.specs.Seats.{seat_after, is_north_south}
+use Rattle.dd_cards.specs.Seats.{seat_after}
 use Rattle.dd_cards.proofs.CallerLemmas.{and-left, and-right, any-filter, else-false, or-split}
+use Rattle.dd_cards.specs.Sides.{side_of, is_side}
 use Rattle.dd_play.specs.Board.{Board, IsBoard, cards_at}
 use Rattle.dd_play.proofs.CallerLemmas.{filter-has, filter-passes, has-first, of-suit', suit-of, unturn}
-use Rattle.dd_play.specs.Won.{is_side, won}
+use Rattle.dd_play.specs.Won.{won}
 use Rattle.dd_play.specs.Covers.{Keeps, IsOver, AllAnswer, IsCover}
 use Rattle.dd_rank.specs.Depths.{all_cards, is_above, place, is_within, IsCoverAt, depths_of}
 use Rattle.dd_play.specs.Reach.{IsUpward, IsStrict, TakesBy}
@@ -112,12 +113,12 @@ IsTopOf top depths p = ((c : PlayingCard) → has_card (all_cards p) c ≡ true 
 
 -- a cover at depths is the one relation, with the cards within the depths as top cards
 pub covers-cover : (top : PlayingCard → Bool) (k : ℕ) (depths : Suit → ℕ) (p q : Board) → IsTopOf top depths p → IsBoard p → IsBoard q → IsCoverAt k depths p q
-    → IsCover top k (to_of p q) (to_of q p) (is_north_south p.first) p (is_north_south q.first) q × IsStrict top (to_of p q) (to_of q p) p q
+    → IsCover top k (to_of p q) (to_of q p) (side_of p.first) p (side_of q.first) q × IsStrict top (to_of p q) (to_of q p) p q
 covers-cover top k depths p q is_top good_p good_q a = (
   record {
     valid_p = good_p;
     valid_q = good_q;
-    sides = λ x. ap (λ y. is_side (is_north_south y) (seat_after x k)) a.first ∙ turned-sides k x p.first;
+    sides = λ x. ap (λ y. is_side (side_of y) (seat_after x k)) a.first ∙ turned-sides k x p.first;
     strain = a.strain;
     first = a.first;
     to_suit = λ c. pick-suit q c.suit (place p c);
@@ -230,7 +231,7 @@ lifted-top top p lifted = (λ c has. go c has (top c) refl, lifted.1)
 
 -- what a search claims at p by top cards holds at every position that p covers at their depths
 pub by-covered : (top : PlayingCard → Bool) (k : ℕ) (p q : Board) (n : ℕ) → IsLifted top → IsBoard p → IsBoard q → IsCoverAt k (depths_of top p) p q
-    → TakesBy top (is_north_south p.first) p n → n ≤ won (is_north_south q.first) q
+    → TakesBy top (side_of p.first) p n → n ≤ won (side_of q.first) q
 by-covered top k p q n lifted good_p good_q a takes =
     let r = covers-cover top k (depths_of top p) p q (lifted-top top p lifted) good_p good_q a in
-    takes k (to_of p q) (to_of q p) (is_north_south q.first) q r.0 r.1
+    takes k (to_of p q) (to_of q p) (side_of q.first) q r.0 r.1

@@ -6,8 +6,9 @@ use Rattle.dd_cards.specs.declared.seat.Seat.{Seat}
 use Rattle.dd_cards.specs.declared.suit.Suit.{Suit}
 use Rattle.dd_cards.specs.PlayingCard.{PlayingCard}
 use Rattle.dd_cards.specs.Cards.{is_of, has_card}
-use Rattle.dd_cards.specs.Seats.{seat_code, is_north_south}
+use Rattle.dd_cards.specs.Seats.{seat_code}
 use Rattle.dd_cards.proofs.CallerLemmas.{else-false}
+use Rattle.dd_cards.specs.Sides.{side_of}
 use Rattle.dd_play.specs.Board.{Board, IsBoard, cards_at}
 use Rattle.dd_play.specs.Value.{lead}
 use Rattle.dd_play.specs.Covers.{count_of}
@@ -66,7 +67,7 @@ full-alike p q depths valid_p valid_q full a =
         to_suit = r.0.to_suit;
         from_suit = r.0.from_suit;
         forth = λ x c h. r.0.forth x c h (real x c h);
-        back = λ x d h. r.0.back x d h (let c = reply' any_rank a.0 (to_of p q) (to_of q p) (is_north_south p.first) p (is_north_south q.first) q r.0 x d h in c.2.kind ∙ real x c.0 c.1);
+        back = λ x d h. r.0.back x d h (let c = reply' any_rank a.0 (to_of p q) (to_of q p) (side_of p.first) p (side_of q.first) q r.0 x d h in c.2.kind ∙ real x c.0 c.1);
         order = λ x y c d hc hd suits. elim (same-or x y) [
           | inl e ↦ r.1.keeps y c d (ap (λ z. has_card (cards_at p z) c) (sym e) ∙ hc) hd (real x c hc) (real y d hd) suits
           | inr e ↦ r.0.keeps.hands x y c d (λ z. e (ap seat_code z)) hc hd (real x c hc) (real y d hd) suits

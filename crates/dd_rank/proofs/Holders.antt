@@ -8,14 +8,14 @@ use Rattle.dd_cards.specs.declared.seat.Seat.TheVariants.{North, East, South, We
 use Rattle.dd_cards.specs.declared.suit.Suit.{Suit}
 use Rattle.dd_cards.specs.PlayingCard.{PlayingCard}
 use Rattle.dd_cards.specs.Cards.{has_card, card_of}
-use Rattle.dd_cards.specs.Hands.{hand_of, times, AreDisjoint}
+use Rattle.dd_cards.specs.Hands.{FourHands, hand_of, times, AreDisjoint}
 use Rattle.dd_play.specs.Board.{Board, IsBoard}
 use Rattle.dd_play.proofs.CallerLemmas.{times-has}
 use Rattle.dd_rank.specs.Owners.{holder}
 
 -- ---- the holder of a card
 -- the card is in the hand of its holder
-pub holder-has : (hands : List (List PlayingCard)) (c : PlayingCard) (s : Seat) → holder hands c ≡ Some s → has_card (hand_of hands s) c ≡ true
+pub holder-has : (hands : FourHands) (c : PlayingCard) (s : Seat) → holder hands c ≡ Some s → has_card (hand_of hands s) c ≡ true
 unfolding holder
 holder-has hands c s e = go (has North) (has East) (has South) (has West) refl refl refl refl e
   where
@@ -38,7 +38,7 @@ holder-has hands c s e = go (has North) (has East) (has South) (has West) refl r
     go false false false false hn he hs hw k = absurd (cc)
 
 -- the only hand that has the card is its holder's
-pub only-holder : (hands : List (List PlayingCard)) (c : PlayingCard) (s : Seat) → has_card (hand_of hands s) c ≡ true
+pub only-holder : (hands : FourHands) (c : PlayingCard) (s : Seat) → has_card (hand_of hands s) c ≡ true
     → ((t : Seat) → has_card (hand_of hands t) c ≡ true → t ≡ s) → holder hands c ≡ Some s
 unfolding holder
 only-holder hands c s h only = go (has North) (has East) (has South) (has West) refl refl refl refl
@@ -64,7 +64,7 @@ only-holder hands c s h only = go (has North) (has East) (has South) (has West) 
         nowhere West n e s w = w refl
 
 -- a card in no hand has no holder
-pub no-holder : (hands : List (List PlayingCard)) (c : PlayingCard) → ((s : Seat) → has_card (hand_of hands s) c ≡ false) → holder hands c ≡ None
+pub no-holder : (hands : FourHands) (c : PlayingCard) → ((s : Seat) → has_card (hand_of hands s) c ≡ false) → holder hands c ≡ None
 unfolding holder
 no-holder hands c none = rw (none North, none East, none South, none West) refl
 

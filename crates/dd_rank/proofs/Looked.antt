@@ -1,7 +1,6 @@
 -- the one relation, at an empty trick, is a cover at depths: what a table tells of every covered position may be used
 use Rattle.std.proofs.Common.{◌≡◌, ℕ, ◌+◌, ◌*◌, ◌<◌, ◌≤◌, Bool, true, false, refl, sym, ap, ◌∙◌, subst, arith, List, [], ◌∷◌, ◌++◌, inl, inr}
 use Rattle.std.specs.Prelude.{nat_le, ◌&&◌}
-use mathlib.Core.Bool.{not, beq}
 use Rattle.std.proofs.lemmas.Bool.{lt-ltb}
 use Rattle.std.proofs.lemmas.Bool.Decides.{nat_tests}
 use Rattle.dd_cards.specs.declared.seat.Seat.{Seat}
@@ -9,11 +8,13 @@ use Rattle.dd_cards.specs.declared.seat.Seat.TheVariants.{North, East, South, We
 use Rattle.dd_cards.specs.declared.suit.Suit.{Suit}
 use Rattle.dd_cards.specs.PlayingCard.{PlayingCard}
 use Rattle.dd_cards.specs.Cards.{is_of, same_card, has_card}
-use Rattle.dd_cards.specs.Seats.{seat_code, seat_after, is_north_south}
+use Rattle.dd_cards.specs.Seats.{seat_code, seat_after}
 use Rattle.dd_cards.specs.Hands.{times}
-use Rattle.dd_cards.proofs.CallerLemmas.{and-left, and-right, else-true}
+use Rattle.dd_cards.proofs.CallerLemmas.{and-left, and-right, else-true, same-self, same-other, is-same, is-other}
+use Rattle.dd_cards.specs.Sides.{side_of, other_side, is_side}
+use Rattle.dd_cards.specs.declared.side.Side.{Side}
 use Rattle.dd_play.specs.Board.{Board, IsBoard, cards_at}
-use Rattle.dd_play.specs.Won.{is_side, won}
+use Rattle.dd_play.specs.Won.{won}
 use Rattle.dd_play.specs.Covers.{Keeps, IsOver, AllAnswer, IsCover}
 use Rattle.dd_play.specs.Reach.{IsStrict, TakesBy}
 use Rattle.dd_rank.specs.Depths.{all_cards, is_above, place, IsCoverAt, depths_of}
@@ -61,7 +62,7 @@ no-trick to from top cs ds e a = go ds (subst (λ xs. AllAnswer to from top xs d
     go (d ∷ ds) a = absurd a
 
 -- the one relation at an empty trick, with upward top cards, is a cover at their depths
-pub cover-covers : (top : PlayingCard → Bool) (k : ℕ) (to from : PlayingCard → PlayingCard) (s : Bool) (p : Board) (t : Bool) (q : Board) → IsLifted top → p.trick ≡ []
+pub cover-covers : (top : PlayingCard → Bool) (k : ℕ) (to from : PlayingCard → PlayingCard) (s : Side) (p : Board) (t : Side) (q : Board) → IsLifted top → p.trick ≡ []
     → IsCover top k to from s p t q → IsStrict top to from p q → IsCoverAt k (depths_of top p) p q
 cover-covers top k to from s p t q lifted start r strict =
     record {
@@ -132,15 +133,6 @@ cover-covers top k to from s p t q lifted start r strict =
         let under : d.rank < (to e).rank = over (seat_after y.0 k) (seat_after x k) (to e) d g.0 hd (ap top g.1 ∙ top_e) low (r.to_suit e ∙ suits) in
         (in-all q (seat_after y.0 k) (to e) g.0, above-is d (to e) (r.to_suit e ∙ suits) under, g.1))
 
--- seats of one side
-same-side : (a b c : Bool) → beq a b ≡ beq c c → b ≡ a
-same-side true true c h = refl
-same-side false false c h = refl
-same-side true false true h = absurd (cc)
-same-side true false false h = absurd (cc)
-same-side false true true h = absurd (cc)
-same-side false true false h = absurd (cc)
-
 -- of fewer depths, fewer cards are the same
 pub covers-less : (k : ℕ) (few many : Suit → ℕ) (p q : Board) → ((u : Suit) → few u ≤ many u) → IsCoverAt k many p q → IsCoverAt k few p q
 covers-less k few many p q less a = record {
@@ -156,24 +148,16 @@ covers-less k few many p q less a = record {
 
 -- what holds of every position that p covers at depths is a claim at p, by top cards that are at least as many
 pub by-looked : (top : PlayingCard → Bool) (depths : Suit → ℕ) (p : Board) (n : ℕ) → IsLifted top → p.trick ≡ [] → ((u : Suit) → depths u ≤ depths_of top p u)
-    → ((k : ℕ) (q : Board) → IsBoard q → IsCoverAt k depths p q → n ≤ won (is_north_south q.first) q) → TakesBy top (is_north_south p.first) p n
+    → ((k : ℕ) (q : Board) → IsBoard q → IsCoverAt k depths p q → n ≤ won (side_of q.first) q) → TakesBy top (side_of p.first) p n
 by-looked top depths p n lifted start less each k to from t q r strict =
-    let at : n ≤ won (is_north_south q.first) q = each k q r.valid_q (covers-less k depths (depths_of top p) p q less (cover-covers top k to from (is_north_south p.first) p t q lifted start r strict)) in
-    let side : is_side t q.first ≡ is_side (is_north_south p.first) p.first = ap (is_side t) r.first ∙ r.sides p.first in
-    subst (λ b. n ≤ won b q) (sym (same-side (is_north_south q.first) t (is_north_south p.first) side)) at
+    let at : n ≤ won (side_of q.first) q = each k q r.valid_q (covers-less k depths (depths_of top p) p q less (cover-covers top k to from (side_of p.first) p t q lifted start r strict)) in
+    let side : is_side t q.first ≡ is_side (side_of p.first) p.first = ap (is_side t) r.first ∙ r.sides p.first in
+    subst (λ b. n ≤ won b q) (is-same (side_of q.first) t (side ∙ same-self (side_of p.first))) at
 
 -- and so for the other side
 pub by-looked' : (top : PlayingCard → Bool) (depths : Suit → ℕ) (p : Board) (n : ℕ) → IsLifted top → p.trick ≡ [] → ((u : Suit) → depths u ≤ depths_of top p u)
-    → ((k : ℕ) (q : Board) → IsBoard q → IsCoverAt k depths p q → n ≤ won (not (is_north_south q.first)) q) → TakesBy top (not (is_north_south p.first)) p n
+    → ((k : ℕ) (q : Board) → IsBoard q → IsCoverAt k depths p q → n ≤ won (other_side (side_of q.first)) q) → TakesBy top (other_side (side_of p.first)) p n
 by-looked' top depths p n lifted start less each k to from t q r strict =
-    let at : n ≤ won (not (is_north_south q.first)) q = each k q r.valid_q (covers-less k depths (depths_of top p) p q less (cover-covers top k to from (not (is_north_south p.first)) p t q lifted start r strict)) in
-    let side : is_side t q.first ≡ is_side (not (is_north_south p.first)) p.first = ap (is_side t) r.first ∙ r.sides p.first in
-    subst (λ b. n ≤ won b q) (other-side t (is_north_south q.first) (is_north_south p.first) side) at
-  where
-    other-side : (t a b : Bool) → beq a t ≡ beq b (not b) → not a ≡ t
-    other-side true true true h = absurd (cc)
-    other-side true true false h = absurd (cc)
-    other-side true false b h = refl
-    other-side false true b h = refl
-    other-side false false true h = absurd (cc)
-    other-side false false false h = absurd (cc)
+    let at : n ≤ won (other_side (side_of q.first)) q = each k q r.valid_q (covers-less k depths (depths_of top p) p q less (cover-covers top k to from (other_side (side_of p.first)) p t q lifted start r strict)) in
+    let side : is_side t q.first ≡ is_side (other_side (side_of p.first)) p.first = ap (is_side t) r.first ∙ r.sides p.first in
+    subst (λ b. n ≤ won b q) (is-other (side_of q.first) t (side ∙ same-other (side_of p.first))) at

@@ -10,7 +10,7 @@ use Rattle.dd_cards.specs.declared.suit.Suit.{Suit}
 use Rattle.dd_cards.specs.declared.suit.Suit.TheVariants.{Spades, Hearts, Diamonds, Clubs}
 use Rattle.dd_cards.specs.PlayingCard.{PlayingCard}
 use Rattle.dd_cards.specs.Cards.{has_card, suit_cards}
-use Rattle.dd_cards.specs.Hands.{hand_of, IsSet, AreHands}
+use Rattle.dd_cards.specs.Hands.{FourHands, dealt, hand_of, IsSet, AreHands}
 use Rattle.dd_cards.specs.Seats.{seat_code, seat_after}
 use Rattle.dd_cards.proofs.CallerLemmas.{else-false, seat_code-injective, seat_code-lt}
 use Rattle.dd_play.specs.Board.{Board, cards_at}
@@ -21,12 +21,12 @@ use Rattle.dd_rank.specs.Strings.{places_after, number_of, owners_number, suit_l
 use Rattle.dd_rank.proofs.Holders.{holder-has, only-holder, no-holder}
 use Rattle.dd_rank.proofs.Turned.{places-lt, after-places}
 
--- the hands from a seat on
-pub seated : List (List PlayingCard) → Seat → List (List PlayingCard)
-seated hands f = hand_of hands (seat_after f 0) ∷ hand_of hands (seat_after f 1) ∷ hand_of hands (seat_after f 2) ∷ hand_of hands (seat_after f 3) ∷ []
+-- the same hands turned, so that this seat sits North
+pub seated : FourHands → Seat → FourHands
+seated hands f = dealt (hand_of hands (seat_after f 0)) (hand_of hands (seat_after f 1)) (hand_of hands (seat_after f 2)) (hand_of hands (seat_after f 3))
 
 -- each is that of the seat at its place
-seated-at : (hands : List (List PlayingCard)) (f x : Seat) → hand_of (seated hands f) x ≡ hand_of hands (seat_after f (seat_code x))
+seated-at : (hands : FourHands) (f x : Seat) → hand_of (seated hands f) x ≡ hand_of hands (seat_after f (seat_code x))
 unfolding seated
 seated-at hands f North = refl
 seated-at hands f East = refl
@@ -42,10 +42,9 @@ after-tells f j k low high e =
     omega (arith, a, b, c, low, high)
 
 -- they are four hands
-pub seated-hands : (hands : List (List PlayingCard)) (f : Seat) → AreHands hands → AreHands (seated hands f)
+pub seated-hands : (hands : FourHands) (f : Seat) → AreHands hands → AreHands (seated hands f)
 unfolding seated
 seated-hands hands f valid = record {
-  four = refl;
   sets = λ x. subst IsSet (sym (seated-at hands f x)) (valid.sets (seat_after f (seat_code x)));
   disjoint = λ c x y hx hy. seat_code-injective x y (after-tells f (seat_code x) (seat_code y) (seat_code-lt x) (seat_code-lt y)
       (valid.disjoint c (seat_after f (seat_code x)) (seat_after f (seat_code y)) (ap (λ l. has_card l c) (sym (seated-at hands f x)) ∙ hx) (ap (λ l. has_card l c) (sym (seated-at hands f y)) ∙ hy)));
@@ -59,7 +58,7 @@ IsTurned f None (Some x) = ⊥
 IsTurned f (Some s) None = ⊥
 
 -- a card's holder among the hands from a seat on
-turned-holder : (hands : List (List PlayingCard)) (f : Seat) → AreHands hands → (c : PlayingCard) → IsTurned f (holder (seated hands f) c) (holder hands c)
+turned-holder : (hands : FourHands) (f : Seat) → AreHands hands → (c : PlayingCard) → IsTurned f (holder (seated hands f) c) (holder hands c)
 turned-holder hands f valid c = go (holder hands c) refl
   where
     turn : Seat → Seat
@@ -85,7 +84,7 @@ turned-holder hands f valid c = go (holder hands c) refl
     go (Some x) e = subst (λ (o : Option Seat). IsTurned f o (Some x)) (sym (own x (holder-has hands c x e))) (code x)
 
 -- the owners among these hands are the owners by their places
-pub turned-owners : (hands : List (List PlayingCard)) (f : Seat) → AreHands hands → (u : Suit) → map seat_code (owners_in (seated hands f) u) ≡ map (places_after f) (owners_in hands u)
+pub turned-owners : (hands : FourHands) (f : Seat) → AreHands hands → (u : Suit) → map seat_code (owners_in (seated hands f) u) ≡ map (places_after f) (owners_in hands u)
 turned-owners hands f valid u = each (suit_cards u)
   where
     each : (cards : List PlayingCard) → map seat_code (filter_map (holder (seated hands f)) cards) ≡ map (places_after f) (filter_map (holder hands) cards)
@@ -101,7 +100,7 @@ turned-owners hands f valid u = each (suit_cards u)
         go (Some s) d None e t ih = absurd (let k : IsTurned f (Some s) None = rw (d, e) at t in k)
 
 -- the hand of a seat that comes so many places after the leader
-pub at-seat : (p : Board) (hands : List (List PlayingCard)) (f seat : Seat) (k : ℕ) (cards : List PlayingCard) → hands ≡ p.hands → f ≡ p.first → seat ≡ seat_after f k → cards ≡ hand_of hands seat
+pub at-seat : (p : Board) (hands : FourHands) (f seat : Seat) (k : ℕ) (cards : List PlayingCard) → hands ≡ p.hands → f ≡ p.first → seat ≡ seat_after f k → cards ≡ hand_of hands seat
     → cards ≡ cards_at p (seat_after p.first k)
 at-seat p hands f seat k cards eh ef es ec = ec ∙ ap₂ hand_of eh (es ∙ ap (λ x. seat_after x k) ef)
 
@@ -113,17 +112,17 @@ pub record AreSeated (p : Board) (l s t f : List PlayingCard) : Type 0 where
   pub third : t ≡ cards_at p (seat_after p.first 2)
   pub fourth : f ≡ cards_at p (seat_after p.first 3)
 
--- .. as a list
-listed : (p : Board) (l s t f : List PlayingCard) → AreSeated p l s t f → l ∷ s ∷ t ∷ f ∷ [] ≡ seated p.hands p.first
+-- .. with the leader as North
+turned : (p : Board) (l s t f : List PlayingCard) → AreSeated p l s t f → dealt l s t f ≡ seated p.hands p.first
 unfolding seated
-listed p l s t f a = same l _ s _ t _ f _ a.leader a.second a.third a.fourth
+turned p l s t f a = same l _ s _ t _ f _ a.leader a.second a.third a.fourth
   where
-    same : (a b c d e f g h : List PlayingCard) → a ≡ b → c ≡ d → e ≡ f → g ≡ h → a ∷ c ∷ e ∷ g ∷ [] ≡ b ∷ d ∷ f ∷ h ∷ []
+    same : (a b c d e f g h : List PlayingCard) → a ≡ b → c ≡ d → e ≡ f → g ≡ h → dealt a c e g ≡ dealt b d f h
     same a b c d e f g h i j k l = rw (i, j, k, l) refl
 
 -- .. are four hands
-pub seated-four : (p : Board) (l s t f : List PlayingCard) → AreSeated p l s t f → AreHands (l ∷ s ∷ t ∷ f ∷ [])
-seated-four p l s t f a = subst AreHands (sym (listed p l s t f a)) (seated-hands p.hands p.first a.hands)
+pub seated-four : (p : Board) (l s t f : List PlayingCard) → AreSeated p l s t f → AreHands (dealt l s t f)
+seated-four p l s t f a = subst AreHands (sym (turned p l s t f a)) (seated-hands p.hands p.first a.hands)
 
 -- what the code keeps of a suit
 pub record IsSuitString (p : Board) (u : Suit) (lengths owners : ℕ) : Type 0 where
@@ -132,11 +131,11 @@ pub record IsSuitString (p : Board) (u : Suit) (lengths owners : ℕ) : Type 0 w
 
 -- a suit of the four hands from the leader on
 pub suit-string : (p : Board) (l s t f : List PlayingCard) (u : Suit) (n m : ℕ) → AreSeated p l s t f
-    → n ≡ number_of 16 (count_of u l ∷ count_of u s ∷ count_of u t ∷ count_of u f ∷ []) → m ≡ number_of 4 (map seat_code (owners_in (l ∷ s ∷ t ∷ f ∷ []) u)) → IsSuitString p u n m
+    → n ≡ number_of 16 (count_of u l ∷ count_of u s ∷ count_of u t ∷ count_of u f ∷ []) → m ≡ number_of 4 (map seat_code (owners_in (dealt l s t f) u)) → IsSuitString p u n m
 unfolding owners_number
 suit-string p l s t f u n m a en em = record {
   lengths_are = en ∙ digits _ _ _ _ _ _ _ _ (ap (count_of u) a.leader) (ap (count_of u) a.second) (ap (count_of u) a.third) (ap (count_of u) a.fourth);
-  owners_are = em ∙ ap (λ hs. number_of 4 (map seat_code (owners_in hs u))) (listed p l s t f a) ∙ ap (number_of 4) (turned-owners p.hands p.first a.hands u);
+  owners_are = em ∙ ap (λ hs. number_of 4 (map seat_code (owners_in hs u))) (turned p l s t f a) ∙ ap (number_of 4) (turned-owners p.hands p.first a.hands u);
 }
   where
     digits : (a b c d e f g h : ℕ) → a ≡ e → b ≡ f → c ≡ g → d ≡ h → number_of 16 (a ∷ b ∷ c ∷ d ∷ []) ≡ number_of 16 (e ∷ f ∷ g ∷ h ∷ [])

@@ -1,34 +1,29 @@
 -- an interval with least ranks holds every covered position's value
 use Rattle.std.proofs.Common.{◌≡◌, ℕ, ◌+◌, ◌-◌, ◌≤◌, Bool, true, false, refl, sym, ap, ◌∙◌, arith, List, [], ◌∷◌, length}
-use mathlib.Core.Bool.{not, beq}
+use mathlib.Core.Bool.{not}
 use Rattle.dd_cards.specs.declared.suit.Suit.{Suit}
 use Rattle.dd_cards.specs.declared.suit.Suit.TheVariants.{Spades, Hearts, Diamonds, Clubs}
 use Rattle.dd_cards.specs.PlayingCard.{PlayingCard}
 use Rattle.dd_cards.specs.Cards.{is_of}
-use Rattle.dd_cards.specs.Seats.{seat_after, is_north_south}
+use Rattle.dd_cards.specs.Seats.{seat_after}
+use Rattle.dd_cards.specs.Sides.{side_of, other_side}
+use Rattle.dd_cards.specs.declared.side.Side.{Side}
 use Rattle.dd_play.specs.Board.{Board, IsBoard, cards_at, left, mover}
 use Rattle.dd_play.specs.Value.{lead}
-use Rattle.dd_play.proofs.CallerLemmas.{all, count-cons, flag_of}
+use Rattle.dd_play.proofs.CallerLemmas.{all, count-cons, flag_of, lead-won}
 use Rattle.dd_play.specs.Won.{won}
 use Rattle.dd_play.specs.Covers.{IsCover, count_of}
 use Rattle.dd_rank.specs.Depths.{IsCoverAt, depths_of}
 use Rattle.dd_play.specs.Reach.{TakesBy}
-use Rattle.dd_rank.proofs.AlikeLead.{won-lead}
 use Rattle.dd_rank.proofs.Covered.{to_of, covers-cover, IsLifted, lifted-top, by-covered}
-
--- the test of one side, turned
-not-side : (a b : Bool) → beq a (not b) ≡ not (beq a b)
-not-side true true = refl
-not-side true false = refl
-not-side false true = refl
-not-side false false = refl
+use Rattle.dd_cards.proofs.CallerLemmas.{same-not}
 
 -- the other two sides are related too
-pub other-sides : (top : PlayingCard → Bool) (k : ℕ) (to from : PlayingCard → PlayingCard) (s : Bool) (p : Board) (t : Bool) (q : Board) → IsCover top k to from s p t q → IsCover top k to from (not s) p (not t) q
+pub other-sides : (top : PlayingCard → Bool) (k : ℕ) (to from : PlayingCard → PlayingCard) (s : Side) (p : Board) (t : Side) (q : Board) → IsCover top k to from s p t q → IsCover top k to from (other_side s) p (other_side t) q
 other-sides top k to from s p t q r = record {
   valid_p = r.valid_p;
   valid_q = r.valid_q;
-  sides = λ x. not-side (is_north_south (seat_after x k)) t ∙ ap not (r.sides x) ∙ sym (not-side (is_north_south x) s);
+  sides = λ x. same-not (side_of (seat_after x k)) t ∙ ap not (r.sides x) ∙ sym (same-not (side_of x) s);
   strain = r.strain;
   first = r.first;
   to_suit = r.to_suit;
@@ -77,14 +72,14 @@ same-left k depths p q a =
 
 -- what both sides claim at p bounds the value of each position that it covers
 pub sound-lead : (top : PlayingCard → Bool) (k : ℕ) (p q : Board) (lo hi : ℕ) → IsLifted top → IsBoard p → IsBoard q
-    → TakesBy top (is_north_south p.first) p lo → TakesBy top (not (is_north_south p.first)) p (left p - hi) → IsCoverAt k (depths_of top p) p q
+    → TakesBy top (side_of p.first) p lo → TakesBy top (other_side (side_of p.first)) p (left p - hi) → IsCoverAt k (depths_of top p) p q
     → (lo ≤ lead q) × (lead q ≤ hi)
 sound-lead top k p q lo hi lifted good_p good_q low high a =
     let r = covers-cover top k (depths_of top p) p q (lifted-top top p lifted) good_p good_q a in
-    let same : lead q ≡ won (is_north_south q.first) q = won-lead (is_north_south q.first) q in
-    let under : lo ≤ won (is_north_south q.first) q = by-covered top k p q lo lifted good_p good_q a low in
-    let over : left p - hi ≤ won (not (is_north_south q.first)) q =
-    high k (to_of p q) (to_of q p) (not (is_north_south q.first)) q (other-sides top k (to_of p q) (to_of q p) (is_north_south p.first) p (is_north_south q.first) q r.0) r.1 in
-    let both : won (is_north_south q.first) q + won (not (is_north_south q.first)) q ≡ left q = all (is_north_south q.first) q good_q in
+    let same : lead q ≡ won (side_of q.first) q = lead-won q in
+    let under : lo ≤ won (side_of q.first) q = by-covered top k p q lo lifted good_p good_q a low in
+    let over : left p - hi ≤ won (other_side (side_of q.first)) q =
+    high k (to_of p q) (to_of q p) (other_side (side_of q.first)) q (other-sides top k (to_of p q) (to_of q p) (side_of p.first) p (side_of q.first) q r.0) r.1 in
+    let both : won (side_of q.first) q + won (other_side (side_of q.first)) q ≡ left q = all (side_of q.first) q good_q in
     let lefts : left q ≡ left p = same-left k (depths_of top p) p q a in
     (omega (arith, same, under), omega (arith, same, over, both, lefts))

@@ -10,7 +10,7 @@ use Rattle.dd_cards.specs.PlayingCard.{PlayingCard}
 use Rattle.dd_cards.specs.Ranks.{IsRank, is_rank, lowest_ranks, all_ranks, has_rank}
 use Rattle.dd_cards.specs.Seats.{seat_code}
 use Rattle.dd_cards.specs.Cards.{has_card, card_of, suit_cards}
-use Rattle.dd_cards.specs.Hands.{hand_of, AreHands}
+use Rattle.dd_cards.specs.Hands.{hand_of, AreHands, FourHands, dealt}
 use Rattle.dd_cards.proofs.CallerLemmas.{IsRank-from, and-left, and-right, filter-where, has_rank-holding, has_rank-lowest_ranks}
 use Rattle.dd_rank.specs.Owners.{holder, owners_in}
 use Rattle.dd_rank.specs.Strings.{place_by}
@@ -93,15 +93,15 @@ abbrev pub either : List ℕ → List ℕ → List ℕ
 either xs ys = filter (λ q. has_rank xs q || has_rank ys q) all_ranks
 
 -- The places of a suit's holders are told by the ranks of the second and fourth hand, and those of the third and fourth.
-pub owners-told : (u : Suit) (l s t f : List PlayingCard) (lr sr tr fr : List ℕ) → AreHands (l ∷ s ∷ t ∷ f ∷ []) → AreOf u lr l → AreOf u sr s → AreOf u tr t → AreOf u fr f
-    → map (place_by (either sr fr) (either tr fr)) (either (either lr tr) (either sr fr)) ≡ map seat_code (owners_in (l ∷ s ∷ t ∷ f ∷ []) u)
+pub owners-told : (u : Suit) (l s t f : List PlayingCard) (lr sr tr fr : List ℕ) → AreHands (dealt l s t f) → AreOf u lr l → AreOf u sr s → AreOf u tr t → AreOf u fr f
+    → map (place_by (either sr fr) (either tr fr)) (either (either lr tr) (either sr fr)) ≡ map seat_code (owners_in (dealt l s t f) u)
 unfolding holder suit_cards
 owners-told u l s t f lr sr tr fr hands el es et ef =
     told-list (λ r. holder hs (card_of u r)) (λ q. has_rank (either lr tr) q || has_rank (either sr fr) q) (place_by (either sr fr) (either tr fr)) all_ranks each ranks-real
     ∙ ap (map seat_code) (sym (by-ranks (holder hs) u all_ranks))
   where
-    hs : List (List PlayingCard)
-    hs = l ∷ s ∷ t ∷ f ∷ []
+    hs : FourHands
+    hs = dealt l s t f
 
     apart : (r : ℕ) (x y : Seat) → (x ≡ y → ⊥) → has_card (hand_of hs x) (card_of u r) ≡ true → has_card (hand_of hs y) (card_of u r) ≡ true → ⊥
     apart r x y n h k = n (hands.disjoint (card_of u r) x y h k)

@@ -6,11 +6,11 @@ use Rattle.dd_cards.specs.declared.seat.Seat.TheVariants.{North, East, South, We
 use Rattle.dd_cards.specs.declared.suit.Suit.{Suit}
 use Rattle.dd_cards.specs.PlayingCard.{PlayingCard}
 use Rattle.dd_cards.specs.Cards.{has_card, suit_cards}
-use Rattle.dd_cards.specs.Hands.{hand_of}
+use Rattle.dd_cards.specs.Hands.{FourHands, hand_of}
 use Rattle.dd_play.specs.Board.{Board}
 
 -- the seat whose hand has the card; None where no hand has it
-unfoldable pub holder : List (List PlayingCard) → PlayingCard → Option Seat
+unfoldable pub holder : FourHands → PlayingCard → Option Seat
 holder hands c =
     (if has_card (hand_of hands North) c then Some North else
     (if has_card (hand_of hands East) c then Some East else
@@ -18,7 +18,7 @@ holder hands c =
     (if has_card (hand_of hands West) c then Some West else None))))
 
 -- the holders of the suit's cards that are in some hand, from the highest of these cards down
-abbrev pub owners_in : List (List PlayingCard) → Suit → List Seat
+abbrev pub owners_in : FourHands → Suit → List Seat
 owners_in hands u = filter_map (holder hands) (suit_cards u)
 
 -- the owners of a suit at a position

@@ -1,7 +1,7 @@
 //! Who holds the cards that are left, as one number a suit.
 
 ghost use Rattle.std.specs.Prelude.{◌≡◌, ◌<◌, ◌^◌, [], ◌∷◌, map, filter};
-ghost use Rattle.dd_cards.specs.Hands.{AreHands};
+ghost use Rattle.dd_cards.specs.Hands.{dealt, AreHands};
 ghost use Rattle.dd_cards.specs.Seats.{seat_code};
 ghost use Rattle.dd_cards.specs.Ranks.{all_ranks, has_rank};
 ghost use Rattle.dd_play.specs.Covers.{count_of};
@@ -143,10 +143,12 @@ struct SuitString {
 
 // What four hands hold of a suit, in the order in which they play.
 fn suit_string(leader: Hand, second: Hand, third: Hand, fourth: Hand, suit: Suit) -> SuitString
-    requires { AreHands (leader ∷ second ∷ third ∷ fourth ∷ []) }
-    ensures lengths { result.lengths ≡ number_of 16 (count_of suit leader ∷ count_of suit second ∷ count_of suit third ∷ count_of suit fourth ∷ []) }
+    requires { AreHands (dealt leader second third fourth) }
+    ensures lengths { result.lengths ≡ number_of 16
+        (count_of suit leader ∷ count_of suit second ∷ count_of suit third ∷ count_of suit fourth ∷ []) }
     ensures bound { result.lengths < 2 ^ 16 }
-    ensures owners { result.owners ≡ number_of 4 (map seat_code (owners_in (leader ∷ second ∷ third ∷ fourth ∷ []) suit)) }
+    ensures owners { result.owners ≡ number_of 4
+        (map seat_code (owners_in (dealt leader second third fourth) suit)) }
 {
     let leader = leader.holding(suit);
     let second = second.holding(suit);

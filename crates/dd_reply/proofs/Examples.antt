@@ -8,6 +8,7 @@ use Rattle.dd_cards.specs.declared.seat.Seat.TheVariants.{North, East}
 use Rattle.dd_cards.specs.declared.strain.Strain.{Strain}
 use Rattle.dd_cards.specs.declared.strain.Strain.TheVariants.{Trump, Notrump}
 use Rattle.dd_cards.specs.PlayingCard.{PlayingCard}
+use Rattle.dd_cards.specs.Hands.{dealt}
 use Rattle.dd_cards.specs.Cards.{card_of}
 use Rattle.dd_play.specs.Board.{Board}
 use Rattle.dd_play.specs.Value.{ns_within}
@@ -18,7 +19,7 @@ use Rattle.dd_reply.specs.Lines.{lines}
 
 -- four hands, from North clockwise, the strain, the seat that leads, and the trick
 abbrev board : List PlayingCard → List PlayingCard → List PlayingCard → List PlayingCard → Strain → Seat → List PlayingCard → Board
-board north east south west strain first trick = record { hands = north ∷ east ∷ south ∷ west ∷ []; strain = strain; first = first; trick = trick }
+board north east south west strain first trick = record { hands = dealt north east south west; strain = strain; first = first; trick = trick }
 
 -- a class by its highest card, the mask of the others, and the score
 abbrev class : PlayingCard → ℕ → ℕ → ScoredClass

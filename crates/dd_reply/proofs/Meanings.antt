@@ -18,7 +18,7 @@ use Rattle.dd_cards.specs.Suits.{suit_code}
 use Rattle.dd_cards.specs.Strains.{strain_code}
 use Rattle.dd_cards.specs.Seats.{seat_code, seat_after}
 use Rattle.dd_cards.specs.Cards.{same_card, card_of}
-use Rattle.dd_cards.specs.Hands.{AreHands, times}
+use Rattle.dd_cards.specs.Hands.{AreHands, times, FourHands}
 use Rattle.dd_cards.proofs.CallerLemmas.{same_card-eq}
 use Rattle.dd_pbn.specs.declared.fault.PbnFault.{PbnFault}
 use Rattle.dd_pbn.specs.declared.fault.PbnFault.TheVariants.{Grammar, Absent, Twice}
@@ -43,7 +43,7 @@ means-fields line object fields meaning short is has means =
     rw (test, is, has) means
 
 -- with a strain, a leader, cards played and solutions in range the cards together decide
-pub means-cards : (fields : SolveFields) (hands : List (List PlayingCard)) (strain : Strain) (first : Seat) (trick : List PlayingCard) (meaning : Result Asked Fault)
+pub means-cards : (fields : SolveFields) (hands : FourHands) (strain : Strain) (first : Seat) (trick : List PlayingCard) (meaning : Result Asked Fault)
     → strain_code strain ≡ fields.trump → fields.trump ≤ 4 → seat_code first ≡ fields.first → fields.first < 4 → map pair_of_card trick ≡ fields.played → are_cards fields.played ≡ true
     → 1 ≤ fields.solutions → fields.solutions ≤ 3 → MeansBoard (board_of hands strain first trick) fields.solutions meaning → MeansHands fields hands meaning
 means-cards fields hands strain first trick meaning trump low leader below played cards least most means =
@@ -180,7 +180,7 @@ cards-of ((suit, rank) ∷ pairs) all =
     ]
 
 -- ---- the fields
-some-cards : (fields : SolveFields) (hands : List (List PlayingCard)) → AreHands hands → fields.trump ≤ 4 → fields.first ≤ 3 → are_cards fields.played ≡ true
+some-cards : (fields : SolveFields) (hands : FourHands) → AreHands hands → fields.trump ≤ 4 → fields.first ≤ 3 → are_cards fields.played ≡ true
     → SomeMeaning (λ m. (board : Board) × IsAskedOf hands fields board × MeansBoard board fields.solutions m)
 some-cards fields hands are trump first played =
     let strain = strain-of fields.trump trump in
@@ -194,7 +194,7 @@ some-cards fields hands are trump first played =
     and-right true b both = both
     and-right false b both = absurd (cc)
 
-some-hands : (fields : SolveFields) (hands : List (List PlayingCard)) → AreHands hands → SomeMeaning (MeansHands fields hands)
+some-hands : (fields : SolveFields) (hands : FourHands) → AreHands hands → SomeMeaning (MeansHands fields hands)
 some-hands fields hands are =
     by-test (nat_lt 4 fields.trump) _ _ (λ _. (Err WrongTrump, refl)) (λ trump.
     by-test (nat_lt 3 fields.first) _ _ (λ _. (Err WrongFirst, refl)) (λ first.
@@ -203,10 +203,10 @@ some-hands fields hands are =
     (λ _. (Err WrongPlayed, refl))))
 
 -- a text spells some deal, or it has a fault
-spelled-decided : (text : List ℕ) → ((hands : List (List PlayingCard)) × AreHands hands × SpellsDeal text hands) ⊎ ((fault : PbnFault) × SpellsNone text fault)
+spelled-decided : (text : List ℕ) → ((hands : FourHands) × AreHands hands × SpellsDeal text hands) ⊎ ((fault : PbnFault) × SpellsNone text fault)
 spelled-decided text = go (begins_tag text)
   where
-    go : (b : Bool) → ((hands : List (List PlayingCard)) × AreHands hands × MatchBool b (deals.TagText text hands) (deals.DealText text hands))
+    go : (b : Bool) → ((hands : FourHands) × AreHands hands × MatchBool b (deals.TagText text hands) (deals.DealText text hands))
         ⊎ ((fault : PbnFault) × MatchBool b (deals.TagFault text fault) (deals.DealFault text fault))
     go true = decided (IsTag text) (tag_of text) (Reads-tag text)
     go false = deal-decided text
@@ -240,7 +240,7 @@ by-bool : (b : Bool) (P Q : Type 0) → (P → ⊥) → (Q → ⊥) → MatchBoo
 by-bool true P Q p q held = p held
 by-bool false P Q p q held = q held
 
-hands-memory : (fields : SolveFields) (hands : List (List PlayingCard)) → MeansHands fields hands (Err OutOfMemory) → ⊥
+hands-memory : (fields : SolveFields) (hands : FourHands) → MeansHands fields hands (Err OutOfMemory) → ⊥
 hands-memory fields hands =
     by-bool (nat_lt 4 fields.trump) _ _ (λ no. cc)
     (by-bool (nat_lt 3 fields.first) _ _ (λ no. cc)

@@ -9,7 +9,7 @@ use Rattle.dd_cards.specs.declared.suit.Suit.{Suit}
 use Rattle.dd_cards.specs.PlayingCard.{PlayingCard}
 use Rattle.dd_cards.specs.Suits.{suit_code}
 use Rattle.dd_cards.specs.Cards.{card_of}
-use Rattle.dd_cards.specs.Hands.{AreHands}
+use Rattle.dd_cards.specs.Hands.{AreHands, FourHands}
 use Rattle.dd_cards.proofs.CallerLemmas.{seat_code-injective, strain_code-injective, suit_code-injective}
 use Rattle.dd_pbn.specs.declared.fault.PbnFault.{PbnFault}
 use Rattle.dd_pbn.specs.Deals as deals
@@ -71,18 +71,18 @@ one-trick (x ∷ xs) (y ∷ ys) e =
     same-card : (s t : Suit) (q r : ℕ) → s ≡ t → q ≡ r → card_of s q ≡ card_of t r
     same-card s t q r a b = rw (a, b) refl
 
-same-board : (h h' : List (List PlayingCard)) (s s' : Strain) (f f' : Seat) (t t' : List PlayingCard) → h ≡ h' → s ≡ s' → f ≡ f' → t ≡ t' → board_of h s f t ≡ board_of h' s' f' t'
+same-board : (h h' : FourHands) (s s' : Strain) (f f' : Seat) (t t' : List PlayingCard) → h ≡ h' → s ≡ s' → f ≡ f' → t ≡ t' → board_of h s f t ≡ board_of h' s' f' t'
 same-board h h' s s' f f' t t' a b c d = rw (a, b, c, d) refl
 
 -- fields ask about one board
-one-asked : (hands : List (List PlayingCard)) (fields : SolveFields) (x y : Board) → IsAskedOf hands fields x → IsAskedOf hands fields y → x ≡ y
+one-asked : (hands : FourHands) (fields : SolveFields) (x y : Board) → IsAskedOf hands fields x → IsAskedOf hands fields y → x ≡ y
 one-asked hands fields x y asks_x asks_y =
     same-board x.hands y.hands x.strain y.strain x.first y.first x.trick y.trick (asks_x.hands ∙ sym asks_y.hands)
     (strain_code-injective x.strain y.strain (asks_x.strain ∙ sym asks_y.strain))
     (seat_code-injective x.first y.first (asks_x.first ∙ sym asks_y.first))
     (one-trick x.trick y.trick (asks_x.trick ∙ sym asks_y.trick))
 
-one-hands : (fields : SolveFields) (hands : List (List PlayingCard)) → AreHands hands → AtMostOne (MeansHands fields hands)
+one-hands : (fields : SolveFields) (hands : FourHands) → AreHands hands → AtMostOne (MeansHands fields hands)
 one-hands fields hands are =
     one-by-test (nat_lt 4 fields.trump) _ _ (both _)
     (one-by-test (nat_lt 3 fields.first) _ _ (both _)
@@ -98,11 +98,11 @@ one-hands fields hands are =
 
 -- ---- the deal
 -- what reading a text of one of the two forms gives
-told : Bool → List ℕ → Result (List (List PlayingCard)) PbnFault
+told : Bool → List ℕ → Result FourHands PbnFault
 told true text = outcome (tag_of text)
 told false text = outcome (value_of text)
 
-spelled-told : (b : Bool) (text : List ℕ) (hands : List (List PlayingCard)) → AreHands hands → MatchBool b (deals.TagText text hands) (deals.DealText text hands) → told b text ≡ Ok hands
+spelled-told : (b : Bool) (text : List ℕ) (hands : FourHands) → AreHands hands → MatchBool b (deals.TagText text hands) (deals.DealText text hands) → told b text ≡ Ok hands
 unfolding told
 spelled-told true text hands are spelled = spelled-read (IsTag text) (tag_of text) (Reads-tag text) hands are spelled
 spelled-told false text hands are spelled = spelled-read (IsValue text) (value_of text) (Reads-value text) hands are spelled
@@ -126,7 +126,7 @@ one-fields : (fields : SolveFields) → AtMostOne (MeansFields fields)
 one-fields fields a b (inl (h, are_h, spelled_h, means_h)) (inl (k, are_k, spelled_k, means_k)) =
     let tag = begins_tag fields.deal in
     let same : k ≡ h = ok-same (told tag fields.deal) k h (spelled-told tag fields.deal k are_k spelled_k) (spelled-told tag fields.deal h are_h spelled_h) in
-    one-hands fields h are_h a b means_h (subst (λ (hands : List (List PlayingCard)). MeansHands fields hands b) same means_k)
+    one-hands fields h are_h a b means_h (subst (λ (hands : FourHands). MeansHands fields hands b) same means_k)
 one-fields fields a b (inl (h, are, spelled, means)) (inr (fault, none, is)) =
     let tag = begins_tag fields.deal in
     absurd (ok-or-err (told tag fields.deal) h fault (spelled-told tag fields.deal h are spelled) (none-told tag fields.deal fault none))

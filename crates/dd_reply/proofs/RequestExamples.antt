@@ -10,7 +10,7 @@ use Rattle.dd_cards.specs.declared.strain.Strain.TheVariants.{Trump, Notrump}
 use Rattle.dd_cards.specs.declared.suit.Suit.TheVariants.{Spades}
 use Rattle.dd_cards.specs.PlayingCard.{PlayingCard}
 use Rattle.dd_cards.specs.Cards.{card_of}
-use Rattle.dd_cards.specs.Hands.{AreHands}
+use Rattle.dd_cards.specs.Hands.{FourHands, AreHands}
 use Rattle.dd_pbn.specs.Examples.{eight_spades, two_suits}
 use Rattle.dd_pbn.proofs.CallerLemmas.{spades-and-hearts, tag-from-east}
 use Rattle.dd_play.specs.Board.{board_of, NoneTwice, IsEven}
@@ -92,7 +92,7 @@ spades-even (suc (suc (suc zero))) h = refl
 spades-even (suc (suc (suc (suc k)))) h = absurd (omega arith)
 
 -- four hands hold no card twice
-none-twice : (hands : List (List PlayingCard)) (strain : Strain) (first : Seat) → AreHands hands → NoneTwice (board_of hands strain first [])
+none-twice : (hands : FourHands) (strain : Strain) (first : Seat) → AreHands hands → NoneTwice (board_of hands strain first [])
 none-twice hands strain first are c = let one = times_in-once hands c are in omega arith
 
 -- East is asked for the best cards

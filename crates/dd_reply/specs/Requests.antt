@@ -11,7 +11,7 @@ use Rattle.dd_cards.specs.Ranks.{is_rank}
 use Rattle.dd_cards.specs.Suits.{suit_code}
 use Rattle.dd_cards.specs.Seats.{seat_code}
 use Rattle.dd_cards.specs.Strains.{strain_code}
-use Rattle.dd_cards.specs.Hands.{AreHands}
+use Rattle.dd_cards.specs.Hands.{FourHands, AreHands}
 use Rattle.dd_pbn.specs.declared.fault.PbnFault.{PbnFault}
 use Rattle.dd_pbn.specs.declared.fault.PbnFault.TheVariants.{Grammar, Absent, Twice}
 use Rattle.dd_pbn.specs.Letters.{is_blank}
@@ -104,7 +104,7 @@ begins_tag [] = false
 begins_tag (byte ∷ text) = (if is_blank byte then begins_tag text else byte == 91)
 
 -- the text of a deal, as a tag where it begins as one, and else as a value
-abbrev pub SpellsDeal : List ℕ → List (List PlayingCard) → Type 0
+abbrev pub SpellsDeal : List ℕ → FourHands → Type 0
 SpellsDeal text hands = MatchBool (begins_tag text) (deals.TagText text hands) (deals.DealText text hands)
 
 -- why it spells no deal
@@ -128,7 +128,7 @@ abbrev pub pair_of_card : PlayingCard → ℕ × ℕ
 pair_of_card c = (suit_code c.suit, c.rank)
 
 -- these hands, with the strain, the leader and the trick of these codes
-pub record IsAskedOf (cards : List (List PlayingCard)) (fields : SolveFields) (board : Board) : Type 0 where
+pub record IsAskedOf (cards : FourHands) (fields : SolveFields) (board : Board) : Type 0 where
   pub hands : board.hands ≡ cards
   pub strain : strain_code board.strain ≡ fields.trump
   pub first : seat_code board.first ≡ fields.first
@@ -142,7 +142,7 @@ pub record MeansBoard (board : Board) (solutions : ℕ) (meaning : Result Asked 
   pub some : NoneTwice board → IsEven board → 0 < left board → meaning ≡ Ok (record { board = board; solutions = solutions })
 
 -- the trump, then the leader, then the cards played, then the solutions, then the cards together
-abbrev pub MeansHands : SolveFields → List (List PlayingCard) → Result Asked Fault → Type 0
+abbrev pub MeansHands : SolveFields → FourHands → Result Asked Fault → Type 0
 MeansHands fields hands meaning =
     MatchBool (nat_lt 4 fields.trump) (meaning ≡ Err WrongTrump)
     (MatchBool (nat_lt 3 fields.first) (meaning ≡ Err WrongFirst)
@@ -155,7 +155,7 @@ MeansHands fields hands meaning =
 -- the deal first
 abbrev pub MeansFields : SolveFields → Result Asked Fault → Type 0
 MeansFields fields meaning =
-    ((hands : List (List PlayingCard)) × AreHands hands × SpellsDeal fields.deal hands × MeansHands fields hands meaning)
+    ((hands : FourHands) × AreHands hands × SpellsDeal fields.deal hands × MeansHands fields hands meaning)
     ⊎ ((fault : PbnFault) × SpellsNone fields.deal fault × (meaning ≡ Err (deal_fault fault)))
 
 -- what a line means: its length is looked at first, then that it is a JSON object, then its fields

@@ -2,49 +2,41 @@
 use Rattle.std.proofs.Common.{◌≡◌, ℕ, ◌+◌, ◌-◌, ◌<◌, ◌≤◌, Bool, true, false, refl, sym, ap, ◌∙◌, arith, List, [], ◌∷◌, length, inl, inr, eqb-true}
 use Rattle.std.specs.Prelude.{◌==◌, ◌⊎◌, if◌then◌else◌}
 use Rattle.std.proofs.lemmas.Bool.{eqb-false}
-use mathlib.Core.Bool.{not, beq}
 use Rattle.dd_cards.specs.PlayingCard.{PlayingCard}
 use Rattle.dd_cards.specs.Cards.{has_card, same_card}
 use Rattle.dd_cards.specs.Seats.{is_north_south, seat_after}
-use Rattle.dd_cards.proofs.CallerLemmas.{same_card-eq}
+use Rattle.dd_cards.proofs.CallerLemmas.{same_card-eq, same-self, same-other, is-same}
+use Rattle.dd_cards.specs.Sides.{side_of, other_side, same_side}
+use Rattle.dd_cards.specs.declared.side.Side.{Side}
+use Rattle.dd_cards.specs.declared.side.Side.TheVariants.{NorthSouth, EastWest}
 use Rattle.dd_play.specs.Board.{Board, IsBoard, mover, left}
 use Rattle.dd_play.specs.Play.{after}
 use Rattle.dd_play.specs.Value.{ns, ns_with, score, lead}
 use Rattle.dd_play.specs.Won.{won}
 use Rattle.dd_play.specs.Simulations.{IsLegal}
 use Rattle.dd_play.specs.Claims.{Takes}
-use Rattle.dd_play.proofs.CallerLemmas.{all, can, exactly, has-first, in-rest, legal-leads, one-point, won-false, won-true, won_with}
+use Rattle.dd_play.proofs.CallerLemmas.{all, can, exactly, has-first, in-rest, legal-leads, one-point, won-east-west, won-north-south, won_with, lead-won}
 use Rattle.dd_equal.specs.EqualCards.{tops}
 use Rattle.dd_equal.proofs.CallerLemmas.{every-class}
 use Rattle.dd_search.proofs.Orders.{top-legal}
 
--- the mover sits on its own side
-own-side : (b : Bool) → beq b b ≡ true
-own-side true = refl
-own-side false = refl
-
--- and not on the other one
-not-side : (b : Bool) → beq b (not b) ≡ false
-not-side true = refl
-not-side false = refl
-
 -- the value of a position, by the name of its side
 abbrev pub value_of : Board → ℕ
-value_of p = won (is_north_south (mover p)) p
+value_of p = won (side_of (mover p)) p
 
 -- the score of a card is what its side wins with it
-score-won : (p : Board) (c : PlayingCard) → IsBoard p → IsLegal p c → score p c ≡ won_with (is_north_south (mover p)) p c
-score-won p c valid has = go (is_north_south (mover p))
+score-won : (p : Board) (c : PlayingCard) → IsBoard p → IsLegal p c → score p c ≡ won_with (side_of (mover p)) p c
+score-won p c valid has = go (side_of (mover p))
   where
-    go : (b : Bool) → (if b then ns_with p c else (left p - ns_with p c)) ≡ won_with b p c
-    go true = sym (won-true p c)
-    go false = let e = won-false p c valid has in omega (arith, e)
+    go : (side : Side) → (if same_side side NorthSouth then ns_with p c else (left p - ns_with p c)) ≡ won_with side p c
+    go NorthSouth = refl
+    go EastWest = let e = won-east-west p c valid has in omega (arith, e)
 
 -- no card scores more than the value
 pub score-most : (p : Board) (c : PlayingCard) → IsBoard p → IsLegal p c → score p c ≤ value_of p
 score-most p c valid has =
     let e = score-won p c valid has in
-    let k = can (is_north_south (mover p)) p c valid (own-side (is_north_south (mover p))) has in
+    let k = can (side_of (mover p)) p c valid (same-self (side_of (mover p))) has in
     omega (arith, e, k)
 
 -- a card of the list passes a test, or none does
@@ -67,7 +59,7 @@ found test (d ∷ cards) = go (test d) refl (found test cards)
     go false e (inr rest) = inr (λ c has. here c e rest has)
 
 -- what the mover's side does not win with a card, the other side does
-against : (side : Bool) (p : Board) (c : PlayingCard) → IsBoard p → IsLegal p c → won_with side p c + won_with (not side) p c ≡ left p
+against : (side : Side) (p : Board) (c : PlayingCard) → IsBoard p → IsLegal p c → won_with side p c + won_with (other_side side) p c ≡ left p
 against side p c valid has =
     let next = legal-leads p c valid has in
     let tricks = next.tricks in
@@ -78,14 +70,14 @@ against side p c valid has =
 -- were the highest card of each class to score less, the other side would win more than are left
 too-few : (p : Board) → IsBoard p → 1 ≤ left p → ((c : PlayingCard) → has_card (tops p) c ≡ true → score p c < value_of p) → ⊥
 too-few p valid some each =
-    let side : Bool = is_north_south (mover p) in
+    let side : Side = side_of (mover p) in
     let sum = all side p valid in
-    let others : Takes (not side) p (left p + 1 - value_of p) = every-class (not side) p (left p + 1 - value_of p) valid (not-side side) some (λ c has. (
+    let others : Takes (other_side side) p (left p + 1 - value_of p) = every-class (other_side side) p (left p + 1 - value_of p) valid (same-other side) some (λ c has. (
     let legal = top-legal p c has in
     let less = each c has in
     let worth = score-won p c valid legal in
     let rest = against side p c valid legal in
-    (won (not side) (after p c), omega arith, omega (arith, less, worth, rest)))) in
+    (won (other_side side) (after p c), omega arith, omega (arith, less, worth, rest)))) in
     omega (arith, sum, others)
 
 -- so the highest card of some class scores the value
@@ -103,16 +95,18 @@ score-reached p valid some = go (found (λ c. score p c == value_of p) (tops p))
 -- ---- what a search learns of it
 
 -- the tricks of North and South are the value, or those that they leave
-pub value-north-south : (p : Board) (tricks : ℕ) → IsBoard p → Takes true p tricks → Takes false p (left p - tricks) → tricks ≤ left p → is_north_south (mover p) ≡ true → tricks ≡ value_of p
-value-north-south p tricks valid theirs others within e = rw e (sym (exactly true p tricks (left p - tricks) valid theirs others (omega arith)))
+pub value-north-south : (p : Board) (tricks : ℕ) → IsBoard p → Takes NorthSouth p tricks → Takes EastWest p (left p - tricks) → tricks ≤ left p → is_north_south (mover p) ≡ true → tricks ≡ value_of p
+value-north-south p tricks valid theirs others within e =
+    sym (exactly NorthSouth p tricks (left p - tricks) valid theirs others (omega arith)) ∙ ap (λ side. won side p) (sym (is-same (side_of (mover p)) NorthSouth e))
 
-pub value-east-west : (p : Board) (tricks : ℕ) → IsBoard p → Takes true p tricks → Takes false p (left p - tricks) → tricks ≤ left p → is_north_south (mover p) ≡ false → left p - tricks ≡ value_of p
-value-east-west p tricks valid theirs others within e = rw e (sym (exactly false p (left p - tricks) tricks valid others theirs (omega arith)))
+pub value-east-west : (p : Board) (tricks : ℕ) → IsBoard p → Takes NorthSouth p tricks → Takes EastWest p (left p - tricks) → tricks ≤ left p → is_north_south (mover p) ≡ false → left p - tricks ≡ value_of p
+value-east-west p tricks valid theirs others within e =
+    sym (exactly EastWest p (left p - tricks) tricks valid others theirs (omega arith)) ∙ ap (λ side. won side p) (sym (east-west (side_of (mover p)) e))
+  where
+    east-west : (a : Side) → same_side a NorthSouth ≡ false → a ≡ EastWest
+    east-west EastWest h = refl
+    east-west NorthSouth h = absurd (cc)
 
 -- at the start of a trick the value is the leader's
 pub lead-value : (p : Board) → p.trick ≡ [] → lead p ≡ value_of p
-lead-value p start = go (is_north_south p.first) ∙ ap (λ (cards : List PlayingCard). won (is_north_south (seat_after p.first (length cards))) p) (sym start)
-  where
-    go : (b : Bool) → (if b then ns p else (left p - ns p)) ≡ won b p
-    go true = refl
-    go false = refl
+lead-value p start = lead-won p ∙ ap (λ (cards : List PlayingCard). won (side_of (seat_after p.first (length cards))) p) (sym start)

@@ -6,12 +6,16 @@ use Rattle.std.proofs.lemmas.Bool.{leb-true}
 use Rattle.std.proofs.lemmas.Bool.Decides.{nat_tests}
 use Rattle.std.proofs.lemmas.List.{get_or_default}
 use mathlib.Core.Bool.{not, beq}
+use Rattle.dd_cards.specs.declared.seat.Seat.{Seat}
 use Rattle.dd_cards.specs.declared.suit.Suit.{Suit}
 use Rattle.dd_cards.specs.PlayingCard.{PlayingCard}
 use Rattle.dd_cards.specs.Ranks.{IsRank, has_rank}
 use Rattle.dd_cards.specs.Cards.{has_card, is_of, card_of, with_card}
 use Rattle.dd_cards.proofs.CallerLemmas.{else-false, has_rank-holding}
 use Rattle.dd_cards.specs.Seats.{is_north_south}
+use Rattle.dd_cards.specs.Sides.{side_of, other_side, same_side}
+use Rattle.dd_cards.specs.declared.side.Side.{Side}
+use Rattle.dd_cards.specs.declared.side.Side.TheVariants.{NorthSouth, EastWest}
 use Rattle.dd_play.specs.Board.{Board, IsBoard, mover, left}
 use Rattle.dd_play.specs.Play.{after}
 use Rattle.dd_play.specs.Value.{lead}
@@ -33,76 +37,91 @@ use Rattle.dd_search.proofs.Orders.{each-top}
 abbrev pub Within : List PlayingCard → List PlayingCard → Type 0
 Within few many = (c : PlayingCard) → has_card few c ≡ true → has_card many c ≡ true
 
+-- the side that claims with this answer: with yes North and South, with no East and West
+abbrev pub claimant : Bool → Side
+claimant true = NorthSouth
+claimant false = EastWest
+
+-- the side of a seat, by whether it is North or South
+pub claimant-of : (b : Bool) (x : Seat) → b ≡ is_north_south x → claimant b ≡ side_of x
+claimant-of b x e = ap claimant e ∙ back (side_of x)
+  where
+    back : (a : Side) → claimant (same_side a NorthSouth) ≡ a
+    back NorthSouth = refl
+    back EastWest = refl
+
 -- how many tricks the side claims that answers so
 abbrev claimed : Bool → Board → ℕ → ℕ
 claimed true p need = need
 claimed false p need = left p + 1 - need
 
-claim : (said : Bool) (p : Board) (need : ℕ) (cards : List PlayingCard) → IsAnswerBy p need cards said → TakesBy (reach cards) said p (claimed said p need)
+claim : (said : Bool) (p : Board) (need : ℕ) (cards : List PlayingCard) → IsAnswerBy p need cards said → TakesBy (reach cards) (claimant said) p (claimed said p need)
 claim true p need cards h = h
 claim false p need cards h = h
 
-answers : (said : Bool) (p : Board) (need : ℕ) (cards : List PlayingCard) → TakesBy (reach cards) said p (claimed said p need) → IsAnswerBy p need cards said
+answers : (said : Bool) (p : Board) (need : ℕ) (cards : List PlayingCard) → TakesBy (reach cards) (claimant said) p (claimed said p need) → IsAnswerBy p need cards said
 answers true p need cards h = h
 answers false p need cards h = h
 
 -- an answer holds where it was found
 pub answer-here : (p : Board) (need : ℕ) (cards : List PlayingCard) (said : Bool) → IsBoard p → IsAnswerBy p need cards said → IsAnswer p need said
-answer-here p need cards true valid h = by-here (reach cards) true p need valid (reach-upward cards) h
-answer-here p need cards false valid h = by-here (reach cards) false p (left p + 1 - need) valid (reach-upward cards) h
+answer-here p need cards true valid h = by-here (reach cards) NorthSouth p need valid (reach-upward cards) h
+answer-here p need cards false valid h = by-here (reach cards) EastWest p (left p + 1 - need) valid (reach-upward cards) h
 
 -- what is claimed after a card, with the trick that the card completes, is what was asked before it
-claimed-after : (said : Bool) (p : Board) (c : PlayingCard) (need rest : ℕ) → IsBoard p → IsLegal p c → 1 ≤ need → rest + point true p c ≡ need
-    → claimed said p need ≤ claimed said (after p c) rest + point said p c
+claimed-after : (said : Bool) (p : Board) (c : PlayingCard) (need rest : ℕ) → IsBoard p → IsLegal p c → 1 ≤ need → rest + point NorthSouth p c ≡ need
+    → claimed said p need ≤ claimed said (after p c) rest + point (claimant said) p c
 claimed-after true p c need rest valid has some e = omega (arith, e)
 claimed-after false p c need rest valid has some e =
     let tricks = (legal-leads p c valid has).tricks in
-    let one = one-point true p c in
+    let one = one-point NorthSouth p c in
     omega (arith, e, tricks, one, some)
 
 -- a card gives the side its answer, by these cards
 abbrev pub Leads : Board → ℕ → PlayingCard → List PlayingCard → Bool → Type 0
-Leads p need c cards said = IsWorth (reach cards) said p c (claimed said p need)
+Leads p need c cards said = IsWorth (reach cards) (claimant said) p c (claimed said p need)
 
 -- what is found after a legal card that is settled
-pub leads : (p q : Board) (need rest : ℕ) (c : PlayingCard) (later by : List PlayingCard) (said : Bool) → IsBoard p → IsLegal p c → 1 ≤ need → q ≡ after p c → rest + point true p c ≡ need
+pub leads : (p q : Board) (need rest : ℕ) (c : PlayingCard) (later by : List PlayingCard) (said : Bool) → IsBoard p → IsLegal p c → 1 ≤ need → q ≡ after p c → rest + point NorthSouth p c ≡ need
     → IsAnswerBy q rest later said → Within later by → IsSettled (reach by) p c → Leads p need c by said
 leads p q need rest c later by said valid has some next same answer within settled =
-    let here : TakesBy (reach later) said (after p c) (claimed said (after p c) rest) = claim said (after p c) rest later (subst (λ (r : Board). IsAnswerBy r rest later said) next answer) in
-    worth-fewer (reach by) said p c (claimed said (after p c) rest + point said p c) (claimed said p need)
-    (worth-after (reach by) said p c (claimed said (after p c) rest) has settled
-    (by-more (reach later) (reach by) said (after p c) (claimed said (after p c) rest) (reach-within later by within) (reach-upward later) here))
+    let here : TakesBy (reach later) (claimant said) (after p c) (claimed said (after p c) rest) = claim said (after p c) rest later (subst (λ (r : Board). IsAnswerBy r rest later said) next answer) in
+    worth-fewer (reach by) (claimant said) p c (claimed said (after p c) rest + point (claimant said) p c) (claimed said p need)
+    (worth-after (reach by) (claimant said) p c (claimed said (after p c) rest) has settled
+    (by-more (reach later) (reach by) (claimant said) (after p c) (claimed said (after p c) rest) (reach-within later by within) (reach-upward later) here))
     (claimed-after said p c need rest valid has some same)
 
 -- by more cards too
 pub leads-wider : (p : Board) (need : ℕ) (c : PlayingCard) (few many : List PlayingCard) (said : Bool) → Within few many → Leads p need c few said → Leads p need c many said
-leads-wider p need c few many said within h = worth-more (reach few) (reach many) said p c (claimed said p need) (reach-within few many within) (reach-upward few) h
+leads-wider p need c few many said within h = worth-more (reach few) (reach many) (claimant said) p c (claimed said p need) (reach-within few many within) (reach-upward few) h
 
 -- a low card for another
 pub leads-low : (p : Board) (need : ℕ) (c d : PlayingCard) (cards : List PlayingCard) (said : Bool) → reach cards c ≡ false → reach cards d ≡ false → d.suit ≡ c.suit → Leads p need c cards said → Leads p need d cards said
-leads-low p need c d cards said low low' suits h = worth-low (reach cards) said p c d (claimed said p need) low low' suits h
+leads-low p need c d cards said low low' suits h = worth-low (reach cards) (claimant said) p c d (claimed said p need) low low' suits h
 
-turn : (a b : Bool) → a ≡ b → beq b a ≡ true
-turn true true e = refl
-turn false false e = refl
-turn true false e = absurd (cc)
-turn false true e = absurd (cc)
+-- the mover's side claims where the answer is the mover's
+turn : (a : Bool) (b : Side) → a ≡ same_side b NorthSouth → same_side b (claimant a) ≡ true
+turn true NorthSouth e = refl
+turn false EastWest e = refl
+turn true EastWest e = absurd (cc)
+turn false NorthSouth e = absurd (cc)
 
-turn-not : (a b : Bool) → a ≡ not b → beq b a ≡ false
-turn-not true true e = absurd (cc)
-turn-not false false e = absurd (cc)
-turn-not true false e = refl
-turn-not false true e = refl
+-- and the other side where it is not
+turn-not : (a : Bool) (b : Side) → a ≡ not (same_side b NorthSouth) → same_side b (claimant a) ≡ false
+turn-not true NorthSouth e = absurd (cc)
+turn-not false EastWest e = absurd (cc)
+turn-not true EastWest e = refl
+turn-not false NorthSouth e = refl
 
 -- one card is enough for the side that plays it
 pub one-settles : (p : Board) (need : ℕ) (c : PlayingCard) (cards : List PlayingCard) (said : Bool) → said ≡ is_north_south (mover p) → IsLegal p c → Leads p need c cards said → IsAnswerBy p need cards said
-one-settles p need c cards said side has h = answers said p need cards (by-one (reach cards) said p c (claimed said p need) (turn said (is_north_south (mover p)) side) has h)
+one-settles p need c cards said side has h = answers said p need cards (by-one (reach cards) (claimant said) p c (claimed said p need) (turn said (side_of (mover p)) side) has h)
 
 -- where no card of the side to play is enough, the other side has it
 pub none-settles : (p : Board) (need : ℕ) (cards : List PlayingCard) (said : Bool) → IsBoard p → said ≡ not (is_north_south (mover p)) → 1 ≤ need → need ≤ left p → IsWhole (reach cards) p
     → ((c : PlayingCard) → has_card (tops p) c ≡ true → Leads p need c cards said) → IsAnswerBy p need cards said
 none-settles p need cards said valid side some most whole each =
-    answers said p need cards (each-class-whole (reach cards) said p (claimed said p need) (reach-upward cards) valid (turn-not said (is_north_south (mover p)) side) (omega (arith, some, most)) whole each)
+    answers said p need cards (each-class-whole (reach cards) (claimant said) p (claimed said p need) (reach-upward cards) valid (turn-not said (side_of (mover p)) side) (omega (arith, some, most)) whole each)
 
 -- ---- the walk over the moves
 
@@ -184,7 +203,7 @@ reach-new cards x real = reach-of (with_card cards x) x x (with-new cards x real
 -- bounds that settle the leader's question settle North and South's
 pub told-answer : (p : Board) (lo hi need leaders left_is : ℕ) (leads said : Bool) (cards : List PlayingCard) → leads ≡ is_north_south p.first → left_is ≡ left p → 1 ≤ need → need ≤ left p
     → (leads ≡ true → leaders ≡ need) → (leads ≡ false → leaders ≡ left_is + 1 - need) → (leaders ≤ lo) ⊎ (hi < leaders) → said ≡ beq (nat_le leaders lo) leads
-    → TakesBy (reach cards) (is_north_south p.first) p lo → TakesBy (reach cards) (not (is_north_south p.first)) p (left p - hi) → IsAnswerBy p need cards said
+    → TakesBy (reach cards) (side_of p.first) p lo → TakesBy (reach cards) (other_side (side_of p.first)) p (left p - hi) → IsAnswerBy p need cards said
 told-answer p lo hi need leaders left_is leads said cards side tricks some most ours theirs settles is low high = subst (λ (b : Bool). IsAnswerBy p need cards b) (sym is) (go leads side ours theirs (nat_le leaders lo) refl)
   where
     not-le : (a b : ℕ) → nat_le a b ≡ false → b < a
@@ -194,10 +213,10 @@ told-answer p lo hi need leaders left_is leads said cards side tricks some most 
     over e = elim settles [ inl l ↦ absurd (let n = not-le leaders lo e in omega (arith, n, l)) | inr h ↦ h ]
 
     go : (b : Bool) → b ≡ is_north_south p.first → (b ≡ true → leaders ≡ need) → (b ≡ false → leaders ≡ left_is + 1 - need) → (k : Bool) → nat_le leaders lo ≡ k → IsAnswerBy p need cards (beq k b)
-    go true s ours theirs true e = by-fewer (reach cards) true p lo need (subst (λ (x : Bool). TakesBy (reach cards) x p lo) (sym s) low) (let l = leb-true leaders lo e in let o = ours refl in omega (arith, l, o))
-    go true s ours theirs false e = by-fewer (reach cards) false p (left p - hi) (left p + 1 - need) (subst (λ (x : Bool). TakesBy (reach cards) (not x) p (left p - hi)) (sym s) high) (let l = over e in let o = ours refl in omega (arith, l, o))
-    go false s ours theirs true e = by-fewer (reach cards) false p lo (left p + 1 - need) (subst (λ (x : Bool). TakesBy (reach cards) x p lo) (sym s) low) (let l = leb-true leaders lo e in let o = theirs refl in omega (arith, l, o, tricks))
-    go false s ours theirs false e = by-fewer (reach cards) true p (left p - hi) need (subst (λ (x : Bool). TakesBy (reach cards) (not x) p (left p - hi)) (sym s) high) (let l = over e in let o = theirs refl in omega (arith, l, o, tricks, some, most))
+    go true s ours theirs true e = by-fewer (reach cards) NorthSouth p lo need (subst (λ (x : Side). TakesBy (reach cards) x p lo) (sym (claimant-of true p.first s)) low) (let l = leb-true leaders lo e in let o = ours refl in omega (arith, l, o))
+    go true s ours theirs false e = by-fewer (reach cards) EastWest p (left p - hi) (left p + 1 - need) (subst (λ (x : Side). TakesBy (reach cards) (other_side x) p (left p - hi)) (sym (claimant-of true p.first s)) high) (let l = over e in let o = ours refl in omega (arith, l, o))
+    go false s ours theirs true e = by-fewer (reach cards) EastWest p lo (left p + 1 - need) (subst (λ (x : Side). TakesBy (reach cards) x p lo) (sym (claimant-of false p.first s)) low) (let l = leb-true leaders lo e in let o = theirs refl in omega (arith, l, o, tricks))
+    go false s ours theirs false e = by-fewer (reach cards) NorthSouth p (left p - hi) need (subst (λ (x : Side). TakesBy (reach cards) (other_side x) p (left p - hi)) (sym (claimant-of false p.first s)) high) (let l = over e in let o = theirs refl in omega (arith, l, o, tricks, some, most))
 
 -- what two truth values that agree or differ tell
 same-beq : (a b : Bool) → beq a b ≡ true → a ≡ b
@@ -213,13 +232,13 @@ differ-beq false true h = refl
 differ-beq false false h = absurd (cc)
 
 -- a card against the side to play
-pub leads-against : (p q : Board) (need rest : ℕ) (c : PlayingCard) (later by : List PlayingCard) (b said : Bool) → IsBoard p → IsLegal p c → 1 ≤ need → q ≡ after p c → rest + point true p c ≡ need
+pub leads-against : (p q : Board) (need rest : ℕ) (c : PlayingCard) (later by : List PlayingCard) (b said : Bool) → IsBoard p → IsLegal p c → 1 ≤ need → q ≡ after p c → rest + point NorthSouth p c ≡ need
     → IsAnswerBy q rest later said → beq said b ≡ false → Within later by → IsSettled (reach by) p c → Leads p need c by (not b)
 leads-against p q need rest c later by b said valid has some next same answer against within settled =
     leads p q need rest c later by (not b) valid has some next same (subst (λ (x : Bool). IsAnswerBy q rest later x) (differ-beq said b against) answer) within settled
 
 -- a card for it
-pub settled-answer : (p q : Board) (need rest : ℕ) (c : PlayingCard) (later by : List PlayingCard) (b said : Bool) → IsBoard p → b ≡ is_north_south (mover p) → IsLegal p c → 1 ≤ need → q ≡ after p c → rest + point true p c ≡ need
+pub settled-answer : (p q : Board) (need rest : ℕ) (c : PlayingCard) (later by : List PlayingCard) (b said : Bool) → IsBoard p → b ≡ is_north_south (mover p) → IsLegal p c → 1 ≤ need → q ≡ after p c → rest + point NorthSouth p c ≡ need
     → IsAnswerBy q rest later said → beq said b ≡ true → Within later by → IsSettled (reach by) p c → IsAnswerBy p need by b
 settled-answer p q need rest c later by b said valid side has some next same answer wanted within settled =
     one-settles p need c by b side has (leads p q need rest c later by b valid has some next same (subst (λ (x : Bool). IsAnswerBy q rest later x) (same-beq said b wanted) answer) within settled)
@@ -247,17 +266,17 @@ none-found p need places moves i cards all b found answer valid side same order 
 
 -- a window of North and South's tricks, by these cards
 abbrev pub IsWindowBy : Board → List PlayingCard → ℕ → ℕ → Type 0
-IsWindowBy p cards lo hi = TakesBy (reach cards) true p lo × TakesBy (reach cards) false p (left p - hi)
+IsWindowBy p cards lo hi = TakesBy (reach cards) NorthSouth p lo × TakesBy (reach cards) EastWest p (left p - hi)
 
 pub yes-window : (p : Board) (need : ℕ) (cards : List PlayingCard) (said : Bool) (lo hi : ℕ) → IsAnswerBy p need cards said → said ≡ true → lo ≡ need → hi ≡ left p → IsWindowBy p cards lo hi
 yes-window p need cards said lo hi answer e low high =
-    let k : TakesBy (reach cards) true p need = subst (λ (x : Bool). IsAnswerBy p need cards x) e answer in
-    (by-fewer (reach cards) true p need lo k (omega (arith, low)), by-fewer (reach cards) false p 0 (left p - hi) (by-nothing (reach cards) false p) (omega (arith, high)))
+    let k : TakesBy (reach cards) NorthSouth p need = subst (λ (x : Bool). IsAnswerBy p need cards x) e answer in
+    (by-fewer (reach cards) NorthSouth p need lo k (omega (arith, low)), by-fewer (reach cards) EastWest p 0 (left p - hi) (by-nothing (reach cards) EastWest p) (omega (arith, high)))
 
 pub no-window : (p : Board) (need : ℕ) (cards : List PlayingCard) (said : Bool) (lo hi : ℕ) → IsAnswerBy p need cards said → said ≡ false → lo ≡ 0 → hi ≡ need - 1 → 1 ≤ need → IsWindowBy p cards lo hi
 no-window p need cards said lo hi answer e low high some =
-    let k : TakesBy (reach cards) false p (left p + 1 - need) = subst (λ (x : Bool). IsAnswerBy p need cards x) e answer in
-    (by-fewer (reach cards) true p 0 lo (by-nothing (reach cards) true p) (omega (arith, low)), by-fewer (reach cards) false p (left p + 1 - need) (left p - hi) k (omega (arith, high, some)))
+    let k : TakesBy (reach cards) EastWest p (left p + 1 - need) = subst (λ (x : Bool). IsAnswerBy p need cards x) e answer in
+    (by-fewer (reach cards) NorthSouth p 0 lo (by-nothing (reach cards) NorthSouth p) (omega (arith, low)), by-fewer (reach cards) EastWest p (left p + 1 - need) (left p - hi) k (omega (arith, high, some)))
 
 -- the bounds from lo to hi are those from l to h seen from the other side, or the same where `leads` holds
 pub record IsTurned (leads : Bool) (n l h lo hi : ℕ) : Type 0 where
@@ -266,72 +285,72 @@ pub record IsTurned (leads : Bool) (n l h lo hi : ℕ) : Type 0 where
 
 -- turned to the leader's
 pub turned-by : (p : Board) (cards : List PlayingCard) (l h lo hi : ℕ) (leads : Bool) (n : ℕ) → leads ≡ is_north_south p.first → n ≡ left p → IsTurned leads n l h lo hi → IsWindowBy p cards l h
-    → TakesBy (reach cards) (is_north_south p.first) p lo × TakesBy (reach cards) (not (is_north_south p.first)) p (left p - hi)
-turned-by p cards l h lo hi leads n side tricks turn w = subst (λ (x : Bool). TakesBy (reach cards) x p lo × TakesBy (reach cards) (not x) p (left p - hi)) side (go leads turn)
+    → TakesBy (reach cards) (side_of p.first) p lo × TakesBy (reach cards) (other_side (side_of p.first)) p (left p - hi)
+turned-by p cards l h lo hi leads n side tricks turn w = subst (λ (x : Side). TakesBy (reach cards) x p lo × TakesBy (reach cards) (other_side x) p (left p - hi)) (claimant-of leads p.first side) (go leads turn)
   where
-    go : (b : Bool) → IsTurned b n l h lo hi → TakesBy (reach cards) b p lo × TakesBy (reach cards) (not b) p (left p - hi)
+    go : (b : Bool) → IsTurned b n l h lo hi → TakesBy (reach cards) (claimant b) p lo × TakesBy (reach cards) (other_side (claimant b)) p (left p - hi)
     go true t =
         let a = t.same.0 in
         let b = t.same.1 in
-        (by-fewer (reach cards) true p l lo w.0 (omega (arith, a)), by-fewer (reach cards) false p (left p - h) (left p - hi) w.1 (omega (arith, b, tricks)))
+        (by-fewer (reach cards) NorthSouth p l lo w.0 (omega (arith, a)), by-fewer (reach cards) EastWest p (left p - h) (left p - hi) w.1 (omega (arith, b, tricks)))
     go false t =
         let a = t.other.0 in
         let b = t.other.1 in
-        (by-fewer (reach cards) false p (left p - h) lo w.1 (omega (arith, a, tricks)), by-fewer (reach cards) true p l (left p - hi) w.0 (omega (arith, b, tricks)))
+        (by-fewer (reach cards) EastWest p (left p - h) lo w.1 (omega (arith, a, tricks)), by-fewer (reach cards) NorthSouth p l (left p - hi) w.0 (omega (arith, b, tricks)))
 
 -- ---- claims of both sides, and the value
 
 -- what the leader's side and the other side claim, where North or South leads
-pub north-south-leads : (p : Board) (cards : List PlayingCard) (n m : ℕ) (b : Bool) → b ≡ is_north_south p.first → b ≡ true → TakesBy (reach cards) (is_north_south p.first) p n × TakesBy (reach cards) (not (is_north_south p.first)) p m
-    → TakesBy (reach cards) true p n × TakesBy (reach cards) false p m
-north-south-leads p cards n m b side e k = subst (λ (x : Bool). TakesBy (reach cards) x p n × TakesBy (reach cards) (not x) p m) (sym side ∙ e) k
+pub north-south-leads : (p : Board) (cards : List PlayingCard) (n m : ℕ) (b : Bool) → b ≡ is_north_south p.first → b ≡ true → TakesBy (reach cards) (side_of p.first) p n × TakesBy (reach cards) (other_side (side_of p.first)) p m
+    → TakesBy (reach cards) NorthSouth p n × TakesBy (reach cards) EastWest p m
+north-south-leads p cards n m b side e k = subst (λ (x : Side). TakesBy (reach cards) x p n × TakesBy (reach cards) (other_side x) p m) (sym (claimant-of true p.first (sym e ∙ side))) k
 
 -- and where East or West does
-pub east-west-leads : (p : Board) (cards : List PlayingCard) (n m : ℕ) (b : Bool) → b ≡ is_north_south p.first → b ≡ false → TakesBy (reach cards) (is_north_south p.first) p n × TakesBy (reach cards) (not (is_north_south p.first)) p m
-    → TakesBy (reach cards) true p m × TakesBy (reach cards) false p n
+pub east-west-leads : (p : Board) (cards : List PlayingCard) (n m : ℕ) (b : Bool) → b ≡ is_north_south p.first → b ≡ false → TakesBy (reach cards) (side_of p.first) p n × TakesBy (reach cards) (other_side (side_of p.first)) p m
+    → TakesBy (reach cards) NorthSouth p m × TakesBy (reach cards) EastWest p n
 east-west-leads p cards n m b side e k =
-    let h : TakesBy (reach cards) false p n × TakesBy (reach cards) true p m = subst (λ (x : Bool). TakesBy (reach cards) x p n × TakesBy (reach cards) (not x) p m) (sym side ∙ e) k in
+    let h : TakesBy (reach cards) EastWest p n × TakesBy (reach cards) NorthSouth p m = subst (λ (x : Side). TakesBy (reach cards) x p n × TakesBy (reach cards) (other_side x) p m) (sym (claimant-of false p.first (sym e ∙ side))) k in
     (h.1, h.0)
 
 -- both sides claim no more than is left
 pub claims-within : (p : Board) (ours theirs : ClaimBy) → IsBoard p → IsWindow p ours theirs → ours.tricks + theirs.tricks ≤ left p
 claims-within p ours theirs valid w =
-    both true p ours.tricks theirs.tricks valid (by-here (reach ours.cards) true p ours.tricks valid (reach-upward ours.cards) w.0) (by-here (reach theirs.cards) false p theirs.tricks valid (reach-upward theirs.cards) w.1)
+    both NorthSouth p ours.tricks theirs.tricks valid (by-here (reach ours.cards) NorthSouth p ours.tricks valid (reach-upward ours.cards) w.0) (by-here (reach theirs.cards) EastWest p theirs.tricks valid (reach-upward theirs.cards) w.1)
 
 -- of two claims, either one is a claim
-pub either-claim : (side : Bool) (p : Board) (one other claim : ClaimBy) → (claim ≡ one) ⊎ (claim ≡ other) → IsClaimBy side p one → IsClaimBy side p other → IsClaimBy side p claim
+pub either-claim : (side : Side) (p : Board) (one other claim : ClaimBy) → (claim ≡ one) ⊎ (claim ≡ other) → IsClaimBy side p one → IsClaimBy side p other → IsClaimBy side p claim
 either-claim side p one other claim is a b = elim is [ inl e ↦ subst (λ (x : ClaimBy). IsClaimBy side p x) (sym e) a | inr e ↦ subst (λ (x : ClaimBy). IsClaimBy side p x) (sym e) b ]
 
 -- by more cards
-pub claim-wider : (side : Bool) (p : Board) (claim : ClaimBy) (cards : List PlayingCard) (n : ℕ) → IsClaimBy side p claim → Within claim.cards cards → n ≤ claim.tricks → TakesBy (reach cards) side p n
+pub claim-wider : (side : Side) (p : Board) (claim : ClaimBy) (cards : List PlayingCard) (n : ℕ) → IsClaimBy side p claim → Within claim.cards cards → n ≤ claim.tricks → TakesBy (reach cards) side p n
 claim-wider side p claim cards n h more few =
     by-fewer (reach cards) side p claim.tricks n (by-more (reach claim.cards) (reach cards) side p claim.tricks (reach-within claim.cards cards more) (reach-upward claim.cards) h) few
 
 -- what North and South take, no more and no less, by these cards
 pub record IsExactly (p : Board) (n : ℕ) (cards : List PlayingCard) : Type 0 where
   pub valid : IsBoard p
-  pub theirs : TakesBy (reach cards) true p n
-  pub others : TakesBy (reach cards) false p (left p - n)
+  pub theirs : TakesBy (reach cards) NorthSouth p n
+  pub others : TakesBy (reach cards) EastWest p (left p - n)
   pub within : n ≤ left p
 
 -- the claims hold there
-pub exactly-theirs : (p : Board) (n : ℕ) (cards : List PlayingCard) → IsExactly p n cards → Takes true p n
-exactly-theirs p n cards k = by-here (reach cards) true p n k.valid (reach-upward cards) k.theirs
+pub exactly-theirs : (p : Board) (n : ℕ) (cards : List PlayingCard) → IsExactly p n cards → Takes NorthSouth p n
+exactly-theirs p n cards k = by-here (reach cards) NorthSouth p n k.valid (reach-upward cards) k.theirs
 
-pub exactly-others : (p : Board) (n : ℕ) (cards : List PlayingCard) → IsExactly p n cards → Takes false p (left p - n)
-exactly-others p n cards k = by-here (reach cards) false p (left p - n) k.valid (reach-upward cards) k.others
+pub exactly-others : (p : Board) (n : ℕ) (cards : List PlayingCard) → IsExactly p n cards → Takes EastWest p (left p - n)
+exactly-others p n cards k = by-here (reach cards) EastWest p (left p - n) k.valid (reach-upward cards) k.others
 
 -- so many the leader's side takes
 abbrev leaders : Board → ℕ → ℕ
 leaders p n = (if is_north_south p.first then n else (left p - n))
 
 -- it claims them, and the other side the rest
-leaders-claims : (p : Board) (n : ℕ) (cards : List PlayingCard) → IsExactly p n cards → TakesBy (reach cards) (is_north_south p.first) p (leaders p n) × TakesBy (reach cards) (not (is_north_south p.first)) p (left p - leaders p n)
-leaders-claims p n cards k = go (is_north_south p.first)
+leaders-claims : (p : Board) (n : ℕ) (cards : List PlayingCard) → IsExactly p n cards → TakesBy (reach cards) (side_of p.first) p (leaders p n) × TakesBy (reach cards) (other_side (side_of p.first)) p (left p - leaders p n)
+leaders-claims p n cards k = go (side_of p.first)
   where
-    go : (b : Bool) → TakesBy (reach cards) b p (if b then n else (left p - n)) × TakesBy (reach cards) (not b) p (left p - (if b then n else (left p - n)))
-    go true = (k.theirs, k.others)
-    go false = (k.others, by-fewer (reach cards) true p n (left p - (left p - n)) k.theirs (let w = k.within in omega (arith, w)))
+    go : (side : Side) → TakesBy (reach cards) side p (if same_side side NorthSouth then n else (left p - n)) × TakesBy (reach cards) (other_side side) p (left p - (if same_side side NorthSouth then n else (left p - n)))
+    go NorthSouth = (k.theirs, k.others)
+    go EastWest = (k.others, by-fewer (reach cards) NorthSouth p n (left p - (left p - n)) k.theirs (let w = k.within in omega (arith, w)))
 
 -- and each position that is covered at the depths of the cards has that value
 covered-value : (p : Board) (n : ℕ) (cards : List PlayingCard) (depths : Suit → ℕ) → IsExactly p n cards → ((c : PlayingCard) → has_card cards c ≡ true → IsRank c.rank) → ((u : Suit) → depths u ≡ depths_of (reach cards) p u)

@@ -5,15 +5,16 @@ use Rattle.std.proofs.lemmas.Bool.{le-leb, lt-leb, leb-true, leb-false}
 use Rattle.std.proofs.lemmas.Bool.Decides.{leb_tells}
 use mathlib.Core.Bool.{beq}
 use Rattle.dd_cards.specs.declared.seat.Seat.{Seat}
-use Rattle.dd_cards.specs.declared.seat.Seat.TheVariants.{North, East, South, West}
 use Rattle.dd_cards.specs.PlayingCard.{PlayingCard}
 use Rattle.dd_cards.specs.Seats.{is_north_south}
+use Rattle.dd_cards.specs.Sides.{is_side}
+use Rattle.dd_cards.specs.declared.side.Side.TheVariants.{NorthSouth, EastWest}
 use Rattle.dd_play.specs.Board.{Board, IsBoard, mover, left}
 use Rattle.dd_play.specs.Tricks.{winner_of}
 use Rattle.dd_play.specs.Play.{completes, trick_with, after}
 use Rattle.dd_play.specs.Value.{point_of, gain, ns, ns_with, score}
 use Rattle.dd_play.specs.Claims.{Takes}
-use Rattle.dd_play.specs.Won.{is_side, point}
+use Rattle.dd_play.specs.Won.{point}
 use Rattle.dd_play.specs.Simulations.{IsLegal}
 use Rattle.dd_play.proofs.CallerLemmas.{exactly, gain-le, left-13, legal-leads, ns-le}
 use Rattle.dd_search.specs.Answers.{IsAnswer}
@@ -24,8 +25,8 @@ pub record Learnt (p q : Board) (c : PlayingCard) (tricks point : ℕ) (winner :
   pub valid_next : IsBoard q
   pub legal : IsLegal p c
   pub next : q ≡ after p c
-  pub theirs : Takes true q tricks
-  pub others : Takes false q (left q - tricks)
+  pub theirs : Takes NorthSouth q tricks
+  pub others : Takes EastWest q (left q - tricks)
   pub within : tricks ≤ left q
   pub is_point : point ≡ point_of winner
   pub wins : winner ≡ (if completes p then Some (winner_of (trick_with p c) p.first p.strain) else None)
@@ -40,17 +41,14 @@ point-gain p c = go (completes p) (winner_of (trick_with p c) p.first p.strain)
 
 -- what is still needed after a card, and the point that the card gains, are what was needed before
 pub needed-after : (p : Board) (c : PlayingCard) (rest need : ℕ) (winner : Option Seat) → rest + point_of winner ≡ need
-    → winner ≡ (if completes p then Some (winner_of (trick_with p c) p.first p.strain) else None) → rest + point true p c ≡ need
+    → winner ≡ (if completes p then Some (winner_of (trick_with p c) p.first p.strain) else None) → rest + point NorthSouth p c ≡ need
 needed-after p c rest need winner sum wins = ap (λ n. rest + n) (sym (won-point p c) ∙ sym (ap point_of wins)) ∙ sum
   where
-    go : (b : Bool) (seat : Seat) → point_of (if b then Some seat else None) ≡ (if b && is_side true seat then 1 else 0)
-    go true North = refl
-    go true East = refl
-    go true South = refl
-    go true West = refl
+    go : (b : Bool) (seat : Seat) → point_of (if b then Some seat else None) ≡ (if b && is_side NorthSouth seat then 1 else 0)
+    go true seat = refl
     go false seat = refl
 
-    won-point : (p : Board) (c : PlayingCard) → point_of (if completes p then Some (winner_of (trick_with p c) p.first p.strain) else None) ≡ point true p c
+    won-point : (p : Board) (c : PlayingCard) → point_of (if completes p then Some (winner_of (trick_with p c) p.first p.strain) else None) ≡ point NorthSouth p c
     won-point p c = go (completes p) (winner_of (trick_with p c) p.first p.strain)
 
 -- North and South take no more tricks with a card than are left
@@ -66,7 +64,7 @@ ns_with-le p c valid has =
 learnt-value : (p q : Board) (c : PlayingCard) (tricks point : ℕ) (winner : Option Seat) → Learnt p q c tricks point winner → tricks + point ≡ ns_with p c
 learnt-value p q c tricks point winner k =
     let within = k.within in
-    let value : ns q ≡ tricks = exactly true q tricks (left q - tricks) k.valid_next k.theirs k.others (omega (arith, within)) in
+    let value : ns q ≡ tricks = exactly NorthSouth q tricks (left q - tricks) k.valid_next k.theirs k.others (omega (arith, within)) in
     let after_it : ns q ≡ ns (after p c) = ap ns k.next in
     let gained : point ≡ gain p c = k.is_point ∙ ap point_of k.wins ∙ point-gain p c in
     omega (arith, value, after_it, gained)

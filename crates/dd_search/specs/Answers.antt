@@ -3,19 +3,21 @@ use Rattle.std.specs.Prelude.{ℕ, ◌+◌, ◌-◌, Bool, true, false, List, �
 use Rattle.dd_cards.specs.PlayingCard.{PlayingCard}
 use Rattle.dd_cards.specs.Hands.{times}
 use Rattle.dd_cards.specs.Seats.{is_north_south}
+use Rattle.dd_cards.specs.declared.side.Side.{Side}
+use Rattle.dd_cards.specs.declared.side.Side.TheVariants.{NorthSouth, EastWest}
 use Rattle.dd_play.specs.Board.{Board, left}
 use Rattle.dd_play.specs.Claims.{Takes}
 use Rattle.dd_play.specs.Reach.{reach, TakesBy}
 
 -- yes: they take them; no: East and West take so many that they cannot
 abbrev pub IsAnswer : Board → ℕ → Bool → Type 0
-IsAnswer p need true = Takes true p need
-IsAnswer p need false = Takes false p (left p + 1 - need)
+IsAnswer p need true = Takes NorthSouth p need
+IsAnswer p need false = Takes EastWest p (left p + 1 - need)
 
 -- the same of claims that rest on these cards and higher ones alone
 abbrev pub IsAnswerBy : Board → ℕ → List PlayingCard → Bool → Type 0
-IsAnswerBy p need cards true = TakesBy (reach cards) true p need
-IsAnswerBy p need cards false = TakesBy (reach cards) false p (left p + 1 - need)
+IsAnswerBy p need cards true = TakesBy (reach cards) NorthSouth p need
+IsAnswerBy p need cards false = TakesBy (reach cards) EastWest p (left p + 1 - need)
 
 -- an answer, and the cards that it rests on
 pub record AnswerBy : Type 0 where
@@ -28,12 +30,12 @@ pub record ClaimBy : Type 0 where
   pub cards : List PlayingCard
 
 -- the side takes them
-abbrev pub IsClaimBy : Bool → Board → ClaimBy → Type 0
+abbrev pub IsClaimBy : Side → Board → ClaimBy → Type 0
 IsClaimBy side p claim = TakesBy (reach claim.cards) side p claim.tricks
 
 -- North and South take so many, and East and West
 abbrev pub IsWindow : Board → ClaimBy → ClaimBy → Type 0
-IsWindow p ours theirs = IsClaimBy true p ours × IsClaimBy false p theirs
+IsWindow p ours theirs = IsClaimBy NorthSouth p ours × IsClaimBy EastWest p theirs
 
 -- at an empty trick, the tricks of North and South where the leader's side takes n
 abbrev pub north_souths : Board → ℕ → ℕ

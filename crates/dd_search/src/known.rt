@@ -1,9 +1,8 @@
 //! What is known of a position's value before a card is tried, and what an answer makes known.
 ghost use Rattle.std.specs.Prelude.{◌≡◌, ◌-◌, ◌<◌, ◌≤◌, ℕ, min, IfSome};
 ghost use Rattle.std.specs.Bool.{OnTrue, OnFalse};
-ghost use mathlib.Core.Bool.{not};
 ghost use Rattle.dd_cards.specs.declared.suit.Suit.{Suit as SuitOf};
-ghost use Rattle.dd_cards.specs.Seats.{is_north_south};
+ghost use Rattle.dd_cards.specs.Sides.{side_of, other_side};
 ghost use Rattle.dd_play.specs.Board.{Board, IsBoard, left};
 ghost use Rattle.dd_play.specs.Covers.{count_of};
 ghost use Rattle.dd_play.specs.Value.{lead};
@@ -76,8 +75,8 @@ fn taught(start: &TrickStart, need: u8, answer: Answer) -> Interval
     requires high { need ≤ left start.now }
     requires answer { IsAnswerBy start.now need answer.cards answer.yes }
     ensures board { IsBoard start.now }
-    ensures theirs { TakesBy (reach answer.cards) (is_north_south start.now.first) start.now result.lo }
-    ensures others { TakesBy (reach answer.cards) (not (is_north_south start.now.first)) start.now (left start.now - result.hi) }
+    ensures theirs { TakesBy (reach answer.cards) (side_of start.now.first) start.now result.lo }
+    ensures others { TakesBy (reach answer.cards) (other_side (side_of start.now.first)) start.now (left start.now - result.hi) }
     ensures yes { OnTrue answer.yes ((n : ℕ) → Holds result n → need ≤ north_souths start.now n) }
     ensures no { OnFalse answer.yes ((n : ℕ) → Holds result n → north_souths start.now n < need) }
 {

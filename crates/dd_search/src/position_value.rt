@@ -1,6 +1,6 @@
 //! The value of a position.
 ghost use Rattle.std.specs.Prelude.{◌≡◌, ◌-◌, ◌<◌, ◌≤◌, true, false, Err, IfOk, OnOk, IsOk};
-ghost use Rattle.dd_cards.specs.Seats.{is_north_south};
+ghost use Rattle.dd_cards.specs.Sides.{side_of};
 ghost use Rattle.dd_play.specs.Board.{mover, left};
 ghost use Rattle.dd_play.specs.Reach.{reach, TakesBy};
 ghost use Rattle.dd_play.specs.Won.{won};
@@ -11,6 +11,7 @@ use crate::guess::guess;
 use crate::known::window;
 use crate::meter::{Halt, Meter, Tick, go_on};
 use crate::takes::takes;
+use dd_cards::Side;
 use dd_play::Position;
 
 /// The tricks, 0 to 13, that the mover's side takes from here on, the current trick included, when both sides play as
@@ -20,7 +21,7 @@ pub fn value<B: Bounds, M: Meter>(
     bounds: &mut B,
     meter: &mut M,
 ) -> Result<u8, Halt>
-    ensures value { IfOk result (λ tricks. tricks ≡ won (is_north_south (mover position.now)) position.now) }
+    ensures value { IfOk result (λ tricks. tricks ≡ won (side_of (mover position.now)) position.now) }
     ensures bound { IfOk result (λ tricks. tricks ≤ 13) }
     ensures ticked { OnOk result (M.ticked meter.old meter.new) }
     ensures spent { result ≡ Err Halt.Spent → M.says meter.new Tick.Spent }
@@ -42,8 +43,8 @@ pub(crate) fn north_souths_tricks<B: Bounds, M: Meter>(
     bounds: &mut B,
     meter: &mut M,
 ) -> Result<Claim, Halt>
-    ensures theirs { IfOk result (λ found. TakesBy (reach found.cards) true position.now found.tricks) }
-    ensures others { IfOk result (λ found. TakesBy (reach found.cards) false position.now (left position.now - found.tricks)) }
+    ensures theirs { IfOk result (λ found. TakesBy (reach found.cards) Side.NorthSouth position.now found.tricks) }
+    ensures others { IfOk result (λ found. TakesBy (reach found.cards) Side.EastWest position.now (left position.now - found.tricks)) }
     ensures within { IfOk result (λ found. found.tricks ≤ left position.now) }
     ensures ticked { OnOk result (M.ticked meter.old meter.new) }
     ensures spent { result ≡ Err Halt.Spent → M.says meter.new Tick.Spent }

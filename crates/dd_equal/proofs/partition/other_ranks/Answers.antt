@@ -1,7 +1,7 @@
 use Rattle.std.proofs.Common.{◌≡◌, ◌≤◌, ℕ, false, sym, ap, ◌∙◌, arith, refl, zero, suc, [], ◌∷◌, length, List, cond, take, eq-eqb, inl, inr}
 use Rattle.std.specs.Prelude.{filter, ◌==◌}
 use Rattle.std.proofs.lemmas.Bool.Decides.{eqb_tells}
-use Rattle.dd_cards.specs.Seats.{next_seat}
+use Rattle.dd_cards.specs.Seats.{seat_after}
 use Rattle.dd_cards.specs.Suits.{suit_code}
 use Rattle.dd_cards.specs.PlayingCard.{PlayingCard}
 use Rattle.dd_cards.specs.Ranks.{with_rank}
@@ -47,11 +47,11 @@ returns c =
     let p = c.args.position.now in
     let s = c.args.suit in
     let hands = c.hands-hands.ensures.hands in
-    let left : c.next-left.result ≡ next_seat (mover p) = c.next-left.ensures ∙ ap next_seat c.mover.ensures.seat in
-    let partner : c.next-partner.result ≡ next_seat (next_seat (mover p)) = c.next-partner.ensures ∙ ap next_seat left in
-    let right : c.next-right.result ≡ next_seat (next_seat (next_seat (mover p))) = c.next-right.ensures ∙ ap next_seat partner in
+    let left : c.left-left.result ≡ seat_after (mover p) 1 = c.left-left.ensures ∙ ap (λ x. seat_after x 1) c.mover-mover.ensures.seat in
+    let partner : c.partner-partner.result ≡ seat_after (mover p) 2 = c.partner-partner.ensures ∙ ap (λ x. seat_after x 2) c.mover-mover.ensures.seat in
+    let right : c.right-right.result ≡ seat_after (mover p) 3 = c.right-right.ensures ∙ ap (λ x. seat_after x 3) c.mover-mover.ensures.seat in
     others-ranks p s c.holding.result c.holding-2.result c.holding-3.result c.union.result c.union-ranks.result c.loop-card.ranks c.trick-card-items.result.now c.loop-card.card-index
-    (c.holding.ensures ∙ ap (filter (is_of s)) (ap (λ hs. hand_of hs c.next-left.result) hands ∙ ap (hand_of p.hands) left))
-    (c.holding-2.ensures ∙ ap (filter (is_of s)) (ap (λ hs. hand_of hs c.next-partner.result) hands ∙ ap (hand_of p.hands) partner))
-    (c.holding-3.ensures ∙ ap (filter (is_of s)) (ap (λ hs. hand_of hs c.next-right.result) hands ∙ ap (hand_of p.hands) right))
+    (c.holding.ensures ∙ ap (filter (is_of s)) (ap (λ hs. hand_of hs c.left-left.result) hands ∙ ap (hand_of p.hands) left))
+    (c.holding-2.ensures ∙ ap (filter (is_of s)) (ap (λ hs. hand_of hs c.partner-partner.result) hands ∙ ap (hand_of p.hands) partner))
+    (c.holding-3.ensures ∙ ap (filter (is_of s)) (ap (λ hs. hand_of hs c.right-right.result) hands ∙ ap (hand_of p.hands) right))
     c.union.ensures c.union-ranks.ensures c.loop-card.invariant (take-all c.loop-card.card-index c.trick-card-items.result.now c.loop-card-test.false ∙ c.trick-card-items.ensures.cards)

@@ -1,21 +1,20 @@
 use Rattle.std.proofs.Common.{◌+◌, ◌≤◌, ap, ◌∙◌, subst, arith}
-use mathlib.Core.Bool.{not}
-use Rattle.dd_cards.specs.Seats.{is_north_south}
 use Rattle.dd_play.specs.Board.{Board, left}
 use Rattle.dd_quick.specs.QuickTricks.{SureTricks}
 use Rattle.dd_quick.proofs.Covered.{IsSure, sure-within, sure-bounds}
+use Rattle.dd_cards.specs.Sides.{side_of, other_side}
 use Rattle.dd_quick.proofs.quick_tricks.bounds.Goals as goal
 use Rattle.dd_quick.proofs.quick_tricks.bounds.Goals.{After-tricks_left}
 
 -- what the two sides are sure of at the position that is asked
 record Both (c : After-tricks_left) : Type 0 where
-  ours : IsSure (is_north_south c.args.start.now.first) c.args.start.now c.leaders-ours.result
-  theirs : IsSure (not (is_north_south c.args.start.now.first)) c.args.start.now c.others-theirs.result
+  ours : IsSure (side_of c.args.start.now.first) c.args.start.now c.leaders-ours.result
+  theirs : IsSure (other_side (side_of c.args.start.now.first)) c.args.start.now c.others-theirs.result
 
 both : (c : After-tricks_left) → Both c
 both c = record {
-  ours = subst (λ (p : Board). IsSure (is_north_south p.first) p c.leaders-ours.result) c.position-position.ensures.value c.leaders-ours.ensures.claim;
-  theirs = subst (λ (p : Board). IsSure (not (is_north_south p.first)) p c.others-theirs.result) c.position-position.ensures.value c.others-theirs.ensures.claim;
+  ours = subst (λ (p : Board). IsSure (side_of p.first) p c.leaders-ours.result) c.position-position.ensures.value c.leaders-ours.ensures.claim;
+  theirs = subst (λ (p : Board). IsSure (other_side (side_of p.first)) p c.others-theirs.result) c.position-position.ensures.value c.others-theirs.ensures.claim;
 }
 
 within : (c : After-tricks_left) → c.leaders-ours.result.tricks + c.others-theirs.result.tricks ≤ c.tricks_left.result

@@ -1,9 +1,9 @@
 use Rattle.std.proofs.Common.{ap, ◌∙◌, arith}
-use Rattle.dd_cards.specs.Seats.{is_north_south}
 use Rattle.dd_play.specs.Reach.{reach}
 use Rattle.dd_play.proofs.CallerLemmas.{by-fewer}
 use Rattle.dd_quick.specs.QuickTricks.{SureTricks, leaders_tricks}
 use Rattle.dd_quick.proofs.Covered.{leader-sure}
+use Rattle.dd_cards.specs.Sides.{side_of}
 use Rattle.dd_quick.proofs.quick_tricks.leaders_tricks.Goals as goal
 
 pub returns-clause-claim : goal.returns-clause-claim
@@ -19,4 +19,4 @@ returns-clause-claim c =
     let h = ap tricks c.hearts.view_is ∙ c.cashed-hearts.ensures.tricks in
     let d = ap tricks c.diamonds.view_is ∙ c.cashed-diamonds.ensures.tricks in
     let k = ap tricks c.clubs.view_is ∙ c.cashed-clubs.ensures.tricks in
-    by-fewer (reach c.clubs.inside.cards) (is_north_south p.first) p (leaders_tricks p) _ sure (omega (arith, s, h, d, k))
+    by-fewer (reach c.clubs.inside.cards) (side_of p.first) p (leaders_tricks p) _ sure (omega (arith, s, h, d, k))

@@ -1,7 +1,6 @@
 use Rattle.std.proofs.Common.{ap, ◌∙◌, refl, arith}
 use Rattle.std.specs.Prelude.{filter, slice_get}
 use Rattle.dd_cards.specs.Cards.{is_of, has_card, card_of}
-use Rattle.dd_cards.specs.Seats.{next_seat}
 use Rattle.dd_cards.specs.Hands.{hand_of}
 use Rattle.dd_quick.proofs.Runs.{AreHeld, held-of}
 use Rattle.dd_quick.proofs.Covered.{reached-with, reached-none, with-more, winners-run}
@@ -13,14 +12,14 @@ held : (c : After-len) → AreHeld c.args.position.now c.args.seat c.args.suit c
 held c =
     let s = c.args.suit in
     let hands = c.hands-hands.ensures.hands in
-    let left = c.next-left.ensures in
-    let partner = c.next-partner.ensures ∙ ap next_seat left in
-    let right = c.next-right.ensures ∙ ap next_seat partner in
+    let left = c.left-left.ensures in
+    let partner = c.partner-partner.ensures in
+    let right = c.right-right.ensures in
     held-of c.args.position.now c.args.seat s c.holding-own.result c.holding-2.result c.holding-3.result c.holding-4.result c.union.result c.union-others.result c.hands-hands.ensures.board
     (c.holding-own.ensures ∙ ap (λ hs. filter (is_of s) (hand_of hs c.args.seat)) hands)
-    (c.holding-2.ensures ∙ ap (λ hs. filter (is_of s) (hand_of hs c.next-left.result)) hands ∙ ap (λ x. filter (is_of s) (hand_of c.args.position.now.hands x)) left)
-    (c.holding-3.ensures ∙ ap (λ hs. filter (is_of s) (hand_of hs c.next-partner.result)) hands ∙ ap (λ x. filter (is_of s) (hand_of c.args.position.now.hands x)) partner)
-    (c.holding-4.ensures ∙ ap (λ hs. filter (is_of s) (hand_of hs c.next-right.result)) hands ∙ ap (λ x. filter (is_of s) (hand_of c.args.position.now.hands x)) right)
+    (c.holding-2.ensures ∙ ap (λ hs. filter (is_of s) (hand_of hs c.left-left.result)) hands ∙ ap (λ x. filter (is_of s) (hand_of c.args.position.now.hands x)) left)
+    (c.holding-3.ensures ∙ ap (λ hs. filter (is_of s) (hand_of hs c.partner-partner.result)) hands ∙ ap (λ x. filter (is_of s) (hand_of c.args.position.now.hands x)) partner)
+    (c.holding-4.ensures ∙ ap (λ hs. filter (is_of s) (hand_of hs c.right-right.result)) hands ∙ ap (λ x. filter (is_of s) (hand_of c.args.position.now.hands x)) right)
     c.union.ensures c.union-others.ensures
 
 pub returns-clause-tricks : goal.returns-clause-tricks

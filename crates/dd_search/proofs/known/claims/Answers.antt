@@ -1,6 +1,6 @@
 use Rattle.std.proofs.Common.{◌-◌, ◌∙◌, ap, arith}
-use mathlib.Core.Bool.{not}
 use Rattle.dd_cards.specs.Seats.{is_north_south}
+use Rattle.dd_cards.specs.Sides.{side_of, other_side}
 use Rattle.dd_play.specs.Board.{Board, left}
 use Rattle.dd_play.specs.Reach.{reach, TakesBy}
 use Rattle.dd_play.proofs.CallerLemmas.{by-fewer}
@@ -11,14 +11,14 @@ use Rattle.dd_search.proofs.known.claims.Goals as goal
 use Rattle.dd_search.proofs.known.claims.Goals.{After-is_north_south}
 
 -- what the leader's side and the other side take
-both : (c : After-is_north_south) → TakesBy (reach c.cards-cards.result) (is_north_south c.args.start.now.first) c.args.start.now c.args.interval.lo
-    × TakesBy (reach c.cards-cards.result) (not (is_north_south c.args.start.now.first)) c.args.start.now c.saturating_sub.result
+both : (c : After-is_north_south) → TakesBy (reach c.cards-cards.result) (side_of c.args.start.now.first) c.args.start.now c.args.interval.lo
+    × TakesBy (reach c.cards-cards.result) (other_side (side_of c.args.start.now.first)) c.args.start.now c.saturating_sub.result
 both c =
     let p = c.args.start.now in
     let i = c.args.interval in
     let claims = told c.cards-cards.result (depth_in c.args.depths) p i.lo i.hi c.cards-cards.ensures.real c.position-position.ensures.start c.cards-cards.ensures.depths c.requires.holds in
     let rest = c.saturating_sub.ensures ∙ ap (λ n. n - i.hi) (c.tricks_left.ensures.tricks ∙ ap left c.position-position.ensures.value) in
-    (claims.0, by-fewer (reach c.cards-cards.result) (not (is_north_south p.first)) p (left p - i.hi) c.saturating_sub.result claims.1 (omega (arith, rest)))
+    (claims.0, by-fewer (reach c.cards-cards.result) (other_side (side_of p.first)) p (left p - i.hi) c.saturating_sub.result claims.1 (omega (arith, rest)))
 
 pub returns-then-is_north_south : goal.returns-then-is_north_south
 returns-then-is_north_south c =

@@ -1,6 +1,6 @@
 use Rattle.std.proofs.Common.{ap, ◌∙◌, ◌≡◌, ◌-◌, sym}
-use mathlib.Core.Bool.{not}
 use Rattle.dd_cards.specs.Seats.{is_north_south}
+use Rattle.dd_cards.specs.Sides.{side_of, other_side}
 use Rattle.dd_play.specs.Board.{Board, left}
 use Rattle.dd_play.specs.Reach.{reach, TakesBy}
 use Rattle.dd_search.specs.Answers.{AnswerBy}
@@ -8,7 +8,7 @@ use Rattle.dd_search.proofs.Relied.{IsWindowBy, turned-by, yes-window, no-window
 use Rattle.dd_search.proofs.known.taught.Goals as goal
 use Rattle.dd_search.proofs.known.taught.Goals.{After-turned, then-answer, else-answer}
 
-both : (c : After-turned) → TakesBy (reach c.args.answer.cards) (is_north_south c.args.start.now.first) c.args.start.now c.turned.result.lo × TakesBy (reach c.args.answer.cards) (not (is_north_south c.args.start.now.first)) c.args.start.now (left c.args.start.now - c.turned.result.hi)
+both : (c : After-turned) → TakesBy (reach c.args.answer.cards) (side_of c.args.start.now.first) c.args.start.now c.turned.result.lo × TakesBy (reach c.args.answer.cards) (other_side (side_of c.args.start.now.first)) c.args.start.now (left c.args.start.now - c.turned.result.hi)
 both c =
     let p = c.args.start.now in
     let tricks : c.tricks_left-left.result ≡ left p = c.tricks_left-left.ensures.tricks ∙ ap left c.position-position.ensures.value in

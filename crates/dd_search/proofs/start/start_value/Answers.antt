@@ -5,6 +5,7 @@ use Rattle.dd_cards.specs.Ranks.{IsRank}
 use Rattle.dd_cards.specs.Cards.{has_card}
 use Rattle.dd_play.specs.Reach.{reach, TakesBy}
 use Rattle.dd_cards.specs.Seats.{is_north_south}
+use Rattle.dd_cards.specs.declared.side.Side.TheVariants.{NorthSouth, EastWest}
 use Rattle.dd_play.specs.Board.{Board, left}
 use Rattle.dd_rank.specs.Depths.{depth_in, depths_of}
 use Rattle.dd_search.specs.Answers.{ClaimBy}
@@ -20,8 +21,8 @@ found g c =
     record {
       exactly = record {
         valid = c.position-position.ensures.board;
-        theirs = subst (λ (q : Board). TakesBy (reach c.in_ok-found.found.cards) true q c.in_ok-found.found.tricks) c.position-position.ensures.value c.in_ok-found.ensures.theirs;
-        others = subst (λ (q : Board). TakesBy (reach c.in_ok-found.found.cards) false q (left q - c.in_ok-found.found.tricks)) c.position-position.ensures.value c.in_ok-found.ensures.others;
+        theirs = subst (λ (q : Board). TakesBy (reach c.in_ok-found.found.cards) NorthSouth q c.in_ok-found.found.tricks) c.position-position.ensures.value c.in_ok-found.ensures.theirs;
+        others = subst (λ (q : Board). TakesBy (reach c.in_ok-found.found.cards) EastWest q (left q - c.in_ok-found.found.tricks)) c.position-position.ensures.value c.in_ok-found.ensures.others;
         within = subst (λ (q : Board). c.in_ok-found.found.tricks ≤ left q) c.position-position.ensures.value c.in_ok-found.ensures.within;
       };
       start = c.position-position.ensures.start;

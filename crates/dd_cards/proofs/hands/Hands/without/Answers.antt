@@ -7,4 +7,4 @@ invariant_of-result c = AreHandMasks-kept c.self.inside.masks _ c.self.invariant
 pub returns : goal.returns
 returns c =
     rw (c.place.ensures.value, ← c.self.view_is)
-    (cards_of-kept c.self.inside.masks c.args.card c.self.told c.place.ensures.rank (place_of-lt _ c.place.ensures.rank))
+    (cards_of-kept c.self.inside.masks c.args.card c.place.ensures.rank (place_of-lt _ c.place.ensures.rank))

@@ -1,6 +1,6 @@
-use Rattle.std.proofs.Common.{◌≡◌, refl, ap, ◌∙◌, subst, [], ◌∷◌}
+use Rattle.std.proofs.Common.{◌≡◌, refl, ap, ◌∙◌, subst}
 use Rattle.dd_cards.specs.declared.suit.Suit.TheVariants.{Spades, Hearts, Diamonds, Clubs}
-use Rattle.dd_cards.specs.Hands.{AreHands}
+use Rattle.dd_cards.specs.Hands.{dealt, AreHands}
 use Rattle.dd_cards.specs.Seats.{next_seat}
 use Rattle.dd_play.specs.Board.{Board}
 use Rattle.dd_rank.proofs.Seated.{AreSeated, at-seat, seated-four, suit-string, four-strings}
@@ -22,7 +22,7 @@ taken c =
     }
 
 -- .. are four hands
-four : (c : After-hand-fourth) → AreHands (c.hand-leader.result ∷ c.hand-second.result ∷ c.hand-third.result ∷ c.hand-fourth.result ∷ [])
+four : (c : After-hand-fourth) → AreHands (dealt c.hand-leader.result c.hand-second.result c.hand-third.result c.hand-fourth.result)
 four c = seated-four c.args.start.now c.hand-leader.result c.hand-second.result c.hand-third.result c.hand-fourth.result (taken c)
 
 pub suit_string-spades-requires : goal.suit_string-spades-requires
