@@ -18,7 +18,7 @@ use dd_rank::first_owners::FirstOwners;
 use dd_rank::laws::{covered_positions, owner_strings};
 use dd_rank::owner_strings::OwnerStrings;
 use dd_rank::shape::Shape;
-use dd_search::bounds::Bounds;
+use dd_search::table::Bounds;
 use std::alloc::{AllocError, Global};
 
 // The pages that there may be, and the places at which they are found: powers of two.
@@ -168,5 +168,5 @@ impl<B: Bounds> Bounds for Cache<B> {
 // Where the pages of a shape are found.
 #[inline]
 fn place(shape: Shape) -> usize {
-    (shape.mixed() >> 48) as usize
+    (shape.mixing_number() >> 48) as usize
 }

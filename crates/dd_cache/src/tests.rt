@@ -8,7 +8,7 @@ use dd_cards::suit::Suit;
 use dd_play::interval::Interval;
 use dd_play::position::Position;
 use dd_play::trick_start::TrickStart;
-use dd_search::bounds::{Bounds, NoTable};
+use dd_search::table::{Bounds, NoTable};
 use dd_search::meter::Endless;
 use dd_search::start::start_value;
 use std::alloc::AllocError;

@@ -16,7 +16,7 @@ use crate::reply::{LONGEST_REPLY, write_answer, write_fault, write_spent};
 use crate::request::Request;
 use crate::solve::solve;
 use arrayvec::ArrayString;
-use dd_search::bounds::Bounds;
+use dd_search::table::Bounds;
 use dd_search::meter::{Budget, Endless};
 use std::alloc::Global;
 use std::io::{Read, Write};

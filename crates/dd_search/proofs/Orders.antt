@@ -18,8 +18,7 @@ use Rattle.dd_cards.proofs.CardLists.{same_card-eq}
 use Rattle.dd_play.proofs.Values.{any-filter, times-cons, times-has}
 use Rattle.dd_play.proofs.Boards.{has-first, in-rest, flag_of}
 use Rattle.dd_equal.specs.EqualCards.{EqualCards, class_of, classes_of, is_top, tops}
-use Rattle.dd_search.specs.Answers.{IsReordering}
-use Rattle.dd_search.specs.Moves.{WeighedCard, cards_of}
+use Rattle.dd_search.specs.Moves.{WeighedCard, cards_of, IsReordering}
 
 -- the highest card of a class is legal
 pub top-legal : (p : Board) (c : PlayingCard) → has_card (tops p) c ≡ true → IsLegal p c

@@ -31,8 +31,8 @@ use Rattle.dd_rank.proofs.Lowest.{first-there}
 use Rattle.dd_rank.specs.Depths.{all_cards, Covers, depths_of}
 use Rattle.dd_rank.proofs.Told.{noted}
 use Rattle.dd_rank.proofs.Fulls.{itself}
-use Rattle.dd_search.specs.Answers.{IsAnswer, IsAnswerBy, AnswerBy, ClaimBy, IsClaimBy, IsWindow, IsReordering}
-use Rattle.dd_search.specs.Moves.{WeighedCard, cards_of}
+use Rattle.dd_search.specs.ClaimsBy.{IsAnswer, IsAnswerBy, AnswerBy, ClaimBy, IsClaimBy, IsWindow}
+use Rattle.dd_search.specs.Moves.{WeighedCard, cards_of, IsReordering}
 use Rattle.dd_search.proofs.Orders.{each-top}
 
 -- these cards are among those

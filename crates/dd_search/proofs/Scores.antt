@@ -18,7 +18,7 @@ use Rattle.dd_play.specs.Simulations.{IsLegal}
 use Rattle.dd_play.proofs.Boards.{legal-leads, gain-le, ns-le}
 use Rattle.dd_play.proofs.Lengths.{left-13}
 use Rattle.dd_play.proofs.Claims.{exactly}
-use Rattle.dd_search.specs.Answers.{IsAnswer}
+use Rattle.dd_search.specs.ClaimsBy.{IsAnswer}
 
 -- what a search learns of a card: the tricks that North and South take after it, and the one that it completes
 pub record Learnt (p q : Board) (c : PlayingCard) (tricks point : ℕ) (winner : Option Seat) : Type 0 where

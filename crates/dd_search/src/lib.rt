@@ -2,7 +2,6 @@
 #![tactic(auto)]
 
 mod answer;
-pub mod bounds;
 mod claim;
 mod follow;
 mod guess;
@@ -16,6 +15,7 @@ mod rests;
 pub mod score;
 pub mod start;
 mod strength;
+pub mod table;
 mod takes;
 #[cfg(test)]
 mod tests;

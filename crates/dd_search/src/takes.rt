@@ -1,18 +1,19 @@
 //! The question of the search: do North and South take at least so many of the tricks that are left?
-ghost use Rattle.std.specs.Prelude.{IfSome, [], ◌≡◌, ◌+◌, ◌≤◌, ◌<◌, true, Err, IfOk, OnOk, MatchOption};
+ghost use Rattle.std.specs.Prelude.{IfSome, [], ◌≡◌, ◌+◌, ◌≤◌, ◌<◌, true, IfOk, OnOk, MatchOption};
 ghost use Rattle.dd_cards.specs.Cards.{has_card};
 ghost use Rattle.dd_play.specs.Board.{left};
 ghost use Rattle.dd_play.specs.Play.{legal, after};
 ghost use Rattle.dd_play.specs.Value.{point_of};
 ghost use Rattle.dd_play.specs.Won.{point};
-ghost use Rattle.dd_search.specs.Answers.{IsAnswer, IsAnswerBy};
+ghost use Rattle.dd_search.specs.Budgets.{EndsAs};
+ghost use Rattle.dd_search.specs.ClaimsBy.{IsAnswer, IsAnswerBy};
 
 use crate::answer::Answer;
-use crate::bounds::Bounds;
-use crate::known::{known, teach};
-use crate::meter::{Halt, Meter, Tick, go_on};
+use crate::known::{known_answer, note_answer};
+use crate::meter::{Halt, Meter, go_on};
 use crate::order::list_moves;
 use crate::rests::{also_spared, is_spared, settled_by};
+use crate::table::Bounds;
 use arrayvec::ArrayVec;
 use dd_cards::hand::Hand;
 use dd_cards::seat::Seat;
@@ -26,7 +27,7 @@ use dd_play::trick_start::TrickStart;
 pub(crate) fn takes<B: Bounds, M: Meter>(
     position: &Position,
     need: u8,
-    bounds: &mut B,
+    table: &mut B,
     meter: &mut M,
 ) -> Result<Answer, Halt>
     requires low { 1 ≤ need }
@@ -34,13 +35,12 @@ pub(crate) fn takes<B: Bounds, M: Meter>(
     ensures answer { IfOk result (λ answer. IsAnswer position.now need answer.yes) }
     ensures rests { IfOk result (λ answer. IsAnswerBy position.now need answer.cards answer.yes) }
     ensures ticked { OnOk result (M.ticked meter.old meter.new) }
-    ensures spent { result ≡ Err Halt.Spent → M.says meter.new Tick.Spent }
-    ensures stopped { result ≡ Err Halt.Stopped → M.says meter.new Tick.Stop }
+    ensures ends { EndsAs (M.says meter.new) result }
 {
     go_on(meter)?;
     let start = TrickStart::of(position);
     if let Some(start) = &start {
-        if let Some(answer) = known(start, need, bounds) {
+        if let Some(answer) = known_answer(start, need, table) {
             return Ok(answer);
         }
     }
@@ -58,12 +58,12 @@ pub(crate) fn takes<B: Bounds, M: Meter>(
         // The position stays where `play` put it: a copy of it would wait for its bytes to be written.
         let played = position.play(card);
         let rest = rest_after(need, played.1);
-        let later = match counted(&played.0, rest) {
+        let later = match answer_by_counting(&played.0, rest) {
             Some(yes) => Answer {
                 yes,
                 cards: Hand::new(),
             },
-            None => takes(&played.0, rest, bounds, meter)?,
+            None => takes(&played.0, rest, table, meter)?,
         };
         let by = settled_by(position, card, played.1, later.cards);
         if later.yes == north_south {
@@ -84,7 +84,7 @@ pub(crate) fn takes<B: Bounds, M: Meter>(
         },
     };
     if let Some(start) = &start {
-        teach(start, need, answer, bounds);
+        note_answer(start, need, answer, table);
     }
     Ok(answer)
 }
@@ -100,7 +100,7 @@ fn rest_after(need: u8, winner: Option<Seat>) -> u8
 
 /// The answer where counting settles it: none needed, or more than are left.
 #[inline]
-pub(crate) fn counted(position: &Position, need: u8) -> Option<bool>
+pub(crate) fn answer_by_counting(position: &Position, need: u8) -> Option<bool>
     ensures answer { MatchOption result ((1 ≤ need) × (need ≤ left position.now)) (λ yes. IsAnswer position.now need yes) }
     ensures rests { IfSome result (λ yes. IsAnswerBy position.now need [] yes) }
 {

@@ -4,7 +4,7 @@ ghost use Rattle.std.specs.Prelude.{◌≤◌};
 use dd_play::interval::Interval;
 use dd_play::trick_start::TrickStart;
 use dd_rank::depths::Depths;
-use dd_search::bounds::Bounds;
+use dd_search::table::Bounds;
 use dd_shard::shard::Shard;
 use std::alloc::{AllocError, Global};
 

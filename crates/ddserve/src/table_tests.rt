@@ -12,7 +12,7 @@ use dd_play::trick_start::TrickStart;
 use dd_reply::reply::write_answer;
 use dd_reply::request::Request;
 use dd_reply::solve::solve;
-use dd_search::bounds::{Bounds, NoTable};
+use dd_search::table::{Bounds, NoTable};
 use dd_search::meter::Endless;
 use dd_search::start::start_value;
 use dd_shard::shard::Shard;

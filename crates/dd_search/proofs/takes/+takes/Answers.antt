@@ -6,19 +6,19 @@ use Rattle.dd_cards.specs.Seats.{is_north_south}
 use Rattle.dd_play.specs.Board.{Board, cards_left, mover}
 use Rattle.dd_play.specs.Simulations.{IsLegal}
 use Rattle.dd_play.proofs.Values.{cards_left-after}
-use Rattle.dd_search.specs.Answers.{IsAnswer, IsAnswerBy, AnswerBy}
+use Rattle.dd_search.specs.ClaimsBy.{IsAnswer, IsAnswerBy, AnswerBy}
 use Rattle.dd_search.specs.Moves.{WeighedCard}
 use Rattle.dd_search.proofs.Relied.{Walked, Leads, answer-here, one-more, more-spared, leads-against, leads-wider, settled-answer, some-found, none-found}
 use Rattle.dd_search.proofs.Orders.{move-legal}
 use Rattle.dd_search.proofs.Scores.{needed-after}
 use Rattle.dd_search.proofs.takes.+takes.Goals as goal
-use Rattle.dd_search.proofs.takes.+takes.Goals.{else-loop-tried-test, then-loop-tried-test+else-is_spared+then-later-north_south, in-Some-counted, in-None+in_ok-later-inside-in-None, in-Some-found, in-None-found}
+use Rattle.dd_search.proofs.takes.+takes.Goals.{else-loop-tried-test, then-loop-tried-test+else-is_spared+then-later-north_south, in-Some-answer_by_counting, in-None+in_ok-later-inside-in-None, in-Some-found, in-None-found}
 
-pub returns-in-Some-known-clause-answer : goal.returns-in-Some-known-clause-answer
-returns-in-Some-known-clause-answer g t c =
+pub returns-in-Some-known_answer-clause-answer : goal.returns-in-Some-known_answer-clause-answer
+returns-in-Some-known_answer-clause-answer g t c =
     let p = c.args.position.now in
     let start : MatchOption (Some c.in-Some.start) (p.trick ≡ [] → ⊥) (λ q. (p.trick ≡ []) × (q ≡ p)) = rw c.in-Some.is at c.of-start.ensures in
-    subst (λ (q : Board). IsAnswer q c.args.need c.in-Some-known.answer.yes) start.1 (answer-here c.in-Some.start c.args.need c.in-Some-known.answer.cards c.in-Some-known.answer.yes c.known.ensures.board c.in-Some-known.ensures.answer)
+    subst (λ (q : Board). IsAnswer q c.args.need c.in-Some-known_answer.answer.yes) start.1 (answer-here c.in-Some.start c.args.need c.in-Some-known_answer.answer.cards c.in-Some-known_answer.answer.yes c.known_answer.ensures.board c.in-Some-known_answer.ensures.answer)
 
 pub loop-tried-preserved-then-is_spared : goal.loop-tried-preserved-then-is_spared
 loop-tried-preserved-then-is_spared g t c =
@@ -58,8 +58,8 @@ loop-tried-preserved g t c =
     let b = c.is_north_south-north_south.result in
     let has : IsLegal p c.tried.inside.card = move-legal c.args.position.now c.as_slice-tried-items.result.now c.list_moves.new.moves.items c.loop-tried.tried-index c.tried-item.result c.tried.inside.card
     c.as_slice-tried-items.ensures.value c.list_moves.ensures c.loop-tried-test.true c.tried-item.is (ap (λ (m : WeighedCard). m.card) c.tried.view_is) in
-    let answer : IsAnswerBy q rest c.later.inside.cards c.later.inside.yes = subst (λ (a : AnswerBy). IsAnswerBy q rest a.cards a.yes) (sym c.later.view_is) (elim c.match-counted.branch [
-      | in-Some-counted v ↦ subst (λ (a : AnswerBy). IsAnswerBy q rest a.cards a.yes) (sym v.later-is) (subst (λ (cards : List PlayingCard). IsAnswerBy q rest cards v.in-Some-counted.yes) (sym v.new.ensures) v.in-Some-counted.ensures.rests)
+    let answer : IsAnswerBy q rest c.later.inside.cards c.later.inside.yes = subst (λ (a : AnswerBy). IsAnswerBy q rest a.cards a.yes) (sym c.later.view_is) (elim c.match-answer_by_counting.branch [
+      | in-Some-answer_by_counting v ↦ subst (λ (a : AnswerBy). IsAnswerBy q rest a.cards a.yes) (sym v.later-is) (subst (λ (cards : List PlayingCard). IsAnswerBy q rest cards v.in-Some-answer_by_counting.yes) (sym v.new.ensures) v.in-Some-answer_by_counting.ensures.rests)
       | in-None+in_ok-later-inside-in-None v ↦ subst (λ (a : AnswerBy). IsAnswerBy q rest a.cards a.yes) (sym v.later-is) v.in_ok-later-inside-in-None.ensures.rests
     ]) in
     let here : Leads p c.args.need c.tried.inside.card c.settled_by-by.result (not b) = leads-against p q c.args.need rest c.tried.inside.card c.later.inside.cards c.settled_by-by.result b c.later.inside.yes c.mover.ensures.board has c.requires.low c.play-played.ensures.next
@@ -69,15 +69,15 @@ loop-tried-preserved g t c =
       tried = one-more p c.args.need c.as_slice-tried-items.result.now c.loop-tried.tried-index c.tried-item.result c.tried.inside.card c.loop-tried.cards c.union-cards.result (not b) c.tried-item.is c.loop-tried-test.true (ap (λ (m : WeighedCard). m.card) c.tried.view_is) c.union-cards.ensures.left
           (leads-wider p c.args.need c.tried.inside.card c.settled_by-by.result c.union-cards.result (not b) c.union-cards.ensures.right here) c.loop-tried.invariant.tried;
       spared = more-spared p c.args.need c.tried.inside.card c.loop-tried.spared c.also_spared-spared.result c.settled_by-by.result c.loop-tried.cards c.union-cards.result (not b) c.also_spared-spared.ensures c.union-cards.ensures.left c.union-cards.ensures.right here c.loop-tried.invariant.spared;
-      ticked = elim c.match-counted.branch [
-        | in-Some-counted w ↦ subst (λ m. g.M.Meter.ticked c.args.meter.now m) (sym w.meter-is) c.loop-tried.invariant.ticked
+      ticked = elim c.match-answer_by_counting.branch [
+        | in-Some-answer_by_counting w ↦ subst (λ m. g.M.Meter.ticked c.args.meter.now m) (sym w.meter-is) c.loop-tried.invariant.ticked
         | in-None+in_ok-later-inside-in-None w ↦ subst (λ m. g.M.Meter.ticked c.args.meter.now m) (sym w.meter-is)
             (g.met.M.Meter.later c.args.meter.now c.loop-tried.meter w.takes.new.meter c.loop-tried.invariant.ticked w.in_ok-later-inside-in-None.ensures.ticked)
       ];
     }
 
-pub teach-requires-clause-answer : goal.teach-requires-clause-answer
-teach-requires-clause-answer g t c =
+pub note_answer-requires-clause-answer : goal.note_answer-requires-clause-answer
+note_answer-requires-clause-answer g t c =
     let p = c.args.position.now in
     let need = c.args.need in
     let valid = c.mover.ensures.board in
@@ -92,8 +92,8 @@ teach-requires-clause-answer g t c =
           let q = w.play-played.result.0 in
           let rest = w.rest_after-rest.result in
           let has = move-legal p places moves i w.tried-item.result w.tried.inside.card c.as_slice-tried-items.ensures.value c.list_moves.ensures w.loop-tried-test.true w.tried-item.is (ap (λ (m : WeighedCard). m.card) w.tried.view_is) in
-          let answer : IsAnswerBy q rest w.later.inside.cards w.later.inside.yes = subst (λ (a : AnswerBy). IsAnswerBy q rest a.cards a.yes) (sym w.later.view_is) (elim w.match-counted.branch [
-            | in-Some-counted v ↦ subst (λ (a : AnswerBy). IsAnswerBy q rest a.cards a.yes) (sym v.later-is) (subst (λ (cards : List PlayingCard). IsAnswerBy q rest cards v.in-Some-counted.yes) (sym v.new.ensures) v.in-Some-counted.ensures.rests)
+          let answer : IsAnswerBy q rest w.later.inside.cards w.later.inside.yes = subst (λ (a : AnswerBy). IsAnswerBy q rest a.cards a.yes) (sym w.later.view_is) (elim w.match-answer_by_counting.branch [
+            | in-Some-answer_by_counting v ↦ subst (λ (a : AnswerBy). IsAnswerBy q rest a.cards a.yes) (sym v.later-is) (subst (λ (cards : List PlayingCard). IsAnswerBy q rest cards v.in-Some-answer_by_counting.yes) (sym v.new.ensures) v.in-Some-answer_by_counting.ensures.rests)
             | in-None+in_ok-later-inside-in-None v ↦ subst (λ (a : AnswerBy). IsAnswerBy q rest a.cards a.yes) (sym v.later-is) v.in_ok-later-inside-in-None.ensures.rests
           ]) in
           subst (λ (o : Option (List PlayingCard)). Walked p need places moves i c.loop-tried.cards b o) (sym w.found-is)
@@ -123,8 +123,8 @@ returns-clause-rests g t c =
           let q = w.play-played.result.0 in
           let rest = w.rest_after-rest.result in
           let has = move-legal p places moves i w.tried-item.result w.tried.inside.card c.as_slice-tried-items.ensures.value c.list_moves.ensures w.loop-tried-test.true w.tried-item.is (ap (λ (m : WeighedCard). m.card) w.tried.view_is) in
-          let answer : IsAnswerBy q rest w.later.inside.cards w.later.inside.yes = subst (λ (a : AnswerBy). IsAnswerBy q rest a.cards a.yes) (sym w.later.view_is) (elim w.match-counted.branch [
-            | in-Some-counted v ↦ subst (λ (a : AnswerBy). IsAnswerBy q rest a.cards a.yes) (sym v.later-is) (subst (λ (cards : List PlayingCard). IsAnswerBy q rest cards v.in-Some-counted.yes) (sym v.new.ensures) v.in-Some-counted.ensures.rests)
+          let answer : IsAnswerBy q rest w.later.inside.cards w.later.inside.yes = subst (λ (a : AnswerBy). IsAnswerBy q rest a.cards a.yes) (sym w.later.view_is) (elim w.match-answer_by_counting.branch [
+            | in-Some-answer_by_counting v ↦ subst (λ (a : AnswerBy). IsAnswerBy q rest a.cards a.yes) (sym v.later-is) (subst (λ (cards : List PlayingCard). IsAnswerBy q rest cards v.in-Some-answer_by_counting.yes) (sym v.new.ensures) v.in-Some-answer_by_counting.ensures.rests)
             | in-None+in_ok-later-inside-in-None v ↦ subst (λ (a : AnswerBy). IsAnswerBy q rest a.cards a.yes) (sym v.later-is) v.in_ok-later-inside-in-None.ensures.rests
           ]) in
           subst (λ (o : Option (List PlayingCard)). Walked p need places moves i c.loop-tried.cards b o) (sym w.found-is)
@@ -153,8 +153,8 @@ returns-clause-answer g t c =
           let q = w.play-played.result.0 in
           let rest = w.rest_after-rest.result in
           let has = move-legal p places moves i w.tried-item.result w.tried.inside.card c.as_slice-tried-items.ensures.value c.list_moves.ensures w.loop-tried-test.true w.tried-item.is (ap (λ (m : WeighedCard). m.card) w.tried.view_is) in
-          let answer : IsAnswerBy q rest w.later.inside.cards w.later.inside.yes = subst (λ (a : AnswerBy). IsAnswerBy q rest a.cards a.yes) (sym w.later.view_is) (elim w.match-counted.branch [
-            | in-Some-counted v ↦ subst (λ (a : AnswerBy). IsAnswerBy q rest a.cards a.yes) (sym v.later-is) (subst (λ (cards : List PlayingCard). IsAnswerBy q rest cards v.in-Some-counted.yes) (sym v.new.ensures) v.in-Some-counted.ensures.rests)
+          let answer : IsAnswerBy q rest w.later.inside.cards w.later.inside.yes = subst (λ (a : AnswerBy). IsAnswerBy q rest a.cards a.yes) (sym w.later.view_is) (elim w.match-answer_by_counting.branch [
+            | in-Some-answer_by_counting v ↦ subst (λ (a : AnswerBy). IsAnswerBy q rest a.cards a.yes) (sym v.later-is) (subst (λ (cards : List PlayingCard). IsAnswerBy q rest cards v.in-Some-answer_by_counting.yes) (sym v.new.ensures) v.in-Some-answer_by_counting.ensures.rests)
             | in-None+in_ok-later-inside-in-None v ↦ subst (λ (a : AnswerBy). IsAnswerBy q rest a.cards a.yes) (sym v.later-is) v.in_ok-later-inside-in-None.ensures.rests
           ]) in
           subst (λ (o : Option (List PlayingCard)). Walked p need places moves i c.loop-tried.cards b o) (sym w.found-is)
@@ -170,8 +170,8 @@ returns-clause-answer g t c =
 pub returns-clause-ticked : goal.returns-clause-ticked
 returns-clause-ticked g t c = elim c.loop-tried-test.branch [
   | else-loop-tried-test w ↦ subst (λ m. g.M.Meter.ticked c.args.meter.now m) (sym w.meter-is) c.loop-tried.invariant.ticked
-  | then-loop-tried-test+else-is_spared+then-later-north_south w ↦ subst (λ m. g.M.Meter.ticked c.args.meter.now m) (sym w.meter-is) (elim w.match-counted.branch [
-    | in-Some-counted v ↦ subst (λ m. g.M.Meter.ticked c.args.meter.now m) (sym v.meter-is) c.loop-tried.invariant.ticked
+  | then-loop-tried-test+else-is_spared+then-later-north_south w ↦ subst (λ m. g.M.Meter.ticked c.args.meter.now m) (sym w.meter-is) (elim w.match-answer_by_counting.branch [
+    | in-Some-answer_by_counting v ↦ subst (λ m. g.M.Meter.ticked c.args.meter.now m) (sym v.meter-is) c.loop-tried.invariant.ticked
     | in-None+in_ok-later-inside-in-None v ↦ subst (λ m. g.M.Meter.ticked c.args.meter.now m) (sym v.meter-is)
         (g.met.M.Meter.later c.args.meter.now c.loop-tried.meter v.takes.new.meter c.loop-tried.invariant.ticked v.in_ok-later-inside-in-None.ensures.ticked)
   ])
