@@ -216,12 +216,6 @@ opponent-by top p i start law tops k to from t q r strict =
     other-side false false true h = absurd (cc)
     other-side false false false h = absurd (cc)
 
-pub next-by : (top : PlayingCard → Bool) (p : Board) → p.trick ≡ [] → ((u : Suit) → p.strain ≡ Trump u → AreTop top p (seat_after p.first 1) u) → TakesBy top (not (is_north_south p.first)) p (top_trumps p.strain p (seat_after p.first 1))
-next-by top p start tops = opponent-by top p 1 start (λ q good e. (bounded q good e).next) tops
-
-pub last-by : (top : PlayingCard → Bool) (p : Board) → p.trick ≡ [] → ((u : Suit) → p.strain ≡ Trump u → AreTop top p (seat_after p.first 3) u) → TakesBy top (not (is_north_south p.first)) p (top_trumps p.strain p (seat_after p.first 3))
-last-by top p start tops = opponent-by top p 3 start (λ q good e. (bounded q good e).last) tops
-
 -- ---- which cards the winners are
 
 -- a winner's rank is above the others' highest
