@@ -22,8 +22,8 @@ use dd_play::position::Position;
 use dd_play::trick_start::TrickStart;
 
 /// Do North and South take at least `need` of the tricks left? It ticks first; at a start of a trick a look or the quick
-/// bounds may settle it; else one card of each class that isn't spared is tried until one does, and what that taught is
-/// noted.
+/// bounds may settle it; else play does, and what that taught is noted.
+#[cycle(takes)]
 pub(crate) fn takes<B: Bounds, M: Meter>(
     position: &Position,
     need: u8,
@@ -38,16 +38,36 @@ pub(crate) fn takes<B: Bounds, M: Meter>(
     ensures ends { EndsAs (M.says meter.new) result }
 {
     go_on(meter)?;
-    let start = TrickStart::of(position);
-    if let Some(start) = &start {
-        if let Some(answer) = known_answer(start, need, table) {
-            return Ok(answer);
-        }
+    let Some(start) = TrickStart::of(position) else {
+        return answer_by_play(position, need, table, meter);
+    };
+    if let Some(answer) = known_answer(&start, need, table) {
+        return Ok(answer);
     }
+    let answer = answer_by_play(position, need, table, meter)?;
+    note_answer(&start, need, answer, table);
+    Ok(answer)
+}
+
+// The answer by the cards: one of each class that isn't spared is tried until one settles it.
+#[cycle(takes)]
+fn answer_by_play<B: Bounds, M: Meter>(
+    position: &Position,
+    need: u8,
+    table: &mut B,
+    meter: &mut M,
+) -> Result<Answer, Halt>
+    requires low { 1 ≤ need }
+    requires high { need ≤ left position.now }
+    ensures answer { IfOk result (λ answer. IsAnswer position.now need answer.yes) }
+    ensures rests { IfOk result (λ answer. IsAnswerBy position.now need answer.cards answer.yes) }
+    // What had ticked before has ticked still.
+    ensures ticked { (m : M) → M.ticked m meter.old → OnOk result (M.ticked m meter.new) }
+    ensures ends { EndsAs (M.says meter.new) result }
+{
     let mut moves = ArrayVec::new();
     list_moves(position, &mut moves);
     let north_south = position.mover().is_north_south();
-    let mut found = None;
     let mut cards = Hand::new();
     let mut spared = Hand::new();
     for tried in moves.as_slice() {
@@ -67,26 +87,18 @@ pub(crate) fn takes<B: Bounds, M: Meter>(
         };
         let by = settled_by(position, card, played.1, later.cards);
         if later.yes == north_south {
-            found = Some(by);
-            break;
+            return Ok(Answer {
+                yes: north_south,
+                cards: by,
+            });
         }
         cards = cards.union(by);
         spared = also_spared(spared, card, by);
     }
-    let answer = match found {
-        Some(by) => Answer {
-            yes: north_south,
-            cards: by,
-        },
-        None => Answer {
-            yes: !north_south,
-            cards: whole(position, cards),
-        },
-    };
-    if let Some(start) = &start {
-        note_answer(start, need, answer, table);
-    }
-    Ok(answer)
+    Ok(Answer {
+        yes: !north_south,
+        cards: whole(position, cards),
+    })
 }
 
 // How many tricks North and South still need when this seat has won one.

@@ -3,11 +3,13 @@
 //! The deal is `BEHIND` at notrump, North on lead: spades 3 2, 6 5, A Q, K 4. In each position the search ticks once, then
 //! looks if a trick starts there, then plays. Quick tricks settle nothing here: no leader has a highest card, and there are
 //! no trumps.
-ghost use Rattle.std.specs.Prelude.{◌≡◌, ◌≤◌};
+ghost use Rattle.std.specs.Prelude.{◌≤◌, IfSome};
+ghost use Rattle.dd_cards.specs.declared.suit.Suit.{Suit as SuitOf};
 ghost use Rattle.dd_play.specs.Board.{Board, IsBoard};
+ghost use Rattle.dd_play.specs.Covers.{count_of};
 ghost use Rattle.dd_play.specs.Value.{lead};
 ghost use Rattle.dd_play.specs.Intervals.{Holds};
-ghost use Rattle.dd_rank.specs.Depths.{depth_in, Covers};
+ghost use Rattle.dd_rank.specs.Depths.{all_cards, depth_in, Covers};
 
 use super::{BEHIND, position_of, start_of};
 use crate::meter::{Budget, Endless, Halt, Meter};
@@ -54,6 +56,23 @@ impl Log {
     }
 }
 
+// The value as bounds that hold at its depths.
+fn exact_bounds(start: &TrickStart) -> Option<(Interval, Depths)>
+    ensures holds { IfSome result (λ told. (q : Board) → IsBoard q → Covers start.now (depth_in told.1) q → Holds told.0 (lead q)) }
+    ensures within { IfSome result (λ told. (u : SuitOf) → depth_in told.1 u ≤ count_of u (all_cards start.now)) }
+{
+    match start_value(start, &mut NoTable, &mut Endless) {
+        Ok((value, depths)) => Some((
+            Interval {
+                lo: value,
+                hi: value,
+            },
+            depths,
+        )),
+        Err(_) => None,
+    }
+}
+
 impl Bounds for Log {
     ghost tells = { λ table p depths interval. (q : Board) → IsBoard q → Covers p (depth_in depths) q → Holds interval (lead q) };
 
@@ -65,16 +84,7 @@ impl Bounds for Log {
         if left != self.knows {
             return None;
         }
-        match start_value(start, &mut NoTable, &mut Endless) {
-            Ok((value, depths)) => Some((
-                Interval {
-                    lo: value,
-                    hi: value,
-                },
-                depths,
-            )),
-            Err(_) => None,
-        }
+        exact_bounds(start)
     }
 
     fn note(&mut self, start: &TrickStart, _depths: Depths, interval: Interval) {
