@@ -14,12 +14,9 @@ ghost use Rattle.dd_search.specs.ClaimsBy.{IsAnswerBy, IsWindow, north_souths};
 
 use crate::answer::Answer;
 use crate::claim::Claim;
-use crate::table::Bounds;
-use dd_play::interval::Interval;
-use dd_play::position::Position;
-use dd_play::trick_start::TrickStart;
-use dd_quick::bounds::{against_leader, bounds as quick_bounds, for_leader};
-use dd_rank::depths::Depths;
+use dd_play::{Interval, Position, TrickStart};
+use dd_quick::{against_leader, bounds as quick_bounds, for_leader};
+use dd_rank::Depths;
 
 /// Do North and South take at least `need` of the tricks left, where a look or, after it, the quick bounds settle it?
 #[inline]

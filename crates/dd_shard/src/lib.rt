@@ -1,7 +1,10 @@
 //! What was learned of the values of positions, by shapes, the last used first, in bounded memory.
 #![tactic(auto)]
 
-pub mod shard;
+mod shard;
 mod slot;
+
+pub use shard::Shard;
+
 #[cfg(test)]
 mod tests;

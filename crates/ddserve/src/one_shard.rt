@@ -1,11 +1,10 @@
 //! The transposition table of one thread.
 ghost use Rattle.std.specs.Prelude.{◌≤◌};
 
-use dd_play::interval::Interval;
-use dd_play::trick_start::TrickStart;
-use dd_rank::depths::Depths;
-use dd_search::table::Bounds;
-use dd_shard::shard::Shard;
+use dd_play::{Interval, TrickStart};
+use dd_rank::Depths;
+use dd_search::Bounds;
+use dd_shard::Shard;
 use std::alloc::{AllocError, Global};
 
 /// One shard of bounds. Bounds for which there is no memory are not kept.

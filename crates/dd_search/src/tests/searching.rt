@@ -17,11 +17,9 @@ use crate::start::start_value;
 use crate::table::{Bounds, NoTable};
 use crate::takes::takes;
 use arrayvec::ArrayVec;
-use dd_cards::seat::Seat;
-use dd_play::interval::Interval;
-use dd_play::position::Position;
-use dd_play::trick_start::TrickStart;
-use dd_rank::depths::Depths;
+use dd_cards::Seat;
+use dd_play::{Interval, Position, TrickStart};
+use dd_rank::Depths;
 
 // What a search did with its table, at a start of a trick with so many tricks left.
 #[derive(Clone, Copy, Debug, PartialEq, Eq)]
