@@ -163,5 +163,5 @@ impl<B: Bounds> Bounds for Cache<B> {
 // Where the pages of a shape are found.
 #[inline]
 fn place(shape: Shape) -> usize {
-    (shape.mixed() >> 48) as usize
+    (shape.mixing_number() >> 48) as usize
 }

@@ -58,7 +58,7 @@ fn push_classes(classes: &mut ArrayVec<Class, 13>, suit: Suit, own: Holding, oth
 {
     let mut rest = own;
     'tops: while let Some(top) = rest.highest() {
-        let (equals, next) = parted(rest.below(top), others.next_below(top));
+        let (equals, next) = ranks_around(rest.below(top), others.next_below(top));
         classes.push(Class {
             top: Card { suit, rank: top },
             equals: equals.mask(),
@@ -68,7 +68,7 @@ fn push_classes(classes: &mut ArrayVec<Class, 13>, suit: Suit, own: Holding, oth
 }
 
 // The ranks above the floor and those below it. Without a floor all are above.
-pub(crate) fn parted(ranks: Holding, floor: Option<Rank>) -> (Holding, Holding)
+pub(crate) fn ranks_around(ranks: Holding, floor: Option<Rank>) -> (Holding, Holding)
     ensures { MatchOption floor ((result.0 ≡ ranks) × (result.1 ≡ []))
         (λ f. (result.0 ≡ filter (λ q. nat_lt f q) ranks) × (result.1 ≡ filter (λ q. nat_lt q f) ranks)) }
 {

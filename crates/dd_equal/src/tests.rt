@@ -38,9 +38,7 @@ fn the_knave_on_the_trick_separates_the_queen_and_the_ten(rt: HostRuntime) {
         (Seat::West, 16 + 4),
         (Seat::West, 16 + 3),
     ];
-    let Some(knave) = Card::from_code(11) else {
-        return;
-    };
+    let knave = Card::from_code(11).expect(&rt, "the knave of spades");
     let found = classes_at(&cards, Seat::East, &[knave]);
     assert_eq!(rt; found.len(), 2);
     assert_eq!(rt; class_at(&found, 0), (12, 0));
@@ -68,18 +66,17 @@ fn cards_that_are_out_of_play_separate_nothing(rt: HostRuntime) {
 fn the_thirteen_spades_are_one_class(rt: HostRuntime) {
     let mut hands = Hands::new();
     for suit in 0..4u8 {
-        let Some(seat) = Seat::from_code(suit) else {
-            return;
-        };
+        let seat = Seat::from_code(suit).expect(&rt, "one of four seats");
         for rank in 2..15u8 {
             if let Some(card) = Card::from_code(16 * suit + rank) {
                 hands.insert(seat, card);
             }
         }
     }
-    let Ok(position) = Position::new(hands, Strain::Notrump, Seat::North, &[]) else {
-        return;
-    };
+    let position = Position::new(hands, Strain::Notrump, Seat::North, &[]).expect(
+        &rt,
+        "thirteen cards a hand",
+    );
     let found = classes(&position);
     assert_eq!(rt; found.len(), 1);
     assert_eq!(rt; class_at(&found, 0), (14, 16380));

@@ -6,7 +6,7 @@ ghost use Rattle.dd_play.specs.Simulations.{IsLegal};
 ghost use Rattle.dd_play.specs.Reach.{reach};
 ghost use Rattle.dd_equal.specs.EqualCards.{are_equal, IsWhole};
 
-use crate::partition::{legal_ranks, other_ranks, parted};
+use crate::partition::{legal_ranks, other_ranks, ranks_around};
 use dd_cards::{Card, Hand, Rank, Suit};
 use dd_play::Position;
 
@@ -40,7 +40,7 @@ fn whole_suit(position: &Position, reached: Hand, suit: Suit) -> Hand
     let Some(least) = own.next_from(floor) else {
         return reached;
     };
-    let cut = parted(below, other_ranks(position, suit).next_below(least)).0;
+    let cut = ranks_around(below, other_ranks(position, suit).next_below(least)).0;
     match cut.next_from(Rank::of(2)) {
         Some(rank) => reached.with(Card { suit, rank }),
         None => reached,

@@ -41,76 +41,7 @@ count-split test other (c ∷ cards) =
     flags true false = omega arith
     flags false b = omega arith
 
--- the mover of the one is the mover of the other, turned
-pub mover-turned : (top : PlayingCard → Bool) (k : ℕ) (to from : PlayingCard → PlayingCard) (s : Side) (p : Board) (t : Side) (q : Board) → IsCover top k to from s p t q → mover q ≡ seat_after (mover p) k
-mover-turned top k to from s p t q r =
-    ap₂ seat_after r.first (answer-length to from top p.trick q.trick r.trick) ∙ turn-turn p.first k (length p.trick)
-
--- ---- a card of p has an answer in q, in the same hand
-
--- each card of a hand of p has an answer in that hand, turned, of q
-pub reply : (top : PlayingCard → Bool) (k : ℕ) (to from : PlayingCard → PlayingCard) (s : Side) (p : Board) (t : Side) (q : Board) → IsCover top k to from s p t q
-    → (x : Seat) (c : PlayingCard) → has_card (cards_at p x) c ≡ true → (d : PlayingCard) × (has_card (cards_at q (seat_after x k)) d ≡ true) × Answers to from top c d
-reply top k to from s p t q r x c has = go (top c) refl
-  where
-    go : (b : Bool) → top c ≡ b → (d : PlayingCard) × (has_card (cards_at q (seat_after x k)) d ≡ true) × Answers to from top c d
-    go true e =
-        let f = r.forth x c has e in
-        (to c, f.0, record { suit = r.to_suit c; kind = ap top f.1; same = λ h. (refl, f.1) })
-    go false e =
-        let mine : List PlayingCard = cards_at p x in
-        let his : List PlayingCard = cards_at q (seat_after x k) in
-        let low_here : 1 ≤ count (λ y. is_of c.suit y && not (top y)) mine = count-has (λ y. is_of c.suit y && not (top y)) mine c has (and-both _ _ (of-suit' c.suit c refl) (false-not (top c) e)) in
-        let a : count (is_of c.suit) mine ≡ count (λ y. is_of c.suit y && top y) mine + count (λ y. is_of c.suit y && not (top y)) mine = count-split (is_of c.suit) top mine in
-        let b : count (is_of c.suit) his ≡ count (λ y. is_of c.suit y && top (from y)) his + count (λ y. is_of c.suit y && not (top (from y))) his = count-split (is_of c.suit) (λ y. top (from y)) his in
-        let same : count (is_of c.suit) his ≡ count (is_of c.suit) mine = r.lengths x c.suit in
-        let tops : count (λ y. is_of c.suit y && top (from y)) his ≤ count (λ y. is_of c.suit y && top y) mine =
-        inject from to (λ y. is_of c.suit y && top (from y)) (λ y. is_of c.suit y && top y) his mine (once-in q r.valid_q (seat_after x k)) (λ y hy ty.
-        let g = r.back x y hy (and-right (is_of c.suit y) (top (from y)) ty) in
-        (g.0, and-both _ _ (of-suit' c.suit (from y) (r.from_suit y ∙ suit-of c.suit y (and-left (is_of c.suit y) (top (from y)) ty))) (and-right (is_of c.suit y) (top (from y)) ty), g.1)) in
-        let low_there : 1 ≤ count (λ y. is_of c.suit y && not (top (from y))) his = omega (arith, low_here, a, b, same, tops) in
-        let d = count-some (λ y. is_of c.suit y && not (top (from y))) his low_there in (
-          d.0,
-          d.1,
-          record {
-            suit = suit-of c.suit d.0 (and-left (is_of c.suit d.0) (not (top (from d.0))) d.2);
-            kind = not-true (top (from d.0)) (and-right (is_of c.suit d.0) (not (top (from d.0))) d.2) ∙ sym e;
-            same = λ h. absurd (let no : false ≡ true = sym e ∙ h in cc);
-          },
-        )
-
--- each card of a hand of q answers one of that hand of p
-pub reply' : (top : PlayingCard → Bool) (k : ℕ) (to from : PlayingCard → PlayingCard) (s : Side) (p : Board) (t : Side) (q : Board) → IsCover top k to from s p t q
-    → (x : Seat) (d : PlayingCard) → has_card (cards_at q (seat_after x k)) d ≡ true → (c : PlayingCard) × (has_card (cards_at p x) c ≡ true) × Answers to from top c d
-reply' top k to from s p t q r x d has = go (top (from d)) refl
-  where
-    go : (b : Bool) → top (from d) ≡ b → (c : PlayingCard) × (has_card (cards_at p x) c ≡ true) × Answers to from top c d
-    go true e =
-        let f = r.back x d has e in
-        (from d, f.0, record { suit = sym (r.from_suit d); kind = refl; same = λ h. (sym f.1, refl) })
-    go false e =
-        let mine : List PlayingCard = cards_at p x in
-        let his : List PlayingCard = cards_at q (seat_after x k) in
-        let low_there : 1 ≤ count (λ y. is_of d.suit y && not (top (from y))) his = count-has (λ y. is_of d.suit y && not (top (from y))) his d has (and-both _ _ (of-suit' d.suit d refl) (false-not (top (from d)) e)) in
-        let a : count (is_of d.suit) mine ≡ count (λ y. is_of d.suit y && top y) mine + count (λ y. is_of d.suit y && not (top y)) mine = count-split (is_of d.suit) top mine in
-        let b : count (is_of d.suit) his ≡ count (λ y. is_of d.suit y && top (from y)) his + count (λ y. is_of d.suit y && not (top (from y))) his = count-split (is_of d.suit) (λ y. top (from y)) his in
-        let same : count (is_of d.suit) his ≡ count (is_of d.suit) mine = r.lengths x d.suit in
-        let tops : count (λ y. is_of d.suit y && top y) mine ≤ count (λ y. is_of d.suit y && top (from y)) his =
-        inject to from (λ y. is_of d.suit y && top y) (λ y. is_of d.suit y && top (from y)) mine his (once-in p r.valid_p x) (λ y hy ty.
-        let g = r.forth x y hy (and-right (is_of d.suit y) (top y) ty) in
-        (g.0, and-both _ _ (of-suit' d.suit (to y) (r.to_suit y ∙ suit-of d.suit y (and-left (is_of d.suit y) (top y) ty))) (ap top g.1 ∙ and-right (is_of d.suit y) (top y) ty), g.1)) in
-        let low_here : 1 ≤ count (λ y. is_of d.suit y && not (top y)) mine = omega (arith, low_there, a, b, same, tops) in
-        let c = count-some (λ y. is_of d.suit y && not (top y)) mine low_here in (
-          c.0,
-          c.1,
-          record {
-            suit = sym (suit-of d.suit c.0 (and-left (is_of d.suit c.0) (not (top c.0)) c.2));
-            kind = e ∙ sym (not-true (top c.0) (and-right (is_of d.suit c.0) (not (top c.0)) c.2));
-            same = λ h. absurd (let no : false ≡ true = sym (not-true (top c.0) (and-right (is_of d.suit c.0) (not (top c.0)) c.2)) ∙ h in cc);
-          },
-        )
-
--- ---- legal cards answer legal cards
+-- ---- what follows suit
 
 -- an answer to a card that follows suit follows suit
 obeys-to : (to from : PlayingCard → PlayingCard) (top : PlayingCard → Bool) (cs ds mine his : List PlayingCard) (c d : PlayingCard) → AllAnswer to from top cs ds → Answers to from top c d
@@ -134,33 +65,98 @@ obeys-from to from top (x ∷ cs) (y ∷ ds) mine his c d a m each o = λ b has 
     let e = each b has in
     sym m.suit ∙ o e.0 e.1 (e.2.suit ∙ suit ∙ sym a.0.suit) ∙ a.0.suit
 
--- an answer to a legal card is legal
-pub legal-to : (top : PlayingCard → Bool) (k : ℕ) (to from : PlayingCard → PlayingCard) (s : Side) (p : Board) (t : Side) (q : Board) → IsCover top k to from s p t q
-    → (c d : PlayingCard) → IsLegal p c → has_card (cards_at q (mover q)) d ≡ true → Answers to from top c d → IsLegal q d
-legal-to top k to from s p t q r c d has there m =
-    legal-in q.trick (cards_at q (mover q)) d there (obeys-to to from top p.trick q.trick (cards_at p (mover p)) (cards_at q (mover q)) c d r.trick m
-    (λ e h. reply' top k to from s p t q r (mover p) e (ap (λ y. has_card (cards_at q y) e) (sym (mover-turned top k to from s p t q r)) ∙ h))
-    (legal-out p.trick (cards_at p (mover p)) c has))
+-- ---- where p covers q, a card of p has an answer in q, in the same hand
 
--- each legal card of p has a legal answer in q
-pub answer : (top : PlayingCard → Bool) (k : ℕ) (to from : PlayingCard → PlayingCard) (s : Side) (p : Board) (t : Side) (q : Board) → IsCover top k to from s p t q
-    → (c : PlayingCard) → IsLegal p c → (d : PlayingCard) × IsLegal q d × Answers to from top c d
-answer top k to from s p t q r c has =
-    let d = reply top k to from s p t q r (mover p) c (own-card p c has) in
-    (d.0, legal-to top k to from s p t q r c d.0 has (ap (λ y. has_card (cards_at q y) d.0) (mover-turned top k to from s p t q r) ∙ d.1) d.2, d.2)
+module _ (top : PlayingCard → Bool) (k : ℕ) (to from : PlayingCard → PlayingCard) (s : Side) (p : Board) (t : Side) (q : Board) (r : IsCover top k to from s p t q) where
+  -- the mover of the one is the mover of the other, turned
+  pub mover-turned : mover q ≡ seat_after (mover p) k
+  mover-turned =
+      ap₂ seat_after r.first (answer-length to from top p.trick q.trick r.trick) ∙ turn-turn p.first k (length p.trick)
 
--- each legal card of q answers a legal one of p
-pub answer' : (top : PlayingCard → Bool) (k : ℕ) (to from : PlayingCard → PlayingCard) (s : Side) (p : Board) (t : Side) (q : Board) → IsCover top k to from s p t q
-    → (d : PlayingCard) → IsLegal q d → (c : PlayingCard) × IsLegal p c × Answers to from top c d
-answer' top k to from s p t q r d has =
-    let turn : (e : PlayingCard) → has_card (cards_at q (mover q)) e ≡ true → has_card (cards_at q (seat_after (mover p) k)) e ≡ true = λ e h. ap (λ y. has_card (cards_at q y) e) (sym (mover-turned top k to from s p t q r)) ∙ h in
-    let c = reply' top k to from s p t q r (mover p) d (turn d (own-card q d has)) in (
-      c.0,
-      legal-in p.trick (cards_at p (mover p)) c.0 c.1 (obeys-from to from top p.trick q.trick (cards_at p (mover p)) (cards_at q (mover q)) c.0 d r.trick c.2
-          (λ b h. let e = reply top k to from s p t q r (mover p) b h in (e.0, ap (λ y. has_card (cards_at q y) e.0) (mover-turned top k to from s p t q r) ∙ e.1, e.2))
-          (legal-out q.trick (cards_at q (mover q)) d has)),
-      c.2,
-    )
+  -- each card of a hand of p has an answer in that hand, turned, of q
+  pub reply : (x : Seat) (c : PlayingCard) → has_card (cards_at p x) c ≡ true → (d : PlayingCard) × (has_card (cards_at q (seat_after x k)) d ≡ true) × Answers to from top c d
+  reply x c has = go (top c) refl
+    where
+      go : (b : Bool) → top c ≡ b → (d : PlayingCard) × (has_card (cards_at q (seat_after x k)) d ≡ true) × Answers to from top c d
+      go true e =
+          let f = r.forth x c has e in
+          (to c, f.0, record { suit = r.to_suit c; kind = ap top f.1; same = λ h. (refl, f.1) })
+      go false e =
+          let mine : List PlayingCard = cards_at p x in
+          let his : List PlayingCard = cards_at q (seat_after x k) in
+          let low_here : 1 ≤ count (λ y. is_of c.suit y && not (top y)) mine = count-has (λ y. is_of c.suit y && not (top y)) mine c has (and-both _ _ (of-suit' c.suit c refl) (false-not (top c) e)) in
+          let a : count (is_of c.suit) mine ≡ count (λ y. is_of c.suit y && top y) mine + count (λ y. is_of c.suit y && not (top y)) mine = count-split (is_of c.suit) top mine in
+          let b : count (is_of c.suit) his ≡ count (λ y. is_of c.suit y && top (from y)) his + count (λ y. is_of c.suit y && not (top (from y))) his = count-split (is_of c.suit) (λ y. top (from y)) his in
+          let same : count (is_of c.suit) his ≡ count (is_of c.suit) mine = r.lengths x c.suit in
+          let tops : count (λ y. is_of c.suit y && top (from y)) his ≤ count (λ y. is_of c.suit y && top y) mine =
+          inject from to (λ y. is_of c.suit y && top (from y)) (λ y. is_of c.suit y && top y) his mine (once-in q r.valid_q (seat_after x k)) (λ y hy ty.
+          let g = r.back x y hy (and-right (is_of c.suit y) (top (from y)) ty) in
+          (g.0, and-both _ _ (of-suit' c.suit (from y) (r.from_suit y ∙ suit-of c.suit y (and-left (is_of c.suit y) (top (from y)) ty))) (and-right (is_of c.suit y) (top (from y)) ty), g.1)) in
+          let low_there : 1 ≤ count (λ y. is_of c.suit y && not (top (from y))) his = omega (arith, low_here, a, b, same, tops) in
+          let d = count-some (λ y. is_of c.suit y && not (top (from y))) his low_there in (
+            d.0,
+            d.1,
+            record {
+              suit = suit-of c.suit d.0 (and-left (is_of c.suit d.0) (not (top (from d.0))) d.2);
+              kind = not-true (top (from d.0)) (and-right (is_of c.suit d.0) (not (top (from d.0))) d.2) ∙ sym e;
+              same = λ h. absurd (let no : false ≡ true = sym e ∙ h in cc);
+            },
+          )
+
+  -- each card of a hand of q answers one of that hand of p
+  pub reply' : (x : Seat) (d : PlayingCard) → has_card (cards_at q (seat_after x k)) d ≡ true → (c : PlayingCard) × (has_card (cards_at p x) c ≡ true) × Answers to from top c d
+  reply' x d has = go (top (from d)) refl
+    where
+      go : (b : Bool) → top (from d) ≡ b → (c : PlayingCard) × (has_card (cards_at p x) c ≡ true) × Answers to from top c d
+      go true e =
+          let f = r.back x d has e in
+          (from d, f.0, record { suit = sym (r.from_suit d); kind = refl; same = λ h. (sym f.1, refl) })
+      go false e =
+          let mine : List PlayingCard = cards_at p x in
+          let his : List PlayingCard = cards_at q (seat_after x k) in
+          let low_there : 1 ≤ count (λ y. is_of d.suit y && not (top (from y))) his = count-has (λ y. is_of d.suit y && not (top (from y))) his d has (and-both _ _ (of-suit' d.suit d refl) (false-not (top (from d)) e)) in
+          let a : count (is_of d.suit) mine ≡ count (λ y. is_of d.suit y && top y) mine + count (λ y. is_of d.suit y && not (top y)) mine = count-split (is_of d.suit) top mine in
+          let b : count (is_of d.suit) his ≡ count (λ y. is_of d.suit y && top (from y)) his + count (λ y. is_of d.suit y && not (top (from y))) his = count-split (is_of d.suit) (λ y. top (from y)) his in
+          let same : count (is_of d.suit) his ≡ count (is_of d.suit) mine = r.lengths x d.suit in
+          let tops : count (λ y. is_of d.suit y && top y) mine ≤ count (λ y. is_of d.suit y && top (from y)) his =
+          inject to from (λ y. is_of d.suit y && top y) (λ y. is_of d.suit y && top (from y)) mine his (once-in p r.valid_p x) (λ y hy ty.
+          let g = r.forth x y hy (and-right (is_of d.suit y) (top y) ty) in
+          (g.0, and-both _ _ (of-suit' d.suit (to y) (r.to_suit y ∙ suit-of d.suit y (and-left (is_of d.suit y) (top y) ty))) (ap top g.1 ∙ and-right (is_of d.suit y) (top y) ty), g.1)) in
+          let low_here : 1 ≤ count (λ y. is_of d.suit y && not (top y)) mine = omega (arith, low_there, a, b, same, tops) in
+          let c = count-some (λ y. is_of d.suit y && not (top y)) mine low_here in (
+            c.0,
+            c.1,
+            record {
+              suit = sym (suit-of d.suit c.0 (and-left (is_of d.suit c.0) (not (top c.0)) c.2));
+              kind = e ∙ sym (not-true (top c.0) (and-right (is_of d.suit c.0) (not (top c.0)) c.2));
+              same = λ h. absurd (let no : false ≡ true = sym (not-true (top c.0) (and-right (is_of d.suit c.0) (not (top c.0)) c.2)) ∙ h in cc);
+            },
+          )
+
+  -- an answer to a legal card is legal
+  pub legal-to : (c d : PlayingCard) → IsLegal p c → has_card (cards_at q (mover q)) d ≡ true → Answers to from top c d → IsLegal q d
+  legal-to c d has there m =
+      legal-in q.trick (cards_at q (mover q)) d there (obeys-to to from top p.trick q.trick (cards_at p (mover p)) (cards_at q (mover q)) c d r.trick m
+      (λ e h. reply' (mover p) e (ap (λ y. has_card (cards_at q y) e) (sym (mover-turned)) ∙ h))
+      (legal-out p.trick (cards_at p (mover p)) c has))
+
+  -- each legal card of p has a legal answer in q
+  pub answer : (c : PlayingCard) → IsLegal p c → (d : PlayingCard) × IsLegal q d × Answers to from top c d
+  answer c has =
+      let d = reply (mover p) c (own-card p c has) in
+      (d.0, legal-to c d.0 has (ap (λ y. has_card (cards_at q y) d.0) (mover-turned) ∙ d.1) d.2, d.2)
+
+  -- each legal card of q answers a legal one of p
+  pub answer' : (d : PlayingCard) → IsLegal q d → (c : PlayingCard) × IsLegal p c × Answers to from top c d
+  answer' d has =
+      let turn : (e : PlayingCard) → has_card (cards_at q (mover q)) e ≡ true → has_card (cards_at q (seat_after (mover p) k)) e ≡ true = λ e h. ap (λ y. has_card (cards_at q y) e) (sym (mover-turned)) ∙ h in
+      let c = reply' (mover p) d (turn d (own-card q d has)) in (
+        c.0,
+        legal-in p.trick (cards_at p (mover p)) c.0 c.1 (obeys-from to from top p.trick q.trick (cards_at p (mover p)) (cards_at q (mover q)) c.0 d r.trick c.2
+            (λ b h. let e = reply (mover p) b h in (e.0, ap (λ y. has_card (cards_at q y) e.0) (mover-turned) ∙ e.1, e.2))
+            (legal-out q.trick (cards_at q (mover q)) d has)),
+        c.2,
+      )
 
 -- a card keeps its order with itself
 keeps-own : (to : PlayingCard → PlayingCard) (top : PlayingCard → Bool) (c : PlayingCard) → Keeps to top c c

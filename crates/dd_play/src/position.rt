@@ -220,7 +220,7 @@ impl Position {
     /// Of a trick that this legal card completes, won by `winner`: the card that wins it, if another card of its suit lies
     /// there. Then the winner rests on that card, and else on none.
     #[inline(always)]
-    pub fn contested(&self, card: Card, winner: Option<Seat>) -> Option<Card>
+    pub fn contested_winner(&self, card: Card, winner: Option<Seat>) -> Option<Card>
         requires legal { has_card (legal self.now) card ≡ true }
         requires winner { winner ≡ (if completes self.now
             then Some (winner_of (trick_with self.now card) self.now.first self.now.strain) else None) }

@@ -32,7 +32,7 @@ use Rattle.dd_play.specs.Reach.{reach}
 use Rattle.dd_quick.proofs.Runs.{AreHeld, above-highest, has-part, run-above, run-all}
 use Rattle.dd_rank.specs.Depths.{Covers, depths_of}
 use Rattle.dd_rank.proofs.CallerLemmas.{noted}
-use Rattle.dd_quick.specs.QuickTricks.{AreReached, AreTrumpsReached, SureTricks, beats, is_winner, run, length_at, shortest, cashed, leaders_tricks, top_trumps}
+use Rattle.dd_quick.specs.QuickTricks.{AreReached, AreTrumpsReached, SureTricks, beats, is_winner, run, length_at, shortest, cashed_tricks, leaders_tricks, top_trumps}
 use Rattle.dd_quick.proofs.Hands.{no-higher}
 use Rattle.dd_quick.proofs.Sound.{bounded}
 
@@ -107,7 +107,7 @@ run-covered top k to from s p t q r x u tops =
 
 -- and as much is cashed
 pub cashed-covered : (top : PlayingCard → Bool) (k : ℕ) (to from : PlayingCard → PlayingCard) (s : Side) (p : Board) (t : Side) (q : Board) → IsCover top k to from s p t q
-    → (u : Suit) → AreTop top p p.first u → (strain : Strain) → cashed strain p u ≤ cashed strain q u
+    → (u : Suit) → AreTop top p p.first u → (strain : Strain) → cashed_tricks strain p u ≤ cashed_tricks strain q u
 cashed-covered top k to from s p t q r u tops strain = go strain
   where
     run_more : run p p.first u ≤ run q q.first u
@@ -119,7 +119,7 @@ cashed-covered top k to from s p t q r u tops strain = go strain
     shortest_same : shortest q u ≡ shortest p u
     shortest_same = rw (length_same 1, length_same 2, length_same 3) refl
 
-    go : (strain : Strain) → cashed strain p u ≤ cashed strain q u
+    go : (strain : Strain) → cashed_tricks strain p u ≤ cashed_tricks strain q u
     go Notrump = run_more
     go (Trump trump) = at (is_trump (Trump trump) (record { suit = u; rank = 0 }))
       where
@@ -140,7 +140,7 @@ cashed-by top p start tops k to from t q r strict =
     let b = cashed-covered top k to from (side_of p.first) p t q r Hearts (tops Hearts) p.strain in
     let c = cashed-covered top k to from (side_of p.first) p t q r Diamonds (tops Diamonds) p.strain in
     let d = cashed-covered top k to from (side_of p.first) p t q r Clubs (tops Clubs) p.strain in
-    let strains : leaders_tricks q ≡ cashed p.strain q Spades + cashed p.strain q Hearts + cashed p.strain q Diamonds + cashed p.strain q Clubs = ap (λ z. cashed z q Spades + cashed z q Hearts + cashed z q Diamonds + cashed z q Clubs) r.strain in
+    let strains : leaders_tricks q ≡ cashed_tricks p.strain q Spades + cashed_tricks p.strain q Hearts + cashed_tricks p.strain q Diamonds + cashed_tricks p.strain q Clubs = ap (λ z. cashed_tricks z q Spades + cashed_tricks z q Hearts + cashed_tricks z q Diamonds + cashed_tricks z q Clubs) r.strain in
     let here = (bounded q r.valid_q (no-trick to from top p.trick q.trick start r.trick)).leader in
     let value : lead q ≡ won (side_of q.first) q = lead-won q in
     let side = is-same (side_of q.first) t (ap (is_side t) r.first ∙ r.sides p.first ∙ same-self (side_of p.first)) in
@@ -175,14 +175,6 @@ opponent-by top p i start law tops k to from t q r strict =
     let both : won (side_of q.first) q + won (other_side (side_of q.first)) q ≡ left q = all (side_of q.first) q r.valid_q in
     let side = is-other (side_of q.first) t (ap (is_side t) r.first ∙ r.sides p.first ∙ same-other (side_of p.first)) in
     subst (λ z. top_trumps p.strain p (seat_after p.first i) ≤ won z q) side (omega (arith, m, same, here, value, both))
-
--- .. of the next hand
-pub next-by : (top : PlayingCard → Bool) (p : Board) → p.trick ≡ [] → ((u : Suit) → p.strain ≡ Trump u → AreTop top p (seat_after p.first 1) u) → TakesBy top (other_side (side_of p.first)) p (top_trumps p.strain p (seat_after p.first 1))
-next-by top p start tops = opponent-by top p 1 start (λ q good e. (bounded q good e).next) tops
-
--- .. and of the last
-pub last-by : (top : PlayingCard → Bool) (p : Board) → p.trick ≡ [] → ((u : Suit) → p.strain ≡ Trump u → AreTop top p (seat_after p.first 3) u) → TakesBy top (other_side (side_of p.first)) p (top_trumps p.strain p (seat_after p.first 3))
-last-by top p start tops = opponent-by top p 3 start (λ q good e. (bounded q good e).last) tops
 
 -- ---- which cards the winners are
 

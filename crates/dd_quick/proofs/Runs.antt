@@ -212,10 +212,3 @@ module _ (p : Board) (h : Seat) (suit : Suit) (own others : List ℕ) (held : Ar
       none : (ranks : List ℕ) → None ≡ slice_get ranks 0 → (q : ℕ) → has_rank ranks q ≡ true → ⊥
       none [] e q has = (let no : false ≡ true = has in cc)
       none (r ∷ ranks) e q has = (let no : None ≡ Some r = e in cc)
-
--- a run is at most thirteen
-pub run-13 : (p : Board) (h : Seat) (suit : Suit) → IsBoard p → run p h suit ≤ 13
-run-13 p h suit valid =
-    let part : run p h suit ≤ length (filter (is_of suit) (cards_at p h)) = subst (λ cards. length cards ≤ length (filter (is_of suit) (cards_at p h))) (filter-filter (is_winner p h) (is_of suit) (cards_at p h)) (length-filter-le (is_winner p h) (filter (is_of suit) (cards_at p h))) in
-    let all = length-suit suit (cards_at p h) (valid.sets h) in
-    omega (arith, part, all)

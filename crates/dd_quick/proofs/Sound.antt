@@ -20,8 +20,8 @@ use Rattle.dd_play.specs.Tricks.{is_trump}
 use Rattle.dd_play.specs.Value.{ns, lead}
 use Rattle.dd_play.specs.Covers.{count_of}
 use Rattle.dd_play.specs.Won.{won}
-use Rattle.dd_play.proofs.CallerLemmas.{all, card-real, count, filter-has, filter-passes, has-first, in-rest, ns-le, same-or, suit-of, lead-won}
-use Rattle.dd_quick.specs.QuickTricks.{is_winner, run, shortest, cashed, leaders_tricks, top_trumps}
+use Rattle.dd_play.proofs.CallerLemmas.{all, card-real, count, filter-has, filter-passes, has-first, in-rest, lead-won, ns-le, same-or, suit-of}
+use Rattle.dd_quick.specs.QuickTricks.{is_winner, run, shortest, cashed_tricks, leaders_tricks, top_trumps}
 use Rattle.dd_quick.proofs.Hands.{no-higher}
 use Rattle.dd_quick.proofs.Plays.{count-where}
 use Rattle.dd_quick.proofs.TopTrumps.{is_top, tops-taken}
@@ -124,10 +124,10 @@ top_trumps-taken p h s valid start ours =
 
 -- the leader's quick tricks of a suit that is not trumps
 abbrev pub side_tricks : Strain → Board → Suit → ℕ
-side_tricks strain p u = (if is_trump strain (card_of u 0) then 0 else cashed strain p u)
+side_tricks strain p u = (if is_trump strain (card_of u 0) then 0 else cashed_tricks strain p u)
 
 -- all quick tricks of the leader are those of the side suits and the highest trumps
-sum-cashed : (strain : Strain) (p : Board) → cashed strain p Spades + cashed strain p Hearts + cashed strain p Diamonds + cashed strain p Clubs ≡ total (side_tricks strain p) + top_trumps strain p p.first
+sum-cashed : (strain : Strain) (p : Board) → cashed_tricks strain p Spades + cashed_tricks strain p Hearts + cashed_tricks strain p Diamonds + cashed_tricks strain p Clubs ≡ total (side_tricks strain p) + top_trumps strain p p.first
 sum-cashed Notrump p = omega arith
 sum-cashed (Trump Spades) p = omega arith
 sum-cashed (Trump Hearts) p = omega arith
@@ -149,7 +149,7 @@ side-plain strain p u c some e = same-trump strain c (card_of u 0) e ∙ go (is_
   where
     go : (b : Bool) → is_trump strain (card_of u 0) ≡ b → is_trump strain (card_of u 0) ≡ false
     go false f = f
-    go true f = absurd (let none : side_tricks strain p u ≡ 0 = ap (λ b. (if b then 0 else cashed strain p u)) f in omega (arith, none, some))
+    go true f = absurd (let none : side_tricks strain p u ≡ 0 = ap (λ b. (if b then 0 else cashed_tricks strain p u)) f in omega (arith, none, some))
 
 -- the shortest length is at most that of each hand that does not lead
 short-each : (p : Board) (i : ℕ) → 1 ≤ i → i < 4 → (u : Suit) → shortest p u ≤ count_of u (cards_at p (seat_after p.first i))

@@ -35,13 +35,13 @@ abbrev pub shortest : Board → Suit → ℕ
 shortest p suit = min (length_at p (seat_after p.first 1) suit) (min (length_at p (seat_after p.first 2) suit) (length_at p (seat_after p.first 3) suit))
 
 -- What the leader cashes in a suit: the run, and with other trumps only as long as each other hand must follow suit.
-abbrev pub cashed : Strain → Board → Suit → ℕ
-cashed Notrump p suit = run p p.first suit
-cashed (Trump trump) p suit = (if is_trump (Trump trump) (record { suit = suit; rank = 0 }) then run p p.first suit else min (run p p.first suit) (shortest p suit))
+abbrev pub cashed_tricks : Strain → Board → Suit → ℕ
+cashed_tricks Notrump p suit = run p p.first suit
+cashed_tricks (Trump trump) p suit = (if is_trump (Trump trump) (record { suit = suit; rank = 0 }) then run p p.first suit else min (run p p.first suit) (shortest p suit))
 
 -- the tricks that the leader can take at once
 abbrev pub leaders_tricks : Board → ℕ
-leaders_tricks p = cashed p.strain p Spades + cashed p.strain p Hearts + cashed p.strain p Diamonds + cashed p.strain p Clubs
+leaders_tricks p = cashed_tricks p.strain p Spades + cashed_tricks p.strain p Hearts + cashed_tricks p.strain p Diamonds + cashed_tricks p.strain p Clubs
 
 -- the highest trumps of the seat: each takes a trick, whenever it is played
 abbrev pub top_trumps : Strain → Board → Seat → ℕ

@@ -13,7 +13,7 @@ ghost use Rattle.dd_play.specs.Covers.{count_of};
 ghost use Rattle.dd_play.specs.Intervals.{Holds};
 ghost use Rattle.dd_play.specs.Reach.{reach, TakesBy};
 ghost use Rattle.dd_play.specs.Value.{lead};
-ghost use Rattle.dd_quick.specs.QuickTricks.{AreReached, AreTrumpsReached, quick_lo, quick_hi, leaders_tricks, cashed, shortest, top_trumps, run, length_at};
+ghost use Rattle.dd_quick.specs.QuickTricks.{AreReached, AreTrumpsReached, quick_lo, quick_hi, leaders_tricks, cashed_tricks, shortest, top_trumps, run, length_at};
 ghost use Rattle.dd_rank.specs.Depths.{all_cards, depth_in, Covers};
 
 use dd_cards::{Card, Hand, Holding, Rank, Seat, Strain, Suit};
@@ -54,7 +54,7 @@ pub fn bounds(start: &TrickStart) -> (Interval, Depths)
         hi: position.tricks_left() - theirs.tricks,
     };
     let cards = ours.cards.union(theirs.cards);
-    (interval, Depths::reached(start, cards))
+    (interval, Depths::of_cards(start, cards))
 }
 
 /// The winners on which it rests that the leader's side takes at least `need` tricks, where its quick tricks are so many.
@@ -127,10 +127,10 @@ fn leaders_tricks(position: &Position) -> Sure
     ensures tricks { result.tricks ≡ leaders_tricks position.now }
     ensures claim { TakesBy (reach result.cards) (side_of position.now.first) position.now result.tricks }
 {
-    let spades = cashed(position, Hand::new(), Suit::Spades);
-    let hearts = cashed(position, spades.cards, Suit::Hearts);
-    let diamonds = cashed(position, hearts.cards, Suit::Diamonds);
-    let clubs = cashed(position, diamonds.cards, Suit::Clubs);
+    let spades = cashed_tricks(position, Hand::new(), Suit::Spades);
+    let hearts = cashed_tricks(position, spades.cards, Suit::Hearts);
+    let diamonds = cashed_tricks(position, hearts.cards, Suit::Diamonds);
+    let clubs = cashed_tricks(position, diamonds.cards, Suit::Clubs);
     Sure {
         tricks: spades.tricks + hearts.tricks + diamonds.tricks + clubs.tricks,
         cards: clubs.cards,
@@ -139,8 +139,8 @@ fn leaders_tricks(position: &Position) -> Sure
 
 // What the leader cashes in a suit: with other trumps only as long as each other hand must follow suit. The winners go to
 // these cards.
-fn cashed(position: &Position, cards: Hand, suit: Suit) -> Sure
-    ensures tricks { result.tricks ≡ cashed position.now.strain position.now suit }
+fn cashed_tricks(position: &Position, cards: Hand, suit: Suit) -> Sure
+    ensures tricks { result.tricks ≡ cashed_tricks position.now.strain position.now suit }
     ensures bound { result.tricks ≤ 13 }
     ensures more { (c : PlayingCard) → has_card cards c ≡ true → has_card result.cards c ≡ true }
     ensures winners { AreReached result.cards position.now position.now.first suit }

@@ -89,12 +89,12 @@ unfoldable pub mix : ℕ → ℕ → ℕ
 mix number word = let product = bit_xor number word * 0x9E3779B97F4A7C15 % 2 ^ 64 in bit_xor product (product / 2 ^ 32)
 
 -- a shape's mixing number, which spreads shapes over 64 bits
-abbrev pub mixed_of : ShapeOf → ℕ
-mixed_of s = mix (mix 0 (strain_code s.strain)) s.lengths
+abbrev pub mixing_number_of : ShapeOf → ℕ
+mixing_number_of s = mix (mix 0 (strain_code s.strain)) s.lengths
 
 -- the mixing number of strings
-abbrev pub mixed_in : Strings → ℕ
-mixed_in s = mix (mix (mixed_of (shape_in s)) (s.spades + 2 ^ 32 * s.hearts)) (s.diamonds + 2 ^ 32 * s.clubs)
+abbrev pub mixing_number_in : Strings → ℕ
+mixing_number_in s = mix (mix (mixing_number_of (shape_in s)) (s.spades + 2 ^ 32 * s.hearts)) (s.diamonds + 2 ^ 32 * s.clubs)
 
 -- the place of a rank's holder, told by two sets of ranks: those of the second and fourth hand, and those of the third and fourth
 abbrev pub place_by : List ℕ → List ℕ → ℕ → ℕ
@@ -138,7 +138,7 @@ both-pass true b h = (refl, h)
 both-pass false b h = absurd (cc)
 
 -- shapes with the same parts have one mixing number, and so are fed alike to a hasher
-pub fed-shape : (x y : ShapeOf) → same_shape x y ≡ true → u64 (mixed_of x) ≡ u64 (mixed_of y)
+pub fed-shape : (x y : ShapeOf) → same_shape x y ≡ true → u64 (mixing_number_of x) ≡ u64 (mixing_number_of y)
 fed-shape x y h =
     let a = both-pass (strain_code x.strain == strain_code y.strain) (x.lengths == y.lengths) h in
     let strain : strain_code x.strain ≡ strain_code y.strain = eqb-true _ _ a.0 in
@@ -146,7 +146,7 @@ fed-shape x y h =
     rw (strain, lengths) refl
 
 -- strings with the same parts have one mixing number, and so are fed alike to a hasher
-pub fed-same : (x y : Strings) → same_strings x y ≡ true → u64 (mixed_in x) ≡ u64 (mixed_in y)
+pub fed-same : (x y : Strings) → same_strings x y ≡ true → u64 (mixing_number_in x) ≡ u64 (mixing_number_in y)
 fed-same x y h =
     let a = both-pass (strain_code x.strain == strain_code y.strain) _ h in
     let b = both-pass (x.lengths == y.lengths) _ a.1 in

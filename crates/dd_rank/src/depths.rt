@@ -72,7 +72,7 @@ impl Depths {
     }
 
     /// The depths of these cards at a position: how many of the cards left are one of them or higher than one.
-    pub fn reached(start: &TrickStart, cards: Hand) -> Depths
+    pub fn of_cards(start: &TrickStart, cards: Hand) -> Depths
         ensures depths { (u : SuitOf) → depth_in result u ≡ depths_of (reach cards) start.now u }
         ensures within { (u : SuitOf) → depth_in result u ≤ count_of u (all_cards start.now) }
         ensures real { (c : PlayingCard) → has_card cards c ≡ true → IsRank c.rank }

@@ -17,7 +17,7 @@ pub use covering::covers;
 pub use depths::Depths;
 pub use first_owners::FirstOwners;
 pub use laws::{alike_positions, alike_strings, covered_positions};
-pub use likeness::alike;
+pub use likeness::are_alike;
 pub use owner_strings::OwnerStrings;
 pub use rank_key::RankKey;
 pub use shape::Shape;

@@ -6,7 +6,7 @@ ghost use Rattle.dd_cards.specs.Seats.{seat_code};
 ghost use Rattle.dd_cards.specs.Ranks.{all_ranks, has_rank};
 ghost use Rattle.dd_play.specs.Covers.{count_of};
 ghost use Rattle.dd_rank.specs.Owners.{owners_in};
-ghost use Rattle.dd_rank.specs.Strings.{strings_of, shape_in, mixed_in, number_of, place_by, same_strings, same-strings, same-strings-partial, string_in};
+ghost use Rattle.dd_rank.specs.Strings.{strings_of, shape_in, mixing_number_in, number_of, place_by, same_strings, same-strings, same-strings-partial, string_in};
 
 use crate::shape::{Shape, mix};
 use dd_cards::{Hand, Holding, Strain, Suit};
@@ -112,12 +112,12 @@ impl OwnerStrings {
 
     /// A number of 64 bits that strings are spread over: equal for equal strings.
     #[inline]
-    pub fn mixed(self) -> u64
-        ensures { result ≡ mixed_in self }
+    pub fn mixing_number(self) -> u64
+        ensures { result ≡ mixing_number_in self }
     {
         let majors = self.spades as u64 + self.hearts as u64 * 0x1_0000_0000;
         let minors = self.diamonds as u64 + self.clubs as u64 * 0x1_0000_0000;
-        mix(mix(self.shape().mixed(), majors), minors)
+        mix(mix(self.shape().mixing_number(), majors), minors)
     }
 
     /// The owners of a suit: two bits for each card that is left, the highest card's the lowest.

@@ -1,6 +1,6 @@
 ghost use Rattle.std.specs.Prelude.{◌≡◌};
 ghost use Rattle.std.specs.Hash as fed;
-ghost use Rattle.dd_rank.specs.Strings.{strings_of, mixed_in, same_strings, same-strings, same-strings-partial, fed-same};
+ghost use Rattle.dd_rank.specs.Strings.{strings_of, mixing_number_in, same_strings, same-strings, same-strings-partial, fed-same};
 
 use crate::owner_strings::OwnerStrings;
 use dd_play::TrickStart;
@@ -54,10 +54,10 @@ impl RankKey {
 
     /// A number of 64 bits that classes are spread over: equal for equal keys.
     #[inline]
-    pub fn mixed(&self) -> u64
-        ensures { result ≡ mixed_in self.now }
+    pub fn mixing_number(&self) -> u64
+        ensures { result ≡ mixing_number_in self.now }
     {
-        self.strings.mixed()
+        self.strings.mixing_number()
     }
 }
 
@@ -77,12 +77,12 @@ impl Eq for RankKey {
 }
 
 impl Hash for RankKey {
-    ghost hash_input = { λ k. fed.u64 (mixed_in k) };
+    ghost hash_input = { λ k. fed.u64 (mixing_number_in k) };
 
     ghost respects_eq = { fed-same };
 
     #[inline]
     fn hash<H: Hasher>(&self, state: &mut H) {
-        state.write_u64(self.mixed());
+        state.write_u64(self.mixing_number());
     }
 }

@@ -1,6 +1,6 @@
 ghost use Rattle.std.specs.Prelude.{◌≡◌};
 ghost use Rattle.std.specs.Hash as fed;
-ghost use Rattle.dd_rank.specs.Strings.{fed-shape, mix, mixed_of, same-shape, same-shape-partial, same_shape};
+ghost use Rattle.dd_rank.specs.Strings.{fed-shape, mix, mixing_number_of, same-shape, same-shape-partial, same_shape};
 
 use dd_cards::Strain;
 use std::hash::{Hash, Hasher};
@@ -34,8 +34,8 @@ impl Shape {
 
     /// A number of 64 bits that shapes are spread over: equal for equal shapes.
     #[inline]
-    pub fn mixed(self) -> u64
-        ensures { result ≡ mixed_of self }
+    pub fn mixing_number(self) -> u64
+        ensures { result ≡ mixing_number_of self }
     {
         mix(mix(0, self.strain.code() as u64), self.lengths)
     }
@@ -57,13 +57,13 @@ impl Eq for Shape {
 }
 
 impl Hash for Shape {
-    ghost hash_input = { λ s. fed.u64 (mixed_of s) };
+    ghost hash_input = { λ s. fed.u64 (mixing_number_of s) };
 
     ghost respects_eq = { fed-shape };
 
     #[inline]
     fn hash<H: Hasher>(&self, state: &mut H) {
-        state.write_u64(self.mixed());
+        state.write_u64(self.mixing_number());
     }
 }
 

@@ -3,7 +3,7 @@ use crate::covering::covers;
 use crate::depths::Depths;
 use crate::first_owners::FirstOwners;
 use crate::laws::covered_positions;
-use crate::likeness::alike;
+use crate::likeness::are_alike;
 use crate::owner_strings::OwnerStrings;
 use crate::rank_key::RankKey;
 use dd_cards::{Card, Hand, Hands, Rank, Seat, Strain, Suit};
@@ -32,7 +32,7 @@ fn spade(rank: u8) -> Option<Card> {
 
 // Each spade from this one up matters.
 fn down_to(start: &TrickStart, rank: u8) -> Option<Depths> {
-    Some(Depths::reached(start, Hand::new().with(spade(rank)?)))
+    Some(Depths::of_cards(start, Hand::new().with(spade(rank)?)))
 }
 
 fn hash_of(key: &RankKey) -> u64 {
@@ -78,7 +78,7 @@ fn positions_are_alike_by_the_owners_seen_from_the_leader(rt: HostRuntime) {
     let key = RankKey::of(&one);
     for (cards, strain, first, want, what) in table {
         let other = start(&cards, strain, first).expect(&rt, "two cards a hand");
-        assert_eq!(rt; alike(&one, &other), want, "{what}");
+        assert_eq!(rt; are_alike(&one, &other), want, "{what}");
         let other_key = RankKey::of(&other);
         assert_eq!(rt; key == other_key, want, "the keys: {what}");
         assert_eq!(rt;
@@ -87,11 +87,11 @@ fn positions_are_alike_by_the_owners_seen_from_the_leader(rt: HostRuntime) {
             "the hashes: {what}"
         );
         assert_eq!(rt;
-            key.mixed() == other_key.mixed(),
+            key.mixing_number() == other_key.mixing_number(),
             want,
             "the mixing numbers: {what}"
         );
-        assert!(rt; alike(other_key.sample(), &other), "the sample: {what}");
+        assert!(rt; are_alike(other_key.sample(), &other), "the sample: {what}");
     }
 }
 
@@ -138,13 +138,13 @@ fn a_position_covers_those_with_the_same_owners_of_the_highest_cards(rt: HostRun
 fn covers_are_the_same_where_depths_and_owners_are(rt: HostRuntime) {
     let one = start(&SPADES, Strain::Notrump, Seat::North).expect(&rt, "two cards a hand");
     let strings = OwnerStrings::of(&one);
-    let none = Cover::new(&one, Depths::reached(&one, Hand::new()), strings);
+    let none = Cover::new(&one, Depths::of_cards(&one, Hand::new()), strings);
     let all = Cover::new(&one, Depths::full(&one), strings);
     assert!(rt; none.covers(&strings) && all.covers(&strings), "itself");
     assert!(rt; all.is_same(&all.copy()), "at eight spades both");
     assert!(rt; !all.is_same(&none), "at eight spades and at none");
     assert_eq!(rt; all.depths().of(Suit::Spades), 8);
-    assert!(rt; alike(all.start(), &one), "its own position");
+    assert!(rt; are_alike(all.start(), &one), "its own position");
 }
 
 #[test]
@@ -163,7 +163,7 @@ fn equal_shapes_have_one_mixing_number(rt: HostRuntime) {
         shape == OwnerStrings::of(&two).shape(),
         "two spades a hand"
     );
-    assert_eq!(rt; shape.mixed(), OwnerStrings::of(&two).shape().mixed());
+    assert_eq!(rt; shape.mixing_number(), OwnerStrings::of(&two).shape().mixing_number());
     assert!(rt;
         shape != OwnerStrings::of(&hearts).shape(),
         "hearts are trumps"

@@ -17,8 +17,7 @@ use Rattle.dd_play.specs.Simulations.{IsLegal}
 use Rattle.dd_cards.proofs.CallerLemmas.{any-filter, same_card-eq, times-cons}
 use Rattle.dd_play.proofs.CallerLemmas.{flag_of, has-first, in-rest, times-has}
 use Rattle.dd_equal.specs.EqualCards.{EqualCards, class_of, classes_of, is_top, tops}
-use Rattle.dd_search.specs.Answers.{IsReordering}
-use Rattle.dd_search.specs.Moves.{WeighedCard, cards_of}
+use Rattle.dd_search.specs.Moves.{WeighedCard, cards_of, IsReordering}
 
 -- the highest card of a class is legal
 pub top-legal : (p : Board) (c : PlayingCard) → has_card (tops p) c ≡ true → IsLegal p c
@@ -31,6 +30,19 @@ abbrev pub held : Option WeighedCard → List PlayingCard
 held None = []
 held (Some m) = m.card ∷ []
 
+-- where a move is held back it counts as one
+pub held-one : (n i : ℕ) (best : Option WeighedCard) (m : WeighedCard) → best ≡ Some m → n + length (held best) ≡ i → n + 1 ≡ i
+held-one n i best m is count = subst (λ (b : Option WeighedCard). n + length (held b) ≡ i) is count
+
+-- .. and its card stands behind the others
+pub held-last : (cards : List PlayingCard) (moves : List WeighedCard) (best : Option WeighedCard) (m : WeighedCard) → best ≡ Some m → IsPermutation cards (cards_of moves ++ held best)
+    → IsPermutation cards (cards_of moves ++ m.card ∷ [])
+held-last cards moves best m is same = subst (λ (b : Option WeighedCard). IsPermutation cards (cards_of moves ++ held b)) is same
+
+-- and where none is, the moves have all cards
+pub held-none : (cards : List PlayingCard) (moves : List WeighedCard) (best : Option WeighedCard) → best ≡ None → IsPermutation cards (cards_of moves ++ held best) → IsPermutation cards (cards_of moves)
+held-none cards moves best is same = subst (IsPermutation cards) (append-nil (cards_of moves)) (subst (λ (b : Option WeighedCard). IsPermutation cards (cards_of moves ++ held b)) is same)
+
 -- one class more, and its highest card among the cards
 pub one-more : (classes : List EqualCards) (old new : List PlayingCard) (i : ℕ) (class : EqualCards) (card : PlayingCard) → i < length classes → class ≡ get_or classes i class → card ≡ class.top
     → IsPermutation (map (λ k. k.top) (take i classes)) old → IsPermutation (old ++ card ∷ []) new → IsPermutation (map (λ k. k.top) (take (i + 1) classes)) new
@@ -42,10 +54,6 @@ one-more classes old new i class card within is top same put =
     subst (λ cards. IsPermutation cards new) (sym walked)
     (IsPermutation-trans (map (λ (k : EqualCards). k.top) (take i classes) ++ card ∷ []) (old ++ card ∷ []) new
     (IsPermutation-append_left (card ∷ []) (map (λ (k : EqualCards). k.top) (take i classes)) old same) put)
-
--- a first card is held back
-pub first-held : (moves : List WeighedCard) (card : PlayingCard) → IsPermutation ((cards_of moves ++ []) ++ card ∷ []) (cards_of moves ++ card ∷ [])
-first-held moves card = subst (λ cards. IsPermutation (cards ++ card ∷ []) (cards_of moves ++ card ∷ [])) (sym (append-nil (cards_of moves))) (IsPermutation-refl (cards_of moves ++ card ∷ []))
 
 -- another card is held back, or stands among the moves
 pub next-held : (moves : List WeighedCard) (new : List PlayingCard) (first second : PlayingCard) → IsPermutation (cards_of moves ++ first ∷ second ∷ []) new

@@ -29,8 +29,8 @@ use Rattle.dd_equal.specs.EqualCards.{tops, IsWhole}
 use Rattle.dd_equal.proofs.CallerLemmas.{each-class-whole, with-new, with-which}
 use Rattle.dd_rank.proofs.CallerLemmas.{first-there, itself, noted}
 use Rattle.dd_rank.specs.Depths.{all_cards, Covers, depths_of}
-use Rattle.dd_search.specs.Answers.{IsAnswer, IsAnswerBy, AnswerBy, ClaimBy, IsClaimBy, IsWindow, IsReordering}
-use Rattle.dd_search.specs.Moves.{WeighedCard, cards_of}
+use Rattle.dd_search.specs.ClaimsBy.{IsAnswer, IsAnswerBy, AnswerBy, ClaimBy, IsClaimBy, IsWindow}
+use Rattle.dd_search.specs.Moves.{WeighedCard, cards_of, IsReordering}
 use Rattle.dd_search.proofs.Orders.{each-top}
 
 -- these cards are among those
@@ -243,24 +243,12 @@ pub settled-answer : (p q : Board) (need rest : ℕ) (c : PlayingCard) (later by
 settled-answer p q need rest c later by b said valid side has some next same answer wanted within settled =
     one-settles p need c by b side has (leads p q need rest c later by b valid has some next same (subst (λ (x : Bool). IsAnswerBy q rest later x) (same-beq said b wanted) answer) within settled)
 
--- where the walk ended with nothing found, or with what a card found
-abbrev pub Walked : Board → ℕ → List WeighedCard → List WeighedCard → ℕ → List PlayingCard → Bool → Option (List PlayingCard) → Type 0
-Walked p need places moves i cards b found = MatchOption found ((length places ≤ i) × AllLead p need places i cards (not b)) (λ by. IsAnswerBy p need by b)
-
--- the answer where a card found it
-pub some-found : (p : Board) (need : ℕ) (places moves : List WeighedCard) (i : ℕ) (cards by : List PlayingCard) (b : Bool) (found : Option (List PlayingCard)) (answer : AnswerBy) → Walked p need places moves i cards b found → found ≡ Some by
-    → answer ≡ record { yes = b; cards = by } → IsAnswerBy p need answer.cards answer.yes
-some-found p need places moves i cards by b found answer walked e is =
-    let h : IsAnswerBy p need by b = subst (λ (o : Option (List PlayingCard)). Walked p need places moves i cards b o) e walked in
-    subst (λ (a : AnswerBy). IsAnswerBy p need a.cards a.yes) (sym is) h
-
--- and where none did
-pub none-found : (p : Board) (need : ℕ) (places moves : List WeighedCard) (i : ℕ) (cards all : List PlayingCard) (b : Bool) (found : Option (List PlayingCard)) (answer : AnswerBy) → IsBoard p → b ≡ is_north_south (mover p) → places ≡ moves → IsReordering (cards_of moves) (tops p)
-    → 1 ≤ need → need ≤ left p → Walked p need places moves i cards b found → found ≡ None → Within cards all → IsWhole (reach all) p → answer ≡ record { yes = not b; cards = all } → IsAnswerBy p need answer.cards answer.yes
-none-found p need places moves i cards all b found answer valid side same order some most walked e more is_whole is =
-    let h : (length places ≤ i) × AllLead p need places i cards (not b) = subst (λ (o : Option (List PlayingCard)). Walked p need places moves i cards b o) e walked in
-    let each : (c : PlayingCard) → has_card (tops p) c ≡ true → Leads p need c cards (not b) = each-top p places moves i (λ c. Leads p need c cards (not b)) same order h.0 h.1 in
-    subst (λ (a : AnswerBy). IsAnswerBy p need a.cards a.yes) (sym is) (none-settles p need all (not b) valid (ap not side) some most is_whole (λ c has. leads-wider p need c cards all (not b) more (each c has)))
+-- no move was enough for the side to play, so the other side has its answer
+pub all-tried : (p : Board) (need : ℕ) (places moves : List WeighedCard) (i : ℕ) (cards all : List PlayingCard) (b : Bool) → IsBoard p → b ≡ is_north_south (mover p) → places ≡ moves → IsReordering (cards_of moves) (tops p)
+    → 1 ≤ need → need ≤ left p → length places ≤ i → AllLead p need places i cards (not b) → Within cards all → IsWhole (reach all) p → IsAnswerBy p need all (not b)
+all-tried p need places moves i cards all b valid side same order some most done lead more whole =
+    let each : (c : PlayingCard) → has_card (tops p) c ≡ true → Leads p need c cards (not b) = each-top p places moves i (λ c. Leads p need c cards (not b)) same order done lead in
+    none-settles p need all (not b) valid (ap not side) some most whole (λ c has. leads-wider p need c cards all (not b) more (each c has))
 
 -- ---- what an answer teaches
 
@@ -316,10 +304,6 @@ east-west-leads p cards n m b side e k =
 pub claims-within : (p : Board) (ours theirs : ClaimBy) → IsBoard p → IsWindow p ours theirs → ours.tricks + theirs.tricks ≤ left p
 claims-within p ours theirs valid w =
     both NorthSouth p ours.tricks theirs.tricks valid (by-here (reach ours.cards) NorthSouth p ours.tricks valid (reach-upward ours.cards) w.0) (by-here (reach theirs.cards) EastWest p theirs.tricks valid (reach-upward theirs.cards) w.1)
-
--- of two claims, either one is a claim
-pub either-claim : (side : Side) (p : Board) (one other claim : ClaimBy) → (claim ≡ one) ⊎ (claim ≡ other) → IsClaimBy side p one → IsClaimBy side p other → IsClaimBy side p claim
-either-claim side p one other claim is a b = elim is [ inl e ↦ subst (λ (x : ClaimBy). IsClaimBy side p x) (sym e) a | inr e ↦ subst (λ (x : ClaimBy). IsClaimBy side p x) (sym e) b ]
 
 -- by more cards
 pub claim-wider : (side : Side) (p : Board) (claim : ClaimBy) (cards : List PlayingCard) (n : ℕ) → IsClaimBy side p claim → Within claim.cards cards → n ≤ claim.tricks → TakesBy (reach cards) side p n

@@ -17,7 +17,7 @@ use Rattle.dd_play.specs.Claims.{Takes}
 use Rattle.dd_play.specs.Won.{point}
 use Rattle.dd_play.specs.Simulations.{IsLegal}
 use Rattle.dd_play.proofs.CallerLemmas.{exactly, gain-le, left-13, legal-leads, ns-le}
-use Rattle.dd_search.specs.Answers.{IsAnswer}
+use Rattle.dd_search.specs.ClaimsBy.{IsAnswer}
 
 -- what a search learns of a card: the tricks that North and South take after it, and the one that it completes
 pub record Learnt (p q : Board) (c : PlayingCard) (tricks point : ℕ) (winner : Option Seat) : Type 0 where

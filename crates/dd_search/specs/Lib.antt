@@ -1,3 +1,3 @@
-pub mod Answers
+pub mod ClaimsBy
 pub mod Budgets
 pub mod Moves

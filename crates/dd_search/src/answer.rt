@@ -11,7 +11,7 @@ pub(crate) struct Answer {
 }
 
 impl Model for Answer {
-    ghost use Rattle.dd_search.specs.Answers.{AnswerBy};
+    ghost use Rattle.dd_search.specs.ClaimsBy.{AnswerBy};
 
     ghost Value = { AnswerBy };
 

@@ -1,12 +1,13 @@
 //! Whether a card wins so many tricks.
-ghost use Rattle.std.specs.Prelude.{◌≡◌, true, Err, IfOk, IsOk, nat_le};
+ghost use Rattle.std.specs.Prelude.{◌≡◌, true, IfOk, IsOk, nat_le};
 ghost use Rattle.dd_cards.specs.Cards.{has_card};
 ghost use Rattle.dd_play.specs.Play.{legal};
 ghost use Rattle.dd_play.specs.Value.{score};
+ghost use Rattle.dd_search.specs.Budgets.{EndsAs, IsEndless};
 
-use crate::bounds::Bounds;
-use crate::meter::{Halt, Meter, Tick};
-use crate::takes::{counted, takes, trick_of};
+use crate::meter::{Halt, Meter};
+use crate::table::Bounds;
+use crate::takes::{answer_by_counting, takes, trick_of};
 use dd_cards::Card;
 use dd_play::Position;
 
@@ -16,15 +17,14 @@ pub fn reaches<B: Bounds, M: Meter>(
     position: &Position,
     card: Card,
     tricks: u8,
-    bounds: &mut B,
+    table: &mut B,
     meter: &mut M,
 ) -> Result<bool, Halt>
     requires { has_card (legal position.now) card ≡ true }
     ensures answer { IfOk result (λ yes. yes ≡ nat_le tricks (score position.now card)) }
-    ensures spent { result ≡ Err Halt.Spent → M.says meter.new Tick.Spent }
-    ensures stopped { result ≡ Err Halt.Stopped → M.says meter.new Tick.Stop }
+    ensures ends { EndsAs (M.says meter.new) result }
     // It has an answer where the meter can say nothing else than to go on.
-    ensures answers { ((m : M) (tick : Tick) → M.says m tick → tick ≡ Tick.Go) → IsOk result }
+    ensures answers { IsEndless M.says → IsOk result }
 {
     let north_south = position.mover().is_north_south();
     // East and West take so many where North and South do not take one more than the rest.
@@ -35,9 +35,9 @@ pub fn reaches<B: Bounds, M: Meter>(
     };
     let (next, winner) = position.play(card);
     let rest = need.saturating_sub(trick_of(winner));
-    let yes = match counted(&next, rest) {
+    let yes = match answer_by_counting(&next, rest) {
         Some(yes) => yes,
-        None => takes(&next, rest, bounds, meter)?.yes,
+        None => takes(&next, rest, table, meter)?.yes,
     };
     Ok(yes == north_south)
 }

@@ -13,7 +13,7 @@ pub(crate) struct Claim {
 }
 
 impl Model for Claim {
-    ghost use Rattle.dd_search.specs.Answers.{ClaimBy};
+    ghost use Rattle.dd_search.specs.ClaimsBy.{ClaimBy};
 
     ghost Value = { ClaimBy };
 

@@ -42,31 +42,48 @@ struct Later {
     trump: u8,
 }
 
-// What a card is worth that is not of the suit led.
-// Second hand
-const RUFF_BEFORE_PARTNER: u16 = 70;
+// The groups of the cards of the suit led, the best first.
+// It wins the trick from the next hand, and as fourth hand for good.
+const WINNER: u8 = 5;
+// Second hand: partner ruffs, so the lowest card serves.
+const PARTNER_RUFFS: u8 = 4;
+// Third hand high: the next hand's cheapest winner is not enough.
+const ABOVE_CHEAPEST: u8 = 4;
+// Just one of the side's two hands is ahead for now.
+const AHEAD: u8 = 3;
+// Both hands or none of the side are ahead, or the next hand may ruff what is ahead.
+const UNDECIDED: u8 = 2;
+// It bears on nothing: partner wins, or the next hand does whatever is played.
+const LOW: u8 = 1;
 
-const RUFF_THAT_IS_OVERRUFFED: u16 = 35;
-// Third hand
+// What a card is worth that is not of the suit led, by hand and the best first.
+// Third hand: it wins, since the next hand can't ruff higher.
 const RUFF_THAT_HOLDS: u16 = 90;
-
+// The next hand can ruff higher, which costs it a high trump.
 const RUFF_THAT_MAY_HOLD: u16 = 60;
-
+// It is below a ruff that lies.
 const USELESS_RUFF: u16 = 5;
-// Second and third hand
-const RUFF_OF_PARTNERS_TRICK: u16 = 30;
-
+// Second hand: partner does not win the trick by itself.
+const RUFF_BEFORE_PARTNER: u16 = 70;
+// The next hand can ruff higher, and partner is still to play.
+const RUFF_THAT_IS_OVERRUFFED: u16 = 35;
+// Second and third hand: partner wins, and a card that serves nowhere goes.
 const DISCARD_ON_PARTNERS_TRICK: u16 = 80;
-
+// The trick is theirs, and trumps are kept.
 const DISCARD: u16 = 40;
-// Fourth hand
+// Partner would win without the trump.
+const RUFF_OF_PARTNERS_TRICK: u16 = 30;
+// Fourth hand: it wins for good.
 const LAST_RUFF: u16 = 80;
-
+// Partner has won, and trumps are kept.
+const LAST_DISCARD_ON_PARTNERS_TRICK: u16 = 50;
+// The trick is lost; a ruff would win it.
+const LAST_DISCARD: u16 = 34;
+// Partner has won without the trump.
 const LAST_RUFF_OF_PARTNERS_TRICK: u16 = 34;
 
-const LAST_DISCARD_ON_PARTNERS_TRICK: u16 = 50;
-
-const LAST_DISCARD: u16 = 34;
+// What four cards of a suit make each card of it worth more: a long suit can spare one.
+const FOUR_TO_SPARE_FROM: u16 = 7;
 
 impl Following {
     /// The view of the mover, after a card of this suit was led.
@@ -128,21 +145,23 @@ impl Following {
         let beats = rank > self.best;
         let partner_beats = self.last.highest > self.best;
         if self.next.trump > 0 {
-            return low_first(if beats && !partner_beats { 2 } else { 1 }, rank);
+            let ahead = beats && !partner_beats;
+            return low_first(if ahead { UNDECIDED } else { LOW }, rank);
         }
         if partner_beats && self.last.highest > self.next.highest {
-            return low_first(1, rank);
+            return low_first(LOW, rank);
         }
         if beats && rank > self.next.highest {
-            return low_first(5, rank);
+            return low_first(WINNER, rank);
         }
         if self.last.trump > 0 {
-            return low_first(4, rank);
+            return low_first(PARTNER_RUFFS, rank);
         }
         if beats && rank < self.next.lowest {
-            return low_first(1, rank);
+            return low_first(LOW, rank);
         }
-        low_first(if beats != partner_beats { 3 } else { 2 }, rank)
+        let one_beats = beats != partner_beats;
+        low_first(if one_beats { AHEAD } else { UNDECIDED }, rank)
     }
 
     // Third hand follows suit.
@@ -150,19 +169,20 @@ impl Following {
         requires { rank ≤ 14 }
     {
         let beats = !self.ruffed && rank > self.best;
+        let ahead = beats && !self.partners;
         if self.next.trump > 0 {
-            return low_first(if beats && !self.partners { 2 } else { 1 }, rank);
+            return low_first(if ahead { UNDECIDED } else { LOW }, rank);
         }
         if self.partners && self.best > self.next.highest {
-            return low_first(1, rank);
+            return low_first(LOW, rank);
         }
         if beats && rank > self.next.highest {
-            return low_first(5, rank);
+            return low_first(WINNER, rank);
         }
         if beats && rank > self.next.beats {
-            return high_first(4, rank);
+            return high_first(ABOVE_CHEAPEST, rank);
         }
-        low_first(if beats && !self.partners { 3 } else { 2 }, rank)
+        low_first(if ahead { AHEAD } else { UNDECIDED }, rank)
     }
 
     // Fourth hand follows suit: the cheapest winner, where partner doesn't win.
@@ -170,7 +190,7 @@ impl Following {
         requires { rank ≤ 14 }
     {
         let wins = !self.partners && !self.ruffed && rank > self.best;
-        low_first(if wins { 2 } else { 1 }, rank)
+        low_first(if wins { WINNER } else { LOW }, rank)
     }
 
     // Second hand has no card of the suit led.
@@ -234,7 +254,7 @@ fn high_first(group: u8, rank: u8) -> u16
 // A long suit can spare a card.
 #[inline]
 fn spare(suit: Holding) -> u16 {
-    suit.len() as u16 * 7 / 4
+    suit.len() as u16 * FOUR_TO_SPARE_FROM / 4
 }
 
 // What the seat has of the suit led, and to ruff with.

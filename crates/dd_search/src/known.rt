@@ -9,10 +9,9 @@ ghost use Rattle.dd_play.specs.Value.{lead};
 ghost use Rattle.dd_play.specs.Intervals.{Holds};
 ghost use Rattle.dd_play.specs.Reach.{reach, TakesBy};
 ghost use Rattle.dd_rank.specs.Depths.{all_cards, depth_in, Covers};
-ghost use Rattle.dd_search.specs.Answers.{IsAnswerBy, IsWindow, north_souths};
+ghost use Rattle.dd_search.specs.ClaimsBy.{IsAnswerBy, IsWindow, north_souths};
 
 use crate::answer::Answer;
-use crate::bounds::Bounds;
 use crate::claim::Claim;
 use dd_play::{Interval, Position, TrickStart};
 use dd_quick::{against_leader, bounds as quick_bounds, for_leader};
@@ -20,7 +19,7 @@ use dd_rank::Depths;
 
 /// Do North and South take at least `need` of the tricks left, where a look or, after it, the quick bounds settle it?
 #[inline]
-pub(crate) fn known<B: Bounds>(start: &TrickStart, need: u8, bounds: &mut B) -> Option<Answer>
+pub(crate) fn known_answer<B: Bounds>(start: &TrickStart, need: u8, table: &mut B) -> Option<Answer>
     requires low { 1 ≤ need }
     requires high { need ≤ left start.now }
     ensures answer { IfSome result (λ answer. IsAnswerBy start.now need answer.cards answer.yes) }
@@ -30,7 +29,7 @@ pub(crate) fn known<B: Bounds>(start: &TrickStart, need: u8, bounds: &mut B) -> 
     let leads = position.first().is_north_south();
     let left = position.tricks_left();
     let leaders = if leads { need } else { left + 1 - need };
-    if let Some(told) = bounds.settle(start, leaders) {
+    if let Some(told) = table.settle(start, leaders) {
         return Some(Answer {
             yes: (leaders <= told.0.lo) == leads,
             cards: told.1.cards(start),
@@ -59,18 +58,18 @@ fn quick(start: &TrickStart, need: u8) -> Option<Answer>
 }
 
 /// Hands over what an answer proves of the value.
-pub(crate) fn teach<B: Bounds>(start: &TrickStart, need: u8, answer: Answer, bounds: &mut B)
+pub(crate) fn note_answer<B: Bounds>(start: &TrickStart, need: u8, answer: Answer, table: &mut B)
     requires low { 1 ≤ need }
     requires high { need ≤ left start.now }
     requires answer { IsAnswerBy start.now need answer.cards answer.yes }
 {
-    let interval = taught(start, need, answer);
-    bounds.note(start, Depths::reached(start, answer.cards), interval);
+    let interval = interval_of(start, need, answer);
+    table.note(start, Depths::of_cards(start, answer.cards), interval);
 }
 
 /// The bounds that an answer proves of the value, and no more: at least `need` tricks for North and South, or fewer.
 #[inline]
-fn taught(start: &TrickStart, need: u8, answer: Answer) -> Interval
+fn interval_of(start: &TrickStart, need: u8, answer: Answer) -> Interval
     requires low { 1 ≤ need }
     requires high { need ≤ left start.now }
     requires answer { IsAnswerBy start.now need answer.cards answer.yes }
@@ -91,18 +90,18 @@ fn taught(start: &TrickStart, need: u8, answer: Answer) -> Interval
             hi: need - 1,
         }
     };
-    turned(leads, left, window)
+    leaders_interval(leads, left, window)
 }
 
 /// What North and South take and what East and West take, as far as a look and the quick bounds tell at a start of a trick.
-pub(crate) fn window<B: Bounds>(position: &Position, bounds: &mut B) -> (Claim, Claim)
+pub(crate) fn window<B: Bounds>(position: &Position, table: &mut B) -> (Claim, Claim)
     ensures { IsWindow position.now result.0 result.1 }
 {
     let nothing = (Claim::nothing(), Claim::nothing());
     let left = position.tricks_left();
     match TrickStart::of(position) {
         Some(start) if left > 0 => {
-            let told = bounds.look(&start);
+            let told = table.look(&start);
             let quick = quick_bounds(&start);
             let quick = claims(&start, quick.0, quick.1);
             let quick = (nothing.0.or(quick.0), nothing.1.or(quick.1));
@@ -141,10 +140,10 @@ fn claims(start: &TrickStart, interval: Interval, depths: Depths) -> (Claim, Cla
     }
 }
 
-// Bounds of the tricks of the leader's side as bounds of those of North and South, and the other way round; `leads` says
-// whether these are one side.
+// Bounds of the tricks of the leader's side, from bounds of those of North and South; `leads` says whether these are one
+// side.
 #[inline]
-fn turned(leads: bool, left: u8, interval: Interval) -> Interval
+fn leaders_interval(leads: bool, left: u8, interval: Interval) -> Interval
     requires { interval.lo ≤ left }
     ensures same { OnTrue leads ((result.lo ≡ interval.lo) × (result.hi ≡ min interval.hi left)) }
     ensures other { OnFalse leads ((result.lo ≡ left - interval.hi) × (result.hi ≡ left - interval.lo)) }

@@ -40,54 +40,55 @@ struct Worth {
     loses: u16,
 }
 
-// The reasons for a card, the first that holds.
-// An opponent's highest card stands alone and falls.
+// What a card is worth, by the first reason that holds.
+// An opponent's highest card stands alone: it falls, and the suit is the leader's side's.
 const LONE_TOP_CARD: Worth = Worth {
     wins: 70,
     loses: 10,
 };
-// The leader has the highest card and partner the second highest.
+// The leader has the highest card and partner the second highest: whichever is led, the other is left.
 const TOP_TWO_CARDS: Worth = Worth {
     wins: 40,
     loses: 40,
 };
-// The leader has the highest card: that card itself, and the others of the suit.
+// The leader has the highest card, and leads it.
 const OWN_TOP_CARD: Worth = Worth {
     wins: 25,
     loses: 55,
 };
-
+// The leader has it, and leads another card of the suit.
 const BELOW_OWN_TOP_CARD: Worth = Worth { wins: 20, loses: 0 };
-// Partner has the highest card.
+// Partner has the highest card: any card goes to it.
 const TO_PARTNER: Worth = Worth {
     wins: 40,
     loses: 40,
 };
-// The leader has the second highest card, and the card has an equal: it drives the highest out.
+// The leader has the second highest card, and the card has an equal: it drives the highest out, and the other is then high.
 const SEQUENCE: Worth = Worth {
     wins: 55,
     loses: 25,
 };
-
+// Nothing more is known of it.
 const ANY_OTHER: Worth = Worth {
     wins: 40,
     loses: 10,
 };
 
-// The reasons for a suit and against it.
+// What a suit is worth, from which the reasons against it are taken.
 const SUIT: u16 = 400;
-// each card of it that an opponent has, or each card of an opponent who has none of it
-const OPPONENTS_CARD: u16 = 10;
-
-const OPPONENT_RUFFS: u16 = 10;
-
-const LAST_HAND_HAS_TOP: u16 = 10;
-
-const LAST_HAND_HAS_SECOND: u16 = 15;
-
-const THROUGH_TOP_TO_SECOND: u16 = 10;
-
+// For it: partner takes the leader's single card, and the leader ruffs the next.
 const SINGLETON_TO_TOP: u16 = 15;
+// For it: the highest card plays before partner, who has the second highest, so one of the two tricks is partner's.
+const THROUGH_TOP_TO_SECOND: u16 = 10;
+// Against it: the last hand has the second highest card and plays it when it has seen what partner played.
+const LAST_HAND_HAS_SECOND: u16 = 15;
+// Against it: the last hand has the highest card, which wins whatever partner plays.
+const LAST_HAND_HAS_TOP: u16 = 10;
+// Against it: an opponent has none of it and ruffs.
+const OPPONENT_RUFFS: u16 = 10;
+// Against it, for each card of it that an opponent has, and of an opponent who has none of it for each card: the fewer
+// answers there are to try, the sooner the suit is settled.
+const OPPONENTS_CARD: u16 = 10;
 
 // More than any rank.
 const RUFF: u8 = 15;

@@ -2,7 +2,6 @@
 #![tactic(auto)]
 
 mod answer;
-mod bounds;
 mod card_reaches;
 mod card_scores;
 mod claim;
@@ -17,15 +16,16 @@ mod position_value;
 mod rests;
 mod start;
 mod strength;
+mod table;
 mod takes;
 
-pub use bounds::{Bounds, NoTable};
 pub use card_reaches::reaches;
 pub use card_scores::{score, score_up_to};
 pub use laws::value_is_the_greatest_score;
 pub use meter::{Budget, Endless, Halt, Meter, Tick};
 pub use position_value::value;
 pub use start::{start_scores, start_value};
+pub use table::{Bounds, NoTable};
 
 #[cfg(test)]
 mod tests;

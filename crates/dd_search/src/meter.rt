@@ -1,5 +1,6 @@
 //! How long a search may go on.
-ghost use Rattle.std.specs.Prelude.{◌≡◌, ◌+◌, ◌<◌, ◌≤◌, ◌↔◌, Err, OnOk};
+ghost use Rattle.std.specs.Prelude.{◌≡◌, ◌+◌, ◌<◌, ◌≤◌, ◌↔◌, OnOk};
+ghost use Rattle.dd_search.specs.Budgets.{EndsAs};
 
 use std::marker::Model;
 
@@ -44,8 +45,7 @@ pub trait Meter {
 #[inline]
 pub(crate) fn go_on<M: Meter>(meter: &mut M) -> Result<(), Halt>
     ensures ticked { OnOk result (M.ticked meter.old meter.new) }
-    ensures spent { result ≡ Err Halt.Spent → M.says meter.new Tick.Spent }
-    ensures stopped { result ≡ Err Halt.Stopped → M.says meter.new Tick.Stop }
+    ensures ends { EndsAs (M.says meter.new) result }
 {
     match meter.tick() {
         Tick::Go => Ok(()),
@@ -81,9 +81,9 @@ pub struct Budget {
 
 impl Model for Budget {
     ghost use Rattle.std.specs.Prelude.{◌≤◌};
-    ghost use Rattle.dd_search.specs.Budgets.{Counted};
+    ghost use Rattle.dd_search.specs.Budgets.{CountedTicks};
 
-    ghost Value = { Counted };
+    ghost Value = { CountedTicks };
 
     ghost view = { λ b. record { limit = b.limit; count = b.count } };
 

@@ -1,15 +1,16 @@
 //! The value of a position.
-ghost use Rattle.std.specs.Prelude.{◌≡◌, ◌-◌, ◌<◌, ◌≤◌, true, false, Err, IfOk, OnOk, IsOk};
+ghost use Rattle.std.specs.Prelude.{◌≡◌, ◌-◌, ◌<◌, ◌≤◌, true, false, IfOk, OnOk, IsOk};
 ghost use Rattle.dd_cards.specs.Sides.{side_of};
 ghost use Rattle.dd_play.specs.Board.{mover, left};
 ghost use Rattle.dd_play.specs.Reach.{reach, TakesBy};
 ghost use Rattle.dd_play.specs.Won.{won};
+ghost use Rattle.dd_search.specs.Budgets.{EndsAs, IsEndless};
 
-use crate::bounds::Bounds;
 use crate::claim::Claim;
 use crate::guess::guess;
 use crate::known::window;
-use crate::meter::{Halt, Meter, Tick, go_on};
+use crate::meter::{Halt, Meter, go_on};
+use crate::table::Bounds;
 use crate::takes::takes;
 use dd_cards::Side;
 use dd_play::Position;
@@ -18,18 +19,17 @@ use dd_play::Position;
 /// well as can be: the greatest score of its cards. Errors as at `score`.
 pub fn value<B: Bounds, M: Meter>(
     position: &Position,
-    bounds: &mut B,
+    table: &mut B,
     meter: &mut M,
 ) -> Result<u8, Halt>
     ensures value { IfOk result (λ tricks. tricks ≡ won (side_of (mover position.now)) position.now) }
     ensures bound { IfOk result (λ tricks. tricks ≤ 13) }
     ensures ticked { OnOk result (M.ticked meter.old meter.new) }
-    ensures spent { result ≡ Err Halt.Spent → M.says meter.new Tick.Spent }
-    ensures stopped { result ≡ Err Halt.Stopped → M.says meter.new Tick.Stop }
+    ensures ends { EndsAs (M.says meter.new) result }
     // It has an answer where the meter can say nothing else than to go on.
-    ensures answers { ((m : M) (tick : Tick) → M.says m tick → tick ≡ Tick.Go) → IsOk result }
+    ensures answers { IsEndless M.says → IsOk result }
 {
-    let found = north_souths_tricks(position, bounds, meter)?;
+    let found = north_souths_tricks(position, table, meter)?;
     if position.mover().is_north_south() {
         Ok(found.tricks)
     } else {
@@ -40,25 +40,24 @@ pub fn value<B: Bounds, M: Meter>(
 /// The tricks that North and South take from here on, no more and no less, and the cards that both rest on. It ticks first.
 pub(crate) fn north_souths_tricks<B: Bounds, M: Meter>(
     position: &Position,
-    bounds: &mut B,
+    table: &mut B,
     meter: &mut M,
 ) -> Result<Claim, Halt>
     ensures theirs { IfOk result (λ found. TakesBy (reach found.cards) Side.NorthSouth position.now found.tricks) }
     ensures others { IfOk result (λ found. TakesBy (reach found.cards) Side.EastWest position.now (left position.now - found.tricks)) }
     ensures within { IfOk result (λ found. found.tricks ≤ left position.now) }
     ensures ticked { OnOk result (M.ticked meter.old meter.new) }
-    ensures spent { result ≡ Err Halt.Spent → M.says meter.new Tick.Spent }
-    ensures stopped { result ≡ Err Halt.Stopped → M.says meter.new Tick.Stop }
+    ensures ends { EndsAs (M.says meter.new) result }
 {
     go_on(meter)?;
     let left = position.tricks_left();
-    let window = window(position, bounds);
+    let window = window(position, table);
     let mut ours = window.0;
     let mut theirs = window.1;
     let mut need = guess(position);
     'window: while ours.tricks + theirs.tricks < left {
         need = next_question(need, ours.tricks, left - theirs.tricks);
-        let answer = takes(position, need, bounds, meter)?;
+        let answer = takes(position, need, table, meter)?;
         if answer.yes {
             ours = Claim {
                 tricks: need,

@@ -22,7 +22,7 @@ pub(crate) fn settled_by(position: &Position, card: Card, winner: Option<Seat>, 
 {
     // The proof reads here that the cards are cards of the pack.
     let _ = cards.holding(card.suit);
-    match position.contested(card, winner) {
+    match position.contested_winner(card, winner) {
         Some(won) => {
             let _rank = won.rank.code();
             cards.with(won)

@@ -1,16 +1,17 @@
 //! The value and the scores at the start of a trick, with the depths that the value rests on.
-ghost use Rattle.std.specs.Prelude.{◌≡◌, ◌≤◌, map, Err, IfOk, OnOk, IsOk};
+ghost use Rattle.std.specs.Prelude.{◌≡◌, ◌≤◌, map, IfOk, OnOk, IsOk};
 ghost use Rattle.dd_cards.specs.declared.suit.Suit.{Suit as SuitOf};
 ghost use Rattle.dd_play.specs.Board.{Board, IsBoard};
 ghost use Rattle.dd_play.specs.Covers.{count_of};
 ghost use Rattle.dd_play.specs.Value.{lead, score};
 ghost use Rattle.dd_equal.specs.EqualCards.{tops};
 ghost use Rattle.dd_rank.specs.Depths.{all_cards, depth_in, Covers};
+ghost use Rattle.dd_search.specs.Budgets.{EndsAs, IsEndless};
 
-use crate::bounds::Bounds;
 use crate::card_scores::score_up_to;
-use crate::meter::{Halt, Meter, Tick};
+use crate::meter::{Halt, Meter};
 use crate::position_value::north_souths_tricks;
+use crate::table::Bounds;
 use arrayvec::ArrayVec;
 use dd_cards::Card;
 use dd_equal::classes;
@@ -21,21 +22,20 @@ use dd_rank::Depths;
 /// that each position that this one covers at them has the same value. Errors as at `score`.
 pub fn start_value<B: Bounds, M: Meter>(
     start: &TrickStart,
-    bounds: &mut B,
+    table: &mut B,
     meter: &mut M,
 ) -> Result<(u8, Depths), Halt>
     ensures value { IfOk result (λ found. found.0 ≡ lead start.now) }
     ensures depths { IfOk result (λ found. (q : Board) → IsBoard q → Covers start.now (depth_in found.1) q → lead q ≡ lead start.now) }
     ensures within { IfOk result (λ found. (u : SuitOf) → depth_in found.1 u ≤ count_of u (all_cards start.now)) }
     ensures ticked { OnOk result (M.ticked meter.old meter.new) }
-    ensures spent { result ≡ Err Halt.Spent → M.says meter.new Tick.Spent }
-    ensures stopped { result ≡ Err Halt.Stopped → M.says meter.new Tick.Stop }
+    ensures ends { EndsAs (M.says meter.new) result }
     // It has an answer where the meter can say nothing else than to go on.
-    ensures answers { ((m : M) (tick : Tick) → M.says m tick → tick ≡ Tick.Go) → IsOk result }
+    ensures answers { IsEndless M.says → IsOk result }
 {
     let position = start.position();
-    let found = north_souths_tricks(position, bounds, meter)?;
-    let depths = Depths::reached(start, found.cards);
+    let found = north_souths_tricks(position, table, meter)?;
+    let depths = Depths::of_cards(start, found.cards);
     if position.first().is_north_south() {
         Ok((found.tricks, depths))
     } else {
@@ -47,19 +47,18 @@ pub fn start_value<B: Bounds, M: Meter>(
 /// and depths such that each position that this one covers at them has the same value. Errors as at `score`.
 pub fn start_scores<B: Bounds, M: Meter>(
     start: &TrickStart,
-    bounds: &mut B,
+    table: &mut B,
     meter: &mut M,
 ) -> Result<(ArrayVec<(Card, u8), 13>, Depths), Halt>
     ensures scores { IfOk result (λ found. found.0.items ≡ map (λ c. (c, score start.now c)) (tops start.now)) }
     ensures depths { IfOk result (λ found. (q : Board) → IsBoard q → Covers start.now (depth_in found.1) q → lead q ≡ lead start.now) }
     ensures within { IfOk result (λ found. (u : SuitOf) → depth_in found.1 u ≤ count_of u (all_cards start.now)) }
-    ensures spent { result ≡ Err Halt.Spent → M.says meter.new Tick.Spent }
-    ensures stopped { result ≡ Err Halt.Stopped → M.says meter.new Tick.Stop }
+    ensures ends { EndsAs (M.says meter.new) result }
     // It has an answer where the meter can say nothing else than to go on.
-    ensures answers { ((m : M) (tick : Tick) → M.says m tick → tick ≡ Tick.Go) → IsOk result }
+    ensures answers { IsEndless M.says → IsOk result }
 {
-    let (best, depths) = start_value(start, bounds, meter)?;
-    let scores = scores_up_to(start, best, bounds, meter)?;
+    let (best, depths) = start_value(start, table, meter)?;
+    let scores = scores_up_to(start, best, table, meter)?;
     Ok((scores, depths))
 }
 
@@ -67,20 +66,19 @@ pub fn start_scores<B: Bounds, M: Meter>(
 fn scores_up_to<B: Bounds, M: Meter>(
     start: &TrickStart,
     best: u8,
-    bounds: &mut B,
+    table: &mut B,
     meter: &mut M,
 ) -> Result<ArrayVec<(Card, u8), 13>, Halt>
     requires { best ≡ lead start.now }
     ensures scores { IfOk result (λ found. found.items ≡ map (λ c. (c, score start.now c)) (tops start.now)) }
-    ensures spent { result ≡ Err Halt.Spent → M.says meter.new Tick.Spent }
-    ensures stopped { result ≡ Err Halt.Stopped → M.says meter.new Tick.Stop }
+    ensures ends { EndsAs (M.says meter.new) result }
 {
     let position = start.position();
     let classes = classes(position);
     let mut scores = ArrayVec::new();
     for class in classes.as_slice() {
         let card = class.top;
-        let score = score_up_to(position, card, best, bounds, meter)?;
+        let score = score_up_to(position, card, best, table, meter)?;
         scores.push((card, score));
     }
     Ok(scores)

@@ -1,30 +1,31 @@
 //! The question of the search: do North and South take at least so many of the tricks that are left?
-ghost use Rattle.std.specs.Prelude.{IfSome, [], ◌≡◌, ◌+◌, ◌≤◌, ◌<◌, true, Err, IfOk, OnOk, MatchOption};
+ghost use Rattle.std.specs.Prelude.{IfSome, [], ◌≡◌, ◌+◌, ◌≤◌, ◌<◌, true, IfOk, OnOk, MatchOption};
 ghost use Rattle.dd_cards.specs.Cards.{has_card};
 ghost use Rattle.dd_play.specs.Board.{left};
 ghost use Rattle.dd_play.specs.Play.{legal, after};
 ghost use Rattle.dd_play.specs.Value.{point_of};
 ghost use Rattle.dd_play.specs.Won.{point};
-ghost use Rattle.dd_search.specs.Answers.{IsAnswer, IsAnswerBy};
+ghost use Rattle.dd_search.specs.Budgets.{EndsAs};
+ghost use Rattle.dd_search.specs.ClaimsBy.{IsAnswer, IsAnswerBy};
 
 use crate::answer::Answer;
-use crate::bounds::Bounds;
-use crate::known::{known, teach};
-use crate::meter::{Halt, Meter, Tick, go_on};
+use crate::known::{known_answer, note_answer};
+use crate::meter::{Halt, Meter, go_on};
 use crate::order::list_moves;
 use crate::rests::{also_spared, is_spared, settled_by};
+use crate::table::Bounds;
 use arrayvec::ArrayVec;
 use dd_cards::{Hand, Seat};
 use dd_equal::whole;
 use dd_play::{Position, TrickStart};
 
 /// Do North and South take at least `need` of the tricks left? It ticks first; at a start of a trick a look or the quick
-/// bounds may settle it; else one card of each class that isn't spared is tried until one does, and what that taught is
-/// noted.
+/// bounds may settle it; else play does, and what that taught is noted.
+#[cycle(takes)]
 pub(crate) fn takes<B: Bounds, M: Meter>(
     position: &Position,
     need: u8,
-    bounds: &mut B,
+    table: &mut B,
     meter: &mut M,
 ) -> Result<Answer, Halt>
     requires low { 1 ≤ need }
@@ -32,20 +33,39 @@ pub(crate) fn takes<B: Bounds, M: Meter>(
     ensures answer { IfOk result (λ answer. IsAnswer position.now need answer.yes) }
     ensures rests { IfOk result (λ answer. IsAnswerBy position.now need answer.cards answer.yes) }
     ensures ticked { OnOk result (M.ticked meter.old meter.new) }
-    ensures spent { result ≡ Err Halt.Spent → M.says meter.new Tick.Spent }
-    ensures stopped { result ≡ Err Halt.Stopped → M.says meter.new Tick.Stop }
+    ensures ends { EndsAs (M.says meter.new) result }
 {
     go_on(meter)?;
-    let start = TrickStart::of(position);
-    if let Some(start) = &start {
-        if let Some(answer) = known(start, need, bounds) {
-            return Ok(answer);
-        }
+    let Some(start) = TrickStart::of(position) else {
+        return answer_by_play(position, need, table, meter);
+    };
+    if let Some(answer) = known_answer(&start, need, table) {
+        return Ok(answer);
     }
+    let answer = answer_by_play(position, need, table, meter)?;
+    note_answer(&start, need, answer, table);
+    Ok(answer)
+}
+
+// The answer by the cards: one of each class that isn't spared is tried until one settles it.
+#[cycle(takes)]
+fn answer_by_play<B: Bounds, M: Meter>(
+    position: &Position,
+    need: u8,
+    table: &mut B,
+    meter: &mut M,
+) -> Result<Answer, Halt>
+    requires low { 1 ≤ need }
+    requires high { need ≤ left position.now }
+    ensures answer { IfOk result (λ answer. IsAnswer position.now need answer.yes) }
+    ensures rests { IfOk result (λ answer. IsAnswerBy position.now need answer.cards answer.yes) }
+    // What had ticked before has ticked still.
+    ensures ticked { (m : M) → M.ticked m meter.old → OnOk result (M.ticked m meter.new) }
+    ensures ends { EndsAs (M.says meter.new) result }
+{
     let mut moves = ArrayVec::new();
     list_moves(position, &mut moves);
     let north_south = position.mover().is_north_south();
-    let mut found = None;
     let mut cards = Hand::new();
     let mut spared = Hand::new();
     for tried in moves.as_slice() {
@@ -56,35 +76,27 @@ pub(crate) fn takes<B: Bounds, M: Meter>(
         // The position stays where `play` put it: a copy of it would wait for its bytes to be written.
         let played = position.play(card);
         let rest = rest_after(need, played.1);
-        let later = match counted(&played.0, rest) {
+        let later = match answer_by_counting(&played.0, rest) {
             Some(yes) => Answer {
                 yes,
                 cards: Hand::new(),
             },
-            None => takes(&played.0, rest, bounds, meter)?,
+            None => takes(&played.0, rest, table, meter)?,
         };
         let by = settled_by(position, card, played.1, later.cards);
         if later.yes == north_south {
-            found = Some(by);
-            break;
+            return Ok(Answer {
+                yes: north_south,
+                cards: by,
+            });
         }
         cards = cards.union(by);
         spared = also_spared(spared, card, by);
     }
-    let answer = match found {
-        Some(by) => Answer {
-            yes: north_south,
-            cards: by,
-        },
-        None => Answer {
-            yes: !north_south,
-            cards: whole(position, cards),
-        },
-    };
-    if let Some(start) = &start {
-        teach(start, need, answer, bounds);
-    }
-    Ok(answer)
+    Ok(Answer {
+        yes: !north_south,
+        cards: whole(position, cards),
+    })
 }
 
 // How many tricks North and South still need when this seat has won one.
@@ -98,7 +110,7 @@ fn rest_after(need: u8, winner: Option<Seat>) -> u8
 
 /// The answer where counting settles it: none needed, or more than are left.
 #[inline]
-pub(crate) fn counted(position: &Position, need: u8) -> Option<bool>
+pub(crate) fn answer_by_counting(position: &Position, need: u8) -> Option<bool>
     ensures answer { MatchOption result ((1 ≤ need) × (need ≤ left position.now)) (λ yes. IsAnswer position.now need yes) }
     ensures rests { IfSome result (λ yes. IsAnswerBy position.now need [] yes) }
 {

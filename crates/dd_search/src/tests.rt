@@ -1,16 +1,19 @@
+//! Positions worked by hand.
+mod searching;
+
 ghost use Rattle.std.specs.Prelude.{◌≡◌, ◌≤◌, true, IsOk, None};
 ghost use Rattle.dd_cards.specs.Cards.{has_card};
 ghost use Rattle.dd_play.specs.Play.{legal};
 
-use crate::bounds::{Bounds, NoTable};
 use crate::card_reaches::reaches;
 use crate::card_scores::score;
 use crate::meter::{Budget, Endless, Halt, Meter};
 use crate::position_value::value;
 use crate::start::{start_scores, start_value};
+use crate::table::{Bounds, NoTable};
 use arrayvec::ArrayVec;
 use dd_cards::{Card, Hands, Rank, Seat, Strain, Suit};
-use dd_play::{Interval, Position, TrickStart};
+use dd_play::{Position, TrickStart};
 use dd_rank::Depths;
 
 // Where nothing bounds the search it has a score.
@@ -19,28 +22,6 @@ fn endless_score(position: &Position, card: Card) -> Result<u8, Halt>
     ensures { IsOk result }
 {
     score(position, card, &mut NoTable, &mut Endless)
-}
-
-// Counts what it is asked and told, and keeps nothing.
-#[derive(Drop)]
-struct Counting {
-    looks: u64,
-    notes: u64,
-}
-
-impl Bounds for Counting {
-    ghost tells = { λ table p depths interval. ⊥ };
-
-    ghost holds = { λ table p depths interval q told. absurd told };
-
-    fn look(&mut self, _start: &TrickStart) -> Option<(Interval, Depths)> {
-        self.looks = self.looks.saturating_add(1);
-        None
-    }
-
-    fn note(&mut self, _start: &TrickStart, _depths: Depths, _interval: Interval) {
-        self.notes = self.notes.saturating_add(1);
-    }
 }
 
 // The ranks of the suits of one hand, spades first.
@@ -71,11 +52,11 @@ fn card_of(suit: u8, rank: u8) -> Option<Card> {
 fn score_of<B: Bounds, M: Meter>(
     position: &Position,
     card: Card,
-    bounds: &mut B,
+    table: &mut B,
     meter: &mut M,
 ) -> Option<Result<u8, Halt>> {
     if position.is_legal(card) {
-        Some(score(position, card, bounds, meter))
+        Some(score(position, card, table, meter))
     } else {
         None
     }
@@ -161,9 +142,7 @@ const ALL_HONOURS: [Holdings; 4] = [
 
 #[test]
 fn a_king_before_the_ace_and_queen_is_caught(rt: HostRuntime) {
-    let Some(position) = position_of(&CAUGHT, Seat::North, &[]) else {
-        return;
-    };
+    let position = position_of(&CAUGHT, Seat::North, &[]).expect(&rt, "a position");
     let three = spade(3);
     assert!(rt; position.is_legal(three));
     assert_eq!(rt; endless_score(&position, three), Ok(2));
@@ -171,9 +150,7 @@ fn a_king_before_the_ace_and_queen_is_caught(rt: HostRuntime) {
 
 #[test]
 fn a_king_wins_nothing_before_the_ace(rt: HostRuntime) {
-    let Some(position) = position_of(&ONE_EACH, Seat::East, &[]) else {
-        return;
-    };
+    let position = position_of(&ONE_EACH, Seat::East, &[]).expect(&rt, "a position");
     assert_eq!(rt;
         score_of(&position, spade(13), &mut NoTable, &mut Endless),
         Some(Ok(0))
@@ -182,9 +159,7 @@ fn a_king_wins_nothing_before_the_ace(rt: HostRuntime) {
 
 #[test]
 fn a_suit_in_one_hand_takes_all_tricks(rt: HostRuntime) {
-    let Some(position) = position_of(&A_SUIT_EACH, Seat::North, &[]) else {
-        return;
-    };
+    let position = position_of(&A_SUIT_EACH, Seat::North, &[]).expect(&rt, "a position");
     let mut budget = Budget::new(1_000);
     assert_eq!(rt;
         score_of(&position, spade(14), &mut NoTable, &mut budget),
@@ -195,9 +170,7 @@ fn a_suit_in_one_hand_takes_all_tricks(rt: HostRuntime) {
 #[test]
 fn the_last_card_is_one_position(rt: HostRuntime) {
     let trick = [spade(13), spade(12), spade(11)];
-    let Some(position) = position_of(&LAST_CARD, Seat::East, &trick) else {
-        return;
-    };
+    let position = position_of(&LAST_CARD, Seat::East, &trick).expect(&rt, "a position");
     let mut one = Budget::new(1);
     let mut none = Budget::new(0);
     assert_eq!(rt;
@@ -213,20 +186,6 @@ fn the_last_card_is_one_position(rt: HostRuntime) {
 }
 
 #[test]
-fn a_search_looks_and_notes(rt: HostRuntime) {
-    let Some(position) = position_of(&BEHIND, Seat::North, &[]) else {
-        return;
-    };
-    let mut bounds = Counting { looks: 0, notes: 0 };
-    assert_eq!(rt;
-        score_of(&position, spade(3), &mut bounds, &mut Endless),
-        Some(Ok(1))
-    );
-    assert!(rt; bounds.looks >= 1);
-    assert!(rt; bounds.notes >= 1);
-}
-
-#[test]
 fn a_value_is_that_of_the_side_to_play(rt: HostRuntime) {
     assert_eq!(rt; value_of(&CAUGHT, Seat::North), Some(Ok(2)));
     assert_eq!(rt; value_of(&BEHIND, Seat::North), Some(Ok(1)));
@@ -237,18 +196,14 @@ fn a_value_is_that_of_the_side_to_play(rt: HostRuntime) {
 
 #[test]
 fn a_card_reaches_its_score_and_no_more(rt: HostRuntime) {
-    let Some(caught) = position_of(&CAUGHT, Seat::North, &[]) else {
-        return;
-    };
+    let caught = position_of(&CAUGHT, Seat::North, &[]).expect(&rt, "a position");
     let three = spade(3);
     assert_eq!(rt; reaches_of(&caught, three, 2, &mut Endless), Some(Ok(true)));
     assert_eq!(rt;
         reaches_of(&caught, three, 3, &mut Endless),
         Some(Ok(false))
     );
-    let Some(behind) = position_of(&BEHIND, Seat::North, &[]) else {
-        return;
-    };
+    let behind = position_of(&BEHIND, Seat::North, &[]).expect(&rt, "a position");
     assert_eq!(rt; reaches_of(&behind, three, 1, &mut Endless), Some(Ok(true)));
     assert_eq!(rt;
         reaches_of(&behind, three, 2, &mut Endless),
@@ -258,9 +213,7 @@ fn a_card_reaches_its_score_and_no_more(rt: HostRuntime) {
 
 #[test]
 fn a_card_of_east_or_west_reaches_the_tricks_of_its_side(rt: HostRuntime) {
-    let Some(position) = position_of(&A_SUIT_EACH, Seat::West, &[]) else {
-        return;
-    };
+    let position = position_of(&A_SUIT_EACH, Seat::West, &[]).expect(&rt, "a position");
     let ace = Card {
         suit: Suit::Clubs,
         rank: Rank::of(14),
@@ -277,9 +230,7 @@ fn a_card_of_east_or_west_reaches_the_tricks_of_its_side(rt: HostRuntime) {
 
 #[test]
 fn no_search_is_needed_where_counting_settles_it(rt: HostRuntime) {
-    let Some(position) = position_of(&ONE_EACH, Seat::East, &[]) else {
-        return;
-    };
+    let position = position_of(&ONE_EACH, Seat::East, &[]).expect(&rt, "a position");
     let mut none = Budget::new(0);
     assert_eq!(rt;
         reaches_of(&position, spade(13), 0, &mut none),
@@ -297,13 +248,9 @@ fn no_search_is_needed_where_counting_settles_it(rt: HostRuntime) {
 
 #[test]
 fn all_honours_take_all_tricks(rt: HostRuntime) {
-    let Some(position) = position_of(&ALL_HONOURS, Seat::North, &[]) else {
-        return;
-    };
+    let position = position_of(&ALL_HONOURS, Seat::North, &[]).expect(&rt, "a position");
     for suit in 0..4u8 {
-        let Some(ace) = card_of(suit, 14) else {
-            return;
-        };
+        let ace = card_of(suit, 14).expect(&rt, "an ace");
         let mut budget = Budget::new(10_000);
         assert_eq!(rt;
             score_of(&position, ace, &mut NoTable, &mut budget),

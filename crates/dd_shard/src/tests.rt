@@ -122,7 +122,7 @@ fn note_most(shard: &mut Shard, start: &TrickStart, rank: u8) -> Result<(), Allo
         Some(card) => Hand::new().with(card),
         None => Hand::new(),
     };
-    shard.note(start, Depths::reached(start, cards), bounds(0, left))
+    shard.note(start, Depths::of_cards(start, cards), bounds(0, left))
 }
 
 // What is told of a position: the bounds, and the four depths.

@@ -9,13 +9,13 @@ tops-init c = record { left = rest-all _ _ c.requires.apart; made = refl; room =
 
 pub tops-smaller : goal.tops-smaller
 tops-smaller c =
-    let one = taken c.args.own c.args.others _ _ _ _ _ _ c.requires.apart c.tops.invariant.left (sym c.in-Some.ensures) c.below.ensures c.next_below.ensures c.parted-equals.ensures in
+    let one = taken c.args.own c.args.others _ _ _ _ _ _ c.requires.apart c.tops.invariant.left (sym c.in-Some.ensures) c.below.ensures c.next_below.ensures c.ranks_around-equals.ensures in
     let less = one.shorter in
     omega arith
 
 pub tops-preserved : goal.tops-preserved
 tops-preserved c =
-    let one = taken c.args.own c.args.others _ _ _ _ _ _ c.requires.apart c.tops.invariant.left (sym c.in-Some.ensures) c.below.ensures c.next_below.ensures c.parted-equals.ensures in
+    let one = taken c.args.own c.args.others _ _ _ _ _ _ c.requires.apart c.tops.invariant.left (sym c.in-Some.ensures) c.below.ensures c.next_below.ensures c.ranks_around-equals.ensures in
     let less = one.shorter in
     let room = c.tops.invariant.room in
     let longer = c.push.ensures.len in

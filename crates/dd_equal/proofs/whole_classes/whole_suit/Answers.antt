@@ -3,7 +3,7 @@ use Rattle.std.proofs.Common.{List, [], Option, Some, None, ◌≡◌, ℕ, refl
 use Rattle.dd_cards.specs.Cards.{card_of, has_card}
 use Rattle.dd_equal.proofs.Wholes.{AtSuit, IsCut, whole-none, whole-above, whole-below, whole-with, whole-without, cut-real, with-old, with-others}
 use Rattle.dd_equal.proofs.whole_classes.whole_suit.Goals as goal
-use Rattle.dd_equal.proofs.whole_classes.whole_suit.Goals.{After-legal_ranks-own, After-parted-cut}
+use Rattle.dd_equal.proofs.whole_classes.whole_suit.Goals.{After-legal_ranks-own, After-ranks_around-cut}
 
 at : (c : After-legal_ranks-own) → AtSuit c.args.position.now c.args.suit c.args.reached c.holding.result c.legal_ranks-own.result c.in-Some.floor
 at c = record {
@@ -20,7 +20,7 @@ first-part : (bound : Option ℕ) (ranks cut rest : List ℕ) → MatchOption bo
 first-part None ranks cut rest m = m.0
 first-part (Some f) ranks cut rest m = m.0
 
-cut : (c : After-parted-cut) → IsCut c.args.position.now c.args.suit c.args.reached c.holding.result c.legal_ranks-own.result c.other_ranks.result c.below-below.result c.parted-cut.result.0 c.in-Some.floor c.in-Some-next_from.least c.next_below.result
+cut : (c : After-ranks_around-cut) → IsCut c.args.position.now c.args.suit c.args.reached c.holding.result c.legal_ranks-own.result c.other_ranks.result c.below-below.result c.ranks_around-cut.result.0 c.in-Some.floor c.in-Some-next_from.least c.next_below.result
 cut c = record {
   at = record {
     valid = c.legal_ranks-own.ensures.board;
@@ -34,7 +34,7 @@ cut c = record {
   under = c.below-below.ensures;
   next = c.in-Some-next_from.ensures;
   found = c.next_below.ensures;
-  part = first-part c.next_below.result c.below-below.result c.parted-cut.result.0 c.parted-cut.result.1 c.parted-cut.ensures;
+  part = first-part c.next_below.result c.below-below.result c.ranks_around-cut.result.0 c.ranks_around-cut.result.1 c.ranks_around-cut.ensures;
 }
 
 pub returns-in_default-clause-whole : goal.returns-in_default-clause-whole
@@ -54,12 +54,12 @@ returns-in-Some-next_from-2-clause-others c = λ d away. rw c.with.ensures (with
 
 pub returns-in-Some-next_from-2-clause-whole : goal.returns-in-Some-next_from-2-clause-whole
 returns-in-Some-next_from-2-clause-whole c =
-    let is = cut (goal.at.returns-in-Some-next_from-2-clause-whole c).After-parted-cut in
+    let is = cut (goal.at.returns-in-Some-next_from-2-clause-whole c).After-ranks_around-cut in
     let l = c.in-Some-next_from-2.rank in
-    rw c.with.ensures (whole-with c.args.position.now c.args.suit c.args.reached c.holding.result c.legal_ranks-own.result c.other_ranks.result c.below-below.result c.parted-cut.result.0 c.in-Some.floor c.in-Some-next_from.least l c.next_below.result
+    rw c.with.ensures (whole-with c.args.position.now c.args.suit c.args.reached c.holding.result c.legal_ranks-own.result c.other_ranks.result c.below-below.result c.ranks_around-cut.result.0 c.in-Some.floor c.in-Some-next_from.least l c.next_below.result
     (card_of c.args.suit l) is (cut-real _ _ _ _ _ _ _ _ _ _ _ is l c.in-Some-next_from-2.ensures.0) refl c.in-Some-next_from-2.ensures.0 (λ q h two. c.in-Some-next_from-2.ensures.2 q h (let e = c.of-2.ensures in omega (arith, e, two))))
 
 pub returns-in-None-clause-whole : goal.returns-in-None-clause-whole
 returns-in-None-clause-whole c =
-    whole-without c.args.position.now c.args.suit c.args.reached c.holding.result c.legal_ranks-own.result c.other_ranks.result c.below-below.result c.parted-cut.result.0 c.in-Some.floor c.in-Some-next_from.least c.next_below.result
-    (cut (goal.at.returns-in-None-clause-whole c).After-parted-cut) (λ q h. let k = c.in-None.ensures q h in let e = c.of-2.ensures in omega (arith, k, e))
+    whole-without c.args.position.now c.args.suit c.args.reached c.holding.result c.legal_ranks-own.result c.other_ranks.result c.below-below.result c.ranks_around-cut.result.0 c.in-Some.floor c.in-Some-next_from.least c.next_below.result
+    (cut (goal.at.returns-in-None-clause-whole c).After-ranks_around-cut) (λ q h. let k = c.in-None.ensures q h in let e = c.of-2.ensures in omega (arith, k, e))

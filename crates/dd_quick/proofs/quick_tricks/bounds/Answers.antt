@@ -46,6 +46,6 @@ returns-clause-holds c =
     let left_is = c.tricks_left.ensures.tricks ∙ ap left c.position-position.ensures.value in
     let lo = ap (λ (s : SureTricks). s.tricks) c.ours.view_is in
     let hi = ap (λ (s : SureTricks). s.tricks) c.theirs.view_is in
-    sure-bounds p c.leaders-ours.result c.others-theirs.result c.union-cards.result _ c.ours.inside.tricks _ c.reached.ensures.real c.position-position.ensures.board
+    sure-bounds p c.leaders-ours.result c.others-theirs.result c.union-cards.result _ c.ours.inside.tricks _ c.of_cards.ensures.real c.position-position.ensures.board
     (rw (← ap (λ (s : SureTricks). s.cards) c.ours.view_is) c.union-cards.ensures.left) (rw (← ap (λ (s : SureTricks). s.cards) c.theirs.view_is) c.union-cards.ensures.right)
-    c.reached.ensures.depths lo (omega (arith, left_is, hi)) k.ours k.theirs
+    c.of_cards.ensures.depths lo (omega (arith, left_is, hi)) k.ours k.theirs

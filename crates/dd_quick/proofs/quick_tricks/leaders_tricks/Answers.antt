@@ -12,11 +12,11 @@ returns-clause-claim c =
     let cards = λ (s : SureTricks). s.cards in
     let tricks = λ (s : SureTricks). s.tricks in
     let sure = leader-sure p c.spades.inside.cards c.hearts.inside.cards c.diamonds.inside.cards c.clubs.inside.cards c.requires
-    (rw (ap cards c.spades.view_is) c.cashed-spades.ensures.winners) (rw (ap cards c.hearts.view_is) c.cashed-hearts.ensures.winners)
-    (rw (ap cards c.diamonds.view_is) c.cashed-diamonds.ensures.winners) (rw (ap cards c.clubs.view_is) c.cashed-clubs.ensures.winners)
-    (rw (ap cards c.hearts.view_is) c.cashed-hearts.ensures.more) (rw (ap cards c.diamonds.view_is) c.cashed-diamonds.ensures.more) (rw (ap cards c.clubs.view_is) c.cashed-clubs.ensures.more) in
-    let s = ap tricks c.spades.view_is ∙ c.cashed-spades.ensures.tricks in
-    let h = ap tricks c.hearts.view_is ∙ c.cashed-hearts.ensures.tricks in
-    let d = ap tricks c.diamonds.view_is ∙ c.cashed-diamonds.ensures.tricks in
-    let k = ap tricks c.clubs.view_is ∙ c.cashed-clubs.ensures.tricks in
+    (rw (ap cards c.spades.view_is) c.cashed_tricks-spades.ensures.winners) (rw (ap cards c.hearts.view_is) c.cashed_tricks-hearts.ensures.winners)
+    (rw (ap cards c.diamonds.view_is) c.cashed_tricks-diamonds.ensures.winners) (rw (ap cards c.clubs.view_is) c.cashed_tricks-clubs.ensures.winners)
+    (rw (ap cards c.hearts.view_is) c.cashed_tricks-hearts.ensures.more) (rw (ap cards c.diamonds.view_is) c.cashed_tricks-diamonds.ensures.more) (rw (ap cards c.clubs.view_is) c.cashed_tricks-clubs.ensures.more) in
+    let s = ap tricks c.spades.view_is ∙ c.cashed_tricks-spades.ensures.tricks in
+    let h = ap tricks c.hearts.view_is ∙ c.cashed_tricks-hearts.ensures.tricks in
+    let d = ap tricks c.diamonds.view_is ∙ c.cashed_tricks-diamonds.ensures.tricks in
+    let k = ap tricks c.clubs.view_is ∙ c.cashed_tricks-clubs.ensures.tricks in
     by-fewer (reach c.clubs.inside.cards) (side_of p.first) p (leaders_tricks p) _ sure (omega (arith, s, h, d, k))

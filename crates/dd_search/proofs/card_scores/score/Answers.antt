@@ -1,6 +1,6 @@
 use Rattle.std.proofs.Common.{◌+◌, ◌-◌, ap, sym, ◌∙◌, arith}
 use Rattle.dd_cards.specs.Seats.{is_north_south}
-use Rattle.dd_search.specs.Answers.{ClaimBy}
+use Rattle.dd_search.specs.ClaimsBy.{ClaimBy}
 use Rattle.dd_search.proofs.Relied.{IsExactly, exactly-theirs, exactly-others}
 use Rattle.dd_search.proofs.Scores.{Learnt, learnt-within, learnt-13, learnt-north-south, learnt-east-west}
 use Rattle.dd_search.proofs.card_scores.score.Goals as goal

@@ -1,7 +1,7 @@
 use Rattle.std.proofs.Common.{◌≡◌, ◌+◌, ◌-◌, true, false, sym, ap, ◌∙◌, subst, arith, Bool}
 use Rattle.dd_play.specs.Board.{left}
 use Rattle.dd_play.specs.Reach.{reach, TakesBy}
-use Rattle.dd_search.specs.Answers.{AnswerBy, ClaimBy, IsAnswerBy}
+use Rattle.dd_search.specs.ClaimsBy.{AnswerBy, ClaimBy, IsAnswerBy}
 use Rattle.dd_search.proofs.Relied.{claims-within, claim-wider}
 use Rattle.dd_cards.specs.declared.side.Side.TheVariants.{NorthSouth, EastWest}
 use Rattle.dd_search.proofs.position_value.north_souths_tricks.Goals as goal

@@ -1,6 +1,6 @@
 use Rattle.std.proofs.Common.{◌+◌, ◌-◌, ◌≤◌}
 use Rattle.dd_play.specs.Board.{left}
-use Rattle.dd_search.specs.Answers.{IsWindow}
+use Rattle.dd_search.specs.ClaimsBy.{IsWindow}
 use Rattle.dd_search.proofs.position_value.north_souths_tricks.Given as goal
 
 -- North and South take as many as they claim, and East and West as many as they do.

@@ -9,7 +9,7 @@ pub note-requires-clause-holds : goal.note-requires-clause-holds
 note-requires-clause-holds c = λ q board covers.
     let none : left c.args.start.now - left c.args.start.now ≡ 0 = omega arith in
     let held : (0 ≤ lead q) × (lead q ≤ left c.args.start.now) =
-    noted c.match-spade.cards (depth_in c.reached.result) c.args.start.now 0 (left c.args.start.now) c.reached.ensures.real c.position.ensures.board (λ u. let same = c.reached.ensures.depths u in omega arith)
+    noted c.match-spade.cards (depth_in c.of_cards.result) c.args.start.now 0 (left c.args.start.now) c.of_cards.ensures.real c.position.ensures.board (λ u. let same = c.of_cards.ensures.depths u in omega arith)
     (λ k to from t r _ _. omega arith) (λ k to from t r _ _. omega arith) q board covers in
     let lo = c.bounds.ensures.0 in
     let hi = c.bounds.ensures.1 in

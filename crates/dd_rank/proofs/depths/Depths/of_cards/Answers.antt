@@ -12,7 +12,7 @@ use Rattle.dd_rank.specs.Depths.{all_cards, depths_of, FourDepths, depth_in}
 use Rattle.dd_play.specs.Covers.{count_of}
 use Rattle.dd_rank.proofs.Looked.{all-once}
 use Rattle.dd_rank.proofs.Lowest.{same-count, more-pass}
-use Rattle.dd_rank.proofs.depths.Depths.reached.Goals as goal
+use Rattle.dd_rank.proofs.depths.Depths.of_cards.Goals as goal
 
 -- the depths of all four suits
 by-suits : (p : Board) (all cards : List PlayingCard) (a b d e : ℕ) → IsBoard p → IsSet all → ((c : PlayingCard) → has_card all c ≡ has_card (all_cards p) c)

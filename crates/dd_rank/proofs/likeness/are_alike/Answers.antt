@@ -1,7 +1,7 @@
 use Rattle.std.proofs.Common.{sym, ◌∙◌}
 use Rattle.dd_rank.proofs.Alikes.{alike-strings, strings-tell}
 use Rattle.dd_rank.proofs.Packed.{is-true, true-is}
-use Rattle.dd_rank.proofs.likeness.alike.Goals as goal
+use Rattle.dd_rank.proofs.likeness.are_alike.Goals as goal
 
 pub returns : goal.returns
 returns c =

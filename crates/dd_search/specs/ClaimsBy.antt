@@ -1,7 +1,7 @@
--- The one question of the search: do North and South take at least `need` of the tricks that are left?
-use Rattle.std.specs.Prelude.{ℕ, ◌+◌, ◌-◌, Bool, true, false, List, ◌≡◌, if◌then◌else◌}
+-- The one question of the search, do North and South take at least `need` of the tricks that are left: answers, and claims
+-- of tricks, each with the cards that it rests on.
+use Rattle.std.specs.Prelude.{ℕ, ◌+◌, ◌-◌, Bool, true, false, List, if◌then◌else◌}
 use Rattle.dd_cards.specs.PlayingCard.{PlayingCard}
-use Rattle.dd_cards.specs.Hands.{times}
 use Rattle.dd_cards.specs.Seats.{is_north_south}
 use Rattle.dd_cards.specs.declared.side.Side.{Side}
 use Rattle.dd_cards.specs.declared.side.Side.TheVariants.{NorthSouth, EastWest}
@@ -40,7 +40,3 @@ IsWindow p ours theirs = IsClaimBy NorthSouth p ours × IsClaimBy EastWest p the
 -- at an empty trick, the tricks of North and South where the leader's side takes n
 abbrev pub north_souths : Board → ℕ → ℕ
 north_souths p n = (if is_north_south p.first then n else (left p - n))
-
--- the same cards, each as often, in any order
-abbrev pub IsReordering : List PlayingCard → List PlayingCard → Type 0
-IsReordering cards others = (c : PlayingCard) → times cards c ≡ times others c

@@ -4,8 +4,8 @@ use Rattle.dd_play.specs.Board.{Board, left}
 use Rattle.dd_rank.specs.Depths.{depth_in}
 use Rattle.dd_rank.proofs.CallerLemmas.{told}
 use Rattle.dd_search.proofs.Relied.{told-answer}
-use Rattle.dd_search.proofs.known.known.Goals as goal
-use Rattle.dd_search.proofs.known.known.Goals.{then-leads, else-leads}
+use Rattle.dd_search.proofs.known.known_answer.Goals as goal
+use Rattle.dd_search.proofs.known.known_answer.Goals.{then-leads, else-leads}
 
 pub cards-requires : goal.cards-requires
 cards-requires g c = c.in-Some.ensures.within
@@ -15,7 +15,7 @@ returns-in-Some-clause-answer g c =
     let p = c.args.start.now in
     let i = c.in-Some.told.0 in
     let d = c.in-Some.told.1 in
-    let claims = told c.cards.result (depth_in d) p i.lo i.hi c.cards.ensures.real c.position-position.ensures.start c.cards.ensures.depths (λ q good a. g.met.B.Bounds.holds c.args.bounds.now p d i q c.in-Some.ensures.told good a) in
+    let claims = told c.cards.result (depth_in d) p i.lo i.hi c.cards.ensures.real c.position-position.ensures.start c.cards.ensures.depths (λ q good a. g.met.B.Bounds.holds c.args.table.now p d i q c.in-Some.ensures.told good a) in
     let side = c.is_north_south-leads.ensures ∙ ap is_north_south (c.first.ensures ∙ ap (λ (q : Board). q.first) c.position-position.ensures.value) in
     let tricks = c.tricks_left-left.ensures.tricks ∙ ap left c.position-position.ensures.value in
     told-answer p i.lo i.hi c.args.need c.if-leads.leaders c.tricks_left-left.result c.is_north_south-leads.result _ c.cards.result side tricks c.requires.low c.requires.high

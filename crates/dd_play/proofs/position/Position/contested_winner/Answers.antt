@@ -6,8 +6,8 @@ use Rattle.dd_play.specs.Board.{Board, IsBoard}
 use Rattle.dd_play.specs.Play.{completes}
 use Rattle.dd_play.specs.Covers.{count_of}
 use Rattle.dd_play.proofs.Contests.{IsFour, is-four, settled-by-top, settled-alone}
-use Rattle.dd_play.proofs.position.Position.contested.Goals as goal
-use Rattle.dd_play.proofs.position.Position.contested.Goals.{After-count_of}
+use Rattle.dd_play.proofs.position.Position.contested_winner.Goals as goal
+use Rattle.dd_play.proofs.position.Position.contested_winner.Goals.{After-count_of}
 
 four : (c : After-count_of) → completes c.args.self.now ≡ true
     → IsFour c.args.self.now c.args.card (get_or c.self.inside.trick 0 c.index-self-0.result ∷ get_or c.self.inside.trick 1 c.index-self-1.result ∷ get_or c.self.inside.trick 2 c.index-self-2.result ∷ c.args.card ∷ []) c.self.inside.first c.in-Some.seat ((c.code.result + 4 - c.code-2.result) % 4) c.one_of_four-won.result

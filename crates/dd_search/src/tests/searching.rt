@@ -1,0 +1,247 @@
+//! What a search asks of its table and its meter, in which order, and what it notes.
+//!
+//! The deal is `BEHIND` at notrump, North on lead: spades 3 2, 6 5, A Q, K 4. In each position the search ticks once, then
+//! looks if a trick starts there, then plays. Quick tricks settle nothing here: no leader has a highest card, and there are
+//! no trumps.
+ghost use Rattle.std.specs.Prelude.{◌≤◌, IfSome};
+ghost use Rattle.dd_cards.specs.declared.suit.Suit.{Suit as SuitOf};
+ghost use Rattle.dd_play.specs.Board.{Board, IsBoard};
+ghost use Rattle.dd_play.specs.Covers.{count_of};
+ghost use Rattle.dd_play.specs.Value.{lead};
+ghost use Rattle.dd_play.specs.Intervals.{Holds};
+ghost use Rattle.dd_rank.specs.Depths.{all_cards, depth_in, Covers};
+
+use super::{BEHIND, position_of, start_of};
+use crate::meter::{Budget, Endless, Halt, Meter};
+use crate::start::start_value;
+use crate::table::{Bounds, NoTable};
+use crate::takes::takes;
+use arrayvec::ArrayVec;
+use dd_cards::Seat;
+use dd_play::{Interval, Position, TrickStart};
+use dd_rank::Depths;
+
+// What a search did with its table, at a start of a trick with so many tricks left.
+#[derive(Clone, Copy, Debug, PartialEq, Eq)]
+enum Event {
+    Look { left: u8 },
+    Note { left: u8, lo: u8, hi: u8 },
+}
+
+impl Default for Event {
+    fn default() -> Event {
+        Event::Look { left: 0 }
+    }
+}
+
+// Writes down what it is asked and told. It knows the value of each start of a trick with so many tricks left, by a search
+// of its own, and nothing of others.
+#[derive(Drop)]
+struct Log {
+    events: ArrayVec<Event, 16>,
+    knows: u8,
+}
+
+// A log of a table that knows nothing.
+const NONE: u8 = 14;
+
+impl Log {
+    fn knowing(left: u8) -> Log {
+        Log {
+            events: ArrayVec::new(),
+            knows: left,
+        }
+    }
+}
+
+// The value as bounds that hold at its depths.
+fn exact_bounds(start: &TrickStart) -> Option<(Interval, Depths)>
+    ensures holds { IfSome result (λ told. (q : Board) → IsBoard q → Covers start.now (depth_in told.1) q → Holds told.0 (lead q)) }
+    ensures within { IfSome result (λ told. (u : SuitOf) → depth_in told.1 u ≤ count_of u (all_cards start.now)) }
+{
+    match start_value(start, &mut NoTable, &mut Endless) {
+        Ok((value, depths)) => Some((
+            Interval {
+                lo: value,
+                hi: value,
+            },
+            depths,
+        )),
+        Err(_) => None,
+    }
+}
+
+impl Bounds for Log {
+    ghost tells = { λ table p depths interval. (q : Board) → IsBoard q → Covers p (depth_in depths) q → Holds interval (lead q) };
+
+    ghost holds = { λ table p depths interval q told. told q };
+
+    fn look(&mut self, start: &TrickStart) -> Option<(Interval, Depths)> {
+        let left = start.position().tricks_left();
+        let _fits = self.events.try_push(Event::Look { left });
+        if left != self.knows {
+            return None;
+        }
+        exact_bounds(start)
+    }
+
+    fn note(&mut self, start: &TrickStart, _depths: Depths, interval: Interval) {
+        let left = start.position().tricks_left();
+        let (lo, hi) = (interval.lo, interval.hi);
+        let _fits = self.events.try_push(Event::Note { left, lo, hi });
+    }
+}
+
+// Do North and South take so many tricks? Nothing where that is settled by counting.
+fn asked<B: Bounds, M: Meter>(
+    position: &Position,
+    need: u8,
+    table: &mut B,
+    meter: &mut M,
+) -> Option<Result<bool, Halt>> {
+    if need == 0 || need > position.tricks_left() {
+        return None;
+    }
+    match takes(position, need, table, meter) {
+        Ok(answer) => Some(Ok(answer.yes)),
+        Err(halt) => Some(Err(halt)),
+    }
+}
+
+// One trick is had at once. North's 3 and East's 6 have equals below them, so there is one card to try in each hand. South
+// tries the ace, the surest winner, and it wins before West's 4; the king is spared, since the ace takes it too. So a
+// position is come to before each of four cards, and the fifth is settled by counting: North and South have their trick.
+#[test]
+fn each_position_is_one_tick_where_one_trick_is_asked_for(rt: HostRuntime) {
+    let position = position_of(&BEHIND, Seat::North, &[]).expect(&rt, "two cards a hand");
+    let mut log = Log::knowing(NONE);
+    let mut budget = Budget::new(100);
+    let answer = asked(&position, 1, &mut log, &mut budget);
+    assert_eq!(rt; answer, Some(Ok(true)));
+    assert_eq!(rt; budget.ticks(), 4);
+    assert_eq!(rt;
+        log.events.as_slice(),
+        [
+            Event::Look { left: 2 },
+            Event::Note {
+                left: 2,
+                lo: 1,
+                hi: 2,
+            },
+        ]
+        .as_slice()
+    );
+}
+
+// Two tricks are not had. Four positions as above, up to the ace and West's 4. Then South leads the queen: one position at
+// that start of a trick, and one before each of the three cards that follow; the king wins, so West's 4 was enough. South
+// tries the queen in the first trick too, which the ace's failure, by the king, doesn't spare: one position more, West's,
+// where the king settles it. That is nine.
+#[test]
+fn each_position_is_one_tick_where_two_tricks_are_asked_for(rt: HostRuntime) {
+    let position = position_of(&BEHIND, Seat::North, &[]).expect(&rt, "two cards a hand");
+    let mut log = Log::knowing(NONE);
+    let mut budget = Budget::new(100);
+    let answer = asked(&position, 2, &mut log, &mut budget);
+    assert_eq!(rt; answer, Some(Ok(false)));
+    assert_eq!(rt; budget.ticks(), 9);
+    // What is noted at each start of a trick is the answer there, whatever was asked for.
+    assert_eq!(rt;
+        log.events.as_slice(),
+        [
+            Event::Look { left: 2 },
+            Event::Look { left: 1 },
+            Event::Note {
+                left: 1,
+                lo: 0,
+                hi: 0,
+            },
+            Event::Note {
+                left: 2,
+                lo: 0,
+                hi: 1,
+            },
+        ]
+        .as_slice()
+    );
+}
+
+#[test]
+fn a_look_that_settles_it_is_the_end(rt: HostRuntime) {
+    let position = position_of(&BEHIND, Seat::North, &[]).expect(&rt, "two cards a hand");
+    let table = [(1, true, "one trick"), (2, false, "two tricks")];
+    for (need, want, what) in table {
+        let mut log = Log::knowing(2);
+        let mut budget = Budget::new(100);
+        let answer = asked(&position, need, &mut log, &mut budget);
+        assert_eq!(rt; answer, Some(Ok(want)), "{what}");
+        assert_eq!(rt; budget.ticks(), 1, "{what}");
+        assert_eq!(rt;
+            log.events.as_slice(),
+            [Event::Look { left: 2 }].as_slice(),
+            "{what}"
+        );
+    }
+}
+
+// Of the nine positions the three before the queen's trick is over are not come to, and nothing is noted of it.
+#[test]
+fn a_look_at_the_second_trick_saves_its_positions(rt: HostRuntime) {
+    let position = position_of(&BEHIND, Seat::North, &[]).expect(&rt, "two cards a hand");
+    let mut log = Log::knowing(1);
+    let mut budget = Budget::new(100);
+    let answer = asked(&position, 2, &mut log, &mut budget);
+    assert_eq!(rt; answer, Some(Ok(false)));
+    assert_eq!(rt; budget.ticks(), 6);
+    assert_eq!(rt;
+        log.events.as_slice(),
+        [
+            Event::Look { left: 2 },
+            Event::Look { left: 1 },
+            Event::Note {
+                left: 2,
+                lo: 0,
+                hi: 1,
+            },
+        ]
+        .as_slice()
+    );
+}
+
+// The second start of a trick is the fifth position.
+#[test]
+fn a_search_ticks_before_it_looks(rt: HostRuntime) {
+    let position = position_of(&BEHIND, Seat::North, &[]).expect(&rt, "two cards a hand");
+    let table = [
+        (0, [].as_slice(), "no tick"),
+        (4, [Event::Look { left: 2 }].as_slice(), "four ticks"),
+        (
+            5,
+            [Event::Look { left: 2 }, Event::Look { left: 1 }].as_slice(),
+            "five ticks",
+        ),
+    ];
+    for (ticks, want, what) in table {
+        let mut log = Log::knowing(NONE);
+        let mut budget = Budget::new(ticks);
+        let answer = asked(&position, 2, &mut log, &mut budget);
+        assert_eq!(rt; answer, Some(Err(Halt::Spent)), "{what}");
+        assert_eq!(rt; log.events.as_slice(), want, "{what}");
+    }
+}
+
+// A value ticks and looks before its first question; where the look gives it, that is all.
+#[test]
+fn a_value_that_is_known_is_one_tick(rt: HostRuntime) {
+    let start = start_of(&BEHIND, Seat::North).expect(&rt, "two cards a hand");
+    let mut log = Log::knowing(2);
+    let mut one = Budget::new(1);
+    let found = start_value(&start, &mut log, &mut one).expect(&rt, "one tick");
+    assert_eq!(rt; found.0, 1);
+    assert_eq!(rt; one.ticks(), 1);
+    assert_eq!(rt; log.events.as_slice(), [Event::Look { left: 2 }].as_slice());
+    let mut log = Log::knowing(2);
+    let mut none = Budget::new(0);
+    assert!(rt; start_value(&start, &mut log, &mut none).is_err());
+    assert!(rt; log.events.is_empty());
+}
