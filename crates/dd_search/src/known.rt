@@ -14,6 +14,7 @@ ghost use Rattle.dd_search.specs.ClaimsBy.{IsAnswerBy, IsWindow, north_souths};
 
 use crate::answer::Answer;
 use crate::claim::Claim;
+use crate::table::Bounds;
 use dd_play::{Interval, Position, TrickStart};
 use dd_quick::{against_leader, bounds as quick_bounds, for_leader};
 use dd_rank::Depths;
