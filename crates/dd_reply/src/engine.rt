@@ -209,7 +209,7 @@ fn reply_in_the_end<B: Bounds>(request: Request, bounds: &mut B) -> ArrayString<
 }
 
 /// Writes all of the text, in as many calls as the writer needs.
-fn write_whole<W: Write>(writer: &mut Counting<W>, text: &[u8]) -> Result<(), LineFault>
+pub fn write_whole<W: Write>(writer: &mut Counting<W>, text: &[u8]) -> Result<(), LineFault>
     ensures ok { OnOk result (Appends (W.contents (device_of writer.old)) (W.contents (device_of writer.new)) text.now) }
     ensures err { OnErr result (WroteText (W.contents (device_of writer.old)) (W.contents (device_of writer.new)) text.now) }
     ensures fault { MatchResult result (λ _. failures_of writer.new ≡ failures_of writer.old)

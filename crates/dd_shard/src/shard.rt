@@ -22,6 +22,9 @@ use std::alloc::{AllocError, Global};
 use std::marker::Model;
 use std::num::NonZeroUsize;
 
+/// The most shapes that a shard may have room for.
+pub const MOST_SHAPES: u32 = 65_536;
+
 /// Bounds of the values of positions, by shapes: the last used first, and at most a fixed number of them. A shape has one
 /// to eight pairs, each a cover with bounds of the value of each position that it covers, the newest first.
 #[derive(Drop)]
@@ -42,10 +45,10 @@ impl Model for Shard {
 }
 
 impl Shard {
-    /// A shard that remembers nothing and has room for this number of shapes, 1 to 65,536. It takes memory for a shape
-    /// when it comes. The error says that memory ran out.
+    /// A shard that remembers nothing and has room for this number of shapes, 1 to `MOST_SHAPES`. It takes memory for
+    /// a shape when it comes. The error says that memory ran out.
     pub fn new(alloc: Global, entries: u32) -> Result<Shard, AllocError>
-        requires { (1 ≤ entries) × (entries ≤ 65536) }
+        requires { (1 ≤ entries) × (entries ≤ MOST_SHAPES) }
         ensures { IfOk result (λ shard. (shard.list ≡ []) × (shard.limit ≡ entries)) }
     {
         let limit = match NonZeroUsize::new(entries as usize) {
@@ -104,7 +107,7 @@ impl Shard {
     /// The number of shapes that there may be.
     pub fn limit(&self) -> u32
         ensures limit { result ≡ self.now.limit }
-        ensures bound { (1 ≤ result) × (result ≤ 65536) }
+        ensures bound { (1 ≤ result) × (result ≤ MOST_SHAPES) }
     {
         self.cache.cap().get() as u32
     }
