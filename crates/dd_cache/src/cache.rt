@@ -11,14 +11,9 @@ ghost use Rattle.dd_cache.specs.Told.{ToldOf, IsSound};
 
 use crate::page::Page;
 use crate::told::Told;
-use dd_play::interval::Interval;
-use dd_play::trick_start::TrickStart;
-use dd_rank::depths::Depths;
-use dd_rank::first_owners::FirstOwners;
-use dd_rank::laws::{covered_positions, owner_strings};
-use dd_rank::owner_strings::OwnerStrings;
-use dd_rank::shape::Shape;
-use dd_search::bounds::Bounds;
+use dd_play::{Interval, TrickStart};
+use dd_rank::{Depths, FirstOwners, OwnerStrings, Shape, alike_strings, covered_positions};
+use dd_search::Bounds;
 use std::alloc::{AllocError, Global};
 
 // The pages that there may be, and the places at which they are found: powers of two.
@@ -79,7 +74,7 @@ impl<B> Cache<B> {
         ensures settles { IfSome result (λ told. (need ≤ told.0.lo) ⊎ (told.0.hi < need)) }
     {
         // The proof reads here what it means that shapes are compared.
-        owner_strings();
+        alike_strings();
         let shape = strings.shape();
         let mut number = *self.newest.get(place(shape))?;
         for _ in 0..MOST_PAGES {

@@ -1,8 +1,11 @@
 //! What one thread learned lately: bounds by shape and first owners, in memory that is taken at the start.
 #![tactic(auto)]
 
-pub mod cache;
+mod cache;
 mod page;
+mod told;
+
+pub use cache::Cache;
+
 #[cfg(test)]
 mod tests;
-mod told;

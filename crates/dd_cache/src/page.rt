@@ -5,8 +5,7 @@ ghost use Rattle.dd_cache.specs.Told.{IsSound};
 
 use crate::told::Told;
 use arrayvec::ArrayVec;
-use dd_rank::owner_strings::OwnerStrings;
-use dd_rank::shape::Shape;
+use dd_rank::{OwnerStrings, Shape};
 use std::marker::Model;
 
 /// The bounds that stand together.

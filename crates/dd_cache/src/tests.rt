@@ -1,16 +1,7 @@
 use crate::cache::Cache;
-use dd_cards::card::Card;
-use dd_cards::hands::Hands;
-use dd_cards::rank::Rank;
-use dd_cards::seat::Seat;
-use dd_cards::strain::Strain;
-use dd_cards::suit::Suit;
-use dd_play::interval::Interval;
-use dd_play::position::Position;
-use dd_play::trick_start::TrickStart;
-use dd_search::bounds::{Bounds, NoTable};
-use dd_search::meter::Endless;
-use dd_search::start::start_value;
+use dd_cards::{Card, Hands, Rank, Seat, Strain, Suit};
+use dd_play::{Interval, Position, TrickStart};
+use dd_search::{Bounds, Endless, NoTable, start_value};
 use std::alloc::AllocError;
 
 // North and the others clockwise with two spades each, at notrump with this leader.

@@ -2,9 +2,8 @@
 ghost use Rattle.std.specs.Prelude.{◌≡◌, ◌<◌, ◌≤◌, ◌⊎◌, IsTrue};
 ghost use Rattle.dd_rank.specs.FirstOwners.{AreFirst};
 
-use dd_play::interval::Interval;
-use dd_rank::first_owners::FirstOwners;
-use dd_rank::owner_strings::OwnerStrings;
+use dd_play::Interval;
+use dd_rank::{FirstOwners, OwnerStrings};
 use std::marker::Model;
 
 /// Bounds of the value of each position of a shape whose highest cards have these owners.

@@ -3,14 +3,25 @@
 //! Codes are those of the DDS library's manual. Nothing here takes memory.
 #![tactic(auto)]
 
-pub mod card;
-pub mod hand;
-pub mod hands;
-pub mod holding;
-pub mod rank;
-pub mod seat;
-pub mod side;
-pub mod strain;
-pub mod suit;
+mod card;
+mod hand;
+mod hands;
+mod holding;
+mod rank;
+mod seat;
+mod side;
+mod strain;
+mod suit;
+
+pub use card::Card;
+pub use hand::Hand;
+pub use hands::Hands;
+pub use holding::Holding;
+pub use rank::Rank;
+pub use seat::Seat;
+pub use side::Side;
+pub use strain::Strain;
+pub use suit::Suit;
+
 #[cfg(test)]
 mod tests;

@@ -1,4 +1,4 @@
-use dd_cards::card::Card;
+use dd_cards::Card;
 use std::marker::Model;
 
 /// A class of equal cards that may be played: its highest card, and the mask of its other cards, bit r for rank r.

@@ -1,9 +1,17 @@
 //! Classes of equal cards of a position. It takes no memory.
 #![tactic(auto)]
 
-pub mod class;
-pub mod classes;
-pub mod laws;
+mod class;
+mod laws;
+mod partition;
+mod whole_classes;
+
+pub use class::Class;
+pub use laws::{
+    equal_cards_score_alike, one_card_of_each_class, one_card_of_each_class_by_high_cards,
+};
+pub use partition::{classes, list_classes};
+pub use whole_classes::whole;
+
 #[cfg(test)]
 mod tests;
-pub mod whole;

@@ -1,11 +1,8 @@
 use crate::class::Class;
-use crate::classes::classes;
+use crate::partition::classes;
 use arrayvec::ArrayVec;
-use dd_cards::card::Card;
-use dd_cards::hands::Hands;
-use dd_cards::seat::Seat;
-use dd_cards::strain::Strain;
-use dd_play::position::Position;
+use dd_cards::{Card, Hands, Seat, Strain};
+use dd_play::Position;
 
 // The classes of a deal at notrump; none where it is no position. Cards are given by their codes, 16 times the suit's
 // code (spades 0) plus the rank.

@@ -8,3 +8,4 @@ pub mod Meanings
 pub mod Decided
 pub mod Written
 pub mod Examples
+pub mod CallerLemmas

@@ -2,8 +2,7 @@ ghost use Rattle.std.specs.Prelude.{◌≡◌, ◌<◌, ◌||◌, ◌==◌};
 ghost use Rattle.dd_pbn.specs.Letters.{letter_of, rank_of, is_blank};
 ghost use Rattle.dd_pbn.specs.Reading.{seat_of};
 
-use dd_cards::rank::Rank;
-use dd_cards::seat::Seat;
+use dd_cards::{Rank, Seat};
 
 // The rank that a byte stands for, in either case.
 #[tactic(auto, unfolding(crate::specs::Letters::rank_of, dd_cards::specs::Ranks::all_ranks, dd_cards::specs::Ranks::lowest_ranks))]

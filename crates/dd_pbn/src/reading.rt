@@ -7,10 +7,7 @@ ghost use Rattle.dd_pbn.specs.Reading.{Gives, after_blanks, gap_at, byte_at, let
 use crate::fault::PbnFault;
 use crate::letters::{is_blank, rank_of, seat_of};
 use crate::seen::{Seen, outcome};
-use dd_cards::card::Card;
-use dd_cards::hands::Hands;
-use dd_cards::seat::Seat;
-use dd_cards::suit::Suit;
+use dd_cards::{Card, Hands, Seat, Suit};
 
 /// The hands that the value of a tag Deal spells (PBN 2.1, tag Deal): blanks, one of W, N, E, S, a colon, blanks, four
 /// hands with one or more blanks between each two, and blanks. The first hand is that of the letter's seat, the others

@@ -2,9 +2,7 @@ ghost use Rattle.std.specs.Prelude.{◌≡◌};
 ghost use Rattle.dd_pbn.specs.Reading.{nothing, note, outcome};
 
 use crate::fault::PbnFault;
-use dd_cards::card::Card;
-use dd_cards::hands::Hands;
-use dd_cards::seat::Seat;
+use dd_cards::{Card, Hands, Seat};
 
 // What the hands of a text hold, as far as it is read. Whether a hand is left out or a card stands twice is noted and
 // not answered at once, since a fault of the grammar may yet come and goes before both.

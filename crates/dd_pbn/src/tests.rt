@@ -1,7 +1,5 @@
 use super::*;
-use dd_cards::hands::Hands;
-use dd_cards::seat::Seat;
-use dd_cards::suit::Suit;
+use dd_cards::{Hands, Seat, Suit};
 use std::test::*;
 
 // Bit r stands for the rank r; spades, hearts, diamonds, clubs.

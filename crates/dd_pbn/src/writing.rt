@@ -2,10 +2,7 @@ ghost use Rattle.std.specs.Prelude.{◌≡◌, ◌++◌, IfOk, OnOk, string_byte
 ghost use Rattle.dd_pbn.specs.Deals.{written, hand_text, suit_text};
 
 use crate::letters::letter_of;
-use dd_cards::hand::Hand;
-use dd_cards::hands::Hands;
-use dd_cards::seat::Seat;
-use dd_cards::suit::Suit;
+use dd_cards::{Hand, Hands, Seat, Suit};
 use std::alloc::{AllocError, Global};
 
 // `N:`, 52 ranks, twelve points and three spaces.

@@ -11,8 +11,9 @@ pub mod Plays
 pub mod Winners
 pub mod Steps
 pub mod Twins
-pub mod Claims
+pub mod ClaimRules
 pub mod HandsAfter
 pub mod Fewer
 pub mod Worth
 pub mod Contests
+pub mod CallerLemmas

@@ -5,8 +5,7 @@ use Rattle.std.proofs.lemmas.Bool.{le-leb, leb-true}
 use Rattle.std.proofs.lemmas.Bool.Decides.{nat_tests}
 use Rattle.dd_cards.specs.PlayingCard.{PlayingCard}
 use Rattle.dd_cards.specs.Cards.{is_of, has_card, same_card}
-use Rattle.dd_cards.proofs.HandLists.{and-left, and-right}
-use Rattle.dd_cards.proofs.CardLists.{same_card-eq}
+use Rattle.dd_cards.proofs.CallerLemmas.{and-left, and-right, same_card-eq}
 use Rattle.dd_play.specs.Board.{Board, IsBoard, mover, left}
 use Rattle.dd_play.specs.Play.{after}
 use Rattle.dd_play.specs.Won.{is_side, won, point}
@@ -19,7 +18,7 @@ use Rattle.dd_play.proofs.Plays.{suit-of, of-suit'}
 use Rattle.dd_play.proofs.Rules.{won_with, can, least}
 use Rattle.dd_play.proofs.Steps.{answer, answer', stepped}
 use Rattle.dd_play.proofs.Twins.{sides-turned}
-use Rattle.dd_play.proofs.Claims.{some-legal}
+use Rattle.dd_play.proofs.ClaimRules.{some-legal}
 use Rattle.dd_play.proofs.Fewer.{cover-fewer, answers-fewer, strict-fewer, strict-after}
 
 -- cards that are upward are so among those that can meet

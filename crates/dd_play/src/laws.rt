@@ -19,9 +19,7 @@ ghost use Rattle.dd_play.specs.Claims.{Takes};
 ghost use Rattle.dd_play.specs.Covers.{IsSettled};
 ghost use Rattle.dd_play.specs.Reach.{reach, IsUpward, TakesBy, IsWorth};
 
-use dd_cards::seat::Seat;
-use dd_cards::strain::Strain;
-use dd_cards::suit::Suit;
+use dd_cards::{Seat, Strain, Suit};
 
 /// The value is the best of the values after each legal card, so the number of cards looked ahead never shows.
 pub fn value_by_play()

@@ -1,12 +1,23 @@
 //! Positions and legal play (Laws of Duplicate Bridge 2017, Laws 44 and 45).
 #![tactic(auto)]
 
-pub mod interval;
-pub mod laws;
-pub mod play_fault;
-pub mod position;
+mod interval;
+mod laws;
+mod play_fault;
+mod position;
+mod trick_start;
+mod trick_winner;
+mod turn;
+
+pub use interval::Interval;
+pub use laws::{
+    claims, claims_by_high_cards, play_keeps_positions, value_by_play, value_within_tricks,
+    winner_by_strength, worked_deals,
+};
+pub use play_fault::PlayFault;
+pub use position::Position;
+pub use trick_start::TrickStart;
+pub use trick_winner::winner;
+
 #[cfg(test)]
 mod tests;
-pub mod trick_start;
-mod turn;
-pub mod winner;

@@ -11,15 +11,10 @@ ghost use Rattle.dd_play.specs.Play.{legal, completes, trick_with, after, hands_
 ghost use Rattle.dd_play.specs.Covers.{IsSettled, count_of};
 
 use crate::play_fault::PlayFault;
+use crate::trick_winner::winner;
 use crate::turn::seat_after;
-use crate::winner::winner;
 use arrayvec::ArrayVec;
-use dd_cards::card::Card;
-use dd_cards::hand::Hand;
-use dd_cards::hands::Hands;
-use dd_cards::seat::Seat;
-use dd_cards::strain::Strain;
-use dd_cards::suit::Suit;
+use dd_cards::{Card, Hand, Hands, Seat, Strain, Suit};
 use std::marker::Model;
 
 /// A legal state of play: four hands, the strain, the seat that leads, and up to three cards on the trick.

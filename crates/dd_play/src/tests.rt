@@ -4,13 +4,8 @@ use crate::interval::Interval;
 use crate::play_fault::PlayFault;
 use crate::position::Position;
 use crate::trick_start::TrickStart;
-use crate::winner::winner;
-use dd_cards::card::Card;
-use dd_cards::hands::Hands;
-use dd_cards::rank::Rank;
-use dd_cards::seat::Seat;
-use dd_cards::strain::Strain;
-use dd_cards::suit::Suit;
+use crate::trick_winner::winner;
+use dd_cards::{Card, Hands, Rank, Seat, Strain, Suit};
 use std::process::Abort;
 
 fn card(suit: Suit, rank: u8) -> Card

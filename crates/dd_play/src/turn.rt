@@ -1,7 +1,7 @@
 ghost use Rattle.std.specs.Prelude.{◌≡◌, ◌<◌};
 ghost use Rattle.dd_cards.specs.Seats.{seat_after};
 
-use dd_cards::seat::Seat;
+use dd_cards::Seat;
 
 // The seat that comes `places` after `first`, clockwise.
 pub(crate) fn seat_after(first: Seat, places: u8) -> Seat

@@ -1,6 +1,9 @@
 //! Quick tricks: bounds of a position's value without search. It takes no memory.
 #![tactic(auto)]
 
-pub mod bounds;
+mod quick_tricks;
+
+pub use quick_tricks::{against_leader, bounds, for_leader};
+
 #[cfg(test)]
 mod tests;

@@ -1,11 +1,6 @@
-use crate::bounds::bounds;
-use dd_cards::card::Card;
-use dd_cards::hands::Hands;
-use dd_cards::seat::Seat;
-use dd_cards::strain::Strain;
-use dd_cards::suit::Suit;
-use dd_play::position::Position;
-use dd_play::trick_start::TrickStart;
+use crate::quick_tricks::bounds;
+use dd_cards::{Card, Hands, Seat, Strain, Suit};
+use dd_play::{Position, TrickStart};
 
 // A position before a trick: the cards by their codes, 16 times the suit's code (spades 0, hearts 1) plus the rank.
 fn start(cards: &[(Seat, u8)], strain: Strain, first: Seat) -> Option<TrickStart> {

@@ -10,8 +10,8 @@ ghost use Rattle.dd_rank.specs.Strings.{strings_of, shape_of, shape_in};
 
 use crate::depths::Depths;
 use crate::owner_strings::OwnerStrings;
-use dd_cards::suit::Suit;
-use dd_play::trick_start::TrickStart;
+use dd_cards::Suit;
+use dd_play::TrickStart;
 use std::marker::Model;
 
 /// A start of a trick with depths: it stands for each position with the same holders of so many of the highest cards.

@@ -10,14 +10,8 @@ ghost use Rattle.dd_play.specs.Covers.{count_of};
 ghost use Rattle.dd_play.specs.Reach.{reach};
 ghost use Rattle.dd_rank.specs.Depths.{all_cards, depths_of, depth_in, left_from};
 
-use dd_cards::card::Card;
-use dd_cards::hand::Hand;
-use dd_cards::holding::Holding;
-use dd_cards::rank::Rank;
-use dd_cards::seat::Seat;
-use dd_cards::suit::Suit;
-use dd_play::position::Position;
-use dd_play::trick_start::TrickStart;
+use dd_cards::{Card, Hand, Holding, Rank, Seat, Suit};
+use dd_play::{Position, TrickStart};
 use std::marker::Model;
 
 /// For each suit how many of its highest cards matter.

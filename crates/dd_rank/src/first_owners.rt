@@ -8,7 +8,7 @@ ghost use Rattle.dd_rank.specs.Strings.{string_in};
 use crate::cover::TopOwners;
 use crate::depths::Depths;
 use crate::owner_strings::OwnerStrings;
-use dd_cards::suit::Suit;
+use dd_cards::Suit;
 use std::marker::Model;
 
 /// The owners of the highest cards of each suit, so many as its depth says.

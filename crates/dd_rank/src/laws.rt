@@ -55,7 +55,7 @@ pub fn covered_positions()
 /// `keys`: the test by which keys are compared tells whether they are the same.
 /// `shapes`: and the test by which shapes are compared, whether those are.
 /// `mixed`: equal keys have one mixing number, which is all that a hasher is fed of them.
-pub fn owner_strings()
+pub fn alike_strings()
     ensures alike { (p q : Board) → IsBoard p → IsBoard q → p.trick ≡ [] → q.trick ≡ [] → (AreAlike p q ↔ strings_of q ≡ strings_of p) }
     ensures keys { (x y : Strings) → (same_strings x y ≡ true ↔ x ≡ y) }
     ensures shapes { (x y : ShapeOf) → (same_shape x y ≡ true ↔ x ≡ y) }

@@ -2,14 +2,25 @@
 //! the highest cards of each suit go.
 #![tactic(auto)]
 
-pub mod alike;
-pub mod cover;
-pub mod covers;
-pub mod depths;
-pub mod first_owners;
-pub mod laws;
-pub mod owner_strings;
-pub mod rank_key;
-pub mod shape;
+mod cover;
+mod covering;
+mod depths;
+mod first_owners;
+mod laws;
+mod likeness;
+mod owner_strings;
+mod rank_key;
+mod shape;
+
+pub use cover::Cover;
+pub use covering::covers;
+pub use depths::Depths;
+pub use first_owners::FirstOwners;
+pub use laws::{alike_positions, alike_strings, covered_positions};
+pub use likeness::alike;
+pub use owner_strings::OwnerStrings;
+pub use rank_key::RankKey;
+pub use shape::Shape;
+
 #[cfg(test)]
 mod tests;

@@ -9,11 +9,8 @@ ghost use Rattle.dd_rank.specs.Owners.{owners_in};
 ghost use Rattle.dd_rank.specs.Strings.{strings_of, shape_in, mixed_in, number_of, place_by, same_strings, same-strings, same-strings-partial, string_in};
 
 use crate::shape::{Shape, mix};
-use dd_cards::hand::Hand;
-use dd_cards::holding::Holding;
-use dd_cards::strain::Strain;
-use dd_cards::suit::Suit;
-use dd_play::trick_start::TrickStart;
+use dd_cards::{Hand, Holding, Strain, Suit};
+use dd_play::TrickStart;
 use std::marker::Model;
 
 /// The owner strings of a start of a trick: its strain, the lengths of the hands' suits, and for each suit the holders of

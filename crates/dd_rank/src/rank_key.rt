@@ -3,7 +3,7 @@ ghost use Rattle.std.specs.Hash as fed;
 ghost use Rattle.dd_rank.specs.Strings.{strings_of, mixed_in, same_strings, same-strings, same-strings-partial, fed-same};
 
 use crate::owner_strings::OwnerStrings;
-use dd_play::trick_start::TrickStart;
+use dd_play::TrickStart;
 use std::hash::{Hash, Hasher};
 use std::marker::Model;
 

@@ -2,7 +2,7 @@ ghost use Rattle.std.specs.Prelude.{◌≡◌};
 ghost use Rattle.std.specs.Hash as fed;
 ghost use Rattle.dd_rank.specs.Strings.{fed-shape, mix, mixed_of, same-shape, same-shape-partial, same_shape};
 
-use dd_cards::strain::Strain;
+use dd_cards::Strain;
 use std::hash::{Hash, Hasher};
 use std::marker::Model;
 

@@ -1,20 +1,13 @@
-use crate::alike::alike;
 use crate::cover::Cover;
-use crate::covers::covers;
+use crate::covering::covers;
 use crate::depths::Depths;
 use crate::first_owners::FirstOwners;
 use crate::laws::covered_positions;
+use crate::likeness::alike;
 use crate::owner_strings::OwnerStrings;
 use crate::rank_key::RankKey;
-use dd_cards::card::Card;
-use dd_cards::hand::Hand;
-use dd_cards::hands::Hands;
-use dd_cards::rank::Rank;
-use dd_cards::seat::Seat;
-use dd_cards::strain::Strain;
-use dd_cards::suit::Suit;
-use dd_play::position::Position;
-use dd_play::trick_start::TrickStart;
+use dd_cards::{Card, Hand, Hands, Rank, Seat, Strain, Suit};
+use dd_play::{Position, TrickStart};
 use std::hash::{DefaultHasher, Hash, Hasher};
 
 // Spades two a hand, North 32, East K4, South AQ, West 65. The ranks stand round by round, from North clockwise.

@@ -10,15 +10,12 @@ use Rattle.dd_cards.specs.PlayingCard.{PlayingCard}
 use Rattle.dd_cards.specs.Suits.{suit_code}
 use Rattle.dd_cards.specs.Cards.{card_of}
 use Rattle.dd_cards.specs.Hands.{AreHands}
-use Rattle.dd_cards.proofs.CardLists.{suit_code-injective}
-use Rattle.dd_cards.proofs.Codes.{strain_code-injective}
-use Rattle.dd_cards.proofs.HandLists.{seat_code-injective}
+use Rattle.dd_cards.proofs.CallerLemmas.{seat_code-injective, strain_code-injective, suit_code-injective}
 use Rattle.dd_pbn.specs.declared.fault.PbnFault.{PbnFault}
 use Rattle.dd_pbn.specs.Deals as deals
 use Rattle.dd_pbn.specs.Reading.{outcome, value_of, tag_of}
 use Rattle.dd_pbn.specs.Values.{IsValue, IsTag}
-use Rattle.dd_pbn.proofs.Decided.{spelled-read, failed-read}
-use Rattle.dd_pbn.proofs.ValueTexts.{Reads-value, Reads-tag}
+use Rattle.dd_pbn.proofs.CallerLemmas.{Reads-tag, Reads-value, failed-read, spelled-read}
 use Rattle.dd_play.specs.Board.{Board, board_of, left}
 use Rattle.dd_reply.specs.declared.fault.Fault.{Fault}
 use Rattle.dd_reply.specs.Requests.{SolveFields, Asked, Means, MeansFields, MeansHands, MeansBoard, IsAskedOf, deal_fault, begins_tag, are_cards, pair_of_card, longest_line, object_of, solve_fields}

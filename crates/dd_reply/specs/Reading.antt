@@ -6,7 +6,7 @@ use Rattle.dd_play.specs.declared.play_fault.PlayFault.{PlayFault}
 use Rattle.dd_play.specs.declared.play_fault.PlayFault.TheVariants.{Played, Twice, Uneven, Empty}
 use Rattle.dd_reply.specs.declared.fault.Fault.{Fault}
 use Rattle.dd_reply.specs.declared.fault.Fault.TheVariants.{NotAnObject, CardTwice, WrongPlayed, UnevenHands, NoCard, OutOfMemory}
-use Rattle.dd_reply.specs.declared.read_request.SolveFields as kept
+use Rattle.dd_reply.specs.declared.request_reader.SolveFields as kept
 use Rattle.dd_reply.specs.Requests.{SolveFields, object_of, pairs_of}
 
 -- why a line gives no object: memory ran out, or the line is none

@@ -11,13 +11,12 @@ ghost use Rattle.dd_reply.specs.Served.{ended_lines, begun_line, last_line, Wrot
 use crate::counting::Counting;
 use crate::fault::Fault;
 use crate::line::Line;
-use crate::read_request::read_request;
 use crate::reply::{LONGEST_REPLY, write_answer, write_fault, write_spent};
 use crate::request::Request;
-use crate::solve::solve;
+use crate::request_reader::read_request;
+use crate::solving::solve;
 use arrayvec::ArrayString;
-use dd_search::bounds::Bounds;
-use dd_search::meter::{Budget, Endless};
+use dd_search::{Bounds, Budget, Endless};
 use std::alloc::Global;
 use std::io::{Read, Write};
 use thiserror::Error;

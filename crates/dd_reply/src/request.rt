@@ -2,7 +2,7 @@ ghost use Rattle.std.specs.Prelude.{◌≡◌, ◌≤◌, ◌↔◌, IsSome, IfS
 ghost use Rattle.dd_play.specs.Board.{left};
 ghost use Rattle.dd_play.specs.Positions.{CanPlay};
 
-use dd_play::position::Position;
+use dd_play::Position;
 use std::marker::Model;
 
 /// What a request asks: a position in which there is a card to play, and which of its cards the answer has.

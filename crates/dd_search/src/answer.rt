@@ -1,5 +1,5 @@
 //! An answer, and the cards that it rests on.
-use dd_cards::hand::Hand;
+use dd_cards::Hand;
 use std::marker::Model;
 
 /// Whether North and South take so many tricks, and the cards that it rests on: it holds as well where the cards below

@@ -7,9 +7,8 @@ ghost use Rattle.dd_play.specs.Value.{lead};
 ghost use Rattle.dd_play.specs.Intervals.{Holds};
 ghost use Rattle.dd_rank.specs.Depths.{FourDepths, depth_in, all_cards, Covers};
 
-use dd_play::interval::Interval;
-use dd_play::trick_start::TrickStart;
-use dd_rank::depths::Depths;
+use dd_play::{Interval, TrickStart};
+use dd_rank::Depths;
 
 /// Known bounds of the values of positions. A value is the number of tricks, 0 to 13, of the leader's side. Bounds come
 /// with depths, and hold of each position that the one asked covers at these.

@@ -1,7 +1,7 @@
 //! A claim: tricks that a side takes, and the cards that this rests on.
 ghost use Rattle.std.specs.Prelude.{◌≡◌, ◌⊎◌, max, []};
 
-use dd_cards::hand::Hand;
+use dd_cards::Hand;
 use std::marker::Model;
 
 /// So many tricks, 0 to 13, and the cards that it rests on that a side takes them: it takes as many where the cards below

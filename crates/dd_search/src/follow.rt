@@ -3,13 +3,8 @@
 ghost use Rattle.std.specs.Prelude.{◌≤◌};
 
 use crate::strength::{code_of_highest, strength};
-use dd_cards::card::Card;
-use dd_cards::holding::Holding;
-use dd_cards::rank::Rank;
-use dd_cards::seat::Seat;
-use dd_cards::strain::Strain;
-use dd_cards::suit::Suit;
-use dd_play::position::Position;
+use dd_cards::{Card, Holding, Rank, Seat, Strain, Suit};
+use dd_play::Position;
 
 /// What a hand sees that is to follow.
 #[derive(Clone, Copy, Debug)]

@@ -2,10 +2,8 @@
 ghost use Rattle.std.specs.Prelude.{◌≤◌};
 
 use crate::strength::code_of_highest;
-use dd_cards::holding::Holding;
-use dd_cards::strain::Strain;
-use dd_cards::suit::Suit;
-use dd_play::position::Position;
+use dd_cards::{Holding, Strain, Suit};
+use dd_play::Position;
 
 // The points of the leader's side and of the other.
 #[derive(Clone, Copy, Debug)]

@@ -15,11 +15,9 @@ ghost use Rattle.dd_search.specs.Answers.{IsAnswerBy, IsWindow, north_souths};
 use crate::answer::Answer;
 use crate::bounds::Bounds;
 use crate::claim::Claim;
-use dd_play::interval::Interval;
-use dd_play::position::Position;
-use dd_play::trick_start::TrickStart;
-use dd_quick::bounds::{against_leader, bounds as quick_bounds, for_leader};
-use dd_rank::depths::Depths;
+use dd_play::{Interval, Position, TrickStart};
+use dd_quick::{against_leader, bounds as quick_bounds, for_leader};
+use dd_rank::Depths;
 
 /// Do North and South take at least `need` of the tricks left, where a look or, after it, the quick bounds settle it?
 #[inline]

@@ -2,13 +2,9 @@
 ghost use Rattle.std.specs.Prelude.{◌≤◌};
 
 use crate::strength::code_of_highest;
-use dd_cards::holding::Holding;
-use dd_cards::rank::Rank;
-use dd_cards::seat::Seat;
-use dd_cards::strain::Strain;
-use dd_cards::suit::Suit;
-use dd_equal::class::Class;
-use dd_play::position::Position;
+use dd_cards::{Holding, Rank, Seat, Strain, Suit};
+use dd_equal::Class;
+use dd_play::Position;
 
 /// What a leader sees of each suit.
 #[derive(Clone, Copy, Debug)]

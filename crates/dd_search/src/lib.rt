@@ -2,21 +2,30 @@
 #![tactic(auto)]
 
 mod answer;
-pub mod bounds;
+mod bounds;
+mod card_reaches;
+mod card_scores;
 mod claim;
 mod follow;
 mod guess;
 mod known;
-pub mod laws;
+mod laws;
 mod lead;
-pub mod meter;
+mod meter;
 mod order;
-pub mod reaches;
+mod position_value;
 mod rests;
-pub mod score;
-pub mod start;
+mod start;
 mod strength;
 mod takes;
+
+pub use bounds::{Bounds, NoTable};
+pub use card_reaches::reaches;
+pub use card_scores::{score, score_up_to};
+pub use laws::value_is_the_greatest_score;
+pub use meter::{Budget, Endless, Halt, Meter, Tick};
+pub use position_value::value;
+pub use start::{start_scores, start_value};
+
 #[cfg(test)]
 mod tests;
-pub mod value;

@@ -7,11 +7,8 @@ ghost use Rattle.dd_play.specs.Play.{legal, completes, trick_with};
 ghost use Rattle.dd_play.specs.Covers.{IsSettled};
 ghost use Rattle.dd_play.specs.Reach.{reach};
 
-use dd_cards::card::Card;
-use dd_cards::hand::Hand;
-use dd_cards::rank::Rank;
-use dd_cards::seat::Seat;
-use dd_play::position::Position;
+use dd_cards::{Card, Hand, Rank, Seat};
+use dd_play::Position;
 
 /// The cards that a claim about a legal card rests on: those that the claim after it rests on, and the winner of a trick
 /// that it completes, if another card of the winner's suit lies there.

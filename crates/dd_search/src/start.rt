@@ -8,14 +8,14 @@ ghost use Rattle.dd_equal.specs.EqualCards.{tops};
 ghost use Rattle.dd_rank.specs.Depths.{all_cards, depth_in, Covers};
 
 use crate::bounds::Bounds;
+use crate::card_scores::score_up_to;
 use crate::meter::{Halt, Meter, Tick};
-use crate::score::score_up_to;
-use crate::value::north_souths_tricks;
+use crate::position_value::north_souths_tricks;
 use arrayvec::ArrayVec;
-use dd_cards::card::Card;
-use dd_equal::classes::classes;
-use dd_play::trick_start::TrickStart;
-use dd_rank::depths::Depths;
+use dd_cards::Card;
+use dd_equal::classes;
+use dd_play::TrickStart;
+use dd_rank::Depths;
 
 /// The tricks, 0 to 13, that the leader's side takes from here on when both sides play as well as can be, and depths such
 /// that each position that this one covers at them has the same value. Errors as at `score`.

@@ -1,10 +1,7 @@
 //! How strong a card is on a trick, as a number: a trump is above every other card, and a card that can't win is 0.
 ghost use Rattle.std.specs.Prelude.{◌≤◌};
 
-use dd_cards::card::Card;
-use dd_cards::holding::Holding;
-use dd_cards::strain::Strain;
-use dd_cards::suit::Suit;
+use dd_cards::{Card, Holding, Strain, Suit};
 
 // What a trump has above its rank.
 const TRUMP: u8 = 20;

@@ -14,11 +14,9 @@ use crate::meter::{Halt, Meter, Tick, go_on};
 use crate::order::list_moves;
 use crate::rests::{also_spared, is_spared, settled_by};
 use arrayvec::ArrayVec;
-use dd_cards::hand::Hand;
-use dd_cards::seat::Seat;
-use dd_equal::whole::whole;
-use dd_play::position::Position;
-use dd_play::trick_start::TrickStart;
+use dd_cards::{Hand, Seat};
+use dd_equal::whole;
+use dd_play::{Position, TrickStart};
 
 /// Do North and South take at least `need` of the tricks left? It ticks first; at a start of a trick a look or the quick
 /// bounds may settle it; else one card of each class that isn't spared is tried until one does, and what that taught is

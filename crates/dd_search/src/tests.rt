@@ -3,22 +3,15 @@ ghost use Rattle.dd_cards.specs.Cards.{has_card};
 ghost use Rattle.dd_play.specs.Play.{legal};
 
 use crate::bounds::{Bounds, NoTable};
+use crate::card_reaches::reaches;
+use crate::card_scores::score;
 use crate::meter::{Budget, Endless, Halt, Meter};
-use crate::reaches::reaches;
-use crate::score::score;
+use crate::position_value::value;
 use crate::start::{start_scores, start_value};
-use crate::value::value;
 use arrayvec::ArrayVec;
-use dd_cards::card::Card;
-use dd_cards::hands::Hands;
-use dd_cards::rank::Rank;
-use dd_cards::seat::Seat;
-use dd_cards::strain::Strain;
-use dd_cards::suit::Suit;
-use dd_play::interval::Interval;
-use dd_play::position::Position;
-use dd_play::trick_start::TrickStart;
-use dd_rank::depths::Depths;
+use dd_cards::{Card, Hands, Rank, Seat, Strain, Suit};
+use dd_play::{Interval, Position, TrickStart};
+use dd_rank::Depths;
 
 // Where nothing bounds the search it has a score.
 fn endless_score(position: &Position, card: Card) -> Result<u8, Halt>

@@ -1,7 +1,10 @@
 //! What was learned of the values of positions, by shapes, the last used first, in bounded memory.
 #![tactic(auto)]
 
-pub mod shard;
+mod shard;
 mod slot;
+
+pub use shard::{MOST_SHAPES, Shard};
+
 #[cfg(test)]
 mod tests;

@@ -11,12 +11,8 @@ ghost use Rattle.dd_shard.specs.Entries.{Pair, Entry, IsAbsent, AreEntries, Look
 ghost use Rattle.dd_shard.specs.Slots.{told_of};
 
 use crate::slot::Slot;
-use dd_play::interval::Interval;
-use dd_play::trick_start::TrickStart;
-use dd_rank::cover::Cover;
-use dd_rank::depths::Depths;
-use dd_rank::owner_strings::OwnerStrings;
-use dd_rank::shape::Shape;
+use dd_play::{Interval, TrickStart};
+use dd_rank::{Cover, Depths, OwnerStrings, Shape};
 use lru::LruCache;
 use std::alloc::{AllocError, Global};
 use std::marker::Model;

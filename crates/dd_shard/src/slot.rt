@@ -10,10 +10,8 @@ ghost use Rattle.dd_shard.specs.Slots.{pair_of, told_of, known, HaveShape};
 ghost use Rattle.dd_shard.specs.declared.slot.Bounded.{Bounded as BoundedOf};
 
 use arrayvec::ArrayVec;
-use dd_play::interval::Interval;
-use dd_rank::cover::Cover;
-use dd_rank::depths::Depths;
-use dd_rank::owner_strings::OwnerStrings;
+use dd_play::Interval;
+use dd_rank::{Cover, Depths, OwnerStrings};
 use std::marker::Model;
 
 /// The most pairs that a shape may have.

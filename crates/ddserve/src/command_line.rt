@@ -7,7 +7,7 @@ ghost use Rattle.ddserve.specs.Program.{budget_rule, entries_rule, program_app, 
 use crate::help::REQUESTS;
 use clap::error::ErrorKind;
 use clap::{Arg, ArgMatches, Command, Error, value_parser};
-use dd_shard::shard::MOST_SHAPES;
+use dd_shard::MOST_SHAPES;
 use std::alloc::{AllocError, Global};
 use std::rt::Env;
 use std::{env, io};

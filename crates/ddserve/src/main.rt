@@ -11,7 +11,7 @@ mod one_shard;
 mod run;
 
 use command_line::given_words;
-use dd_reply::counting::Counting;
+use dd_reply::Counting;
 use run::run_words;
 use std::io;
 use std::process::ExitCode;

@@ -11,11 +11,10 @@ ghost use Rattle.dd_shard.specs.Entries.{IsAbsent, Looks, Notes};
 ghost use Rattle.dd_shard.specs.Slots.{told_of};
 ghost use Rattle.ddserve.specs.CommandLine.{IsTableSize};
 
-use dd_play::interval::Interval;
-use dd_play::trick_start::TrickStart;
-use dd_rank::depths::Depths;
-use dd_search::bounds::Bounds;
-use dd_shard::shard::Shard;
+use dd_play::{Interval, TrickStart};
+use dd_rank::Depths;
+use dd_search::Bounds;
+use dd_shard::Shard;
 use std::alloc::{AllocError, Global};
 use std::marker::Model;
 

@@ -9,9 +9,8 @@ use crate::ending::Ending;
 use crate::one_shard::OneShard;
 use clap::Error;
 use clap::error::ErrorKind;
-use dd_cache::cache::Cache;
-use dd_reply::counting::Counting;
-use dd_reply::engine::{LineFault, solve_lines, write_whole};
+use dd_cache::Cache;
+use dd_reply::{Counting, LineFault, solve_lines, write_whole};
 use std::alloc::{AllocError, Global};
 use std::io::{Read, Write};
 

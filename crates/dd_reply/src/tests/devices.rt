@@ -1,7 +1,7 @@
 //! A reader and a writer of memory.
 use crate::counting::Counting;
 use crate::engine::{LineFault, solve_lines};
-use dd_search::bounds::NoTable;
+use dd_search::NoTable;
 use std::alloc::Global;
 use std::io;
 use std::io::{Error, ErrorKind, Read, Write};

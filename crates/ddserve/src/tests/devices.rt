@@ -2,7 +2,7 @@
 use crate::command_line::WordsFault;
 use crate::ending::Ending;
 use crate::run::run_words;
-use dd_reply::counting::Counting;
+use dd_reply::Counting;
 use std::alloc::{AllocError, Global};
 use std::io;
 use std::io::{Error, ErrorKind, Read, Write};

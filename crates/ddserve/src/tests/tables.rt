@@ -1,21 +1,11 @@
 use crate::one_shard::OneShard;
-use dd_cache::cache::Cache;
-use dd_cards::card::Card;
-use dd_cards::rank::Rank;
-use dd_cards::seat::Seat;
-use dd_cards::strain::Strain;
-use dd_cards::suit::Suit;
+use dd_cache::Cache;
+use dd_cards::{Card, Rank, Seat, Strain, Suit};
 use dd_pbn::read_deal;
-use dd_play::interval::Interval;
-use dd_play::position::Position;
-use dd_play::trick_start::TrickStart;
-use dd_reply::reply::write_answer;
-use dd_reply::request::Request;
-use dd_reply::solve::solve;
-use dd_search::bounds::{Bounds, NoTable};
-use dd_search::meter::Endless;
-use dd_search::start::start_value;
-use dd_shard::shard::Shard;
+use dd_play::{Interval, Position, TrickStart};
+use dd_reply::{Request, solve, write_answer};
+use dd_search::{Bounds, Endless, NoTable, start_value};
+use dd_shard::Shard;
 use std::alloc::AllocError;
 use std::process::Abort;
 

@@ -1,4 +1,4 @@
-use Rattle.dd_play.proofs.Claims.{nothing, fewer, one-card, every-card, one-point, both, all, exactly, bounds}
+use Rattle.dd_play.proofs.ClaimRules.{nothing, fewer, one-card, every-card, one-point, both, all, exactly, bounds}
 use Rattle.dd_play.proofs.laws.claims.Goals as goal
 
 pub returns-clause-nothing : goal.returns-clause-nothing

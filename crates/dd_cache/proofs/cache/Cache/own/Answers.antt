@@ -5,7 +5,7 @@ use Rattle.dd_cache.proofs.cache.Cache.own.Goals as goal
 
 pub returns-in-Some-clause-told : goal.returns-in-Some-clause-told
 returns-in-Some-clause-told g c =
-    let same = (c.owner_strings.ensures.shapes c.shape.result c.shape-shape.result).0 (sym c.eq.ensures ∙ c.if-eq.true) in
+    let same = (c.alike_strings.ensures.shapes c.shape.result c.shape-shape.result).0 (sym c.eq.ensures ∙ c.if-eq.true) in
     let shape : c.in_ok-page.page.now.shape ≡ shape_in c.args.strings.now = sym c.shape.ensures ∙ same ∙ c.shape-shape.ensures in (
       c.in-Some.told.now,
       subst (λ (s : ShapeOf). IsSound s c.in-Some.told.now) shape c.in-Some.ensures.sound,

@@ -1,0 +1,117 @@
+//! Classes of equal cards: cards of the hand to play, of one suit, with no card of another hand or the trick between them.
+ghost use Rattle.std.specs.Prelude.{◌≡◌, ◌+◌, ◌≤◌, ◌∷◌, [], ◌++◌, MatchOption, map, filter, length, nat_lt};
+ghost use Rattle.arrayvec.specs.ArrayVec.{array_vec_len};
+ghost use Rattle.dd_cards.specs.Ranks.{all_ranks};
+ghost use Rattle.dd_cards.specs.Cards.{is_of, card_of, has_card};
+ghost use Rattle.dd_play.specs.Board.{IsBoard};
+ghost use Rattle.dd_play.specs.Play.{legal};
+ghost use Rattle.dd_equal.specs.EqualCards.{other_cards, is_top, class_of, classes_of};
+ghost use Rattle.dd_equal.specs.SuitClasses.{AreApart, is_top_rank, class_of_rank};
+
+use crate::class::Class;
+use arrayvec::ArrayVec;
+use dd_cards::{Card, Holding, Rank, Suit};
+use dd_play::Position;
+
+/// The classes of the cards that may be played: spades, hearts, diamonds, clubs, and in a suit the higher cards first.
+pub fn classes(position: &Position) -> ArrayVec<Class, 13>
+    ensures { result.items ≡ classes_of position.now }
+{
+    let mut classes = ArrayVec::new();
+    list_classes(position, &mut classes);
+    classes
+}
+
+/// Puts the classes into an empty list, which is cheaper in a hot path than to hand a list out.
+pub fn list_classes(position: &Position, classes: &mut ArrayVec<Class, 13>)
+    requires { classes.old.items ≡ [] }
+    ensures { classes.new.items ≡ classes_of position.now }
+{
+    // The proof reads here that the cards are at most thirteen.
+    let _ = position.choices();
+    push_suit(classes, position, Suit::Spades);
+    push_suit(classes, position, Suit::Hearts);
+    push_suit(classes, position, Suit::Diamonds);
+    push_suit(classes, position, Suit::Clubs);
+}
+
+// Adds the classes of the suit.
+fn push_suit(classes: &mut ArrayVec<Class, 13>, position: &Position, suit: Suit)
+    requires { array_vec_len classes.old + length (filter (is_of suit) (legal position.now)) ≤ 13 }
+    ensures items { classes.new.items ≡ classes.old.items ++ map (class_of position.now) (filter (is_top position.now) (filter (is_of suit) (legal position.now))) }
+    ensures len { array_vec_len classes.new ≤ array_vec_len classes.old + length (filter (is_of suit) (legal position.now)) }
+{
+    let own = legal_ranks(position, suit);
+    if own.is_empty() {
+        return;
+    }
+    let others = other_ranks(position, suit);
+    push_classes(classes, suit, own, others);
+}
+
+// Walks from the mover's highest rank down. A class ends at the next lower rank of another hand or the trick, its floor.
+fn push_classes(classes: &mut ArrayVec<Class, 13>, suit: Suit, own: Holding, others: Holding)
+    requires apart { AreApart own others }
+    requires room { array_vec_len classes.old + length own ≤ 13 }
+    ensures items { classes.new.items ≡ classes.old.items ++ map (class_of_rank suit own others) (filter (is_top_rank own others) own) }
+    ensures len { array_vec_len classes.new ≤ array_vec_len classes.old + length own }
+{
+    let mut rest = own;
+    'tops: while let Some(top) = rest.highest() {
+        let (equals, next) = parted(rest.below(top), others.next_below(top));
+        classes.push(Class {
+            top: Card { suit, rank: top },
+            equals: equals.mask(),
+        });
+        rest = next;
+    }
+}
+
+// The ranks above the floor and those below it. Without a floor all are above.
+pub(crate) fn parted(ranks: Holding, floor: Option<Rank>) -> (Holding, Holding)
+    ensures { MatchOption floor ((result.0 ≡ ranks) × (result.1 ≡ []))
+        (λ f. (result.0 ≡ filter (λ q. nat_lt f q) ranks) × (result.1 ≡ filter (λ q. nat_lt q f) ranks)) }
+{
+    match floor {
+        Some(floor) => (ranks.above(floor), ranks.below(floor)),
+        None => (ranks, Holding::new()),
+    }
+}
+
+// The ranks of the cards of this suit that may be played.
+pub(crate) fn legal_ranks(position: &Position, suit: Suit) -> Holding
+    ensures ranks { map (card_of suit) result ≡ filter (is_of suit) (legal position.now) }
+    ensures board { IsBoard position.now }
+{
+    let hands = position.hands();
+    let mover = position.mover();
+    if let Some(led) = position.trick().first() {
+        let led = led.suit;
+        if led.code() != suit.code() && !hands.holding(mover, led).is_empty() {
+            return Holding::new();
+        }
+    }
+    hands.holding(mover, suit)
+}
+
+// The ranks of the cards of this suit in the other hands and on the trick.
+pub(crate) fn other_ranks(position: &Position, suit: Suit) -> Holding
+    ensures { result ≡ filter (λ r. has_card (other_cards position.now) (card_of suit r)) all_ranks }
+{
+    let left = position.mover().next();
+    let partner = left.next();
+    let right = partner.next();
+    let hands = position.hands();
+    let mut ranks = hands
+        .holding(left, suit)
+        .union(hands.holding(partner, suit))
+        .union(hands.holding(right, suit));
+    let code = suit.code();
+    for card in position.trick() {
+        let card = *card;
+        if card.suit.code() == code {
+            ranks.insert(card.rank);
+        }
+    }
+    ranks
+}

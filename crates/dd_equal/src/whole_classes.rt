@@ -1,0 +1,48 @@
+//! Whole classes of equal cards among the cards that a claim rests on.
+ghost use Rattle.std.specs.Prelude.{◌≡◌, ◌≢◌, ◌∷◌, [], ◌<◌, ◌≤◌, ℕ, true};
+ghost use Rattle.dd_cards.specs.PlayingCard.{PlayingCard};
+ghost use Rattle.dd_cards.specs.Cards.{has_card, card_of};
+ghost use Rattle.dd_play.specs.Simulations.{IsLegal};
+ghost use Rattle.dd_play.specs.Reach.{reach};
+ghost use Rattle.dd_equal.specs.EqualCards.{are_equal, IsWhole};
+
+use crate::partition::{legal_ranks, other_ranks, parted};
+use dd_cards::{Card, Hand, Rank, Suit};
+use dd_play::Position;
+
+/// These cards, and the lowest card of each class that they reach in part: what a claim rests on where each class of the
+/// mover had to be met.
+pub fn whole(position: &Position, reached: Hand) -> Hand
+    ensures more { (c : PlayingCard) → has_card reached c ≡ true → has_card result c ≡ true }
+    ensures whole { IsWhole (reach result) position.now }
+{
+    let reached = whole_suit(position, reached, Suit::Spades);
+    let reached = whole_suit(position, reached, Suit::Hearts);
+    let reached = whole_suit(position, reached, Suit::Diamonds);
+    whole_suit(position, reached, Suit::Clubs)
+}
+
+// The same of one suit. Only the class that has cards on both sides of the lowest card reached can be cut.
+fn whole_suit(position: &Position, reached: Hand, suit: Suit) -> Hand
+    ensures more { (c : PlayingCard) → has_card reached c ≡ true → has_card result c ≡ true }
+    ensures others { (c : PlayingCard) → c.suit ≢ suit → reach result c ≡ reach reached c }
+    ensures whole { (r q : ℕ) → IsLegal position.now (card_of suit r) → IsLegal position.now (card_of suit q)
+        → are_equal position.now (card_of suit r) (card_of suit q) ≡ true → reach result (card_of suit r) ≡ true → reach result (card_of suit q) ≡ true }
+{
+    let Some(floor) = reached.holding(suit).next_from(Rank::of(2)) else {
+        return reached;
+    };
+    let own = legal_ranks(position, suit);
+    let below = own.below(floor);
+    if below.is_empty() {
+        return reached;
+    }
+    let Some(least) = own.next_from(floor) else {
+        return reached;
+    };
+    let cut = parted(below, other_ranks(position, suit).next_below(least)).0;
+    match cut.next_from(Rank::of(2)) {
+        Some(rank) => reached.with(Card { suit, rank }),
+        None => reached,
+    }
+}

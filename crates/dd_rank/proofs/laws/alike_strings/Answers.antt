@@ -1,0 +1,16 @@
+use Rattle.std.proofs.Common.{ap}
+use Rattle.dd_rank.specs.Strings.{mixed_in}
+use Rattle.dd_rank.proofs.Alikes.{alike-strings, strings-tell, shapes-tell}
+use Rattle.dd_rank.proofs.laws.alike_strings.Goals as goal
+
+pub returns-clause-alike : goal.returns-clause-alike
+returns-clause-alike c = alike-strings
+
+pub returns-clause-keys : goal.returns-clause-keys
+returns-clause-keys c = strings-tell
+
+pub returns-clause-mixed : goal.returns-clause-mixed
+returns-clause-mixed c = λ x y h. ap mixed_in ((strings-tell x y).0 h)
+
+pub returns-clause-shapes : goal.returns-clause-shapes
+returns-clause-shapes c = shapes-tell

@@ -1,0 +1,15 @@
+use Rattle.std.proofs.Common.{◌+◌, ◌-◌, ◌≤◌}
+use Rattle.dd_play.specs.Board.{left}
+use Rattle.dd_search.specs.Answers.{IsWindow}
+use Rattle.dd_search.proofs.position_value.north_souths_tricks.Given as goal
+
+-- North and South take as many as they claim, and East and West as many as they do.
+abbrev pub invariant-window : goal.invariant-window
+invariant-window g l = record {
+  window : IsWindow l.position l.ours l.theirs;
+  within : l.ours.tricks + l.theirs.tricks ≤ left l.position;
+  ticked : g.M.Meter.ticked l.fn.meter l.meter;
+}
+
+abbrev pub decreases-window : goal.decreases-window
+decreases-window g l = left l.position - (l.ours.tricks + l.theirs.tricks)

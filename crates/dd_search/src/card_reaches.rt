@@ -1,0 +1,43 @@
+//! Whether a card wins so many tricks.
+ghost use Rattle.std.specs.Prelude.{◌≡◌, true, Err, IfOk, IsOk, nat_le};
+ghost use Rattle.dd_cards.specs.Cards.{has_card};
+ghost use Rattle.dd_play.specs.Play.{legal};
+ghost use Rattle.dd_play.specs.Value.{score};
+
+use crate::bounds::Bounds;
+use crate::meter::{Halt, Meter, Tick};
+use crate::takes::{counted, takes, trick_of};
+use dd_cards::Card;
+use dd_play::Position;
+
+/// Is the score of this legal card at least `tricks`? It is one question of the position after the card, and none where
+/// counting settles it, as 0 tricks or more than are left. Errors as at `score`.
+pub fn reaches<B: Bounds, M: Meter>(
+    position: &Position,
+    card: Card,
+    tricks: u8,
+    bounds: &mut B,
+    meter: &mut M,
+) -> Result<bool, Halt>
+    requires { has_card (legal position.now) card ≡ true }
+    ensures answer { IfOk result (λ yes. yes ≡ nat_le tricks (score position.now card)) }
+    ensures spent { result ≡ Err Halt.Spent → M.says meter.new Tick.Spent }
+    ensures stopped { result ≡ Err Halt.Stopped → M.says meter.new Tick.Stop }
+    // It has an answer where the meter can say nothing else than to go on.
+    ensures answers { ((m : M) (tick : Tick) → M.says m tick → tick ≡ Tick.Go) → IsOk result }
+{
+    let north_south = position.mover().is_north_south();
+    // East and West take so many where North and South do not take one more than the rest.
+    let need = if north_south {
+        tricks
+    } else {
+        (position.tricks_left() + 1).saturating_sub(tricks)
+    };
+    let (next, winner) = position.play(card);
+    let rest = need.saturating_sub(trick_of(winner));
+    let yes = match counted(&next, rest) {
+        Some(yes) => yes,
+        None => takes(&next, rest, bounds, meter)?.yes,
+    };
+    Ok(yes == north_south)
+}

@@ -1,0 +1,85 @@
+//! The value of a position.
+ghost use Rattle.std.specs.Prelude.{◌≡◌, ◌-◌, ◌<◌, ◌≤◌, true, false, Err, IfOk, OnOk, IsOk};
+ghost use Rattle.dd_cards.specs.Seats.{is_north_south};
+ghost use Rattle.dd_play.specs.Board.{mover, left};
+ghost use Rattle.dd_play.specs.Reach.{reach, TakesBy};
+ghost use Rattle.dd_play.specs.Won.{won};
+
+use crate::bounds::Bounds;
+use crate::claim::Claim;
+use crate::guess::guess;
+use crate::known::window;
+use crate::meter::{Halt, Meter, Tick, go_on};
+use crate::takes::takes;
+use dd_play::Position;
+
+/// The tricks, 0 to 13, that the mover's side takes from here on, the current trick included, when both sides play as
+/// well as can be: the greatest score of its cards. Errors as at `score`.
+pub fn value<B: Bounds, M: Meter>(
+    position: &Position,
+    bounds: &mut B,
+    meter: &mut M,
+) -> Result<u8, Halt>
+    ensures value { IfOk result (λ tricks. tricks ≡ won (is_north_south (mover position.now)) position.now) }
+    ensures bound { IfOk result (λ tricks. tricks ≤ 13) }
+    ensures ticked { OnOk result (M.ticked meter.old meter.new) }
+    ensures spent { result ≡ Err Halt.Spent → M.says meter.new Tick.Spent }
+    ensures stopped { result ≡ Err Halt.Stopped → M.says meter.new Tick.Stop }
+    // It has an answer where the meter can say nothing else than to go on.
+    ensures answers { ((m : M) (tick : Tick) → M.says m tick → tick ≡ Tick.Go) → IsOk result }
+{
+    let found = north_souths_tricks(position, bounds, meter)?;
+    if position.mover().is_north_south() {
+        Ok(found.tricks)
+    } else {
+        Ok(position.tricks_left() - found.tricks)
+    }
+}
+
+/// The tricks that North and South take from here on, no more and no less, and the cards that both rest on. It ticks first.
+pub(crate) fn north_souths_tricks<B: Bounds, M: Meter>(
+    position: &Position,
+    bounds: &mut B,
+    meter: &mut M,
+) -> Result<Claim, Halt>
+    ensures theirs { IfOk result (λ found. TakesBy (reach found.cards) true position.now found.tricks) }
+    ensures others { IfOk result (λ found. TakesBy (reach found.cards) false position.now (left position.now - found.tricks)) }
+    ensures within { IfOk result (λ found. found.tricks ≤ left position.now) }
+    ensures ticked { OnOk result (M.ticked meter.old meter.new) }
+    ensures spent { result ≡ Err Halt.Spent → M.says meter.new Tick.Spent }
+    ensures stopped { result ≡ Err Halt.Stopped → M.says meter.new Tick.Stop }
+{
+    go_on(meter)?;
+    let left = position.tricks_left();
+    let window = window(position, bounds);
+    let mut ours = window.0;
+    let mut theirs = window.1;
+    let mut need = guess(position);
+    'window: while ours.tricks + theirs.tricks < left {
+        need = next_question(need, ours.tricks, left - theirs.tricks);
+        let answer = takes(position, need, bounds, meter)?;
+        if answer.yes {
+            ours = Claim {
+                tricks: need,
+                cards: answer.cards,
+            };
+        } else {
+            theirs = Claim {
+                tricks: left + 1 - need,
+                cards: answer.cards,
+            };
+        }
+    }
+    Ok(Claim {
+        tricks: ours.tricks,
+        cards: ours.cards.union(theirs.cards),
+    })
+}
+
+// The number of tricks to ask for where North and South take `lo` to `hi`: from the last one a step towards the open end.
+fn next_question(last: u8, lo: u8, hi: u8) -> u8
+    requires { lo < hi }
+    ensures { (lo < result) × (result ≤ hi) }
+{
+    last.max(lo + 1).min(hi)
+}
