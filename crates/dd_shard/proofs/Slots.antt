@@ -14,7 +14,7 @@ use Rattle.dd_play.specs.declared.interval.Interval.{Interval}
 use Rattle.dd_rank.specs.Strings.{ShapeOf}
 use Rattle.dd_rank.specs.Cover.{CoverOf, IsSameCover}
 use Rattle.dd_shard.specs.Entries.{most_pairs, Pair, cover_of, PutsFirst}
-use Rattle.dd_shard.specs.Slots.{pair_of, known, AllKnown, HaveShape}
+use Rattle.dd_shard.specs.Slots.{pair_of, known_pairs, AllKnown, HaveShape}
 use Rattle.dd_shard.specs.declared.slot.Bounded.{Bounded}
 use Rattle.dd_shard.proofs.Places.{cut-at, known-append}
 
@@ -37,22 +37,22 @@ reverse-cut xs x ys =
 
 -- the pairs of places that are cut at one with a pair, newest first
 pub newest-cut : (front : List (Option Bounded)) (x : Bounded) (back : List (Option Bounded))
-    → reverse (known (front ++ Some x ∷ back)) ≡ reverse (known back) ++ pair_of x.cover x.bounds ∷ reverse (known front)
+    → reverse (known_pairs (front ++ Some x ∷ back)) ≡ reverse (known_pairs back) ++ pair_of x.cover x.bounds ∷ reverse (known_pairs front)
 newest-cut front x back =
-    ap reverse (known-append front (Some x ∷ back)) ∙ reverse-cut (known front) (pair_of x.cover x.bounds) (known back)
+    ap reverse (known-append front (Some x ∷ back)) ∙ reverse-cut (known_pairs front) (pair_of x.cover x.bounds) (known_pairs back)
 
 -- a pair at the end is the newest
-pub newest-pushed : (places : List (Option Bounded)) (x : Bounded) → reverse (known (places ++ Some x ∷ [])) ≡ pair_of x.cover x.bounds ∷ reverse (known places)
+pub newest-pushed : (places : List (Option Bounded)) (x : Bounded) → reverse (known_pairs (places ++ Some x ∷ [])) ≡ pair_of x.cover x.bounds ∷ reverse (known_pairs places)
 newest-pushed places x = newest-cut places x []
 
 -- no blank place: as many pairs as places
-known-length : (places : List (Option Bounded)) → AllKnown places → length (known places) ≡ length places
+known-length : (places : List (Option Bounded)) → AllKnown places → length (known_pairs places) ≡ length places
 known-length [] all = refl
 known-length (None ∷ places) all = absurd (all None (Contains-head None places) refl)
 known-length (Some x ∷ places) all = ap suc (known-length places (λ y c. all y (Contains-tail (Some x) places y c)))
 
 -- at most as many pairs as places
-known-most : (places : List (Option Bounded)) → length (known places) ≤ length places
+known-most : (places : List (Option Bounded)) → length (known_pairs places) ≤ length places
 known-most [] = omega arith
 known-most (None ∷ places) = let on = known-most places in omega arith
 known-most (Some x ∷ places) = let on = known-most places in omega arith
@@ -83,33 +83,33 @@ pub all-reversed : (Q : Pair → Type 0) (pairs : List Pair) → ((x : Pair) →
 all-reversed Q pairs all x c = all x (Contains-reversed pairs x c)
 
 -- the pairs at the places have the shape of those that are seen
-pub shown-shape : (shape : ShapeOf) (places : List (Option Bounded)) (pairs : List Pair) → reverse (known places) ≡ pairs → HaveShape shape pairs → HaveShape shape (known places)
-shown-shape shape places pairs is all x c = all x (subst (λ l. Contains l x) is (Contains-reverse (known places) x c))
+pub shown-shape : (shape : ShapeOf) (places : List (Option Bounded)) (pairs : List Pair) → reverse (known_pairs places) ≡ pairs → HaveShape shape pairs → HaveShape shape (known_pairs places)
+shown-shape shape places pairs is all x c = all x (subst (λ l. Contains l x) is (Contains-reverse (known_pairs places) x c))
 
 -- the pair with the same cover is taken out
 pub taken-out : (cover : CoverOf) (bounds both : Interval) (old rest front : List (Option Bounded)) (x : Bounded) (back : List (Option Bounded))
-    → old ≡ front ++ Some x ∷ back → rest ≡ front ++ back → ((y : Pair) → Contains (known back) y → ¬ IsSameCover (cover_of y) cover) → IsSameCover x.cover cover
+    → old ≡ front ++ Some x ∷ back → rest ≡ front ++ back → ((y : Pair) → Contains (known_pairs back) y → ¬ IsSameCover (cover_of y) cover) → IsSameCover x.cover cover
     → both.lo ≡ max bounds.lo x.bounds.lo → both.hi ≡ min bounds.hi x.bounds.hi
-    → PutsFirst (pair_of cover bounds) (reverse (known old)) (pair_of cover both ∷ reverse (known rest))
+    → PutsFirst (pair_of cover bounds) (reverse (known_pairs old)) (pair_of cover both ∷ reverse (known_pairs rest))
 taken-out cover bounds both old rest front x back cut left none same lo hi =
     inl (
-      reverse (known back),
+      reverse (known_pairs back),
       pair_of x.cover x.bounds,
-      reverse (known front),
-      ap (λ l. reverse (known l)) cut ∙ newest-cut front x back,
-      all-reversed (λ y. ¬ IsSameCover (cover_of y) cover) (known back) none,
+      reverse (known_pairs front),
+      ap (λ l. reverse (known_pairs l)) cut ∙ newest-cut front x back,
+      all-reversed (λ y. ¬ IsSameCover (cover_of y) cover) (known_pairs back) none,
       same,
-      rw (left, known-append front back, reverse-append (known front) (known back), lo, hi) refl,
+      rw (left, known-append front back, reverse-append (known_pairs front) (known_pairs back), lo, hi) refl,
     )
 
 -- where there is room none goes
-pub with-room : (cover : CoverOf) (bounds : Interval) (old : List (Option Bounded)) → length old < most_pairs → ((y : Pair) → Contains (known old) y → ¬ IsSameCover (cover_of y) cover)
-    → PutsFirst (pair_of cover bounds) (reverse (known old)) (pair_of cover bounds ∷ reverse (known old))
+pub with-room : (cover : CoverOf) (bounds : Interval) (old : List (Option Bounded)) → length old < most_pairs → ((y : Pair) → Contains (known_pairs old) y → ¬ IsSameCover (cover_of y) cover)
+    → PutsFirst (pair_of cover bounds) (reverse (known_pairs old)) (pair_of cover bounds ∷ reverse (known_pairs old))
 with-room cover bounds old room none =
     let most = known-most old in
-    let same : length (reverse (known old)) ≡ length (known old) = length-reverse (known old) in
-    let fits : length (pair_of cover bounds ∷ reverse (known old)) ≤ most_pairs = omega arith in
-    inr (all-reversed (λ y. ¬ IsSameCover (cover_of y) cover) (known old) none, sym (take_all most_pairs (pair_of cover bounds ∷ reverse (known old)) fits))
+    let same : length (reverse (known_pairs old)) ≡ length (known_pairs old) = length-reverse (known_pairs old) in
+    let fits : length (pair_of cover bounds ∷ reverse (known_pairs old)) ≤ most_pairs = omega arith in
+    inr (all-reversed (λ y. ¬ IsSameCover (cover_of y) cover) (known_pairs old) none, sym (take_all most_pairs (pair_of cover bounds ∷ reverse (known_pairs old)) fits))
 
 -- of eight and one more the last is dropped
 take-full : {X : Type 0} (n : ℕ) (xs : List X) (x : X) → length xs ≡ n → take n (xs ++ x ∷ []) ≡ xs
@@ -117,16 +117,16 @@ take-full n xs x e = subst (λ m. take m (xs ++ x ∷ []) ≡ xs) e (take-append
 
 -- where there is none the oldest goes
 pub without-room : (cover : CoverOf) (bounds : Interval) (place : Option Bounded) (rest : List (Option Bounded)) → AllKnown (place ∷ rest) → length (place ∷ rest) ≡ most_pairs
-    → ((y : Pair) → Contains (known (place ∷ rest)) y → ¬ IsSameCover (cover_of y) cover)
-    → PutsFirst (pair_of cover bounds) (reverse (known (place ∷ rest))) (pair_of cover bounds ∷ reverse (known rest))
+    → ((y : Pair) → Contains (known_pairs (place ∷ rest)) y → ¬ IsSameCover (cover_of y) cover)
+    → PutsFirst (pair_of cover bounds) (reverse (known_pairs (place ∷ rest))) (pair_of cover bounds ∷ reverse (known_pairs rest))
 without-room cover bounds None rest all full none = absurd (all None (Contains-head None rest) refl)
 without-room cover bounds (Some x) rest all full none =
-    let count : length (known rest) ≡ length rest = known-length rest (λ y c. all y (Contains-tail (Some x) rest y c)) in
-    let same : length (reverse (known rest)) ≡ length (known rest) = length-reverse (known rest) in
-    let size : length (pair_of cover bounds ∷ reverse (known rest)) ≡ most_pairs = omega arith in
+    let count : length (known_pairs rest) ≡ length rest = known-length rest (λ y c. all y (Contains-tail (Some x) rest y c)) in
+    let same : length (reverse (known_pairs rest)) ≡ length (known_pairs rest) = length-reverse (known_pairs rest) in
+    let size : length (pair_of cover bounds ∷ reverse (known_pairs rest)) ≡ most_pairs = omega arith in
     inr (
-      all-reversed (λ y. ¬ IsSameCover (cover_of y) cover) (known (Some x ∷ rest)) none,
-      rw (reverse-cons (pair_of x.cover x.bounds) (known rest)) (sym (take-full most_pairs (pair_of cover bounds ∷ reverse (known rest)) (pair_of x.cover x.bounds) size)),
+      all-reversed (λ y. ¬ IsSameCover (cover_of y) cover) (known_pairs (Some x ∷ rest)) none,
+      rw (reverse-cons (pair_of x.cover x.bounds) (known_pairs rest)) (sym (take-full most_pairs (pair_of cover bounds ∷ reverse (known_pairs rest)) (pair_of x.cover x.bounds) size)),
     )
 
 -- the numbers that two intervals hold lie between the greater lower and the lesser upper bound, where they share one
@@ -158,19 +158,19 @@ found-there list front x y back place cut long there =
 
 -- a pair at a cut is one of the pairs that are seen
 pub seen-pair : (places : List (Option Bounded)) (pairs : List Pair) (front : List (Option Bounded)) (x : Bounded) (back : List (Option Bounded))
-    → places ≡ front ++ Some x ∷ back → reverse (known places) ≡ pairs → Contains pairs (pair_of x.cover x.bounds)
+    → places ≡ front ++ Some x ∷ back → reverse (known_pairs places) ≡ pairs → Contains pairs (pair_of x.cover x.bounds)
 seen-pair places pairs front x back cut seen =
-    subst (λ l. Contains l (pair_of x.cover x.bounds)) (sym (newest-cut front x back) ∙ ap (λ l. reverse (known l)) (sym cut) ∙ seen)
-    (Contains-append_right (reverse (known back)) (pair_of x.cover x.bounds ∷ reverse (known front)) (pair_of x.cover x.bounds) (Contains-head _ _))
+    subst (λ l. Contains l (pair_of x.cover x.bounds)) (sym (newest-cut front x back) ∙ ap (λ l. reverse (known_pairs l)) (sym cut) ∙ seen)
+    (Contains-append_right (reverse (known_pairs back)) (pair_of x.cover x.bounds ∷ reverse (known_pairs front)) (pair_of x.cover x.bounds) (Contains-head _ _))
 
 -- what is at the end once the pair is put there with these bounds: the rest has no blank place, and the pair goes first
 pub record IsRoom (cover : CoverOf) (bounds put : Interval) (old rest : List (Option Bounded)) : Type 0 where
   pub all : AllKnown rest
-  pub puts : PutsFirst (pair_of cover bounds) (reverse (known old)) (pair_of cover put ∷ reverse (known rest))
+  pub puts : PutsFirst (pair_of cover bounds) (reverse (known_pairs old)) (pair_of cover put ∷ reverse (known_pairs rest))
 
 -- .. where the pair with the same cover was removed
 pub room-taken : (cover : CoverOf) (bounds both : Interval) (value place : ℕ) (old rest front : List (Option Bounded)) (x y : Bounded) (back : List (Option Bounded))
-    → AllKnown old → old ≡ front ++ Some x ∷ back → length front ≡ place → ((z : Pair) → Contains (known back) z → ¬ IsSameCover (cover_of z) cover) → IsSameCover x.cover cover
+    → AllKnown old → old ≡ front ++ Some x ∷ back → length front ≡ place → ((z : Pair) → Contains (known_pairs back) z → ¬ IsSameCover (cover_of z) cover) → IsSameCover x.cover cover
     → Some y ≡ get_or old place (Some y) → rest ≡ remove old place
     → (x.bounds.lo ≤ value) × (value ≤ x.bounds.hi) → Holds bounds value → ((m : ℕ) → Holds both m ↔ (Holds y.bounds m × Holds bounds m))
     → IsRoom cover bounds both old rest
@@ -186,7 +186,7 @@ room-taken cover bounds both value place old rest front x y back all cut long no
 
 -- .. where the oldest was removed
 pub room-full : (cover : CoverOf) (bounds : Interval) (old rest : List (Option Bounded)) → AllKnown old → length old ≡ most_pairs → rest ≡ remove old 0
-    → ((y : Pair) → Contains (known old) y → ¬ IsSameCover (cover_of y) cover) → IsRoom cover bounds bounds old rest
+    → ((y : Pair) → Contains (known_pairs old) y → ¬ IsSameCover (cover_of y) cover) → IsRoom cover bounds bounds old rest
 room-full cover bounds [] rest all full left none = absurd (omega arith)
 room-full cover bounds (place ∷ places) rest all full left none =
     let gone : rest ≡ places = left in
@@ -197,7 +197,7 @@ room-full cover bounds (place ∷ places) rest all full left none =
 
 -- .. where there was room
 pub room-left : (cover : CoverOf) (bounds : Interval) (old rest : List (Option Bounded)) → AllKnown old → length old < most_pairs → rest ≡ old
-    → ((y : Pair) → Contains (known old) y → ¬ IsSameCover (cover_of y) cover) → IsRoom cover bounds bounds old rest
+    → ((y : Pair) → Contains (known_pairs old) y → ¬ IsSameCover (cover_of y) cover) → IsRoom cover bounds bounds old rest
 room-left cover bounds old rest all room same none = record {
   all = subst AllKnown (sym same) all;
   puts = rw same (with-room cover bounds old room none);
@@ -205,11 +205,11 @@ room-left cover bounds old rest all room same none = record {
 
 -- the last place has the newest pair
 pub newest-seen : (r : Option (Bor Bounded)) (places : List (Option Bounded)) (last : Option Bounded) → AllKnown places → 0 < length places → last ≡ get_or places (length places - 1) last
-    → option_copied r ≡ last → MatchOption r (reverse (known places) ≡ []) (λ x. (rest : List Pair) × (reverse (known places) ≡ pair_of x.now.cover x.now.bounds ∷ rest))
+    → option_copied r ≡ last → MatchOption r (reverse (known_pairs places) ≡ []) (λ x. (rest : List Pair) × (reverse (known_pairs places) ≡ pair_of x.now.cover x.now.bounds ∷ rest))
 newest-seen None places last all some there is =
     let cut = cut-at places (length places) last some (omega arith) there in
     absurd (all last (subst (λ l. Contains l last) (sym cut) (Contains-append_right (take (length places - 1) places) (last ∷ drop (length places) places) last (Contains-head last _))) (sym is))
 newest-seen (Some x) places last all some there is =
     let cut : places ≡ take (length places - 1) places ++ last ∷ [] =
     cut-at places (length places) last some (omega arith) there ∙ ap (λ l. take (length places - 1) places ++ last ∷ l) (drop-length places) in
-    (reverse (known (take (length places - 1) places)), ap (λ l. reverse (known l)) (cut ∙ ap (λ y. take (length places - 1) places ++ y ∷ []) (sym is)) ∙ newest-pushed (take (length places - 1) places) x.now)
+    (reverse (known_pairs (take (length places - 1) places)), ap (λ l. reverse (known_pairs l)) (cut ∙ ap (λ y. take (length places - 1) places ++ y ∷ []) (sym is)) ∙ newest-pushed (take (length places - 1) places) x.now)

@@ -21,7 +21,7 @@ use Rattle.dd_rank.specs.Depths.{FourDepths, depth_in, all_cards, Covers, IsCove
 use Rattle.dd_rank.proofs.CallerLemmas.{covers-chain}
 use Rattle.dd_rank.specs.Strings.{ShapeOf}
 use Rattle.dd_rank.specs.Cover.{CoverOf, IsSameCover}
-use Rattle.dd_shard.specs.Entries.{most_pairs, Told, Pair, Entry, IsEntry, IsPair, Tells, cover_of, narrowed, PutsFirst}
+use Rattle.dd_shard.specs.Entries.{most_pairs, Told, Pair, Entry, IsEntry, IsPair, Tells, cover_of, narrowed_pair, PutsFirst}
 use Rattle.dd_shard.specs.Slots.{told_of}
 
 -- a sum over the four seats, from any of them on
@@ -107,7 +107,7 @@ told-within p e (Some told) good tells = λ u. (
     omega arith)
 
 -- a pair that holds the bounds of another with the same cover as well is still one of its shape
-pub narrowed-pair : (shape : ShapeOf) (x y : Pair) → IsPair shape x → IsPair shape y → IsSameCover (cover_of y) (cover_of x) → IsPair shape (narrowed x y)
+pub narrowed-pair : (shape : ShapeOf) (x y : Pair) → IsPair shape x → IsPair shape y → IsSameCover (cover_of y) (cover_of x) → IsPair shape (narrowed_pair x y)
 narrowed-pair shape x y a b same = record {
   board = a.board;
   no_trick = a.no_trick;
@@ -135,7 +135,7 @@ puts-entry shape x old new a few each (inl on) =
     record {
       some = omega arith;
       few = omega arith;
-      each = λ z c. elim (Contains-cons (narrowed x y) (on.0 ++ on.2) z (subst (λ l. Contains l z) on.6 c)) [
+      each = λ z c. elim (Contains-cons (narrowed_pair x y) (on.0 ++ on.2) z (subst (λ l. Contains l z) on.6 c)) [
         | inl first ↦ subst (IsPair shape) first (narrowed-pair shape x y a there on.5)
         | inr d ↦ elim (Contains-append_cases on.0 on.2 z d) [
           | inl f ↦ each z (subst (λ l. Contains l z) (sym on.3) (Contains-append_left on.0 (y ∷ on.2) z f))

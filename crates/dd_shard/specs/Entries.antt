@@ -110,15 +110,15 @@ abbrev pub IsNewCover : Pair → List Pair → Type 0
 IsNewCover x pairs = (y : Pair) → Contains pairs y → ¬ IsSameCover (cover_of y) (cover_of x)
 
 -- x, and the bounds of y hold as well
-abbrev pub narrowed : Pair → Pair → Pair
-narrowed x y = record { board = x.board; depths = x.depths; lo = max x.lo y.lo; hi = min x.hi y.hi }
+abbrev pub narrowed_pair : Pair → Pair → Pair
+narrowed_pair x y = record { board = x.board; depths = x.depths; lo = max x.lo y.lo; hi = min x.hi y.hi }
 
 -- x goes first. The pair with the same cover, if there is one, is taken out, and its bounds hold as well; else a ninth pair,
 -- the oldest, is dropped.
 abbrev pub PutsFirst : Pair → List Pair → List Pair → Type 0
 PutsFirst x old new =
     ((front : List Pair) × (y : Pair) × (back : List Pair) × (old ≡ front ++ y ∷ back) × IsNewCover x front × IsSameCover (cover_of y) (cover_of x)
-    × (new ≡ narrowed x y ∷ front ++ back))
+    × (new ≡ narrowed_pair x y ∷ front ++ back))
     ⊎ (IsNewCover x old × (new ≡ take most_pairs (x ∷ old)))
 
 -- A note of what is told of p: its shape goes to the front, new if need be, where a full list drops its last entry; and the

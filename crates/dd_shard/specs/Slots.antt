@@ -16,10 +16,10 @@ abbrev pub told_of : Interval × FourDepths → Told
 told_of told = record { depths = told.1; lo = told.0.lo; hi = told.0.hi }
 
 -- the pairs of the places that have one
-abbrev pub known : List (Option Bounded) → List Pair
-known [] = []
-known (None ∷ places) = known places
-known (Some x ∷ places) = pair_of x.cover x.bounds ∷ known places
+abbrev pub known_pairs : List (Option Bounded) → List Pair
+known_pairs [] = []
+known_pairs (None ∷ places) = known_pairs places
+known_pairs (Some x ∷ places) = pair_of x.cover x.bounds ∷ known_pairs places
 
 -- no place is blank
 abbrev pub AllKnown : List (Option Bounded) → Type 0

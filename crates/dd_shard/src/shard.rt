@@ -59,8 +59,10 @@ impl Shard {
     /// pair of its shape that covers this position. Nothing where none does. A look is a use of the shape.
     pub fn look(&mut self, position: &TrickStart) -> Option<(Interval, Depths)>
         ensures looks { Looks position.now (option_map told_of result) self.old self.new }
-        ensures holds { IfSome result (λ told. (q : Board) → IsBoard q → Covers position.now (depth_in told.1) q → Holds told.0 (lead q)) }
-        ensures within { IfSome result (λ told. (u : Suit) → depth_in told.1 u ≤ count_of u (all_cards position.now)) }
+        ensures holds { IfSome result (λ told. (q : Board) → IsBoard q
+            → Covers position.now (depth_in told.1) q → Holds told.0 (lead q)) }
+        ensures within { IfSome result (λ told. (u : Suit)
+            → depth_in told.1 u ≤ count_of u (all_cards position.now)) }
     {
         // The proof reads here that the position is a legal one.
         let _ = position.position();
@@ -77,10 +79,14 @@ impl Shard {
         interval: Interval,
     ) -> Result<(), AllocError>
         requires within { (u : Suit) → depth_in depths u ≤ count_of u (all_cards position.now) }
-        requires holds { (q : Board) → IsBoard q → Covers position.now (depth_in depths) q → Holds interval (lead q) }
-        ensures ok { OnOk result (Notes position.now (told_of (interval, depths)) self.old self.new) }
-        ensures err { OnErr result ((self.new ≡ self.old) × IsAbsent (shape_of position.now) self.old.list) }
-        ensures succeeds { (e : Entry) → Contains self.old.list e → e.shape ≡ shape_of position.now → IsOk result }
+        requires holds { (q : Board) → IsBoard q → Covers position.now (depth_in depths) q
+            → Holds interval (lead q) }
+        ensures ok { OnOk result
+            (Notes position.now (told_of (interval, depths)) self.old self.new) }
+        ensures err { OnErr result ((self.new ≡ self.old)
+            × IsAbsent (shape_of position.now) self.old.list) }
+        ensures succeeds { (e : Entry) → Contains self.old.list e → e.shape ≡ shape_of position.now
+            → IsOk result }
     {
         // The proof reads here that the position is a legal one.
         let _ = position.position();
@@ -111,9 +117,11 @@ impl Shard {
     /// The newest pair of the shape at this place, 0 for the last used: its position, depths and bounds. It is no use of
     /// the shape.
     pub fn entry(&self, place: u32) -> Option<(&TrickStart, Depths, Interval)>
-        ensures { MatchOption result (length self.now.list ≤ place) (λ found. (e : Entry) × (x : Pair) × (rest : List Pair)
+        ensures { MatchOption result (length self.now.list ≤ place) (λ found. (e : Entry)
+            × (x : Pair) × (rest : List Pair)
             × (slice_get self.now.list place ≡ Some e) × (e.pairs ≡ x ∷ rest)
-            × (found.0.now ≡ x.board) × (found.1 ≡ x.depths) × (found.2.lo ≡ x.lo) × (found.2.hi ≡ x.hi)) }
+            × (found.0.now ≡ x.board) × (found.1 ≡ x.depths) × (found.2.lo ≡ x.lo)
+            × (found.2.hi ≡ x.hi)) }
     {
         let (_, slot) = self.cache.iter().nth(place as usize)?;
         let newest = slot.newest()?;

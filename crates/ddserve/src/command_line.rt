@@ -56,9 +56,11 @@ pub fn given_words(rt: &(impl Env + AllocGlobal)) -> Result<Vec<String>, WordsFa
 pub fn read_args(alloc: Global, words: &[String]) -> Result<Args, Error>
     ensures asked { IfOk result (Asks (map string_bytes words.now)) }
     // The line asks for nothing else.
-    ensures only { IfOk result (λ args. (other : Args) → Asks (map string_bytes words.now) other → other ≡ args) }
+    ensures only { IfOk result (λ args. (other : Args) → Asks (map string_bytes words.now) other
+        → other ≡ args) }
     // A line that asks for something is refused for want of memory alone.
-    ensures refused { IfErr result (λ error. (kind_of error ≡ ErrorKind.OutOfMemory) ⊎ ((args : Args) → ¬ Asks (map string_bytes words.now) args)) }
+    ensures refused { IfErr result (λ error. (kind_of error ≡ ErrorKind.OutOfMemory)
+        ⊎ ((args : Args) → ¬ Asks (map string_bytes words.now) args)) }
     // An error is one that the words have.
     ensures kinds { IfErr result (HasKind (fault_of program_app (map string_bytes words.now))) }
     ensures in_range { IfOk result IsInRange }
@@ -95,7 +97,8 @@ fn not_text_error(alloc: Global) -> Result<Error, AllocError>
 fn solve_args(options: &ArgMatches) -> Args
     requires { HasNumbers (rows_of (found_of options.now)) }
     ensures { let rows = rows_of (found_of options.now) in
-        (entries : _) × (number_of (codes "entries") rows ≡ Some entries) × (result ≡ Args.Solve (number_of (codes "budget") rows) entries) }
+        (entries : _) × (number_of (codes "entries") rows ≡ Some entries)
+        × (result ≡ Args.Solve (number_of (codes "budget") rows) entries) }
 {
     Args::Solve {
         budget: options.get_one("budget"),

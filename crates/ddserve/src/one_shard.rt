@@ -56,21 +56,25 @@ impl Bounds for OneShard {
     ghost use Rattle.dd_rank.specs.Depths.{depth_in, Covers};
 
     // What it tells holds. Which entries it still has depends on what came since.
-    ghost tells = { λ table p depths interval. (q : Board) → IsBoard q → Covers p (depth_in depths) q → Holds interval (lead q) };
+    ghost tells = { λ table p depths interval. (q : Board) → IsBoard q
+        → Covers p (depth_in depths) q → Holds interval (lead q) };
 
     ghost holds = { λ table p depths interval q told. told q };
 
     fn look(&mut self, start: &TrickStart) -> Option<(Interval, Depths)>
         ensures looks { Looks start.now (option_map told_of result) self.old self.new }
-        ensures told { IfSome result (λ told. (q : Board) → IsBoard q → Covers start.now (depth_in told.1) q → Holds told.0 (lead q)) }
-        ensures within { IfSome result (λ told. (u : Suit) → depth_in told.1 u ≤ count_of u (all_cards start.now)) }
+        ensures told { IfSome result (λ told. (q : Board) → IsBoard q
+            → Covers start.now (depth_in told.1) q → Holds told.0 (lead q)) }
+        ensures within { IfSome result (λ told. (u : Suit)
+            → depth_in told.1 u ≤ count_of u (all_cards start.now)) }
     {
         self.shard.look(start)
     }
 
     fn note(&mut self, start: &TrickStart, depths: Depths, interval: Interval)
         requires within { (u : Suit) → depth_in depths u ≤ count_of u (all_cards start.now) }
-        requires holds { (q : Board) → IsBoard q → Covers start.now (depth_in depths) q → Holds interval (lead q) }
+        requires holds { (q : Board) → IsBoard q → Covers start.now (depth_in depths) q
+            → Holds interval (lead q) }
         // Only a shape that it doesn't know may find no memory.
         ensures { Notes start.now (told_of (interval, depths)) self.old self.new
             ⊎ ((self.new ≡ self.old) × IsAbsent (shape_of start.now) self.old.list) }

@@ -24,8 +24,10 @@ pub fn run_words<R: Read, O: Write, E: Write>(
     errors: &mut Counting<E>,
 ) -> Ending
     ensures { Runs (words_of words)
-        (streams (state_of R.remaining reader.old) (state_of O.contents output.old) (state_of E.contents errors.old))
-        (streams (state_of R.remaining reader.new) (state_of O.contents output.new) (state_of E.contents errors.new)) result }
+        (streams (state_of R.remaining reader.old) (state_of O.contents output.old)
+        (state_of E.contents errors.old))
+        (streams (state_of R.remaining reader.new) (state_of O.contents output.new)
+        (state_of E.contents errors.new)) result }
 {
     match args_of(alloc, words) {
         Ok(args) => answer(alloc, args, reader, output, errors),
@@ -59,8 +61,10 @@ fn answer<R: Read, O: Write, E: Write>(
 ) -> Ending
     requires { IsInRange args }
     ensures { AnswersUntil args
-        (streams (state_of R.remaining reader.old) (state_of O.contents output.old) (state_of E.contents errors.old))
-        (streams (state_of R.remaining reader.new) (state_of O.contents output.new) (state_of E.contents errors.new)) result }
+        (streams (state_of R.remaining reader.old) (state_of O.contents output.old)
+        (state_of E.contents errors.old))
+        (streams (state_of R.remaining reader.new) (state_of O.contents output.new)
+        (state_of E.contents errors.new)) result }
 {
     let Args::Solve { budget, entries } = args;
     let Ok(mut table) = table(alloc, entries) else {
@@ -112,7 +116,8 @@ fn show<O: Write, E: Write>(
 /// Says on the standard error why the program ends before its work is done, and ends so.
 fn fail<E: Write>(errors: &mut Counting<E>, ending: Ending) -> Ending
     ensures ending { result ≡ ending }
-    ensures says { Writes (line_of ending) (state_of E.contents errors.old) (state_of E.contents errors.new) }
+    ensures says { Writes (line_of ending)
+        (state_of E.contents errors.old) (state_of E.contents errors.new) }
 {
     // Where it fails too, there is no place left to say so.
     let _ = write_whole(errors, ending.line().as_bytes());

@@ -36,13 +36,13 @@ fn answers<B: Bounds>(table: &mut B, deal: &str, first: Seat, want: &str) -> boo
 }
 
 // The bounds that the table tells of the start of a trick.
-fn told(table: &mut OneShard, start: &TrickStart) -> Option<(u8, u8)> {
+fn bounds_told(table: &mut OneShard, start: &TrickStart) -> Option<(u8, u8)> {
     let (interval, _) = table.look(start)?;
     Some((interval.lo, interval.hi))
 }
 
 // A table over which the king that is caught before ace and queen was solved.
-fn solved(rt: &(impl Abort + AllocGlobal)) -> Result<OneShard, AllocError> {
+fn table_after_caught(rt: &(impl Abort + AllocGlobal)) -> Result<OneShard, AllocError> {
     let mut table = OneShard::new(rt.alloc(), 4096)?;
     assert!(rt;
         table.look(&start(rt, CAUGHT, Seat::North)).is_none(),
@@ -55,7 +55,7 @@ fn solved(rt: &(impl Abort + AllocGlobal)) -> Result<OneShard, AllocError> {
 
 #[test]
 fn a_solved_position_is_remembered_for_those_alike(rt: HostRuntime) -> Result<(), AllocError> {
-    let mut table = solved(&rt)?;
+    let mut table = table_after_caught(&rt)?;
     let deal = "N:64... J7... AT... 98...";
     let other = start(&rt, deal, Seat::North);
     let told = table
@@ -72,11 +72,11 @@ fn a_solved_position_is_remembered_for_those_alike(rt: HostRuntime) -> Result<()
 
 #[test]
 fn a_solved_position_is_remembered_for_other_low_cards(rt: HostRuntime) -> Result<(), AllocError> {
-    let mut table = solved(&rt)?;
+    let mut table = table_after_caught(&rt)?;
     let deal = "N:62... K3... AQ... 54...";
     let other = start(&rt, deal, Seat::North);
     assert_eq!(rt;
-        told(&mut table, &other),
+        bounds_told(&mut table, &other),
         Some((2, 2)),
         "before it is solved"
     );
@@ -88,10 +88,10 @@ fn a_solved_position_is_remembered_for_other_low_cards(rt: HostRuntime) -> Resul
 
 #[test]
 fn a_solved_position_is_remembered_with_turned_seats(rt: HostRuntime) -> Result<(), AllocError> {
-    let mut table = solved(&rt)?;
+    let mut table = table_after_caught(&rt)?;
     let deal = "E:32... K4... AQ... 65...";
     let other = start(&rt, deal, Seat::East);
-    assert_eq!(rt; told(&mut table, &other), Some((2, 2)));
+    assert_eq!(rt; bounds_told(&mut table, &other), Some((2, 2)));
     let want = r#"{"cards":[{"equals":4,"rank":3,"score":2,"suit":0}]}"#;
     assert!(rt; answers(&mut table, deal, Seat::East, want));
     Ok(())
@@ -103,14 +103,14 @@ fn a_table_of_one_shape_drops_the_one_before(rt: HostRuntime) -> Result<(), Allo
     let want = r#"{"cards":[{"equals":4,"rank":3,"score":2,"suit":0}]}"#;
     assert!(rt; answers(&mut table, CAUGHT, Seat::North, want));
     assert_eq!(rt;
-        told(&mut table, &start(&rt, CAUGHT, Seat::North)),
+        bounds_told(&mut table, &start(&rt, CAUGHT, Seat::North)),
         Some((2, 2))
     );
     let want = r#"{"cards":[{"equals":0,"rank":14,"score":1,"suit":0}]}"#;
     assert!(rt; answers(&mut table, "N:A... K... Q... J...", Seat::North, want));
     assert_eq!(rt; table.len(), 1);
     assert_eq!(rt;
-        told(&mut table, &start(&rt, CAUGHT, Seat::North)),
+        bounds_told(&mut table, &start(&rt, CAUGHT, Seat::North)),
         None,
         "another shape"
     );
@@ -118,7 +118,7 @@ fn a_table_of_one_shape_drops_the_one_before(rt: HostRuntime) -> Result<(), Allo
 }
 
 // Remembers the value of the start of a trick, with the depths that it rests on.
-fn remembered(shard: &mut Shard, start: &TrickStart) -> Option<u8> {
+fn remember_value(shard: &mut Shard, start: &TrickStart) -> Option<u8> {
     let (tricks, depths) = start_value(start, &mut NoTable, &mut Endless).ok()?;
     let interval = Interval {
         lo: tricks,
@@ -134,7 +134,7 @@ fn a_shape_keeps_a_value_for_each_cover(rt: HostRuntime) -> Result<(), AllocErro
     let caught = start(&rt, CAUGHT, Seat::North);
     let lower = start(&rt, "N:62... K3... AQ... 54...", Seat::North);
     let behind = start(&rt, "N:32... 65... AQ... K4...", Seat::North);
-    assert_eq!(rt; remembered(&mut shard, &caught), Some(2));
+    assert_eq!(rt; remember_value(&mut shard, &caught), Some(2));
     let (interval, depths) = shard.look(&lower).expect(&rt, "it is covered");
     assert_eq!(rt; (interval.lo, interval.hi), (2, 2));
     assert_eq!(rt; depths.of(Suit::Spades), 3, "ace, king and queen");
@@ -146,7 +146,7 @@ fn a_shape_keeps_a_value_for_each_cover(rt: HostRuntime) -> Result<(), AllocErro
         shard.look(&behind).is_none(),
         "the king is behind ace and queen"
     );
-    assert_eq!(rt; remembered(&mut shard, &behind), Some(1));
+    assert_eq!(rt; remember_value(&mut shard, &behind), Some(1));
     assert_eq!(rt; shard.len(), 1, "one shape");
     let (interval, _) = shard.look(&caught).expect(&rt, "its cover is there too");
     assert_eq!(rt; (interval.lo, interval.hi), (2, 2));
@@ -176,7 +176,7 @@ fn the_cache_and_the_table_behind_it_remember_a_solved_position(
     let lower = start(&rt, "N:62... K3... AQ... 54...", Seat::North);
     assert!(rt; table.settle(&lower, 2).is_some(), "the cache");
     assert_eq!(rt;
-        told(table.behind(), &lower),
+        bounds_told(table.behind(), &lower),
         Some((2, 2)),
         "the table behind"
     );

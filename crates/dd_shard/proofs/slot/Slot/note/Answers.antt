@@ -4,14 +4,14 @@ use Rattle.dd_play.specs.Value.{lead}
 use Rattle.dd_play.specs.Intervals.{Holds}
 use Rattle.dd_rank.specs.Cover.{CoverOf, IsSameCover}
 use Rattle.dd_shard.specs.Entries.{most_pairs, Pair, cover_of, PutsFirst}
-use Rattle.dd_shard.specs.Slots.{pair_of, known}
+use Rattle.dd_shard.specs.Slots.{pair_of, known_pairs}
 use Rattle.dd_shard.specs.declared.slot.Bounded.{Bounded}
 use Rattle.dd_shard.proofs.Slots.{shown-shape, seen-pair, found-there, newest-pushed, all-both, all-one, IsRoom, room-taken, room-full, room-left}
 use Rattle.dd_shard.proofs.slot.Slot.note.Goals as goal
 use Rattle.dd_shard.proofs.slot.Slot.note.Goals.{in-Some+in-Some-remove+in-Some-meet, in-None+then-is_full, in-None+else-is_full}
 
 pub place_of-requires : goal.place_of-requires
-place_of-requires c = shown-shape _ c.deref.result.now c.args.self.now (ap (λ places. reverse (known places)) c.deref.ensures.0 ∙ c.self.view_is) c.requires.shape
+place_of-requires c = shown-shape _ c.deref.result.now c.args.self.now (ap (λ places. reverse (known_pairs places)) c.deref.ensures.0 ∙ c.self.view_is) c.requires.shape
 
 pub unreachable-requires : goal.unreachable-requires
 unreachable-requires c =
@@ -36,7 +36,7 @@ below-full n most other = omega arith
 
 -- none of the pairs at these places has the cover
 abbrev IsNewIn : CoverOf → List (Option Bounded) → Type 0
-IsNewIn cover places = (y : Pair) → Contains (known places) y → ¬ IsSameCover (cover_of y) cover
+IsNewIn cover places = (y : Pair) → Contains (known_pairs places) y → ¬ IsSameCover (cover_of y) cover
 
 -- what is put down, and what is left beside it
 room : (c : goal.After-push) → IsRoom c.args.cover c.args.bounds c.match-place_of.bounds c.self.inside.pairs.items c.match-place_of.self-inside.pairs.items
@@ -63,5 +63,5 @@ invariant_of-self c =
     rw c.push.ensures.items (all-both c.match-place_of.self-inside.pairs.items (Some (record { cover = c.args.cover; bounds = c.match-place_of.bounds }) ∷ []) (room c).all (all-one _))
 
 pub returns : goal.returns
-returns c = subst (λ l. PutsFirst (pair_of c.args.cover c.args.bounds) l (reverse (known c.push.new.self.items))) c.self.view_is
+returns c = subst (λ l. PutsFirst (pair_of c.args.cover c.args.bounds) l (reverse (known_pairs c.push.new.self.items))) c.self.view_is
     (rw (c.push.ensures.items, newest-pushed c.match-place_of.self-inside.pairs.items (record { cover = c.args.cover; bounds = c.match-place_of.bounds })) (room c).puts)

@@ -1,7 +1,7 @@
 use Rattle.std.proofs.Common.{sym, arith, take, drop, Some}
 use Rattle.dd_shard.specs.Entries.{IsCoverOf}
 use Rattle.dd_shard.proofs.Places.{cut-at, known-at, none-above, pair-below, blank-below, all-walked}
-use Rattle.dd_shard.proofs.slot.covering.Goals as goal
+use Rattle.dd_shard.proofs.slot.covering_pair.Goals as goal
 
 pub loop-place-init : goal.loop-place-init
 loop-place-init c = λ q _ _ _. none-above (λ x. ¬ IsCoverOf x q) c.args.pairs.now

@@ -1,9 +1,0 @@
-use Rattle.std.proofs.Common.{◌≡◌, [], drop}
-use Rattle.dd_play.specs.Board.{Board, IsBoard}
-use Rattle.dd_rank.specs.Strings.{strings_of}
-use Rattle.dd_shard.specs.Entries.{NoneCovers}
-use Rattle.dd_shard.specs.Slots.{known}
-use Rattle.dd_shard.proofs.slot.covering.Given as goal
-
-abbrev pub invariant-loop-place : goal.invariant-loop-place
-invariant-loop-place l = (q : Board) → IsBoard q → q.trick ≡ [] → l.strings ≡ strings_of q → NoneCovers q (known (drop l.place l.pairs))
