@@ -20,8 +20,9 @@ use Rattle.dd_pbn.specs.Values.{IsValue, IsTag}
 use Rattle.dd_pbn.proofs.Decided.{spelled-read, failed-read}
 use Rattle.dd_pbn.proofs.ValueTexts.{Reads-value, Reads-tag}
 use Rattle.dd_play.specs.Board.{Board, board_of, left}
+use Rattle.dd_pbn.specs.Values.{begins_tag}
 use Rattle.dd_reply.specs.declared.fault.Fault.{Fault}
-use Rattle.dd_reply.specs.Requests.{SolveFields, Asked, Means, MeansFields, MeansHands, MeansBoard, IsAskedOf, deal_fault, begins_tag, are_cards, pair_of_card, longest_line, object_of, solve_fields}
+use Rattle.dd_reply.specs.Requests.{SolveFields, Asked, Means, MeansFields, MeansHands, MeansBoard, IsAskedOf, deal_fault, are_cards, pair_of_card, longest_line, object_of, solve_fields}
 use Rattle.dd_reply.proofs.Meanings.{none-twice-decided, even-decided}
 
 abbrev Meaning : Type 0

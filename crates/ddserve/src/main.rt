@@ -17,7 +17,7 @@ use clap::Error;
 use clap::error::ErrorKind;
 use command_line::{Args, not_text, read_args};
 use dd_cache::Cache;
-use dd_reply::{Counting, solve_lines};
+use dd_lines::{CountedDevice, solve_lines};
 use one_shard::OneShard;
 use std::alloc::AllocError;
 use std::fmt::Display;
@@ -74,8 +74,8 @@ fn solve(
     let Ok(mut table) = Cache::new(rt.alloc(), table) else {
         return fail(rt, "out of memory");
     };
-    let mut reader = Counting::new(rt.reader());
-    let mut writer = Counting::new(io::writer(rt));
+    let mut reader = CountedDevice::new(rt.reader());
+    let mut writer = CountedDevice::new(io::writer(rt));
     match solve_lines(rt.alloc(), &mut reader, &mut writer, &mut table, budget) {
         Ok(()) => ExitCode::SUCCESS,
         Err(fault) => fail(rt, fault),
