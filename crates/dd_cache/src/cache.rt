@@ -12,7 +12,7 @@ ghost use Rattle.dd_cache.specs.Told.{ToldOf, IsSound};
 use crate::page::Page;
 use crate::told::Told;
 use dd_play::{Interval, TrickStart};
-use dd_rank::{Depths, FirstOwners, OwnerStrings, Shape, covered_positions, alike_strings};
+use dd_rank::{Depths, FirstOwners, OwnerStrings, Shape, alike_strings, covered_positions};
 use dd_search::Bounds;
 use std::alloc::{AllocError, Global};
 

@@ -12,7 +12,8 @@ use Rattle.dd_cards.specs.Masks.{in_mask}
 use Rattle.dd_cards.specs.MaskLaws.{digit}
 use Rattle.dd_cards.specs.Cards.{deck, place_of}
 use Rattle.dd_cards.specs.HandMasks.{in_hand, cards_of, IsHandMask}
-use Rattle.dd_cards.proofs.RankLists.{filter-same, filter-filter, filter-map, and_false, length-cond, digit_count}
+use Rattle.dd_cards.proofs.RankLists.{length-cond, digit_count}
+use Rattle.dd_cards.proofs.General.{and-false, filter-filter, filter-map, filter-same}
 
 -- the k lowest places, from the top
 abbrev places : ℕ → List ℕ
@@ -42,7 +43,7 @@ set-is-rank : (m i : ℕ) → IsHandMask m → (is_rank (i % 16) && in_mask m i)
 set-is-rank m i valid =
     elim (in_mask m i) as (λ b. in_mask m i ≡ b → (is_rank (i % 16) && b) ≡ b) [
       | true ↦ λ e. (let real = valid i (eqb-true _ _ e) in rw (le-leb 2 (i % 16) real.1, le-leb (i % 16) 14 real.2) refl)
-      | false ↦ λ e. sym (and_false (is_rank (i % 16)))
+      | false ↦ λ e. sym (and-false (is_rank (i % 16)))
     ] refl
 
 -- a hand's mask has 64 bits

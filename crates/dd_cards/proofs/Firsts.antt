@@ -12,11 +12,11 @@ use Rattle.dd_cards.specs.Suits.{suit_code, suit_shift}
 use Rattle.dd_cards.specs.PlayingCard.{PlayingCard}
 use Rattle.dd_cards.specs.Cards.{is_of, same_card, deck, has_card, place_of, without}
 use Rattle.dd_cards.specs.HandMasks.{in_hand, cards_of, IsHandMask}
-use Rattle.dd_cards.proofs.RankLists.{filter-filter, and_true, and_false}
 use Rattle.dd_cards.proofs.CardLists.{suit_from, suit_code-suit_from, suit_code-lt, same_card-eq, has_card-deck}
 use Rattle.dd_cards.specs.Ranks.{IsRank}
-use Rattle.dd_cards.proofs.HandLists.{and-left, and-right, passes, filter-deck, cards_of-remove, place_of-lt}
+use Rattle.dd_cards.proofs.HandLists.{passes, filter-deck, cards_of-remove, place_of-lt}
 use Rattle.dd_cards.proofs.Masks.{IsHighest, highest_at}
+use Rattle.dd_cards.proofs.General.{and-false, and-left, and-right, and-true, filter-filter}
 
 -- the places fall along the list
 abbrev pub falls : List PlayingCard → Bool
@@ -121,8 +121,8 @@ pub cards_of-suit : (m : ℕ) (s : Suit) → cards_of (bit_and m (65535 * 2 ^ su
 unfolding cards_of
 cards_of-suit m s =
     filter-deck (in_hand (bit_and m (65535 * 2 ^ suit_shift s % 2 ^ 64))) (λ d. in_hand m d && is_of s d) (λ d real. elim (eqb_tells (suit_code d.suit) (suit_code s)) [
-      | inl same ↦ rw (same.0, inside m s d real same.1) (and_true (in_hand m d))
-      | inr other ↦ rw (other.0, outside m s d real other.1) (and_false (in_hand m d))
+      | inl same ↦ rw (same.0, inside m s d real same.1) (and-true (in_hand m d))
+      | inr other ↦ rw (other.0, outside m s d real other.1) (and-false (in_hand m d))
     ])
     ∙ sym (filter-filter (is_of s) (in_hand m) deck)
 

@@ -20,27 +20,9 @@ use Rattle.dd_cards.specs.Cards.{same_card, deck, has_card, place_of, with_card,
 use Rattle.dd_cards.specs.HandMasks.{in_hand, cards_of, mask_at, AreHandMasks}
 use Rattle.dd_cards.specs.Hands.{hand_of, with_hand, AreDisjoint}
 use Rattle.dd_cards.proofs.Masks.{bit_times}
-use Rattle.dd_cards.proofs.RankLists.{filter-filter, and_true, and_false}
 use Rattle.dd_cards.proofs.CardLists.{suit_code-lt, IsRank-from, compared, same_card-eq, has_card-deck, real_deck}
 use Rattle.dd_cards.specs.Ranks.{IsRank, is_rank}
-
--- both, so the first
-pub and-left : (a b : Bool) → (a && b) ≡ true → a ≡ true
-and-left true b h = refl
-and-left false b h = h
-
--- both, so the second
-pub and-right : (a b : Bool) → (a && b) ≡ true → b ≡ true
-and-right true b h = h
-and-right false b h = absurd (cc)
-
--- two tests that agree on the real cards keep the same part of the deck
-pub filter-where : {X : Type 0} (t p q : X → Bool) → ((x : X) → t x ≡ true → p x ≡ q x) → (xs : List X) → list_all t xs ≡ true → filter p xs ≡ filter q xs
-filter-where t p q e [] all = refl
-filter-where t p q e (x ∷ xs) all =
-    let here : t x ≡ true = and-left (t x) (list_all t xs) all in
-    let rest : list_all t xs ≡ true = and-right (t x) (list_all t xs) all in
-    rw (e x here, filter-where t p q e xs rest) refl
+use Rattle.dd_cards.proofs.General.{and-false, and-left, and-right, and-true, filter-filter, filter-where}
 
 -- two tests that agree on every real card keep the same cards of the deck
 pub filter-deck : (p q : PlayingCard → Bool) → ((c : PlayingCard) → IsRank c.rank → p c ≡ q c) → filter p deck ≡ filter q deck
@@ -51,7 +33,7 @@ pub has_card-cards_of : (m : ℕ) (c : PlayingCard) → IsRank c.rank → has_ca
 unfolding cards_of
 has_card-cards_of m c valid =
     any-filter_same (λ d. same_card d c) (in_hand m) (in_hand m c) (λ d e. ap (in_hand m) (same_card-eq d c e)) deck
-    ∙ ap (λ b. in_hand m c && b) (has_card-deck c valid) ∙ sym (and_true (in_hand m c))
+    ∙ ap (λ b. in_hand m c && b) (has_card-deck c valid) ∙ sym (and-true (in_hand m c))
 
 -- a real card's place is one of 64
 pub place_of-lt : (c : PlayingCard) → IsRank c.rank → place_of c < 64
@@ -86,8 +68,8 @@ pub cards_of-remove : (m : ℕ) (c : PlayingCard) → IsRank c.rank → place_of
 unfolding cards_of
 cards_of-remove m c valid within =
     filter-deck (in_hand (bit_and m (bit_not w64 (1 * 2 ^ place_of c % 2 ^ 64)))) (λ d. in_hand m d && not (same_card d c)) (λ d real. elim (compared d c real valid) [
-      | inl same ↦ rw (same.0, same.1, bit_at_clear_same w64 m (place_of c) within) (and_false (in_hand m c))
-      | inr other ↦ rw (other.0, bit_at_clear_other w64 m (place_of c) within (place_of d) (place_of-lt d real) other.1) (and_true (in_hand m d))
+      | inl same ↦ rw (same.0, same.1, bit_at_clear_same w64 m (place_of c) within) (and-false (in_hand m c))
+      | inr other ↦ rw (other.0, bit_at_clear_other w64 m (place_of c) within (place_of d) (place_of-lt d real) other.1) (and-true (in_hand m d))
     ])
     ∙ sym (filter-filter (λ d. not (same_card d c)) (in_hand m) deck)
 

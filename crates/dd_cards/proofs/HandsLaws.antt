@@ -11,8 +11,9 @@ use Rattle.dd_cards.specs.PlayingCard.{PlayingCard}
 use Rattle.dd_cards.specs.Cards.{same_card, deck, has_card, with_card, without}
 use Rattle.dd_cards.specs.Hands.{hand_of, with_hand, IsSet, AreHands}
 use Rattle.dd_cards.proofs.CardLists.{same_card-eq}
-use Rattle.dd_cards.proofs.HandLists.{and-left, and-right, seat_code-lt, seat_code-injective}
+use Rattle.dd_cards.proofs.HandLists.{seat_code-lt, seat_code-injective}
 use Rattle.dd_cards.proofs.SetLaws.{IsSet-empty, IsSet-without, IsSet-with_card, has_card-filter, has_card-without}
+use Rattle.dd_cards.proofs.General.{and-left, and-right}
 
 -- the hand that is written, and the others
 pub hand_of-with_hand : (hands : List (List PlayingCard)) (seat : Seat) (cards : List PlayingCard) (s : Seat) → length hands ≡ 4

@@ -16,10 +16,9 @@ use Rattle.dd_cards.specs.PlayingCard.{PlayingCard}
 use Rattle.dd_cards.specs.Cards.{is_of, card_of, suit_cards, deck, place_of}
 use Rattle.dd_cards.specs.HandMasks.{in_hand, cards_of}
 use Rattle.std.specs.Int.Bits.{and_zero_r}
-use Rattle.dd_cards.proofs.RankLists.{filter-same, filter-filter, filter-map, and_true, and_false}
 use Rattle.dd_cards.proofs.CardLists.{IsRank-from}
 use Rattle.dd_cards.specs.Ranks.{IsRank, is_rank}
-use Rattle.dd_cards.proofs.HandLists.{filter-where}
+use Rattle.dd_cards.proofs.General.{and-false, and-true, filter-filter, filter-map, filter-same, filter-where}
 
 -- a lane without its unused bits is the mask of a holding
 pub lane-mask : (x : ℕ) → IsMask (bit_and x 32764)
@@ -44,7 +43,7 @@ unfolding suit_cards
 block m s t same =
     let yes : (suit_code t == suit_code s) ≡ true = eq-eqb (suit_code t) (suit_code s) same in
     filter-map (λ c. in_hand m c && is_of s c) (card_of t) all_ranks
-    ∙ ap (map (card_of t)) (filter-same (λ r. in_hand m (card_of t r) && is_of s (card_of t r)) (λ r. in_hand m (card_of t r)) (λ r. rw yes (sym (and_true (in_hand m (card_of t r))))) all_ranks)
+    ∙ ap (map (card_of t)) (filter-same (λ r. in_hand m (card_of t r) && is_of s (card_of t r)) (λ r. in_hand m (card_of t r)) (λ r. rw yes (sym (and-true (in_hand m (card_of t r))))) all_ranks)
 
 -- .. and of another suit
 other-block : (m : ℕ) (s t : Suit) → suit_code t ≢ suit_code s → filter (λ c. in_hand m c && is_of s c) (suit_cards t) ≡ []
@@ -52,7 +51,7 @@ unfolding suit_cards
 other-block m s t other =
     let no : (suit_code t == suit_code s) ≡ false = elim (eqb_tells (suit_code t) (suit_code s)) [ inl same ↦ absurd (other same.1) | inr differ ↦ differ.0 ] in
     filter-map (λ c. in_hand m c && is_of s c) (card_of t) all_ranks
-    ∙ ap (map (card_of t)) (filter-no (λ r. in_hand m (card_of t r) && is_of s (card_of t r)) all_ranks (λ r. rw no (sym (and_false (in_hand m (card_of t r))))))
+    ∙ ap (map (card_of t)) (filter-no (λ r. in_hand m (card_of t r) && is_of s (card_of t r)) all_ranks (λ r. rw no (sym (and-false (in_hand m (card_of t r))))))
 
 -- each of the thirteen is a rank
 real_ranks : list_all is_rank all_ranks ≡ true

@@ -10,3 +10,5 @@ pub mod Counts
 pub mod HandsLaws
 pub mod Codes
 pub mod Unions
+pub mod General
+pub mod CallerLemmas

@@ -13,29 +13,7 @@ use Rattle.std.proofs.lemmas.Map.Views.{any-filter_same}
 use Rattle.dd_cards.specs.Ranks.{lowest_ranks, all_ranks, has_rank, with_rank}
 use Rattle.dd_cards.specs.Masks.{IsMask, in_mask, ranks_of}
 use Rattle.dd_cards.proofs.Masks.{Holds, AddsRank, DropsRank, IsHighest, IsPartAbove, AddsRank-or, DropsRank-and, IsPartAbove-and, below_bit, above_bit, two_le, le_14}
-
--- ---- filters
-pub filter-same : {X : Type 0} (p q : X → Bool) → ((x : X) → p x ≡ q x) → (xs : List X) → filter p xs ≡ filter q xs
-filter-same p q e [] = refl
-filter-same p q e (x ∷ xs) = rw (e x, filter-same p q e xs) refl
-
--- two filters are one
-pub filter-filter : {X : Type 0} (p q : X → Bool) (xs : List X) → filter p (filter q xs) ≡ filter (λ x. q x && p x) xs
-filter-filter p q [] = refl
-filter-filter p q (x ∷ xs) =
-    elim (q x) as (λ b. filter p (cond b (x ∷ filter q xs) (filter q xs)) ≡ cond (b && p x) (x ∷ filter (λ x. q x && p x) xs) (filter (λ x. q x && p x) xs)) [
-      | true ↦ ap (λ ys. cond (p x) (x ∷ ys) ys) (filter-filter p q xs)
-      | false ↦ filter-filter p q xs
-    ]
-
--- a filter of what a function gives
-pub filter-map : {X Y : Type 0} (p : Y → Bool) (f : X → Y) (xs : List X) → filter p (map f xs) ≡ map f (filter (λ x. p (f x)) xs)
-filter-map p f [] = refl
-filter-map p f (x ∷ xs) =
-    elim (p (f x)) as (λ b. cond b (f x ∷ filter p (map f xs)) (filter p (map f xs)) ≡ map f (cond b (x ∷ filter (λ y. p (f y)) xs) (filter (λ y. p (f y)) xs))) [
-      | true ↦ ap (λ ys. f x ∷ ys) (filter-map p f xs)
-      | false ↦ filter-map p f xs
-    ]
+use Rattle.dd_cards.proofs.General.{and-false, and-true, filter-filter, filter-same}
 
 -- the first of what passes
 pub first-filter : {X : Type 0} (p : X → Bool) (xs : List X) → slice_get (filter p xs) 0 ≡ find p xs
@@ -65,23 +43,13 @@ pub ranks_of-zero : ranks_of 0 ≡ []
 unfolding ranks_of all_ranks lowest_ranks
 ranks_of-zero = refl
 
--- a test and true is the test
-pub and_true : (b : Bool) → b ≡ (b && true)
-and_true true = refl
-and_true false = refl
-
--- a test and false is false
-pub and_false : (b : Bool) → false ≡ (b && false)
-and_false true = refl
-and_false false = refl
-
 -- n has the ranks of m that pass the test
 ranks_of-part : (m n : ℕ) (test : ℕ → Bool) → ((q : ℕ) → ((test q ≡ true) × (bit_at n q ≡ bit_at m q)) ⊎ ((test q ≡ false) × (bit_at n q ≡ 0))) → ranks_of n ≡ filter test (ranks_of m)
 unfolding ranks_of
 ranks_of-part m n test each =
     filter-same (in_mask n) (λ q. in_mask m q && test q) (λ q. elim (each q) [
-      | inl keep ↦ rw (keep.0, keep.1) (and_true (in_mask m q))
-      | inr drop ↦ rw (drop.0, drop.1) (and_false (in_mask m q))
+      | inl keep ↦ rw (keep.0, keep.1) (and-true (in_mask m q))
+      | inr drop ↦ rw (drop.0, drop.1) (and-false (in_mask m q))
     ]) all_ranks
     ∙ sym (filter-filter test (in_mask m) all_ranks)
 

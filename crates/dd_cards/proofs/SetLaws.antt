@@ -15,27 +15,11 @@ use Rattle.dd_cards.specs.Ranks.{IsRank, is_rank, has_rank, all_ranks, lowest_ra
 use Rattle.dd_cards.specs.Masks.{in_mask, ranks_of}
 use Rattle.dd_cards.specs.Cards.{is_of, same_card, card_of, suit_cards, deck, has_card, with_card, without}
 use Rattle.dd_cards.specs.Hands.{hand_of, times, IsSet, AreHands}
-use Rattle.dd_cards.proofs.RankLists.{filter-same, filter-filter, filter-map, and_true}
 use Rattle.dd_cards.proofs.CardLists.{same_card-eq, has_card-deck, real_deck, IsRank-from}
-use Rattle.dd_cards.proofs.HandLists.{filter-deck, filter-where, passes}
+use Rattle.dd_cards.proofs.HandLists.{filter-deck, passes}
 use Rattle.dd_cards.proofs.Lanes.{parts, four-parts}
 use Rattle.dd_cards.proofs.Sets.{at-most-one, four-filters, length-deck, times-set}
-
--- ---- tests and filters
-and-swap : (a b : Bool) → (a && b) ≡ (b && a)
-and-swap true true = refl
-and-swap true false = refl
-and-swap false true = refl
-and-swap false false = refl
-
--- two filters may be swapped
-pub filter-swap : {X : Type 0} (p q : X → Bool) (xs : List X) → filter p (filter q xs) ≡ filter q (filter p xs)
-filter-swap p q xs = filter-filter p q xs ∙ filter-same (λ x. q x && p x) (λ x. p x && q x) (λ x. and-swap (q x) (p x)) xs ∙ sym (filter-filter q p xs)
-
--- a test that is always true keeps all
-pub filter-true : {X : Type 0} (xs : List X) → filter (λ _. true) xs ≡ xs
-filter-true [] = refl
-filter-true (x ∷ xs) = ap (λ ys. x ∷ ys) (filter-true xs)
+use Rattle.dd_cards.proofs.General.{and-swap, and-true, filter-filter, filter-map, filter-same, filter-swap, filter-true, filter-where, length-filter-le}
 
 -- a test that is always false keeps nothing
 pub filter-false : {X : Type 0} (xs : List X) → filter (λ _. false) xs ≡ []
@@ -45,10 +29,6 @@ filter-false (x ∷ xs) = filter-false xs
 -- a test that all pass keeps all
 pub filter-all : {X : Type 0} (p : X → Bool) (xs : List X) → list_all p xs ≡ true → filter p xs ≡ xs
 filter-all p xs all = filter-where p p (λ _. true) (λ x h. h) xs all ∙ filter-true xs
-
--- a filter makes a list no longer
-pub length-filter-le : {X : Type 0} (p : X → Bool) (xs : List X) → length (filter p xs) ≤ length xs
-length-filter-le p xs = let e = length-filter_both p (λ x. not (p x)) (λ x. refl) xs in omega arith
 
 -- ---- which cards a list has
 -- a card is the same as itself
@@ -68,7 +48,7 @@ pub has_card-with_card : (cards : List PlayingCard) (c d : PlayingCard) → IsRa
 has_card-with_card cards c d real =
     has_card-filter (λ x. same_card x c || has_card cards x) deck d
     ∙ ap (λ b. (same_card d c || has_card cards d) && b) (has_card-deck d real)
-    ∙ sym (and_true (same_card d c || has_card cards d))
+    ∙ sym (and-true (same_card d c || has_card cards d))
 
 -- ---- sets
 -- the deck is a set

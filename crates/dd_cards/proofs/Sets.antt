@@ -8,9 +8,10 @@ use Rattle.dd_cards.specs.PlayingCard.{PlayingCard}
 use Rattle.dd_cards.specs.Cards.{same_card, has_card, deck, place_of}
 use Rattle.dd_cards.specs.HandMasks.{in_hand, cards_of, mask_at, AreHandMasks}
 use Rattle.dd_cards.specs.Hands.{times, IsSet, AreHands}
-use Rattle.dd_cards.proofs.HandLists.{and-left, and-right, hand_of-map, filter-deck, has_card-cards_of, AreDisjoint-masks}
+use Rattle.dd_cards.proofs.HandLists.{hand_of-map, filter-deck, has_card-cards_of, AreDisjoint-masks}
 use Rattle.dd_cards.proofs.CardLists.{same_card-eq}
 use Rattle.dd_cards.proofs.Firsts.{falls, falls-deck, lower-differs}
+use Rattle.dd_cards.proofs.General.{and-left, and-right}
 use mathlib.Core.Bool.{not}
 
 -- the cards of a mask are a set

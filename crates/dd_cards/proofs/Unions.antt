@@ -13,9 +13,10 @@ use Rattle.dd_cards.specs.HandMasks.{in_hand, cards_of, IsHandMask}
 use Rattle.dd_cards.specs.Masks.{IsMask, in_mask, ranks_of}
 use Rattle.dd_cards.proofs.CardLists.{real_deck, IsRank-from, same_card-eq, has_card-deck}
 use Rattle.dd_cards.proofs.SetLaws.{has_card-filter}
-use Rattle.dd_cards.proofs.HandLists.{filter-deck, and-right, has_card-cards_of, place_of-lt, place_of-mod, bit_of-or, passes}
+use Rattle.dd_cards.proofs.HandLists.{filter-deck, has_card-cards_of, place_of-lt, place_of-mod, bit_of-or, passes}
 use Rattle.dd_cards.proofs.Masks.{le_14}
 use Rattle.dd_cards.proofs.RankLists.{has_rank-ranks_of}
+use Rattle.dd_cards.proofs.General.{and-right, or-right}
 
 -- a bit of either
 or-bit : (a b : ℕ) → a < 2 → b < 2 → (max a b == 1) ≡ ((a == 1) || (b == 1))
@@ -92,13 +93,9 @@ rank-from m k valid low some =
     let h = has-from m k valid (omega (arith, some)) in
     (omega (arith, low), le_14 m (k + trailing_zeros w16 (m / 2 ^ k)) valid (eqb-true _ _ h.0))
 
-or-yes : (a b : Bool) → b ≡ true → (a || b) ≡ true
-or-yes true b h = refl
-or-yes false b h = h
-
 -- what either has, both together have
-pub or-left : (m n : ℕ) (c : PlayingCard) → has_card (cards_of m) c ≡ true → has_card (cards_of (bit_or m n)) c ≡ true
-or-left m n c h = ap (λ l. has_card l c) (cards_of-or m n) ∙ has_card-filter (λ c. has_card (cards_of m) c || has_card (cards_of n) c) deck c ∙ rw (h, has_card-deck c (cards-real m c h)) refl
+pub union-left : (m n : ℕ) (c : PlayingCard) → has_card (cards_of m) c ≡ true → has_card (cards_of (bit_or m n)) c ≡ true
+union-left m n c h = ap (λ l. has_card l c) (cards_of-or m n) ∙ has_card-filter (λ c. has_card (cards_of m) c || has_card (cards_of n) c) deck c ∙ rw (h, has_card-deck c (cards-real m c h)) refl
 
-pub or-right : (m n : ℕ) (c : PlayingCard) → has_card (cards_of n) c ≡ true → has_card (cards_of (bit_or m n)) c ≡ true
-or-right m n c h = ap (λ l. has_card l c) (cards_of-or m n) ∙ has_card-filter (λ c. has_card (cards_of m) c || has_card (cards_of n) c) deck c ∙ rw (or-yes (has_card (cards_of m) c) (has_card (cards_of n) c) h, has_card-deck c (cards-real n c h)) refl
+pub union-right : (m n : ℕ) (c : PlayingCard) → has_card (cards_of n) c ≡ true → has_card (cards_of (bit_or m n)) c ≡ true
+union-right m n c h = ap (λ l. has_card l c) (cards_of-or m n) ∙ has_card-filter (λ c. has_card (cards_of m) c || has_card (cards_of n) c) deck c ∙ rw (or-right (has_card (cards_of m) c) (has_card (cards_of n) c) h, has_card-deck c (cards-real n c h)) refl

@@ -10,13 +10,11 @@ use Rattle.dd_cards.specs.declared.seat.Seat.TheVariants.{North, East, South, We
 use Rattle.dd_cards.specs.PlayingCard.{PlayingCard}
 use Rattle.dd_cards.specs.Cards.{is_of, same_card, has_card}
 use Rattle.dd_cards.specs.Seats.{seat_after, is_north_south}
-use Rattle.dd_cards.proofs.CardLists.{same_card-eq}
-use Rattle.dd_cards.proofs.HandLists.{and-left, and-right}
+use Rattle.dd_cards.proofs.CallerLemmas.{and-left, and-right, not-true, or-false, same_card-eq}
 use Rattle.dd_play.specs.Board.{Board, IsBoard, cards_at, mover, left}
 use Rattle.dd_play.specs.Simulations.{IsLegal}
 use Rattle.dd_play.specs.Value.{score}
-use Rattle.dd_play.proofs.Plays.{own-card, suit-of, of-suit'}
-use Rattle.dd_play.proofs.Rules.{won-true}
+use Rattle.dd_play.proofs.CallerLemmas.{of-suit', own-card, suit-of, won-true}
 use Rattle.dd_equal.specs.EqualCards.{other_cards, is_between, are_equal}
 use Rattle.dd_equal.proofs.Swaps.{IsNotBetween, AreEqual, one-hand, not-on-trick, equal-won}
 
@@ -32,19 +30,9 @@ none-at test (d ∷ cards) e none has = go (same_card d e) (test d) refl refl (n
     go true false f g ih = ap test (sym (same_card-eq d e f)) ∙ g
     go false false f g ih = ih (rw g at none) (rw f at has)
 
--- of two tests that both fail
-or-false : (a b : Bool) → (a || b) ≡ false → (a ≡ false) × (b ≡ false)
-or-false true b h = absurd (cc)
-or-false false b h = (refl, h)
-
 -- none of two lists together is none of each
 none-of : (test : PlayingCard → Bool) (xs ys : List PlayingCard) → list_any test (xs ++ ys) ≡ false → (list_any test xs ≡ false) × (list_any test ys ≡ false)
 none-of test xs ys none = or-false (list_any test xs) (list_any test ys) (sym (list_any-append test xs ys) ∙ none)
-
--- what holds turned does not hold
-not-false : (b : Bool) → not b ≡ true → b ≡ false
-not-false true h = absurd (cc)
-not-false false h = refl
 
 -- ---- a card that is not between, by ranks
 
@@ -98,7 +86,7 @@ tells-equal p c d valid own_c own_d test =
     suits = suit-of c.suit d (and-left (is_of c.suit d) (not (list_any (is_between c d) (other_cards p))) test)
 
     none : list_any (is_between c d) (other_cards p) ≡ false
-    none = not-false _ (and-right (is_of c.suit d) (not (list_any (is_between c d) (other_cards p))) test)
+    none = not-true _ (and-right (is_of c.suit d) (not (list_any (is_between c d) (other_cards p))) test)
 
     one : List PlayingCard
     one = cards_at p (seat_after (mover p) 1)

@@ -5,7 +5,7 @@ use Rattle.dd_cards.specs.declared.suit.Suit.{Suit}
 use Rattle.dd_cards.specs.PlayingCard.{PlayingCard}
 use Rattle.dd_cards.specs.Cards.{is_of, card_of}
 use Rattle.dd_cards.specs.Hands.{IsSet}
-use Rattle.dd_cards.proofs.SetLaws.{IsSet-filter}
+use Rattle.dd_cards.proofs.CallerLemmas.{IsSet-filter}
 use Rattle.dd_play.specs.Board.{Board, IsBoard, cards_at, mover}
 use Rattle.dd_play.specs.Tricks.{or_else}
 use Rattle.dd_play.specs.Play.{legal, following}

@@ -11,20 +11,14 @@ use Rattle.dd_cards.specs.declared.seat.Seat.TheVariants.{North, East, South, We
 use Rattle.dd_cards.specs.PlayingCard.{PlayingCard}
 use Rattle.dd_cards.specs.Cards.{is_of, has_card}
 use Rattle.dd_cards.specs.Seats.{seat_code, seat_after}
-use Rattle.dd_cards.proofs.HandLists.{and-left, and-right}
+use Rattle.dd_cards.proofs.CallerLemmas.{and-left, and-right, else-false}
 use Rattle.dd_play.specs.Board.{Board, IsBoard, cards_at, mover, left}
 use Rattle.dd_play.specs.Play.{legal}
 use Rattle.dd_play.specs.Won.{is_side}
 use Rattle.dd_play.specs.Simulations.{IsLegal}
 use Rattle.dd_play.specs.Covers.{ForMet, Keeps, IsOver, Answers, IsCover}
 use Rattle.dd_play.specs.Reach.{IsUpward, TakesBy, IsWorth}
-use Rattle.dd_play.proofs.Boards.{card-real}
-use Rattle.dd_play.proofs.Counts.{not-has}
-use Rattle.dd_play.proofs.Plays.{own-card, suit-of, of-suit', filter-has}
-use Rattle.dd_play.proofs.Rules.{won_with}
-use Rattle.dd_play.proofs.Steps.{mover-turned, legal-to}
-use Rattle.dd_play.proofs.Fewer.{met-both, unturn, trick-back, Pulled, met-back}
-use Rattle.dd_play.proofs.Worth.{worth-low, by-each}
+use Rattle.dd_play.proofs.CallerLemmas.{Pulled, by-each, card-real, filter-has, legal-to, met-back, met-both, mover-turned, of-suit', own-card, suit-of, trick-back, unturn, won_with, worth-low}
 use Rattle.dd_equal.specs.EqualCards.{other_cards, is_between, are_equal, is_top, tops, IsWhole}
 use Rattle.dd_equal.proofs.Swaps.{IsNotBetween, AreEqual, equal-won}
 use Rattle.dd_equal.proofs.Equal.{tells-equal}
@@ -191,7 +185,7 @@ each-class-by top s p n up valid turn some whole each =
 
 -- a card on one side of both is not between
 not-apart : (c d e : PlayingCard) → IsNotBetween c d e → is_between c d e ≡ false
-not-apart c d e h = not-has _ (λ hit.
+not-apart c d e h = else-false _ (λ hit.
     let suit : e.suit ≡ c.suit = suit-of c.suit e (and-left (is_of c.suit e) ((nat_lt c.rank e.rank && nat_lt e.rank d.rank) || (nat_lt d.rank e.rank && nat_lt e.rank c.rank)) hit) in
     let k = h suit in
     beside c.rank d.rank e.rank k.0 k.1 (and-right (is_of c.suit e) ((nat_lt c.rank e.rank && nat_lt e.rank d.rank) || (nat_lt d.rank e.rank && nat_lt e.rank c.rank)) hit))
@@ -229,7 +223,7 @@ equal-tells p c d a = rw (of-suit' c.suit d a.suit, none) refl
     ]
 
     none : list_any (is_between c d) (other_cards p) ≡ false
-    none = not-has _ (λ hit. let e = some-card (is_between c d) (other_cards p) hit in absurd (let z : false ≡ true = sym (not-apart c d e.0 (each e.0 e.1)) ∙ e.2 in cc))
+    none = else-false _ (λ hit. let e = some-card (is_between c d) (other_cards p) hit in absurd (let z : false ≡ true = sym (not-apart c d e.0 (each e.0 e.1)) ∙ e.2 in cc))
 
 -- the law, in the words of the test
 pub each-class-whole : (top : PlayingCard → Bool) (s : Bool) (p : Board) (n : ℕ) → IsUpward top → IsBoard p → is_side s (mover p) ≡ false → 1 ≤ left p

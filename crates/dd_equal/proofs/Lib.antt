@@ -6,3 +6,4 @@ pub mod Equal
 pub mod Tops
 pub mod Images
 pub mod Wholes
+pub mod CallerLemmas

@@ -5,7 +5,7 @@ use Rattle.std.proofs.lemmas.List.Elements.{filter-append}
 use Rattle.dd_cards.specs.declared.suit.Suit.TheVariants.{Spades, Hearts, Diamonds, Clubs}
 use Rattle.dd_cards.specs.Ranks.{with_rank}
 use Rattle.dd_play.specs.Tricks.{or_else}
-use Rattle.dd_cards.proofs.SetLaws.{set-by-suits}
+use Rattle.dd_cards.proofs.CallerLemmas.{and-left, and-right, both-ways, filter-filter, filter-map, filter-same, has_rank-holding, has_rank-lowest_ranks, or-right, ranks-from_cards, real-set, same_card-eq, set-by-suits, suit-ranks}
 use Rattle.dd_equal.proofs.Walks.{filter-members}
 use Rattle.std.specs.Prelude.{filter, map, slice_get, ◌==◌, ◌&&◌, ◌||◌}
 use Rattle.std.specs.List.{list_any}
@@ -21,29 +21,13 @@ use Rattle.dd_cards.specs.Ranks.{IsRank, all_ranks, has_rank}
 use Rattle.dd_cards.specs.Masks.{mask_of}
 use Rattle.dd_cards.specs.Cards.{is_of, card_of, same_card, has_card}
 use Rattle.dd_cards.specs.Hands.{hand_of, times}
-use Rattle.dd_cards.proofs.RankLists.{filter-same, filter-filter, filter-map, has_rank-lowest_ranks}
-use Rattle.dd_cards.proofs.CardLists.{same_card-eq}
-use Rattle.dd_cards.proofs.SetLaws.{suit-ranks, ranks-from_cards, has_rank-holding, real-set}
 use Rattle.dd_play.specs.Board.{Board, IsBoard, cards_at, mover}
 use Rattle.dd_play.specs.Play.{legal, following}
-use Rattle.dd_play.proofs.Values.{in-following, times-has}
+use Rattle.dd_play.proofs.CallerLemmas.{in-following, times-has}
 use Rattle.dd_equal.specs.EqualCards.{EqualCards, other_cards, is_between, are_equal, is_top, class_of, classes_of}
 use Rattle.dd_equal.specs.SuitClasses.{is_separated, is_top_rank, equal_ranks, class_of_rank, descends, AreApart}
 use Rattle.dd_equal.proofs.EqualCards.{set-legal, ranks-of-suit}
 use Rattle.dd_equal.proofs.Walks.{descends-filter, descends-all, has-filter, any-member}
-
--- ---- lists of cards
-and-first : (a b : Bool) → (a && b) ≡ true → a ≡ true
-and-first true b h = refl
-and-first false b h = h
-
-and-second : (a b : Bool) → (a && b) ≡ true → b ≡ true
-and-second true b h = h
-and-second false b h = absurd (cc)
-
-or-second : (a b : Bool) → b ≡ true → (a || b) ≡ true
-or-second true b h = refl
-or-second false b h = h
 
 -- a card of the list that passes
 pub record Found (f : PlayingCard → Bool) (cards : List PlayingCard) : Type 0 where
@@ -61,7 +45,7 @@ any-found f (c ∷ cards) h = go (f c) refl (λ k. any-found f cards k) h
 
     go : (b : Bool) → f c ≡ b → (list_any f cards ≡ true → Found f cards) → (b || list_any f cards) ≡ true → Found f (c ∷ cards)
     go true e ih h = record { card = c; has = rw self refl; passes = e }
-    go false e ih h = (let rest = ih h in record { card = rest.card; has = or-second (same_card c rest.card) _ rest.has; passes = rest.passes })
+    go false e ih h = (let rest = ih h in record { card = rest.card; has = or-right (same_card c rest.card) _ rest.has; passes = rest.passes })
 
 -- a card that is there and passes is found
 any-card : (f : PlayingCard → Bool) (cards : List PlayingCard) (c : PlayingCard) → has_card cards c ≡ true → f c ≡ true → list_any f cards ≡ true
@@ -70,7 +54,7 @@ any-card f (d ∷ cards) c has h = go (same_card d c) refl (λ k. any-card f car
   where
     go : (b : Bool) → same_card d c ≡ b → (has_card cards c ≡ true → list_any f cards ≡ true) → (b || has_card cards c) ≡ true → list_any f (d ∷ cards) ≡ true
     go true e ih k = rw (ap f (same_card-eq d c e) ∙ h) refl
-    go false e ih k = or-second (f d) _ (ih k)
+    go false e ih k = or-right (f d) _ (ih k)
 
 -- where some rank passes, there is such a rank
 pub record FoundRank (f : ℕ → Bool) (ranks : List ℕ) : Type 0 where
@@ -84,13 +68,7 @@ rank-found f (r ∷ ranks) h = go (f r) refl (λ k. rank-found f ranks k) h
   where
     go : (b : Bool) → f r ≡ b → (list_any f ranks ≡ true → FoundRank f ranks) → (b || list_any f ranks) ≡ true → FoundRank f (r ∷ ranks)
     go true e ih h = record { rank = r; has = rw (eq-eqb r r refl) refl; passes = e }
-    go false e ih h = (let rest = ih h in record { rank = rest.rank; has = or-second (r == rest.rank) _ rest.has; passes = rest.passes })
-
--- two tests that imply each other are one
-both-ways : (a b : Bool) → (a ≡ true → b ≡ true) → (b ≡ true → a ≡ true) → a ≡ b
-both-ways true b f g = sym (f refl)
-both-ways false true f g = g refl
-both-ways false false f g = refl
+    go false e ih h = (let rest = ih h in record { rank = rest.rank; has = or-right (r == rest.rank) _ rest.has; passes = rest.passes })
 
 -- every real rank is among the thirteen
 has-all : (r : ℕ) → IsRank r → has_rank all_ranks r ≡ true
@@ -109,15 +87,15 @@ any-suit s f cards real = both-ways _ _ to from
     to : list_any (λ e. is_of s e && f e.rank) cards ≡ true → list_any f (suit_ranks s cards) ≡ true
     to h =
         let found : Found (λ e. is_of s e && f e.rank) cards = any-found (λ e. is_of s e && f e.rank) cards h in
-        let same : same_card found.card (card_of s found.card.rank) ≡ true = rw (and-first (is_of s found.card) _ found.passes, eq-eqb found.card.rank found.card.rank refl) refl in
+        let same : same_card found.card (card_of s found.card.rank) ≡ true = rw (and-left (is_of s found.card) _ found.passes, eq-eqb found.card.rank found.card.rank refl) refl in
         let is : found.card ≡ card_of s found.card.rank = same_card-eq found.card (card_of s found.card.rank) same in
         let there : has_card cards (card_of s found.card.rank) ≡ true = ap (has_card cards) (sym is) ∙ found.has in
-        any-member f (suit_ranks s cards) found.card.rank (has-filter (λ r. has_card cards (card_of s r)) all_ranks found.card.rank ∙ rw (there, has-all found.card.rank (real found.card found.has)) refl) (and-second (is_of s found.card) _ found.passes)
+        any-member f (suit_ranks s cards) found.card.rank (has-filter (λ r. has_card cards (card_of s r)) all_ranks found.card.rank ∙ rw (there, has-all found.card.rank (real found.card found.has)) refl) (and-right (is_of s found.card) _ found.passes)
 
     from : list_any f (suit_ranks s cards) ≡ true → list_any (λ e. is_of s e && f e.rank) cards ≡ true
     from h =
         let found : FoundRank f (suit_ranks s cards) = rank-found f (suit_ranks s cards) h in
-        let there : has_card cards (card_of s found.rank) ≡ true = and-first _ (has_rank all_ranks found.rank) (sym (has-filter (λ r. has_card cards (card_of s r)) all_ranks found.rank) ∙ found.has) in
+        let there : has_card cards (card_of s found.rank) ≡ true = and-left _ (has_rank all_ranks found.rank) (sym (has-filter (λ r. has_card cards (card_of s r)) all_ranks found.rank) ∙ found.has) in
         any-card (λ e. is_of s e && f e.rank) cards (card_of s found.rank) there (rw (eq-eqb (suit_code s) (suit_code s) refl) found.passes)
 
 -- ---- the other cards
@@ -269,7 +247,7 @@ ranks-apart p s own others valid are =
       others_fall = ap descends are.of_others ∙ descends-filter (λ r. has_card (other_cards p) (card_of s r)) all_ranks descends-all;
       small = λ q h. (let real = real-set (legal p) (card_of s q) (set-legal p valid) (mine q h) in (omega (arith, real.0), omega (arith, real.1)));
       differ = λ q h k. others-differ p (card_of s q) valid (in-following p.trick (cards_at p (mover p)) (card_of s q) (mine q h))
-          (and-first _ (has_rank all_ranks q) (sym (has-filter (λ r. has_card (other_cards p) (card_of s r)) all_ranks q) ∙ ap (λ xs. has_rank xs q) (sym are.of_others) ∙ k));
+          (and-left _ (has_rank all_ranks q) (sym (has-filter (λ r. has_card (other_cards p) (card_of s r)) all_ranks q) ∙ ap (λ xs. has_rank xs q) (sym are.of_others) ∙ k));
     }
   where
     list : own ≡ suit_ranks s (legal p)

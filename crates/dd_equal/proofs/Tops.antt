@@ -6,16 +6,13 @@ use mathlib.Core.Bool.{not}
 use Rattle.std.proofs.lemmas.Bool.{ltb-true}
 use Rattle.dd_cards.specs.PlayingCard.{PlayingCard}
 use Rattle.dd_cards.specs.Cards.{has_card}
-use Rattle.dd_cards.proofs.HandLists.{and-left, and-right}
+use Rattle.dd_cards.proofs.CallerLemmas.{and-left, and-right}
 use Rattle.dd_play.specs.Board.{Board, IsBoard, mover, left}
 use Rattle.dd_play.specs.Play.{legal, after}
 use Rattle.dd_play.specs.Simulations.{IsLegal}
 use Rattle.dd_play.specs.Won.{is_side, point, won}
 use Rattle.dd_play.specs.Claims.{Takes}
-use Rattle.dd_play.proofs.Boards.{card-real, has-first, in-rest}
-use Rattle.dd_play.proofs.Plays.{own-card, filter-has}
-use Rattle.dd_play.proofs.Rules.{won_with}
-use Rattle.dd_play.proofs.ClaimRules.{every-card}
+use Rattle.dd_play.proofs.CallerLemmas.{card-real, every-card, filter-has, has-first, in-rest, own-card, won_with}
 use Rattle.dd_equal.specs.EqualCards.{are_equal, is_top, tops}
 use Rattle.dd_equal.proofs.Equal.{tells-equal}
 use Rattle.dd_equal.proofs.Swaps.{equal-won}

@@ -12,21 +12,8 @@ use Rattle.std.proofs.lemmas.Bool.{cases_lt, eqb-true, lt-ltb, le-ltb}
 use Rattle.std.proofs.lemmas.Bool.Decides.{eqb_tells}
 use Rattle.std.proofs.lemmas.Map.Views.{any-filter_same}
 use Rattle.dd_cards.specs.Ranks.{all_ranks, lowest_ranks, has_rank}
+use Rattle.dd_cards.proofs.CallerLemmas.{and-false, and-left, and-right, filter-filter, filter-same, length-filter-le, or-right}
 use Rattle.dd_equal.specs.SuitClasses.{is_separated, is_top_rank, equal_ranks, class_of_rank, descends, AreApart}
-use Rattle.dd_cards.proofs.RankLists.{filter-same, filter-filter, and_false}
-
--- ---- lists
-and-left : (a b : Bool) → (a && b) ≡ true → a ≡ true
-and-left true b h = refl
-and-left false b h = h
-
-and-right : (a b : Bool) → (a && b) ≡ true → b ≡ true
-and-right true b h = h
-and-right false b h = absurd (cc)
-
-or-right : (a b : Bool) → b ≡ true → (a || b) ≡ true
-or-right true b h = refl
-or-right false b h = h
 
 -- a filter keeps what holds of all
 all-filter : (t p : ℕ → Bool) (xs : List ℕ) → list_all t xs ≡ true → list_all t (filter p xs) ≡ true
@@ -103,7 +90,7 @@ apart-at others low x high has h k = (
 together : (others : List ℕ) (low high : ℕ) → low ≤ high → ((x : ℕ) → has_rank others x ≡ true → low < x → x < high → ⊥) → (is_separated others low high ≡ false) × (is_separated others high low ≡ false)
 together others low high le none = (
   any-none _ others (λ x has. elim (cases_lt low x) [
-    | inl above ↦ elim (cases_lt x high) [ inl below ↦ absurd (none x has above below) | inr over ↦ rw (lt-ltb low x above, le-ltb x high over, le-ltb x low (omega arith)) (sym (and_false (nat_lt high x))) ]
+    | inl above ↦ elim (cases_lt x high) [ inl below ↦ absurd (none x has above below) | inr over ↦ rw (lt-ltb low x above, le-ltb x high over, le-ltb x low (omega arith)) (sym (and-false (nat_lt high x))) ]
     | inr under ↦ rw (le-ltb low x under, le-ltb high x (omega arith)) refl
   ]),
   any-none _ others (λ x has. elim (cases_lt low x) [
@@ -223,7 +210,7 @@ top-first own others rest tail top apart left e =
             ])
         | inr high ↦ high
       ]) bound) refl
-      | inr under ↦ rw (le-ltb top q under) (sym (and_false (not (is_separated others top q))))
+      | inr under ↦ rw (le-ltb top q under) (sym (and-false (not (is_separated others top q))))
     ]))
   where
     bound : top < left.bound
@@ -254,12 +241,6 @@ pub record IsStep (own others rest equals next : List ℕ) (top : ℕ) : Type 0 
   pub left : IsRest own others next
   pub shorter : length next + 1 ≤ length rest
 
-filter-le : (p : ℕ → Bool) (xs : List ℕ) → length (filter p xs) ≤ length xs
-filter-le p [] = omega arith
-filter-le p (x ∷ xs) =
-    let ih = filter-le p xs in
-    elim (p x) as (λ b. length (cond b (x ∷ filter p xs) (filter p xs)) ≤ length (x ∷ xs)) [ true ↦ omega (arith, ih) | false ↦ omega (arith, ih) ]
-
 pub step : (own others rest tail equals next : List ℕ) (top n : ℕ) → AreApart own others → IsRest own others rest → rest ≡ top ∷ tail → IsFloor others top n
     → equals ≡ filter (λ q. nat_lt n q) (filter (λ q. nat_lt q top) rest) → next ≡ filter (λ q. nat_lt q n) (filter (λ q. nat_lt q top) rest) → IsStep own others rest equals next top
 step own others rest tail equals next top n apart left e floor is_equals is_next =
@@ -277,7 +258,7 @@ step own others rest tail equals next top n apart left e floor is_equals is_next
             ∙ filter-same (λ q. nat_lt q left.bound && (nat_lt q top && nat_lt q n)) (λ q. nat_lt q n) under own;
         apart = λ q r has le lt. floor-apart own others top n q r apart floor has le lt;
       };
-      shorter = (let le = filter-le (λ q. nat_lt q n) tail in let a : length next ≡ length (filter (λ q. nat_lt q n) tail) = ap length next-tail in let b : length rest ≡ suc (length tail) = ap length e in omega (arith, le, a, b));
+      shorter = (let le = length-filter-le (λ q. nat_lt q n) tail in let a : length next ≡ length (filter (λ q. nat_lt q n) tail) = ap length next-tail in let b : length rest ≡ suc (length tail) = ap length e in omega (arith, le, a, b));
     }
   where
     tops? : ℕ → Bool

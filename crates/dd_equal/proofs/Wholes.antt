@@ -11,16 +11,12 @@ use Rattle.dd_cards.specs.PlayingCard.{PlayingCard}
 use Rattle.dd_cards.specs.Suits.{suit_code}
 use Rattle.dd_cards.specs.Ranks.{IsRank, has_rank}
 use Rattle.dd_cards.specs.Cards.{is_of, same_card, card_of, has_card, with_card, deck}
-use Rattle.dd_cards.proofs.HandLists.{and-left, and-right}
-use Rattle.dd_cards.proofs.CardLists.{same_card-eq, has_card-deck}
+use Rattle.dd_cards.proofs.CallerLemmas.{and-left, and-right, any-filter, has_card-deck, same_card-eq}
 use Rattle.dd_play.specs.Board.{Board, IsBoard, mover}
 use Rattle.dd_play.specs.Play.{legal}
 use Rattle.dd_play.specs.Simulations.{IsLegal}
 use Rattle.dd_play.specs.Reach.{reach}
-use Rattle.dd_play.proofs.Boards.{card-real}
-use Rattle.dd_play.proofs.Plays.{own-card, suit-of, of-suit', filter-has, filter-passes}
-use Rattle.dd_play.proofs.Values.{any-filter}
-use Rattle.dd_play.proofs.Worth.{reach-some, reach-of}
+use Rattle.dd_play.proofs.CallerLemmas.{card-real, filter-has, filter-passes, of-suit', own-card, reach-of, reach-some, suit-of}
 use Rattle.dd_equal.specs.EqualCards.{are_equal, is_top, IsWhole}
 use Rattle.dd_equal.specs.SuitClasses.{is_separated, AreApart}
 use Rattle.dd_equal.proofs.Suits.{AreRanks, ranks-apart, between-ranks}

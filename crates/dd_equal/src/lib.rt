@@ -2,15 +2,15 @@
 #![tactic(auto)]
 
 mod class;
-mod partition;
 mod laws;
+mod partition;
 mod whole_classes;
 
 pub use class::Class;
-pub use partition::{classes, list_classes};
 pub use laws::{
     equal_cards_score_alike, one_card_of_each_class, one_card_of_each_class_by_high_cards,
 };
+pub use partition::{classes, list_classes};
 pub use whole_classes::whole;
 
 #[cfg(test)]

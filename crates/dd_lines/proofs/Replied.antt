@@ -12,7 +12,7 @@ use Rattle.dd_reply.specs.Requests.{Asked, Means, longest_line}
 use Rattle.dd_reply.specs.Replies.{IsReply, reply_text}
 use Rattle.dd_lines.specs.Lines.{line_feed, lines, AreReplies, AnswersEachLine}
 use Rattle.dd_lines.specs.Served.{ended_lines, begun_line, last_line, BeginsReplies, WroteText, WroteReplies, WroteBeginning}
-use Rattle.dd_reply.proofs.Meanings.{some-meaning}
+use Rattle.dd_reply.proofs.CallerLemmas.{some-meaning}
 use Rattle.dd_lines.proofs.Cuts.{lines-cut}
 
 -- what a line's meaning is answered with is its reply, with any budget

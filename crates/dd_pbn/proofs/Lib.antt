@@ -9,3 +9,4 @@ pub mod Meanings
 pub mod Decided
 pub mod Written
 pub mod Examples
+pub mod CallerLemmas

@@ -11,8 +11,7 @@ use Rattle.dd_cards.specs.PlayingCard.{PlayingCard}
 use Rattle.dd_cards.specs.Ranks.{IsRank}
 use Rattle.dd_cards.specs.Cards.{has_card}
 use Rattle.dd_cards.specs.Hands.{hand_of, times, AreHands}
-use Rattle.dd_cards.proofs.HandsLaws.{AreHands-new}
-use Rattle.dd_cards.proofs.SetLaws.{real-set, same-members}
+use Rattle.dd_cards.proofs.CallerLemmas.{AreHands-new, real-set, same-members}
 use Rattle.dd_pbn.specs.declared.seen.Seen.{Seen}
 use Rattle.dd_pbn.specs.Letters.{rank_of}
 use Rattle.dd_pbn.specs.Values.{HandText, suits, dash, Value}

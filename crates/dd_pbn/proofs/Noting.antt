@@ -11,10 +11,7 @@ use Rattle.dd_cards.specs.PlayingCard.{PlayingCard}
 use Rattle.dd_cards.specs.Ranks.{IsRank}
 use Rattle.dd_cards.specs.Cards.{same_card, has_card, with_card}
 use Rattle.dd_cards.specs.Hands.{hand_of, with_hand, times, AreHands}
-use Rattle.dd_cards.proofs.CardLists.{same_card-eq}
-use Rattle.dd_cards.proofs.SetLaws.{same_card-self, has_card-with_card}
-use Rattle.dd_cards.proofs.Sets.{times-cons}
-use Rattle.dd_cards.proofs.HandsLaws.{hand_of-with_hand, AreHands-with_card}
+use Rattle.dd_cards.proofs.CallerLemmas.{AreHands-with_card, hand_of-with_hand, has_card-with_card, same_card-eq, same_card-self, times-cons}
 use Rattle.dd_pbn.specs.declared.seen.Seen.{Seen}
 use Rattle.dd_pbn.specs.Reading.{is_free, note}
 use Rattle.dd_pbn.proofs.Steps.{lacks}

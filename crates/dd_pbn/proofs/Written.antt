@@ -12,9 +12,7 @@ use Rattle.dd_cards.specs.PlayingCard.{PlayingCard}
 use Rattle.dd_cards.specs.Ranks.{is_rank}
 use Rattle.dd_cards.specs.Cards.{is_of, card_of, deck, has_card}
 use Rattle.dd_cards.specs.Hands.{hand_of, times, IsSet, AreHands}
-use Rattle.dd_cards.proofs.CardLists.{suit_code-injective, real_deck, IsRank-from}
-use Rattle.dd_cards.proofs.SetLaws.{set-by-suits, times-has_card}
-use Rattle.dd_cards.proofs.Sets.{at-most-one}
+use Rattle.dd_cards.proofs.CallerLemmas.{IsRank-from, at-most-one, real_deck, set-by-suits, suit_code-injective, times-has_card}
 use Rattle.dd_pbn.specs.Letters.{letter_of}
 use Rattle.dd_pbn.specs.Values.{HandText, suits, IsSuit, IsHand, hand_bytes, Value}
 use Rattle.dd_pbn.specs.Deals.{cards_of_suit, cards_of_hand, cards_of_value, DealText, suit_text, hand_text, text_of_deal}

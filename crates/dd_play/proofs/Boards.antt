@@ -2,7 +2,7 @@
 use Rattle.std.proofs.Common.{◌≡◌, ◌≢◌, ℕ, zero, suc, ◌+◌, ◌-◌, ◌%◌, ◌<◌, ◌≤◌, Bool, true, false, cond, refl, sym, ap, ◌∙◌, subst, arith, List, [], ◌∷◌, ◌++◌, length, length-append, inl, inr, get_or-set_same, get_or-set_other, length-set, eq-eqb, zero-le, max, min}
 use Rattle.std.specs.Prelude.{nat_lt, filter, map, fold, ◌||◌, ◌&&◌, if◌then◌else◌}
 use mathlib.Core.Bool.{not}
-use Rattle.dd_cards.proofs.CardLists.{same_card-eq}
+use Rattle.dd_cards.proofs.CallerLemmas.{IsSet-without, or-right, real-set, same_card-eq, seat_code-injective, times-cons}
 use Rattle.std.proofs.lemmas.Bool.Decides.{eqb_tells, nat_tests}
 use Rattle.std.proofs.lemmas.Bool.{lt-ltb, le-ltb, eqb-true}
 use Rattle.dd_cards.specs.declared.seat.Seat.{Seat}
@@ -17,11 +17,8 @@ use Rattle.dd_play.specs.Tricks.{winner_of}
 use Rattle.dd_play.specs.Play.{legal, completes, trick_with, hands_after, after}
 use Rattle.dd_cards.specs.Suits.{suit_code}
 use Rattle.dd_play.specs.Value.{better, best, gain, ns_within, ns}
-use Rattle.dd_cards.proofs.Sets.{times-cons}
-use Rattle.dd_play.proofs.Values.{in-following, length-without, times-has, or-right}
-use Rattle.dd_cards.proofs.SetLaws.{IsSet-without, real-set}
+use Rattle.dd_play.proofs.Values.{in-following, length-without, times-has}
 use Rattle.std.proofs.lemmas.List.Folds.{list_any-append}
-use Rattle.dd_cards.proofs.HandLists.{seat_code-injective}
 
 -- the next seat clockwise has the next code
 pub next-code : (s : Seat) → seat_code (next_seat s) ≡ (seat_code s + 1) % 4

@@ -8,7 +8,7 @@ use Rattle.dd_cards.specs.declared.suit.Suit.TheVariants.{Spades, Hearts, Diamon
 use Rattle.dd_cards.specs.Suits.{suit_code}
 use Rattle.dd_cards.specs.PlayingCard.{PlayingCard}
 use Rattle.dd_cards.specs.Cards.{is_of, has_card}
-use Rattle.dd_cards.proofs.SetLaws.{has_card-filter}
+use Rattle.dd_cards.proofs.CallerLemmas.{has_card-filter}
 use Rattle.dd_play.specs.Board.{Board, cards_at, mover}
 use Rattle.dd_play.specs.Tricks.{or_else}
 use Rattle.dd_play.specs.Play.{legal, following}

@@ -4,9 +4,8 @@ use Rattle.std.specs.Prelude.{filter}
 use Rattle.dd_cards.specs.PlayingCard.{PlayingCard}
 use Rattle.dd_cards.specs.Cards.{same_card, has_card, without}
 use Rattle.dd_cards.specs.Hands.{times}
-use Rattle.dd_cards.proofs.CardLists.{same_card-eq}
-use Rattle.dd_cards.proofs.SetLaws.{same_card-self, has_card-without}
-use Rattle.dd_play.proofs.Values.{times-cons, times-has}
+use Rattle.dd_cards.proofs.CallerLemmas.{else-false, has_card-without, same_card-eq, same_card-self, times-cons}
+use Rattle.dd_play.proofs.Values.{times-has}
 use Rattle.dd_play.proofs.Boards.{flag_of, has-first, in-rest}
 
 -- how many cards pass a test
@@ -68,11 +67,6 @@ count-without test (d ∷ cards) c = go (same_card d c) refl (count-without test
         let v : count test (d ∷ without cards c) ≡ flag_of (test d) + count test (without cards c) = count-cons test d (without cards c) in
         rw (n, w) (omega (arith, ih, k, v))
 
--- what is not true is false
-pub not-has : (b : Bool) → (b ≡ true → ⊥) → b ≡ false
-not-has true h = absurd (h refl)
-not-has false h = refl
-
 -- a card that is another than the one taken out stays
 pub in-without : (cards : List PlayingCard) (c d : PlayingCard) → has_card cards d ≡ true → same_card d c ≡ false → has_card (without cards c) d ≡ true
 in-without cards c d has e = has_card-without cards c d ∙ rw (e, has) refl
@@ -103,7 +97,7 @@ inject to from test tested (c ∷ cards) others once each = go (test c) refl (λ
         let back : from (to c) ≡ c = mine.2 in
         let r : count test cards ≤ count tested (without others (to c)) = ih (without others (to c)) (λ d has t.
         let his = each d (in-rest c d cards has) t in
-        let apart : same_card (to d) (to c) ≡ false = not-has _ (λ same.
+        let apart : same_card (to d) (to c) ≡ false = else-false _ (λ same.
         let eq : d ≡ c = sym his.2 ∙ ap from (same_card-eq (to d) (to c) same) ∙ back in
         let two : 1 ≤ times cards c = subst (λ x. 1 ≤ times cards x) eq (times-has cards d has) in
         let k : times (c ∷ cards) c ≡ flag_of (same_card c c) + times cards c = times-cons c cards c in

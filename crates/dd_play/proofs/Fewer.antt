@@ -7,8 +7,7 @@ use Rattle.dd_cards.specs.declared.seat.Seat.{Seat}
 use Rattle.dd_cards.specs.PlayingCard.{PlayingCard}
 use Rattle.dd_cards.specs.Cards.{has_card, same_card}
 use Rattle.dd_cards.specs.Seats.{seat_after}
-use Rattle.dd_cards.proofs.HandLists.{seat_code-injective}
-use Rattle.dd_cards.proofs.CardLists.{same_card-eq}
+use Rattle.dd_cards.proofs.CallerLemmas.{same_card-eq, seat_code-injective}
 use Rattle.dd_play.specs.Board.{Board, IsBoard, cards_at}
 use Rattle.dd_play.specs.Play.{after}
 use Rattle.dd_play.specs.Covers.{ForMet, Keeps, IsOver, Answers, AllAnswer, IsCover}

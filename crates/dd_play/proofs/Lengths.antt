@@ -9,9 +9,7 @@ use Rattle.dd_cards.specs.Suits.{suit_code}
 use Rattle.dd_cards.specs.PlayingCard.{PlayingCard}
 use Rattle.dd_cards.specs.Cards.{is_of, same_card, has_card, deck}
 use Rattle.dd_cards.specs.Hands.{times}
-use Rattle.dd_cards.proofs.CardLists.{has_card-deck}
-use Rattle.dd_cards.proofs.Sets.{length-deck, times-cons}
-use Rattle.dd_cards.proofs.SetLaws.{length-filter-le, real-set}
+use Rattle.dd_cards.proofs.CallerLemmas.{has_card-deck, length-deck, length-filter-le, real-set, times-cons}
 use Rattle.dd_play.specs.Board.{Board, IsBoard, cards_at, cards_left, mover, left}
 use Rattle.dd_play.specs.Tricks.{or_else}
 use Rattle.dd_play.specs.Play.{legal, following}

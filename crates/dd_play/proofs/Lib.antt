@@ -16,3 +16,4 @@ pub mod HandsAfter
 pub mod Fewer
 pub mod Worth
 pub mod Contests
+pub mod CallerLemmas

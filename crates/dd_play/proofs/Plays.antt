@@ -12,14 +12,12 @@ use Rattle.dd_cards.specs.Suits.{suit_code}
 use Rattle.dd_cards.specs.Cards.{is_of, same_card, has_card, without}
 use Rattle.dd_cards.specs.Seats.{seat_code, seat_after}
 use Rattle.dd_cards.specs.Hands.{hand_of, times}
-use Rattle.dd_cards.proofs.HandLists.{seat_code-injective, and-left}
-use Rattle.dd_cards.proofs.SetLaws.{same_card-self, has_card-filter}
+use Rattle.dd_cards.proofs.CallerLemmas.{and-left, any-filter, has_card-filter, same_card-eq, same_card-self, seat_code-injective, suit_code-injective}
 use Rattle.dd_cards.specs.Ranks.{IsRank}
-use Rattle.dd_cards.proofs.CardLists.{same_card-eq, suit_code-injective}
 use Rattle.dd_play.specs.Board.{Board, IsBoard, cards_at, mover, times_in}
 use Rattle.dd_play.specs.Tricks.{or_else, winner_of}
 use Rattle.dd_play.specs.Play.{following, completes, trick_with, hands_after, after}
-use Rattle.dd_play.proofs.Values.{in-following, times-has, hands-after, any-filter}
+use Rattle.dd_play.proofs.Values.{in-following, times-has, hands-after}
 use Rattle.dd_play.proofs.Boards.{push-real, card-real, flag_of, code-lt, after-code, hand-same, hand-other, times-push, after-once, has-first, in-rest}
 use Rattle.dd_play.specs.Simulations.{IsLegal}
 use Rattle.dd_play.specs.Covers.{ForMet}

@@ -5,7 +5,7 @@ use mathlib.Core.Bool.{beq}
 use Rattle.dd_cards.specs.PlayingCard.{PlayingCard}
 use Rattle.dd_cards.specs.Cards.{is_of, has_card, same_card}
 use Rattle.dd_cards.specs.Seats.{is_north_south}
-use Rattle.dd_cards.proofs.CardLists.{same_card-eq}
+use Rattle.dd_cards.proofs.CallerLemmas.{same_card-eq}
 use Rattle.dd_play.specs.Board.{Board, IsBoard, cards_at, mover, left}
 use Rattle.dd_play.specs.Tricks.{or_else, winner_of}
 use Rattle.dd_play.specs.Play.{legal, following, completes, trick_with, after}

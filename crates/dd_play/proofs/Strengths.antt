@@ -11,14 +11,11 @@ use Rattle.dd_cards.specs.PlayingCard.{PlayingCard}
 use Rattle.dd_cards.specs.Ranks.{IsRank}
 use Rattle.dd_cards.specs.Suits.{suit_code}
 use Rattle.dd_cards.specs.Cards.{is_of, same_card, has_card}
-use Rattle.dd_cards.proofs.CardLists.{same_card-eq}
-use Rattle.dd_cards.proofs.HandLists.{and-left, and-right}
-use Rattle.dd_cards.proofs.RankLists.{and_false}
+use Rattle.dd_cards.proofs.CallerLemmas.{and-false, and-left, and-right, has_card-filter, same_card-eq}
 use Rattle.dd_cards.specs.declared.seat.Seat.{Seat}
 use Rattle.dd_cards.specs.Seats.{seat_after}
 use Rattle.dd_play.specs.Tricks.{is_trump, or_else, deciding, is_highest_of, winning_place, winner_of}
 use Rattle.dd_play.specs.Strength.{strength, place_of_greatest, strongest_place}
-use Rattle.dd_cards.proofs.SetLaws.{has_card-filter}
 use Rattle.dd_play.proofs.Boards.{has-first, in-rest}
 
 -- ---- lists
@@ -40,7 +37,7 @@ all-fails g (d ∷ cards) w has fails = go (same_card d w) refl (all-fails g car
   where
     go : (b : Bool) → same_card d w ≡ b → (has_card cards w ≡ true → g w ≡ false → list_all g cards ≡ false) → list_all g (d ∷ cards) ≡ false
     go true e rest = (let k : g d ≡ false = ap g (same_card-eq d w e) ∙ fails in rw k refl)
-    go false e rest = (let k : list_all g cards ≡ false = rest (rw e at has) fails in rw k (sym (and_false (g d))))
+    go false e rest = (let k : list_all g cards ≡ false = rest (rw e at has) fails in rw k (sym (and-false (g d))))
 
 -- the first place, by tests that agree on the cards
 pub position-where : (p q : PlayingCard → Bool) (cards : List PlayingCard) → ((c : PlayingCard) → has_card cards c ≡ true → p c ≡ q c) → position_or_len p cards ≡ position_or_len q cards

@@ -8,9 +8,7 @@ use Rattle.dd_cards.specs.PlayingCard.{PlayingCard}
 use Rattle.dd_cards.specs.Ranks.{IsRank}
 use Rattle.dd_cards.specs.Cards.{same_card, has_card, with_card, deck}
 use Rattle.dd_cards.specs.Hands.{hand_of, with_hand, times, IsSet, AreHands}
-use Rattle.dd_cards.proofs.CardLists.{same_card-eq, has_card-deck}
-use Rattle.dd_cards.proofs.Sets.{times-cons, at-most-one}
-use Rattle.dd_cards.proofs.SetLaws.{has_card-filter, IsSet-with_card, real-set, times-has_card, same_card-self}
+use Rattle.dd_cards.proofs.CallerLemmas.{IsSet-with_card, at-most-one, has_card-deck, has_card-filter, real-set, same_card-eq, same_card-self, times-cons, times-has_card}
 use Rattle.dd_play.specs.Board.{times_in}
 use Rattle.dd_play.proofs.Values.{times-has}
 use Rattle.dd_play.proofs.Boards.{flag_of, hand-same, times-push, times_in-with_hand, push-real}

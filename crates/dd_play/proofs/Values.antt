@@ -13,19 +13,9 @@ use Rattle.dd_cards.specs.Seats.{is_north_south}
 use Rattle.dd_cards.specs.Hands.{hand_of, with_hand, times}
 use Rattle.dd_play.specs.Board.{Board, IsBoard, cards_at, mover, cards_left}
 use Rattle.dd_play.specs.Tricks.{or_else}
-use Rattle.dd_cards.proofs.Sets.{times-set}
-pub use Rattle.dd_cards.proofs.Sets.{times-cons}
+use Rattle.dd_cards.proofs.CallerLemmas.{any-filter, or-right, times-cons, times-set}
 use Rattle.dd_play.specs.Play.{legal, following, completes, hands_after, after}
 use Rattle.dd_play.specs.Value.{best, gain, ns_within, ns, ns_with}
-
--- what passes a test in a part of a list passes it in the list
-pub any-filter : {X : Type 0} (t q : X → Bool) (xs : List X) → list_any t (filter q xs) ≡ true → list_any t xs ≡ true
-any-filter t q [] h = h
-any-filter t q (x ∷ xs) h =
-    elim (q x) as (λ b. list_any t (cond b (x ∷ filter q xs) (filter q xs)) ≡ true → (t x || list_any t xs) ≡ true) [
-      | true ↦ λ k. elim (t x) as (λ a. (a || list_any t (filter q xs)) ≡ true → (a || list_any t xs) ≡ true) [ true ↦ λ _. refl | false ↦ λ k. any-filter t q xs k ] k
-      | false ↦ λ k. elim (t x) as (λ a. (a || list_any t xs) ≡ true) [ true ↦ refl | false ↦ any-filter t q xs k ]
-    ] h
 
 -- a legal card is in the hand
 pub in-following : (trick hand : List PlayingCard) (c : PlayingCard) → has_card (following trick hand) c ≡ true → has_card hand c ≡ true
@@ -80,11 +70,6 @@ cards_left-after p c valid has =
     let own : has_card (cards_at p (mover p)) c ≡ true = in-following p.trick (cards_at p (mover p)) c has in
     ap (λ hands. total hands + 1) (hands-after p c)
     ∙ total-with_hand p.hands (mover p) (without (cards_at p (mover p)) c) valid.four (length-without (cards_at p (mover p)) c (times-set (cards_at p (mover p)) c (valid.sets (mover p))) own)
-
--- a disjunction by its second part
-pub or-right : (a b : Bool) → b ≡ true → (a || b) ≡ true
-or-right true b h = refl
-or-right false b h = h
 
 -- two functions that agree on the cards of a list
 pub map-where : (f g : PlayingCard → ℕ) (cards : List PlayingCard) → ((c : PlayingCard) → has_card cards c ≡ true → f c ≡ g c) → map f cards ≡ map g cards

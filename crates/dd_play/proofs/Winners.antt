@@ -19,7 +19,7 @@ use Rattle.dd_play.proofs.Strengths.{winning-strongest}
 use Rattle.dd_play.specs.Covers.{Answers, AllAnswer, Keeps, IsOver}
 use mathlib.Core.Path.{ap₂}
 use Rattle.dd_cards.specs.Suits.{suit_code}
-use Rattle.dd_cards.proofs.CardLists.{suit_code-injective}
+use Rattle.dd_cards.proofs.CallerLemmas.{suit_code-injective}
 use Rattle.dd_play.proofs.Plays.{suit-of}
 use Rattle.dd_play.proofs.Boards.{has-first, in-rest}
 

@@ -14,19 +14,14 @@ use Rattle.dd_cards.specs.PlayingCard.{PlayingCard}
 use Rattle.dd_cards.specs.Suits.{suit_code}
 use Rattle.dd_cards.specs.Cards.{is_of, same_card, has_card}
 use Rattle.dd_cards.specs.Seats.{seat_code, seat_after}
-use Rattle.dd_cards.proofs.CardLists.{same_card-eq}
-use Rattle.dd_cards.proofs.HandLists.{and-left, and-right}
-use Rattle.dd_cards.proofs.RankLists.{and_true}
+use Rattle.dd_cards.proofs.CallerLemmas.{and-left, and-right, and-true, same_card-eq}
 use Rattle.dd_play.specs.Board.{Board, IsBoard, cards_at, mover, left}
 use Rattle.dd_play.specs.Tricks.{is_trump, deciding, is_highest_of, winning_place, winner_of, or_else}
 use Rattle.dd_play.specs.Play.{completes, trick_with, after, following}
 use Rattle.dd_play.specs.Simulations.{IsLegal}
 use Rattle.dd_play.specs.Covers.{count_of}
 use Rattle.dd_play.specs.Won.{is_side, won, point}
-use Rattle.dd_play.proofs.Boards.{flag_of, after-code, code-lt, legal-leads, has-first, in-rest}
-use Rattle.dd_play.proofs.Counts.{count, count-some}
-use Rattle.dd_play.proofs.Rules.{won_with, can}
-use Rattle.dd_play.proofs.Plays.{Obeys, own-card, hand-others, was-in, trick-after, trick-closed, strain-after, in-push, suit-of, of-suit', filter-has, legal-out}
+use Rattle.dd_play.proofs.CallerLemmas.{Obeys, after-code, can, code-lt, count, count-some, filter-has, flag_of, hand-others, has-first, in-push, in-rest, legal-leads, legal-out, of-suit', own-card, strain-after, suit-of, trick-after, trick-closed, was-in, won_with}
 use Rattle.dd_quick.proofs.Plays.{whoever, count-own}
 use Rattle.dd_quick.proofs.TopTrumps.{is_top, OwnsTops, tops-taken}
 
@@ -337,7 +332,7 @@ module _ (strain : Strain) (floor tops : ℕ) (sure : PlayingCard → Bool) (n :
         let before = now.some u in
         let taken = count-led (λ c. is_of u c && sure c) in
         let flag : flag_of (is_of u m && sure m) ≡ flag_of (is_of u m && true) = ap (λ b. flag_of (is_of u m && b)) good in
-        let flag' : flag_of (is_of u m) ≡ flag_of (is_of u m && true) = ap flag_of (and_true (is_of u m)) in
+        let flag' : flag_of (is_of u m) ≡ flag_of (is_of u m && true) = ap flag_of (and-true (is_of u m)) in
         omega (arith, before, taken, flag, flag'));
     plain = λ u c h e. now.plain u c (omega (arith, h)) e;
     beats = λ c h t x e away he suits. now.beats c (leader-had c h) t x e (λ k. away (k ∙ sym (ap seat_code leader-stays))) (was-in p m now.valid x e he) suits;

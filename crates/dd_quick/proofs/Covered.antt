@@ -14,31 +14,25 @@ use Rattle.dd_cards.specs.declared.strain.Strain.TheVariants.{Trump, Notrump}
 use Rattle.dd_cards.specs.PlayingCard.{PlayingCard}
 use Rattle.dd_cards.specs.Cards.{is_of, has_card}
 use Rattle.dd_cards.specs.Seats.{seat_code, seat_after, is_north_south}
-use Rattle.dd_cards.proofs.HandLists.{and-left, and-right}
 use Rattle.dd_play.specs.Board.{Board, IsBoard, cards_at, left}
 use Rattle.dd_play.specs.Tricks.{is_trump}
 use Rattle.dd_play.specs.Value.{ns, lead}
 use Rattle.dd_play.specs.Won.{is_side, won}
 use Rattle.dd_play.specs.Covers.{IsCover, AllAnswer}
 use Rattle.dd_play.specs.Reach.{TakesBy}
-use Rattle.dd_play.proofs.Boards.{has-first, in-rest, after-code, code-lt}
-use Rattle.dd_play.proofs.Counts.{inject, not-has}
-use Rattle.dd_play.proofs.Plays.{turn-turn, turn-apart, once-in, suit-of, of-suit'}
+use Rattle.dd_play.proofs.CallerLemmas.{after-code, all, both, by-fewer, by-here, by-more, card-real, code-lt, has-first, in-rest, inject, of-suit', once-in, reach-of, reach-upward, reach-within, suit-of, turn-apart, turn-turn}
 use Rattle.std.proofs.Common.{Option, Some, None}
 use Rattle.std.specs.Prelude.{MatchOption, slice_get}
 use Rattle.dd_cards.specs.Ranks.{IsRank, has_rank}
 use Rattle.dd_cards.specs.Cards.{card_of, with_card, same_card}
-use Rattle.dd_cards.proofs.SetLaws.{has_rank-holding, has_card-with_card, same_card-self}
+use Rattle.dd_cards.proofs.CallerLemmas.{and-left, and-right, else-false, has_card-with_card, has_rank-holding, same_card-self}
 use Rattle.dd_play.specs.Reach.{reach}
-use Rattle.dd_play.proofs.Boards.{card-real}
-use Rattle.dd_play.proofs.Worth.{reach-of, reach-within, reach-upward, by-fewer, by-more, by-here}
 use Rattle.dd_quick.proofs.Runs.{AreHeld, above-highest, has-part, run-above, run-all}
 use Rattle.dd_rank.specs.Depths.{Covers, depths_of}
-use Rattle.dd_rank.proofs.Told.{noted}
+use Rattle.dd_rank.proofs.CallerLemmas.{noted}
 use Rattle.dd_quick.specs.QuickTricks.{AreReached, AreTrumpsReached, SureTricks, beats, is_winner, run, length_at, shortest, cashed, leaders_tricks, top_trumps}
 use Rattle.dd_quick.proofs.Hands.{no-higher}
 use Rattle.dd_quick.proofs.Sound.{bounded}
-use Rattle.dd_play.proofs.ClaimRules.{all, both}
 
 -- a card of the list that passes
 some-card : (test : PlayingCard → Bool) (cards : List PlayingCard) → list_any test cards ≡ true → (d : PlayingCard) × (has_card cards d ≡ true) × (test d ≡ true)
@@ -88,7 +82,7 @@ winner-image top k to from s p t q r x c has wins tc = three (free 1 (omega arit
             lower (to c).rank e.rank (ap (λ (d : PlayingCard). nat_le (to c).rank d.rank) (sym b.1) ∙ keep ∙ not-le c.rank (from e).rank below)
 
     free : (i : ℕ) → 1 ≤ i → i < 4 → beats q (seat_after (seat_after x k) i) (to c) ≡ false
-    free i l m = not-has _ (λ h.
+    free i l m = else-false _ (λ h.
         let e = some-card (λ d. is_of (to c).suit d && nat_lt (to c).rank d.rank) (cards_at q (seat_after (seat_after x k) i)) h in
         let suits = suit-of (to c).suit e.0 (and-left (is_of (to c).suit e.0) (nat_lt (to c).rank e.0.rank) e.2) in
         let higher = ltb-true (to c).rank e.0.rank (and-right (is_of (to c).suit e.0) (nat_lt (to c).rank e.0.rank) e.2) in

@@ -10,12 +10,9 @@ use Rattle.dd_cards.specs.PlayingCard.{PlayingCard}
 use Rattle.dd_cards.specs.Cards.{is_of, same_card, card_of, has_card}
 use Rattle.dd_cards.specs.Seats.{seat_code, seat_after}
 use Rattle.dd_cards.specs.Hands.{hand_of, with_hand, times}
-use Rattle.dd_cards.proofs.CardLists.{same_card-eq}
-use Rattle.dd_cards.proofs.HandLists.{seat_code-injective}
+use Rattle.dd_cards.proofs.CallerLemmas.{same_card-eq, seat_code-injective}
 use Rattle.dd_play.specs.Board.{Board, IsBoard, cards_at, times_in}
-use Rattle.dd_play.proofs.Values.{times-has}
-use Rattle.dd_play.proofs.Boards.{after-code, code-lt, hand-other, times_in-with_hand}
-use Rattle.dd_play.proofs.Plays.{times-hand, of-suit'}
+use Rattle.dd_play.proofs.CallerLemmas.{after-code, code-lt, hand-other, of-suit', times-hand, times-has, times_in-with_hand}
 use Rattle.dd_quick.specs.QuickTricks.{beats, is_winner}
 
 -- a card of one hand is in no other hand

@@ -10,11 +10,7 @@ use Rattle.dd_play.specs.Board.{Board, IsBoard, cards_at, mover, left}
 use Rattle.dd_play.specs.Play.{legal, after}
 use Rattle.dd_play.specs.Simulations.{IsLegal}
 use Rattle.dd_play.specs.Won.{is_side, won}
-use Rattle.dd_play.proofs.Values.{times-has}
-use Rattle.dd_play.proofs.Boards.{flag_of, has-first, in-rest}
-use Rattle.dd_play.proofs.Counts.{count, count-cons, count-without}
-use Rattle.dd_play.proofs.Rules.{won_with, can, least, no-legal}
-use Rattle.dd_play.proofs.Plays.{own-card, hand-own, once-in}
+use Rattle.dd_play.proofs.CallerLemmas.{can, count, count-cons, count-without, flag_of, hand-own, has-first, in-rest, least, no-legal, once-in, own-card, times-has, won_with}
 
 -- what each legal card leaves the side, it takes, whoever is to play
 pub whoever : (s : Bool) (p : Board) (b : ℕ) → IsBoard p → 1 ≤ left p → ((c : PlayingCard) → IsLegal p c → b ≤ won_with s p c) → b ≤ won s p

@@ -13,14 +13,9 @@ use Rattle.dd_cards.specs.PlayingCard.{PlayingCard}
 use Rattle.dd_cards.specs.Ranks.{IsRank, lowest_ranks, all_ranks, has_rank}
 use Rattle.dd_cards.specs.Cards.{is_of, card_of, has_card}
 use Rattle.dd_cards.specs.Seats.{seat_code, seat_after}
-use Rattle.dd_cards.proofs.HandLists.{and-left, and-right}
-use Rattle.dd_cards.proofs.RankLists.{filter-filter, filter-map, has_rank-lowest_ranks}
-use Rattle.dd_cards.proofs.SetLaws.{has_rank-holding, length-filter-le, length-suit}
+use Rattle.dd_cards.proofs.CallerLemmas.{and-left, and-right, else-false, filter-filter, filter-map, filter-true, has_rank-holding, has_rank-lowest_ranks, length-filter-le, length-suit, or-right}
 use Rattle.dd_play.specs.Board.{Board, IsBoard, cards_at}
-use Rattle.dd_play.proofs.Values.{or-right}
-use Rattle.dd_play.proofs.Boards.{after-code, code-lt, card-real, has-first, in-rest}
-use Rattle.dd_play.proofs.Counts.{not-has}
-use Rattle.dd_play.proofs.Plays.{suit-of}
+use Rattle.dd_play.proofs.CallerLemmas.{after-code, card-real, code-lt, has-first, in-rest, suit-of}
 use Rattle.dd_quick.specs.QuickTricks.{beats, is_winner, run}
 use Rattle.dd_quick.proofs.Hands.{no-higher, places-on}
 
@@ -74,11 +69,6 @@ filter-in f g (r ∷ ranks) each =
     let here : f r ≡ g r = each r (first-in (r ∷ ranks) r refl) in
     let rest = filter-in f g ranks (λ q h. each q (or-right (r == q) (has_rank ranks q) h)) in
     rw (here, rest) refl
-
--- a test that is always true keeps all
-filter-every : (ranks : List ℕ) → filter (λ q. true) ranks ≡ ranks
-filter-every [] = refl
-filter-every (r ∷ ranks) = ap (λ rest. r ∷ rest) (filter-every ranks)
 
 -- ---- the ranks of the other hands
 
@@ -196,7 +186,7 @@ module _ (p : Board) (h : Seat) (suit : Suit) (own others : List ℕ) (held : Ar
 
       go : (b : Bool) → nat_lt r q ≡ b → is_winner p h (card_of suit q) ≡ nat_lt r q
       go true e = winner-from q (λ x d apart has s. (let k = most x d apart has s in let l : r < q = ltb-true r q e in omega (arith, k, l))) ∙ sym e
-      go false e = not-has (is_winner p h (card_of suit q)) (λ winner.
+      go false e = else-false (is_winner p h (card_of suit q)) (λ winner.
           let low : q ≤ r = under r q e in
           let his = others-from r (first-in others r first) in
           let own_q : has_card (cards_at p h) (card_of suit q) ≡ true = sym (has_rank-holding suit own (cards_at p h) q held.mine) ∙ mine in
@@ -217,7 +207,7 @@ module _ (p : Board) (h : Seat) (suit : Suit) (own others : List ℕ) (held : Ar
   pub run-all : None ≡ slice_get others 0 → length own ≡ run p h suit
   run-all first =
       ap length (sym (filter-in (λ q. is_winner p h (card_of suit q)) (λ q. true) own (λ q mine. winner-from q (λ x d apart has e. absurd (none others first d.rank (others-have x d apart has e))))
-      ∙ filter-every own)) ∙ sym run-ranks
+      ∙ filter-true own)) ∙ sym run-ranks
     where
       none : (ranks : List ℕ) → None ≡ slice_get ranks 0 → (q : ℕ) → has_rank ranks q ≡ true → ⊥
       none [] e q has = (let no : false ≡ true = has in cc)

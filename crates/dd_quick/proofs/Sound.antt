@@ -13,17 +13,13 @@ use Rattle.dd_cards.specs.declared.strain.Strain.TheVariants.{Trump, Notrump}
 use Rattle.dd_cards.specs.PlayingCard.{PlayingCard}
 use Rattle.dd_cards.specs.Cards.{is_of, same_card, card_of, has_card}
 use Rattle.dd_cards.specs.Seats.{seat_after, is_north_south}
-use Rattle.dd_cards.proofs.CardLists.{same_card-eq}
-use Rattle.dd_cards.proofs.HandLists.{and-left, and-right}
+use Rattle.dd_cards.proofs.CallerLemmas.{and-left, and-right, any-filter, same_card-eq}
 use Rattle.dd_play.specs.Board.{Board, IsBoard, cards_at, left}
 use Rattle.dd_play.specs.Tricks.{is_trump}
 use Rattle.dd_play.specs.Value.{ns, lead}
 use Rattle.dd_play.specs.Covers.{count_of}
 use Rattle.dd_play.specs.Won.{is_side, won}
-use Rattle.dd_play.proofs.Values.{any-filter}
-use Rattle.dd_play.proofs.Boards.{has-first, in-rest, card-real, ns-le}
-use Rattle.dd_play.proofs.Counts.{count}
-use Rattle.dd_play.proofs.Plays.{same-or, suit-of, filter-has, filter-passes}
+use Rattle.dd_play.proofs.CallerLemmas.{card-real, count, filter-has, filter-passes, has-first, in-rest, ns-le, same-or, suit-of}
 use Rattle.dd_quick.specs.QuickTricks.{is_winner, run, shortest, cashed, leaders_tricks, top_trumps}
 use Rattle.dd_quick.proofs.Hands.{no-higher}
 use Rattle.dd_quick.proofs.Plays.{count-where}

@@ -15,22 +15,14 @@ use Rattle.dd_cards.specs.PlayingCard.{PlayingCard}
 use Rattle.dd_cards.specs.Ranks.{IsRank}
 use Rattle.dd_cards.specs.Cards.{is_of, has_card}
 use Rattle.dd_cards.specs.Seats.{seat_code, seat_after}
-use Rattle.dd_cards.proofs.HandLists.{and-left, and-right, passes}
-use Rattle.dd_cards.proofs.SetLaws.{length-filter-le}
+use Rattle.dd_cards.proofs.CallerLemmas.{and-left, and-right, else-false, length-filter-le, passes}
 use Rattle.dd_play.specs.Board.{Board, IsBoard, cards_at, cards_left, mover}
 use Rattle.dd_play.specs.Tricks.{is_trump, winning_place, winner_of}
 use Rattle.dd_play.specs.Strength.{strength, strongest_place}
 use Rattle.dd_play.specs.Play.{completes, trick_with, after}
 use Rattle.dd_play.specs.Simulations.{IsLegal}
 use Rattle.dd_play.specs.Won.{is_side, won, point}
-use Rattle.dd_play.proofs.Values.{cards_left-after}
-use Rattle.dd_play.proofs.Lengths.{cards-tricks}
-use Rattle.dd_play.proofs.Boards.{flag_of, after-code, legal-leads}
-use Rattle.dd_play.proofs.Counts.{count, count-some, not-has}
-use Rattle.dd_play.proofs.Strengths.{winning-strongest}
-use Rattle.dd_play.proofs.Winners.{strength_by, place-within, has-at}
-use Rattle.dd_play.proofs.Rules.{won_with}
-use Rattle.dd_play.proofs.Plays.{same-or, own-card, hand-others, was-in, trick-after, trick-closed, strain-after, real-trick}
+use Rattle.dd_play.proofs.CallerLemmas.{after-code, cards-tricks, cards_left-after, count, count-some, flag_of, hand-others, has-at, legal-leads, own-card, place-within, real-trick, same-or, strain-after, strength_by, trick-after, trick-closed, was-in, winning-strongest, won_with}
 use Rattle.dd_quick.proofs.Plays.{whoever, count-own, count-push, count-one, place-push}
 
 -- is it a trump of this rank or a higher one?
@@ -148,7 +140,7 @@ module _ (strain : Strain) (floor : ℕ) (h : Seat) (s : Bool) (p : Board) (c : 
             omega (arith, pushed, taken, now, before))
         | inr e ↦ (
             let now : count (is_top strain floor) (cards_at (after p c) h) ≡ count (is_top strain floor) (cards_at p h) = ap (count (is_top strain floor)) (hand-others p c h e) in
-            let none : flag_of (is_top strain floor c) ≡ 0 = ap flag_of (not-has (is_top strain floor c) (λ t. e (ap seat_code (sym (owns.held (mover p) c (own-card p c has) t))))) in
+            let none : flag_of (is_top strain floor c) ≡ 0 = ap flag_of (else-false (is_top strain floor c) (λ t. e (ap seat_code (sym (owns.held (mover p) c (own-card p c has) t))))) in
             omega (arith, pushed, now, none))
       ]
 

@@ -8,7 +8,7 @@ use Rattle.dd_cards.specs.Cards.{has_card}
 use Rattle.dd_cards.specs.Seats.{seat_after}
 use Rattle.dd_play.specs.Board.{Board, IsBoard, cards_at}
 use Rattle.dd_play.specs.Covers.{count_of}
-use Rattle.dd_play.proofs.Plays.{turn-turn}
+use Rattle.dd_play.proofs.CallerLemmas.{turn-turn}
 use Rattle.dd_rank.specs.Depths.{all_cards, place, Covers}
 use Rattle.dd_rank.specs.Strings.{places_after, owner_places, owners_number, length_at, all_lengths, ShapeOf, shape_of}
 use Rattle.dd_rank.proofs.Digits.{digits-give, digits-tell}

@@ -12,9 +12,7 @@ use Rattle.dd_play.specs.Board.{Board, IsBoard, cards_at, left}
 use Rattle.dd_play.specs.Value.{ns, lead}
 use Rattle.dd_play.specs.Won.{is_side, won}
 use Rattle.dd_play.specs.Covers.{ForMet, Keeps, IsOver, AllAnswer, count_of, IsCover, any_card}
-use Rattle.dd_play.proofs.Counts.{inject}
-use Rattle.dd_play.proofs.Plays.{once-in, suit-of, of-suit'}
-use Rattle.dd_play.proofs.Twins.{twins-won}
+use Rattle.dd_play.proofs.CallerLemmas.{inject, of-suit', once-in, suit-of, twins-won}
 use Rattle.dd_rank.specs.Alike.{IsAlikeBy, AreAlike, IsAlike}
 
 -- the next seat is of the other side

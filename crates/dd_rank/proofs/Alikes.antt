@@ -11,12 +11,11 @@ use Rattle.dd_cards.specs.PlayingCard.{PlayingCard}
 use Rattle.dd_cards.specs.Cards.{is_of}
 use Rattle.dd_cards.specs.Seats.{is_north_south}
 use Rattle.dd_cards.specs.Strains.{strain_code}
-use Rattle.dd_cards.proofs.CardLists.{suit_code-injective, suit_code-lt}
+use Rattle.dd_cards.proofs.CallerLemmas.{suit_code-injective, suit_code-lt}
 use Rattle.dd_play.specs.Board.{Board, IsBoard}
 use Rattle.dd_play.specs.Covers.{IsOver, any_card, count_of}
 use Rattle.dd_play.specs.Reach.{IsStrict}
-use Rattle.dd_play.proofs.Boards.{card-real}
-use Rattle.dd_play.proofs.Fewer.{cover-fewer, strict-fewer}
+use Rattle.dd_play.proofs.CallerLemmas.{card-real, cover-fewer, strict-fewer}
 use Rattle.dd_rank.specs.Alike.{AreAlike}
 use Rattle.dd_rank.specs.Depths.{all_cards, Covers}
 use Rattle.dd_rank.specs.Strings.{owner_places, owners_number, Strings, strings_of, ShapeOf, same_strings, same_shape, both-pass}

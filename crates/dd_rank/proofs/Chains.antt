@@ -4,9 +4,9 @@ use Rattle.dd_cards.specs.declared.seat.Seat.{Seat}
 use Rattle.dd_cards.specs.declared.suit.Suit.{Suit}
 use Rattle.dd_cards.specs.Cards.{has_card}
 use Rattle.dd_cards.specs.Seats.{seat_after}
-use Rattle.dd_cards.proofs.HandLists.{seat_code-injective}
+use Rattle.dd_cards.proofs.CallerLemmas.{seat_code-injective}
 use Rattle.dd_play.specs.Board.{Board, cards_at}
-use Rattle.dd_play.proofs.Boards.{after-code}
+use Rattle.dd_play.proofs.CallerLemmas.{after-code}
 use Rattle.dd_play.specs.Covers.{count_of}
 use Rattle.dd_rank.specs.Depths.{place, IsCoverAt}
 

@@ -11,25 +11,16 @@ use Rattle.dd_cards.specs.declared.suit.Suit.{Suit}
 use Rattle.dd_cards.specs.PlayingCard.{PlayingCard}
 use Rattle.dd_cards.specs.Cards.{is_of, same_card, has_card}
 use Rattle.dd_cards.specs.Seats.{seat_after, is_north_south}
-use Rattle.dd_cards.proofs.HandLists.{and-left, and-right}
+use Rattle.dd_cards.proofs.CallerLemmas.{and-left, and-right, any-filter, else-false, or-split}
 use Rattle.dd_play.specs.Board.{Board, IsBoard, cards_at}
-use Rattle.dd_play.proofs.Boards.{has-first}
-use Rattle.dd_play.proofs.Values.{any-filter}
+use Rattle.dd_play.proofs.CallerLemmas.{filter-has, filter-passes, has-first, of-suit', suit-of, unturn}
 use Rattle.dd_play.specs.Won.{is_side, won}
 use Rattle.dd_play.specs.Covers.{Keeps, IsOver, AllAnswer, IsCover}
 use Rattle.dd_rank.specs.Depths.{all_cards, is_above, place, is_within, IsCoverAt, depths_of}
 use Rattle.dd_play.specs.Reach.{IsUpward, IsStrict, TakesBy}
-use Rattle.dd_play.proofs.Plays.{suit-of, of-suit', filter-has, filter-passes}
 use Rattle.dd_rank.proofs.AlikeLead.{met-start, turned-sides}
-use Rattle.dd_play.proofs.Fewer.{unturn}
-use Rattle.dd_play.proofs.Counts.{not-has}
 use Rattle.std.proofs.Common.{◌*◌}
 use Rattle.dd_rank.proofs.Places.{count-le, count-lt, above-is, above-suit, above-rank, place-le, order-place, place-one, in-all}
-
--- one of two tests passes
-or-split : (a b : Bool) → (a || b) ≡ true → (a ≡ true) ⊎ (b ≡ true)
-or-split true b h = inl refl
-or-split false b h = inr h
 
 -- one of all cards is in a hand
 pub all-in : (p : Board) (c : PlayingCard) → has_card (all_cards p) c ≡ true → (x : Seat) × (has_card (cards_at p x) c ≡ true)
@@ -229,7 +220,7 @@ lifted-top top p lifted = (λ c has. go c has (top c) refl, lifted.1)
     go c has true e =
         let k : place p c + 1 ≤ depths_of top p c.suit = count-lt (is_above c) (λ y. is_of c.suit y && top y) (all_cards p)
         (λ y t. both _ _ (of-suit' c.suit y (above-suit c y t)) (yes-or (top y) (λ low. let r = above-rank c y t in let z = lifted.0 c y e low (sym (above-suit c y t)) in omega (arith, r, z))))
-        c has (both _ _ (of-suit' c.suit c refl) e) (not-has _ (λ t. let r = above-rank c c t in omega (arith, r))) in
+        c has (both _ _ (of-suit' c.suit c refl) e) (else-false _ (λ t. let r = above-rank c c t in omega (arith, r))) in
         e ∙ sym (lt-ltb _ _ (omega (arith, k)))
     go c has false e =
         let k : depths_of top p c.suit ≤ place p c = count-le (λ y. is_of c.suit y && top y) (is_above c) (all_cards p)

@@ -56,18 +56,6 @@ begin-give b o m n t d e is mask masks k =
     let same : nat_eq (bit_and o m) t ≡ true = eq-eqb (bit_and o m) t (ap (bit_and o) mask ∙ first-bits o d ∙ k.1) in
     is ∙ rw (more, same) refl
 
--- four tests hold together where each does
-pub all-four : (a b c d : Bool) → (((a && b) && c) && d) ≡ true → (a ≡ true) × (b ≡ true) × (c ≡ true) × (d ≡ true)
-all-four true true true true h = (refl, refl, refl, refl)
-all-four true true true false h = absurd (cc)
-all-four true true false d h = absurd (cc)
-all-four true false c d h = absurd (cc)
-all-four false b c d h = absurd (cc)
-
--- and each, so all
-pub four-all : (a b c d : Bool) → a ≡ true → b ≡ true → c ≡ true → d ≡ true → (((a && b) && c) && d) ≡ true
-four-all a b c d p q r s = rw (p, q, r, s) refl
-
 -- what holds of each suit
 pub by-suit : (P : Suit → Type 0) → P Spades → P Hearts → P Diamonds → P Clubs → (u : Suit) → P u
 by-suit P s h d c Spades = s

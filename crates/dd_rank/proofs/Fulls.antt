@@ -7,13 +7,11 @@ use Rattle.dd_cards.specs.declared.suit.Suit.{Suit}
 use Rattle.dd_cards.specs.PlayingCard.{PlayingCard}
 use Rattle.dd_cards.specs.Cards.{is_of, has_card}
 use Rattle.dd_cards.specs.Seats.{seat_code, is_north_south}
+use Rattle.dd_cards.proofs.CallerLemmas.{else-false}
 use Rattle.dd_play.specs.Board.{Board, IsBoard, cards_at}
 use Rattle.dd_play.specs.Value.{lead}
 use Rattle.dd_play.specs.Covers.{count_of}
-use Rattle.dd_play.proofs.Boards.{card-real}
-use Rattle.dd_play.proofs.Counts.{not-has}
-use Rattle.dd_play.proofs.Plays.{same-or, of-suit'}
-use Rattle.dd_play.proofs.Steps.{reply'}
+use Rattle.dd_play.proofs.CallerLemmas.{card-real, of-suit', reply', same-or}
 use Rattle.dd_rank.specs.Alike.{AreAlike}
 use Rattle.dd_rank.specs.Depths.{all_cards, is_above, place, Covers}
 use Rattle.dd_rank.proofs.AlikeLead.{alike-lead}
@@ -46,7 +44,7 @@ full-top p depths valid full = (
   λ c has. (
       let x = all-in p c has in
       let real = (card-real p x.0 c valid x.1).0 in
-      let k = count-lt (is_above c) (is_of c.suit) (all_cards p) (λ e t. of-suit' c.suit e (above-suit c e t)) c has (of-suit' c.suit c refl) (not-has _ (λ t. let r = above-rank c c t in omega (arith, r))) in
+      let k = count-lt (is_above c) (is_of c.suit) (all_cards p) (λ e t. of-suit' c.suit e (above-suit c e t)) c has (of-suit' c.suit c refl) (else-false _ (λ t. let r = above-rank c c t in omega (arith, r))) in
       let f = full c.suit in
       lt-ltb 0 c.rank (omega (arith, real)) ∙ sym (lt-ltb (place p c) (depths c.suit) (omega (arith, k, f)))),
   λ u. refl,

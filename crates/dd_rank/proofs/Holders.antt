@@ -10,7 +10,7 @@ use Rattle.dd_cards.specs.PlayingCard.{PlayingCard}
 use Rattle.dd_cards.specs.Cards.{has_card, card_of}
 use Rattle.dd_cards.specs.Hands.{hand_of, times, AreDisjoint}
 use Rattle.dd_play.specs.Board.{Board, IsBoard}
-use Rattle.dd_play.proofs.Values.{times-has}
+use Rattle.dd_play.proofs.CallerLemmas.{times-has}
 use Rattle.dd_rank.specs.Owners.{holder}
 
 -- ---- the holder of a card

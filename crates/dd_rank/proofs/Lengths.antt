@@ -6,7 +6,7 @@ use Rattle.dd_cards.specs.declared.suit.Suit.{Suit}
 use Rattle.dd_cards.specs.declared.suit.Suit.TheVariants.{Spades, Hearts, Diamonds, Clubs}
 use Rattle.dd_cards.specs.Cards.{is_of}
 use Rattle.dd_cards.specs.Seats.{seat_after}
-use Rattle.dd_cards.proofs.SetLaws.{length-suit}
+use Rattle.dd_cards.proofs.CallerLemmas.{length-suit}
 use Rattle.dd_play.specs.Board.{Board, IsBoard, cards_at}
 use Rattle.dd_play.specs.Covers.{count_of}
 use Rattle.dd_rank.specs.Depths.{all_cards}

@@ -21,3 +21,4 @@ pub mod Seated
 pub mod Packed
 pub mod Alikes
 pub mod FirstBits
+pub mod CallerLemmas

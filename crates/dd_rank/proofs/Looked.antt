@@ -11,15 +11,13 @@ use Rattle.dd_cards.specs.PlayingCard.{PlayingCard}
 use Rattle.dd_cards.specs.Cards.{is_of, same_card, has_card}
 use Rattle.dd_cards.specs.Seats.{seat_code, seat_after, is_north_south}
 use Rattle.dd_cards.specs.Hands.{times}
-use Rattle.dd_cards.proofs.HandLists.{and-left, and-right}
+use Rattle.dd_cards.proofs.CallerLemmas.{and-left, and-right, else-true}
 use Rattle.dd_play.specs.Board.{Board, IsBoard, cards_at}
 use Rattle.dd_play.specs.Won.{is_side, won}
 use Rattle.dd_play.specs.Covers.{Keeps, IsOver, AllAnswer, IsCover}
 use Rattle.dd_play.specs.Reach.{IsStrict, TakesBy}
 use Rattle.dd_rank.specs.Depths.{all_cards, is_above, place, IsCoverAt, depths_of}
-use Rattle.dd_play.proofs.Counts.{count, count-cons, inject}
-use Rattle.dd_play.proofs.Plays.{suit-of, same-or}
-use Rattle.dd_play.proofs.Fewer.{unturn}
+use Rattle.dd_play.proofs.CallerLemmas.{count, count-cons, inject, same-or, suit-of, unturn}
 use Rattle.dd_rank.proofs.Places.{count-le, above-is, above-suit, above-rank, in-all}
 use Rattle.dd_rank.proofs.Covered.{all-in, IsTopOf, IsLifted, lifted-top}
 
@@ -54,15 +52,6 @@ lower a b h = grind (arith, nat_tests)
 not-le : (a b : ℕ) → b < a → nat_le a b ≡ false
 not-le a b h = grind (arith, nat_tests)
 
--- two tests pass
-both : (a b : Bool) → a ≡ true → b ≡ true → (a && b) ≡ true
-both a b h k = rw (h, k) refl
-
--- a test that does not fail passes
-yes-or : (b : Bool) → (b ≡ false → ⊥) → b ≡ true
-yes-or true h = refl
-yes-or false h = absurd (h refl)
-
 -- what answers an empty trick is empty
 no-trick : (to from : PlayingCard → PlayingCard) (top : PlayingCard → Bool) (cs ds : List PlayingCard) → cs ≡ [] → AllAnswer to from top cs ds → ds ≡ []
 no-trick to from top cs ds e a = go ds (subst (λ xs. AllAnswer to from top xs ds) e a)
@@ -87,7 +76,7 @@ cover-covers top k to from s p t q lifted start r strict =
           let f = r.forth x c h tc in
           (to c, f.0, r.to_suit c, same-place x c h tc));
       back = λ x d h low. (
-          let td : top (from d) ≡ true = yes-or (top (from d)) (λ no_top. (let far = beyond x d h no_top in omega (arith, far, low))) in
+          let td : top (from d) ≡ true = else-true (top (from d)) (λ no_top. (let far = beyond x d h no_top in omega (arith, far, low))) in
           let f = r.back x d h td in
           (from d, f.0, r.from_suit d, sym (same-place x (from d) f.0 td) ∙ ap (place q) f.1));
     }
@@ -115,7 +104,7 @@ cover-covers top k to from s p t q lifted start r strict =
         let y = all-in p e he in
         let suits : e.suit ≡ c.suit = above-suit c e te in
         let higher : c.rank < e.rank = above-rank c e te in
-        let top_e : top e ≡ true = yes-or (top e) (λ low. (let z = lifted.0 c e tc low (sym suits) in omega (arith, z, higher))) in
+        let top_e : top e ≡ true = else-true (top e) (λ low. (let z = lifted.0 c e tc low (sym suits) in omega (arith, z, higher))) in
         let g = r.forth y.0 e y.1 top_e in
         let order : nat_le (to e).rank (to c).rank ≡ false = keeps y.0 x e c y.1 hc top_e tc suits ∙ not-le e.rank c.rank higher in
         (in-all q (seat_after y.0 k) (to e) g.0, above-is (to c) (to e) (r.to_suit e ∙ suits ∙ sym (r.to_suit c)) (lower (to e).rank (to c).rank order), g.1)) in
@@ -124,7 +113,7 @@ cover-covers top k to from s p t q lifted start r strict =
         let y' : Seat = seat_after y.0 (3 * k) in
         let suits : e.suit ≡ (to c).suit = above-suit (to c) e te in
         let higher : (to c).rank < e.rank = above-rank (to c) e te in
-        let top_e : top (from e) ≡ true = yes-or (top (from e)) (λ low. (
+        let top_e : top (from e) ≡ true = else-true (top (from e)) (λ low. (
         let z = over (seat_after x k) y.0 (to c) e f.0 y.1 (ap top f.1 ∙ tc) low (sym suits) in omega (arith, z, higher))) in
         let g = r.back y' e (ap (λ z. has_card (cards_at q z) e) (unturn y.0 k) ∙ y.1) top_e in
         let suited : (from e).suit ≡ c.suit = r.from_suit e ∙ suits ∙ r.to_suit c in

@@ -12,17 +12,11 @@ use Rattle.dd_cards.specs.Suits.{suit_code}
 use Rattle.dd_cards.specs.Ranks.{IsRank, has_rank}
 use Rattle.dd_cards.specs.Cards.{is_of, card_of, same_card, has_card, with_card, deck}
 use Rattle.dd_cards.specs.Hands.{times, IsSet}
-use Rattle.dd_cards.proofs.CardLists.{has_card-deck}
-use Rattle.dd_cards.proofs.RankLists.{filter-same, filter-filter, filter-map}
-use Rattle.dd_cards.proofs.SetLaws.{has_card-filter, has_card-with_card, IsSet-deck, IsSet-filter, real-set, has_rank-holding}
-use Rattle.dd_cards.proofs.HandLists.{and-left, and-right}
+use Rattle.dd_cards.proofs.CallerLemmas.{IsSet-deck, IsSet-filter, and-left, and-right, both-ways, else-false, filter-filter, filter-map, filter-same, has_card-deck, has_card-filter, has_card-with_card, has_rank-holding, real-set}
 use Rattle.dd_play.specs.Board.{Board, IsBoard, cards_at}
 use Rattle.dd_play.specs.Covers.{count_of}
 use Rattle.dd_play.specs.Reach.{reach}
-use Rattle.dd_play.proofs.Boards.{card-real}
-use Rattle.dd_play.proofs.Counts.{count, inject, not-has}
-use Rattle.dd_play.proofs.Plays.{suit-of, filter-has}
-use Rattle.dd_play.proofs.Worth.{reach-some, reach-of, reach-within}
+use Rattle.dd_play.proofs.CallerLemmas.{card-real, count, filter-has, inject, reach-of, reach-some, reach-within, suit-of}
 use Rattle.dd_rank.specs.Depths.{all_cards, left_from}
 use Rattle.dd_rank.proofs.Places.{in-all}
 use Rattle.dd_rank.proofs.Covered.{all-in}
@@ -58,12 +52,6 @@ union-right u x y c e real h = ap (λ l. has_card l c) e ∙ filter-has (λ c. h
     or-yes : (a b : Bool) → b ≡ true → (a || b) ≡ true
     or-yes true b h = refl
     or-yes false b h = h
-
--- a test that passes just where another does
-pub both-ways : (a b : Bool) → (a ≡ true → b ≡ true) → (b ≡ true → a ≡ true) → a ≡ b
-both-ways true b f g = sym (f refl)
-both-ways false true f g = g refl
-both-ways false false f g = refl
 
 -- the union of four hands has the cards of all
 pub union-all : (p : Board) (n e s w a b u : List PlayingCard) → IsBoard p → n ≡ cards_at p North → e ≡ cards_at p East → s ≡ cards_at p South → w ≡ cards_at p West
@@ -123,7 +111,7 @@ pub depth-none : (s : Suit) (held : List ℕ) (cards all : List PlayingCard) →
 depth-none s held cards all are real none = sym (none-pass all)
   where
     fails : (e : PlayingCard) → (is_of s e && reach cards e) ≡ false
-    fails e = not-has _ (λ h.
+    fails e = else-false _ (λ h.
         let suit : e.suit ≡ s = suit-of s e (and-left (is_of s e) (reach cards e) h) in
         let d = reach-some cards e (and-right (is_of s e) (reach cards e) h) in
         let low = (real d.0 d.1).0 in

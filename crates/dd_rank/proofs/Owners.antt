@@ -8,7 +8,7 @@ use Rattle.dd_cards.specs.PlayingCard.{PlayingCard}
 use Rattle.dd_cards.specs.Ranks.{IsRank, lowest_ranks, all_ranks}
 use Rattle.dd_cards.specs.Cards.{has_card, card_of, suit_cards}
 use Rattle.dd_play.specs.Board.{Board, IsBoard, cards_at}
-use Rattle.dd_play.proofs.Boards.{card-real}
+use Rattle.dd_play.proofs.CallerLemmas.{card-real}
 use Rattle.dd_rank.specs.Owners.{holder, owners}
 use Rattle.dd_rank.proofs.Falling.{Has, Falls, has-part, part-has, part-falls}
 use Rattle.dd_rank.proofs.Holders.{holder-has, only-holder, board-disjoint, kept-map, by-ranks}

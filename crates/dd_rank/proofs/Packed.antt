@@ -5,6 +5,7 @@ use mathlib.Core.Path.{ap₂}
 use Rattle.std.proofs.lemmas.Nat.{and_mask}
 use Rattle.dd_cards.specs.declared.suit.Suit.{Suit}
 use Rattle.dd_cards.specs.declared.suit.Suit.TheVariants.{Spades, Hearts, Diamonds, Clubs}
+use Rattle.dd_cards.proofs.CallerLemmas.{all-four, four-all}
 use Rattle.dd_play.specs.Board.{Board, IsBoard}
 use Rattle.dd_play.specs.Covers.{count_of}
 use Rattle.dd_rank.specs.Cover.{CoverOf, IsSameCover}
@@ -47,18 +48,6 @@ masked : (p : Board) (depths : FourDepths) (u : Suit) (top : TopOwners) (n : ℕ
 masked p depths u top n t =
     ap (bit_and n) (t.mask ∙ ap (λ x. x - 1) (sym (two-bits (depth_in depths u)))) ∙ and_mask n (2 * depth_in depths u) ∙ ap (λ x. n % x) (two-bits (depth_in depths u))
 
--- four tests pass together
-pub all-four : (a b c d : Bool) → (((a && b) && c) && d) ≡ true → (a ≡ true) × (b ≡ true) × (c ≡ true) × (d ≡ true)
-all-four true true true true h = (refl, refl, refl, refl)
-all-four true true true false h = absurd (cc)
-all-four true true false d h = absurd (cc)
-all-four true false c d h = absurd (cc)
-all-four false b c d h = absurd (cc)
-
--- .. and so do all together
-pub four-pass : (a b c d : Bool) → a ≡ true → b ≡ true → c ≡ true → d ≡ true → (((a && b) && c) && d) ≡ true
-four-pass a b c d ea eb ec ed = rw (ea, eb, ec, ed) refl
-
 -- a test that is true
 pub is-true : (b : Bool) → IsTrue b → b ≡ true
 is-true true h = refl
@@ -91,7 +80,7 @@ covers-tested c v q s h d cl packed is shape valid start ts th td tc = (
       agree-covers (depth_in c.depths) c.start q packed.board valid packed.no_trick start (record { shape = shape; most = packed.within; owners = each all.0 all.1 all.2 all.3 })),
   λ a. (
       let agreed = covers-agree (depth_in c.depths) c.start q packed.board valid a in
-      true-is _ (four-pass s h d cl ((test Spades s ts).1 (agreed.owners Spades)) ((test Hearts h th).1 (agreed.owners Hearts)) ((test Diamonds d td).1 (agreed.owners Diamonds)) ((test Clubs cl tc).1 (agreed.owners Clubs)))),
+      true-is _ (four-all s h d cl ((test Spades s ts).1 (agreed.owners Spades)) ((test Hearts h th).1 (agreed.owners Hearts)) ((test Diamonds d td).1 (agreed.owners Diamonds)) ((test Clubs cl tc).1 (agreed.owners Clubs)))),
 )
   where
     test : (u : Suit) (b : Bool) → Tests b (bit_and (string_in v u) (top_in c u).mask) (top_in c u).owners → b ≡ true ↔ owners_number q u % 4 ^ depth_in c.depths u ≡ owners_number c.start u % 4 ^ depth_in c.depths u
@@ -153,7 +142,7 @@ same-tested c o s h d cl pc po shape ts th td tc = (
   λ a. (
       let agreed = covers-agree (depth_in c.depths) c.start o.start pc.board po.board a.1 in
       let depth = λ (u : Suit). ap (λ (e : FourDepths). depth_in e u) a.0 in
-      true-is _ (four-pass s h d cl (suit-same c o Spades s pc po ts (depth Spades) (agreed.owners Spades)) (suit-same c o Hearts h pc po th (depth Hearts) (agreed.owners Hearts))
+      true-is _ (four-all s h d cl (suit-same c o Spades s pc po ts (depth Spades) (agreed.owners Spades)) (suit-same c o Hearts h pc po th (depth Hearts) (agreed.owners Hearts))
       (suit-same c o Diamonds d pc po td (depth Diamonds) (agreed.owners Diamonds)) (suit-same c o Clubs cl pc po tc (depth Clubs) (agreed.owners Clubs)))),
 )
   where

@@ -11,13 +11,10 @@ use Rattle.dd_cards.specs.declared.seat.Seat.TheVariants.{North, East, South, We
 use Rattle.dd_cards.specs.PlayingCard.{PlayingCard}
 use Rattle.dd_cards.specs.Suits.{suit_code}
 use Rattle.dd_cards.specs.Cards.{is_of, same_card, has_card}
-use Rattle.dd_cards.proofs.HandLists.{and-left, and-right}
-use Rattle.dd_cards.proofs.CardLists.{same_card-eq}
+use Rattle.dd_cards.proofs.CallerLemmas.{and-left, and-right, else-false, or-left, or-right, same_card-eq}
 use Rattle.dd_play.specs.Board.{Board, cards_at}
-use Rattle.dd_play.proofs.Boards.{flag_of, has-first, in-rest}
+use Rattle.dd_play.proofs.CallerLemmas.{count, count-cons, flag_of, has-first, in-rest, of-suit', suit-of}
 use Rattle.dd_rank.specs.Depths.{all_cards, is_above, place}
-use Rattle.dd_play.proofs.Counts.{count, count-cons, not-has}
-use Rattle.dd_play.proofs.Plays.{suit-of, of-suit'}
 
 -- ---- counts of a smaller and a larger part
 pub count-le : (test wider : PlayingCard → Bool) (cards : List PlayingCard) → ((e : PlayingCard) → has_card cards e ≡ true → test e ≡ true → wider e ≡ true) → count test cards ≤ count wider cards
@@ -78,7 +75,7 @@ pub place-lt : (p : Board) (c d : PlayingCard) → has_card (all_cards p) d ≡ 
 place-lt p c d has suits h =
     count-lt (is_above d) (is_above c) (all_cards p)
     (λ e t. above-is c e (above-suit d e t ∙ suits) (let k = above-rank d e t in omega (arith, k, h)))
-    d has (above-is c d suits h) (not-has _ (λ t. let k = above-rank d d t in omega (arith, k)))
+    d has (above-is c d suits h) (else-false _ (λ t. let k = above-rank d d t in omega (arith, k)))
 
 -- a card that is no lower has a place that is no greater
 pub place-le : (p : Board) (c d : PlayingCard) → d.suit ≡ c.suit → c.rank ≤ d.rank → place p d ≤ place p c
@@ -113,15 +110,6 @@ place-one p c d hc hd suits e =
         let b : c.rank ≤ d.rank = below d.rank c.rank (λ h. let k = place-lt p d c hc (sym suits) h in omega (arith, k, e)) in
         omega (arith, a, b)
 
--- the first of two tests passes
-or-left : (a b : Bool) → a ≡ true → (a || b) ≡ true
-or-left a b h = rw h refl
-
--- .. or the second
-or-more : (a b : Bool) → b ≡ true → (a || b) ≡ true
-or-more true b h = refl
-or-more false b h = h
-
 -- a card of a hand is one of all
 pub in-all : (p : Board) (x : Seat) (c : PlayingCard) → has_card (cards_at p x) c ≡ true → has_card (all_cards p) c ≡ true
 in-all p x c = go x
@@ -145,7 +133,7 @@ in-all p x c = go x
     left xs ys h = list_any-append test xs ys ∙ or-left _ _ h
 
     right : (xs ys : List PlayingCard) → list_any test ys ≡ true → list_any test (xs ++ ys) ≡ true
-    right xs ys h = list_any-append test xs ys ∙ or-more _ _ h
+    right xs ys h = list_any-append test xs ys ∙ or-right _ _ h
 
     go : (x : Seat) → has_card (cards_at p x) c ≡ true → has_card (all_cards p) c ≡ true
     go North h = left ((n ++ e) ++ s) w (left (n ++ e) s (left n e h))

@@ -12,11 +12,10 @@ use Rattle.dd_cards.specs.PlayingCard.{PlayingCard}
 use Rattle.dd_cards.specs.Cards.{has_card, suit_cards}
 use Rattle.dd_cards.specs.Hands.{hand_of, IsSet, AreHands}
 use Rattle.dd_cards.specs.Seats.{seat_code, seat_after}
-use Rattle.dd_cards.proofs.HandLists.{seat_code-injective, seat_code-lt}
+use Rattle.dd_cards.proofs.CallerLemmas.{else-false, seat_code-injective, seat_code-lt}
 use Rattle.dd_play.specs.Board.{Board, cards_at}
 use Rattle.dd_play.specs.Covers.{count_of}
-use Rattle.dd_play.proofs.Boards.{after-code}
-use Rattle.dd_play.proofs.Counts.{not-has}
+use Rattle.dd_play.proofs.CallerLemmas.{after-code}
 use Rattle.dd_rank.specs.Owners.{holder, owners_in}
 use Rattle.dd_rank.specs.Strings.{places_after, number_of, owners_number, suit_lengths, all_lengths, Strings, strings_of}
 use Rattle.dd_rank.proofs.Holders.{holder-has, only-holder, no-holder}
@@ -76,7 +75,7 @@ turned-holder hands f valid c = go (holder hands c) refl
         only-holder (seated hands f) c (turn x) there (λ t k. (seated-hands hands f valid).disjoint c t (turn x) k there)
 
     lacks : holder hands c ≡ None → (x : Seat) → has_card (hand_of (seated hands f) x) c ≡ false
-    lacks none x = not-has _ (λ h.
+    lacks none x = else-false _ (λ h.
         let k : has_card (hand_of hands (seat_after f (seat_code x))) c ≡ true = ap (λ l. has_card l c) (sym (seated-at hands f x)) ∙ h in
         let held = only-holder hands c (seat_after f (seat_code x)) k (λ t g. valid.disjoint c t (seat_after f (seat_code x)) g k) in
         cc)

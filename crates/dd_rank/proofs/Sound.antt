@@ -8,13 +8,11 @@ use Rattle.dd_cards.specs.Cards.{is_of}
 use Rattle.dd_cards.specs.Seats.{seat_after, is_north_south}
 use Rattle.dd_play.specs.Board.{Board, IsBoard, cards_at, left, mover}
 use Rattle.dd_play.specs.Value.{lead}
-use Rattle.dd_play.proofs.Boards.{flag_of}
-use Rattle.dd_play.proofs.ClaimRules.{all}
+use Rattle.dd_play.proofs.CallerLemmas.{all, count-cons, flag_of}
 use Rattle.dd_play.specs.Won.{won}
 use Rattle.dd_play.specs.Covers.{IsCover, count_of}
 use Rattle.dd_rank.specs.Depths.{IsCoverAt, depths_of}
 use Rattle.dd_play.specs.Reach.{TakesBy}
-use Rattle.dd_play.proofs.Counts.{count-cons}
 use Rattle.dd_rank.proofs.AlikeLead.{won-lead}
 use Rattle.dd_rank.proofs.Covered.{to_of, covers-cover, IsLifted, lifted-top, by-covered}
 

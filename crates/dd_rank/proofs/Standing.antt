@@ -8,14 +8,10 @@ use Rattle.dd_cards.specs.declared.suit.Suit.{Suit}
 use Rattle.dd_cards.specs.PlayingCard.{PlayingCard}
 use Rattle.dd_cards.specs.Ranks.{lowest_ranks, all_ranks}
 use Rattle.dd_cards.specs.Cards.{is_of, has_card, card_of, deck}
-use Rattle.dd_cards.proofs.CardLists.{has_card-deck}
-use Rattle.dd_cards.proofs.RankLists.{filter-same}
-use Rattle.dd_cards.proofs.SetLaws.{IsSet-filter, IsSet-deck, suit-ranks, length-filter-le}
-use Rattle.dd_cards.proofs.Sets.{times-set}
+use Rattle.dd_cards.proofs.CallerLemmas.{IsSet-deck, IsSet-filter, both-ways, filter-same, has_card-deck, length-filter-le, suit-ranks, times-set}
 use Rattle.dd_play.specs.Board.{Board, IsBoard, cards_at}
 use Rattle.dd_play.specs.Covers.{count_of}
-use Rattle.dd_play.proofs.Boards.{card-real}
-use Rattle.dd_play.proofs.Plays.{filter-has, filter-passes}
+use Rattle.dd_play.proofs.CallerLemmas.{card-real, filter-has, filter-passes}
 use Rattle.dd_rank.specs.Depths.{all_cards, is_above, place}
 use Rattle.dd_rank.specs.Owners.{owners}
 use Rattle.dd_rank.specs.Strings.{places_after, owner_places}
@@ -23,7 +19,7 @@ use Rattle.dd_rank.proofs.Covered.{all-in}
 use Rattle.dd_rank.proofs.Digits.{length-map}
 use Rattle.dd_rank.proofs.Holders.{holder-has}
 use Rattle.dd_rank.proofs.Looked.{all-once}
-use Rattle.dd_rank.proofs.Lowest.{AreOf, both-ways, same-count, suit-count, length-of}
+use Rattle.dd_rank.proofs.Lowest.{AreOf, same-count, suit-count, length-of}
 use Rattle.dd_rank.proofs.Owners.{holder_at, ranks_left, left-falls, left-owners, has-left, left-has, has-holder}
 use Rattle.dd_rank.proofs.Falling.{Has, Falls}
 use Rattle.dd_rank.proofs.Places.{in-all}

@@ -11,10 +11,7 @@ use Rattle.dd_cards.specs.Ranks.{IsRank, is_rank, lowest_ranks, all_ranks, has_r
 use Rattle.dd_cards.specs.Seats.{seat_code}
 use Rattle.dd_cards.specs.Cards.{has_card, card_of, suit_cards}
 use Rattle.dd_cards.specs.Hands.{hand_of, AreHands}
-use Rattle.dd_cards.proofs.CardLists.{IsRank-from}
-use Rattle.dd_cards.proofs.HandLists.{and-left, and-right, filter-where}
-use Rattle.dd_cards.proofs.RankLists.{has_rank-lowest_ranks}
-use Rattle.dd_cards.proofs.SetLaws.{has_rank-holding}
+use Rattle.dd_cards.proofs.CallerLemmas.{IsRank-from, and-left, and-right, filter-where, has_rank-holding, has_rank-lowest_ranks}
 use Rattle.dd_rank.specs.Owners.{holder, owners_in}
 use Rattle.dd_rank.specs.Strings.{place_by}
 use Rattle.dd_rank.proofs.Holders.{by-ranks}

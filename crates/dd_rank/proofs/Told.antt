@@ -6,13 +6,12 @@ use Rattle.dd_cards.specs.PlayingCard.{PlayingCard}
 use Rattle.dd_cards.specs.Ranks.{IsRank}
 use Rattle.dd_cards.specs.Cards.{has_card}
 use Rattle.dd_cards.specs.Seats.{is_north_south}
+use Rattle.dd_cards.proofs.CallerLemmas.{else-false}
 use Rattle.dd_play.specs.Board.{Board, IsBoard, left}
 use Rattle.dd_play.specs.Value.{lead}
 use Rattle.dd_play.specs.Won.{won}
 use Rattle.dd_play.specs.Reach.{reach, TakesBy}
-use Rattle.dd_play.proofs.Counts.{not-has}
-use Rattle.dd_play.proofs.ClaimRules.{all}
-use Rattle.dd_play.proofs.Worth.{reach-some, reach-upward}
+use Rattle.dd_play.proofs.CallerLemmas.{all, reach-some, reach-upward}
 use Rattle.dd_rank.specs.Depths.{Covers, depths_of}
 use Rattle.dd_rank.proofs.AlikeLead.{won-lead}
 use Rattle.dd_rank.proofs.Covered.{IsLifted}
@@ -22,7 +21,7 @@ use Rattle.dd_rank.proofs.Sound.{same-left, sound-lead}
 
 -- cards of the pack are reached by none that is lower than all ranks
 pub lifted-reach : (cards : List PlayingCard) → ((c : PlayingCard) → has_card cards c ≡ true → IsRank c.rank) → IsLifted (reach cards)
-lifted-reach cards real = (reach-upward cards, λ u. not-has _ (λ h. let d = reach-some cards (record { suit = u; rank = 0 }) h in let low = d.3 in let r = (real d.0 d.1).0 in omega (arith, low, r)))
+lifted-reach cards real = (reach-upward cards, λ u. else-false _ (λ h. let d = reach-some cards (record { suit = u; rank = 0 }) h in let low = d.3 in let r = (real d.0 d.1).0 in omega (arith, low, r)))
 
 -- bounds that hold of each position that p covers at depths are claims by cards of no smaller depths
 pub told : (cards : List PlayingCard) (depths : Suit → ℕ) (p : Board) (lo hi : ℕ) → ((c : PlayingCard) → has_card cards c ≡ true → IsRank c.rank) → p.trick ≡ [] → ((u : Suit) → depths u ≤ depths_of (reach cards) p u)

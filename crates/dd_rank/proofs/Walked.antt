@@ -6,7 +6,7 @@ use Rattle.std.proofs.Math.Nat.{pow-le-pow_right, mul-le-mul_left}
 use Rattle.std.proofs.lemmas.Bool.Decides.{eqb_tells}
 use Rattle.std.proofs.Common.{eq-eqb}
 use Rattle.dd_cards.specs.Ranks.{lowest_ranks, all_ranks, has_rank}
-use Rattle.dd_cards.proofs.SetLaws.{length-filter-le}
+use Rattle.dd_cards.proofs.CallerLemmas.{length-filter-le}
 use Rattle.dd_rank.specs.Strings.{number_of, place_by}
 use Rattle.dd_rank.proofs.Digits.{AreDigits, length-map, number-below}
 use Rattle.dd_rank.proofs.Owners.{ranks-fall}

@@ -2,22 +2,22 @@
 //! the highest cards of each suit go.
 #![tactic(auto)]
 
-mod likeness;
 mod cover;
 mod covering;
 mod depths;
 mod first_owners;
 mod laws;
+mod likeness;
 mod owner_strings;
 mod rank_key;
 mod shape;
 
-pub use likeness::alike;
 pub use cover::Cover;
 pub use covering::covers;
 pub use depths::Depths;
 pub use first_owners::FirstOwners;
-pub use laws::{alike_positions, covered_positions, alike_strings};
+pub use laws::{alike_positions, alike_strings, covered_positions};
+pub use likeness::alike;
 pub use owner_strings::OwnerStrings;
 pub use rank_key::RankKey;
 pub use shape::Shape;

@@ -1,9 +1,9 @@
-use crate::likeness::alike;
 use crate::cover::Cover;
 use crate::covering::covers;
 use crate::depths::Depths;
 use crate::first_owners::FirstOwners;
 use crate::laws::covered_positions;
+use crate::likeness::alike;
 use crate::owner_strings::OwnerStrings;
 use crate::rank_key::RankKey;
 use dd_cards::{Card, Hand, Hands, Rank, Seat, Strain, Suit};

@@ -1,3 +1,4 @@
+pub mod CallerLemmas
 pub mod Answered
 pub mod Best
 pub mod ByScore

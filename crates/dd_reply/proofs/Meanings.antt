@@ -19,16 +19,15 @@ use Rattle.dd_cards.specs.Strains.{strain_code}
 use Rattle.dd_cards.specs.Seats.{seat_code, seat_after}
 use Rattle.dd_cards.specs.Cards.{same_card, card_of}
 use Rattle.dd_cards.specs.Hands.{AreHands, times}
-use Rattle.dd_cards.proofs.CardLists.{same_card-eq}
+use Rattle.dd_cards.proofs.CallerLemmas.{same_card-eq}
 use Rattle.dd_pbn.specs.declared.fault.PbnFault.{PbnFault}
 use Rattle.dd_pbn.specs.declared.fault.PbnFault.TheVariants.{Grammar, Absent, Twice}
 use Rattle.dd_pbn.specs.Deals as deals
 use Rattle.dd_pbn.specs.Reading.{tag_of}
 use Rattle.dd_pbn.specs.Values.{IsTag}
-use Rattle.dd_pbn.proofs.Decided.{decided, deal-decided}
-use Rattle.dd_pbn.proofs.ValueTexts.{Reads-tag}
+use Rattle.dd_pbn.proofs.CallerLemmas.{Reads-tag, deal-decided, decided}
 use Rattle.dd_play.specs.Board.{Board, board_of, times_in, NoneTwice, IsEven, left, cards_at}
-use Rattle.dd_play.proofs.Twice.{times_in-once}
+use Rattle.dd_play.proofs.CallerLemmas.{times_in-once}
 use Rattle.dd_pbn.specs.Values.{begins_tag}
 use Rattle.dd_reply.specs.declared.fault.Fault.{Fault}
 use Rattle.dd_reply.specs.declared.fault.Fault.TheVariants.{LineTooLong, NotAnObject, WrongField, CardTwice, WrongTrump, WrongFirst, WrongPlayed, WrongSolutions, UnevenHands, NoCard, OutOfMemory}

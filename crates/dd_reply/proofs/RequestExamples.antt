@@ -12,9 +12,9 @@ use Rattle.dd_cards.specs.PlayingCard.{PlayingCard}
 use Rattle.dd_cards.specs.Cards.{card_of}
 use Rattle.dd_cards.specs.Hands.{AreHands}
 use Rattle.dd_pbn.specs.Examples.{eight_spades, two_suits}
-use Rattle.dd_pbn.proofs.Examples.{spades-and-hearts, tag-from-east}
+use Rattle.dd_pbn.proofs.CallerLemmas.{spades-and-hearts, tag-from-east}
 use Rattle.dd_play.specs.Board.{board_of, NoneTwice, IsEven}
-use Rattle.dd_play.proofs.Twice.{times_in-once}
+use Rattle.dd_play.proofs.CallerLemmas.{times_in-once}
 use Rattle.dd_pbn.specs.Values.{begins_tag}
 use Rattle.dd_reply.specs.declared.fault.Fault.TheVariants.{CardTwice}
 use Rattle.dd_reply.specs.Requests.{SolveFields, MeansBoard, object_of, solve_fields, are_cards}

@@ -6,18 +6,16 @@ use mathlib.Core.Bool.{not, beq}
 use Rattle.dd_cards.specs.PlayingCard.{PlayingCard}
 use Rattle.dd_cards.specs.Cards.{has_card, same_card}
 use Rattle.dd_cards.specs.Seats.{is_north_south, seat_after}
-use Rattle.dd_cards.proofs.CardLists.{same_card-eq}
+use Rattle.dd_cards.proofs.CallerLemmas.{same_card-eq}
 use Rattle.dd_play.specs.Board.{Board, IsBoard, mover, left}
 use Rattle.dd_play.specs.Play.{after}
 use Rattle.dd_play.specs.Value.{ns, ns_with, score, lead}
 use Rattle.dd_play.specs.Won.{won}
 use Rattle.dd_play.specs.Simulations.{IsLegal}
 use Rattle.dd_play.specs.Claims.{Takes}
-use Rattle.dd_play.proofs.Boards.{legal-leads, has-first, in-rest}
-use Rattle.dd_play.proofs.Rules.{won_with, won-true, won-false, can}
-use Rattle.dd_play.proofs.ClaimRules.{all, exactly, one-point}
+use Rattle.dd_play.proofs.CallerLemmas.{all, can, exactly, has-first, in-rest, legal-leads, one-point, won-false, won-true, won_with}
 use Rattle.dd_equal.specs.EqualCards.{tops}
-use Rattle.dd_equal.proofs.Tops.{every-class}
+use Rattle.dd_equal.proofs.CallerLemmas.{every-class}
 use Rattle.dd_search.proofs.Orders.{top-legal}
 
 -- the mover sits on its own side

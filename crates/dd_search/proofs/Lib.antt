@@ -3,3 +3,4 @@ pub mod Relied
 pub mod Scores
 pub mod Greatest
 pub mod Classes
+pub mod CallerLemmas

@@ -14,9 +14,8 @@ use Rattle.dd_cards.specs.Hands.{times}
 use Rattle.dd_play.specs.Board.{Board}
 use Rattle.dd_play.specs.Play.{legal}
 use Rattle.dd_play.specs.Simulations.{IsLegal}
-use Rattle.dd_cards.proofs.CardLists.{same_card-eq}
-use Rattle.dd_play.proofs.Values.{any-filter, times-cons, times-has}
-use Rattle.dd_play.proofs.Boards.{has-first, in-rest, flag_of}
+use Rattle.dd_cards.proofs.CallerLemmas.{any-filter, same_card-eq, times-cons}
+use Rattle.dd_play.proofs.CallerLemmas.{flag_of, has-first, in-rest, times-has}
 use Rattle.dd_equal.specs.EqualCards.{EqualCards, class_of, classes_of, is_top, tops}
 use Rattle.dd_search.specs.Answers.{IsReordering}
 use Rattle.dd_search.specs.Moves.{WeighedCard, cards_of}

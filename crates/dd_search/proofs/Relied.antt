@@ -10,7 +10,7 @@ use Rattle.dd_cards.specs.declared.suit.Suit.{Suit}
 use Rattle.dd_cards.specs.PlayingCard.{PlayingCard}
 use Rattle.dd_cards.specs.Ranks.{IsRank, has_rank}
 use Rattle.dd_cards.specs.Cards.{has_card, is_of, card_of, with_card}
-use Rattle.dd_cards.proofs.SetLaws.{has_rank-holding}
+use Rattle.dd_cards.proofs.CallerLemmas.{else-false, has_rank-holding}
 use Rattle.dd_cards.specs.Seats.{is_north_south}
 use Rattle.dd_play.specs.Board.{Board, IsBoard, mover, left}
 use Rattle.dd_play.specs.Play.{after}
@@ -20,17 +20,11 @@ use Rattle.dd_play.specs.Simulations.{IsLegal}
 use Rattle.dd_play.specs.Claims.{Takes}
 use Rattle.dd_play.specs.Covers.{IsSettled, count_of}
 use Rattle.dd_play.specs.Reach.{reach, TakesBy, IsWorth}
-use Rattle.dd_play.proofs.Boards.{legal-leads}
-use Rattle.dd_play.proofs.ClaimRules.{one-point, both}
-use Rattle.dd_play.proofs.Worth.{by-nothing, by-fewer, by-more, by-one, by-here, worth-after, worth-fewer, worth-more, worth-low, reach-within, reach-upward, reach-some, reach-of}
-use Rattle.dd_play.proofs.Counts.{not-has}
+use Rattle.dd_play.proofs.CallerLemmas.{both, by-fewer, by-here, by-more, by-nothing, by-one, legal-leads, one-point, reach-of, reach-some, reach-upward, reach-within, worth-after, worth-fewer, worth-low, worth-more}
 use Rattle.dd_equal.specs.EqualCards.{tops, IsWhole}
-use Rattle.dd_equal.proofs.Images.{each-class-whole}
-use Rattle.dd_equal.proofs.Wholes.{with-new, with-which}
-use Rattle.dd_rank.proofs.Lowest.{first-there}
+use Rattle.dd_equal.proofs.CallerLemmas.{each-class-whole, with-new, with-which}
+use Rattle.dd_rank.proofs.CallerLemmas.{first-there, itself, noted}
 use Rattle.dd_rank.specs.Depths.{all_cards, Covers, depths_of}
-use Rattle.dd_rank.proofs.Told.{noted}
-use Rattle.dd_rank.proofs.Fulls.{itself}
 use Rattle.dd_search.specs.Answers.{IsAnswer, IsAnswerBy, AnswerBy, ClaimBy, IsClaimBy, IsWindow, IsReordering}
 use Rattle.dd_search.specs.Moves.{WeighedCard, cards_of}
 use Rattle.dd_search.proofs.Orders.{each-top}
@@ -153,7 +147,7 @@ first-spared s ranks cards r n are first low = (card_of s n, sym (has_rank-holdi
 -- nothing of the suit is reached
 pub none-reached : (s : Suit) (ranks : List ℕ) (cards : List PlayingCard) → AreOf s ranks cards → ((d : PlayingCard) → has_card cards d ≡ true → IsRank d.rank) → ((q : ℕ) → has_rank ranks q ≡ true → q < 2)
     → (c : PlayingCard) → c.suit ≡ s → reach cards c ≡ false
-none-reached s ranks cards are real none c suits = not-has _ (λ h.
+none-reached s ranks cards are real none c suits = else-false _ (λ h.
     let d = reach-some cards c h in
     let same : d.0 ≡ card_of s d.0.rank = ap (λ (u : Suit). card_of u d.0.rank) (d.2 ∙ suits) in
     let low = none d.0.rank (has_rank-holding s ranks cards d.0.rank are ∙ ap (has_card cards) (sym same) ∙ d.1) in
@@ -163,7 +157,7 @@ none-reached s ranks cards are real none c suits = not-has _ (λ h.
 -- nothing below the lowest is
 pub low-reached : (s : Suit) (ranks : List ℕ) (cards : List PlayingCard) (floor : ℕ) → AreOf s ranks cards → ((d : PlayingCard) → has_card cards d ≡ true → IsRank d.rank) → ((q : ℕ) → has_rank ranks q ≡ true → 2 ≤ q → floor ≤ q)
     → (c : PlayingCard) → c.suit ≡ s → c.rank < floor → reach cards c ≡ false
-low-reached s ranks cards floor are real least c suits below = not-has _ (λ h.
+low-reached s ranks cards floor are real least c suits below = else-false _ (λ h.
     let d = reach-some cards c h in
     let same : d.0 ≡ card_of s d.0.rank = ap (λ (u : Suit). card_of u d.0.rank) (d.2 ∙ suits) in
     let l = least d.0.rank (has_rank-holding s ranks cards d.0.rank are ∙ ap (has_card cards) (sym same) ∙ d.1) (real d.0 d.1).0 in

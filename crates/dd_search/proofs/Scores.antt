@@ -15,9 +15,7 @@ use Rattle.dd_play.specs.Value.{point_of, gain, ns, ns_with, score}
 use Rattle.dd_play.specs.Claims.{Takes}
 use Rattle.dd_play.specs.Won.{is_side, point}
 use Rattle.dd_play.specs.Simulations.{IsLegal}
-use Rattle.dd_play.proofs.Boards.{legal-leads, gain-le, ns-le}
-use Rattle.dd_play.proofs.Lengths.{left-13}
-use Rattle.dd_play.proofs.ClaimRules.{exactly}
+use Rattle.dd_play.proofs.CallerLemmas.{exactly, gain-le, left-13, legal-leads, ns-le}
 use Rattle.dd_search.specs.Answers.{IsAnswer}
 
 -- what a search learns of a card: the tricks that North and South take after it, and the one that it completes

@@ -5,10 +5,10 @@ ghost use Rattle.dd_play.specs.Play.{legal};
 ghost use Rattle.dd_play.specs.Value.{score};
 
 use crate::bounds::Bounds;
-use crate::meter::{Halt, Meter, Tick};
 use crate::card_reaches::reaches;
-use crate::takes::trick_of;
+use crate::meter::{Halt, Meter, Tick};
 use crate::position_value::north_souths_tricks;
+use crate::takes::trick_of;
 use dd_cards::Card;
 use dd_play::Position;
 

@@ -3,6 +3,8 @@
 
 mod answer;
 mod bounds;
+mod card_reaches;
+mod card_scores;
 mod claim;
 mod follow;
 mod guess;
@@ -11,21 +13,19 @@ mod laws;
 mod lead;
 mod meter;
 mod order;
-mod card_reaches;
+mod position_value;
 mod rests;
-mod card_scores;
 mod start;
 mod strength;
 mod takes;
-mod position_value;
 
 pub use bounds::{Bounds, NoTable};
-pub use laws::value_is_the_greatest_score;
-pub use meter::{Budget, Endless, Halt, Meter, Tick};
 pub use card_reaches::reaches;
 pub use card_scores::{score, score_up_to};
-pub use start::{start_scores, start_value};
+pub use laws::value_is_the_greatest_score;
+pub use meter::{Budget, Endless, Halt, Meter, Tick};
 pub use position_value::value;
+pub use start::{start_scores, start_value};
 
 #[cfg(test)]
 mod tests;

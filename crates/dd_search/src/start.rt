@@ -8,8 +8,8 @@ ghost use Rattle.dd_equal.specs.EqualCards.{tops};
 ghost use Rattle.dd_rank.specs.Depths.{all_cards, depth_in, Covers};
 
 use crate::bounds::Bounds;
-use crate::meter::{Halt, Meter, Tick};
 use crate::card_scores::score_up_to;
+use crate::meter::{Halt, Meter, Tick};
 use crate::position_value::north_souths_tricks;
 use arrayvec::ArrayVec;
 use dd_cards::Card;

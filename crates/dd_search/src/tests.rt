@@ -3,11 +3,11 @@ ghost use Rattle.dd_cards.specs.Cards.{has_card};
 ghost use Rattle.dd_play.specs.Play.{legal};
 
 use crate::bounds::{Bounds, NoTable};
-use crate::meter::{Budget, Endless, Halt, Meter};
 use crate::card_reaches::reaches;
 use crate::card_scores::score;
-use crate::start::{start_scores, start_value};
+use crate::meter::{Budget, Endless, Halt, Meter};
 use crate::position_value::value;
+use crate::start::{start_scores, start_value};
 use arrayvec::ArrayVec;
 use dd_cards::{Card, Hands, Rank, Seat, Strain, Suit};
 use dd_play::{Interval, Position, TrickStart};

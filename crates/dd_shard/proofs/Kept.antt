@@ -14,7 +14,7 @@ use Rattle.dd_rank.specs.Strings.{ShapeOf, shape_of}
 use Rattle.dd_shard.specs.Entries.{most_pairs, Pair, Told, Entry, IsPair, IsEntry, IsAbsent, EachOnce, AreEntries, ToFront, Tells, Looks, PutsFirst, Notes, pair_at}
 use Rattle.dd_shard.specs.Kept.{entry_of, entries_of, IsKept}
 use Rattle.dd_rank.specs.Strings.{same_shape}
-use Rattle.dd_rank.proofs.Alikes.{shapes-tell}
+use Rattle.dd_rank.proofs.CallerLemmas.{shapes-tell}
 use Rattle.dd_shard.proofs.Told.{puts-entry, puts-alone}
 use Rattle.dd_shard.proofs.Lists.{Contains-map, Contains-at, Cut, cut-found, none-passes, no-entry}
 

@@ -16,9 +16,9 @@ use Rattle.dd_play.specs.Covers.{count_of}
 use Rattle.dd_play.specs.Intervals.{Holds}
 use Rattle.dd_play.specs.Value.{lead}
 use Rattle.dd_play.specs.declared.interval.Interval.{Interval}
-use Rattle.dd_play.proofs.Plays.{turn-turn}
+use Rattle.dd_play.proofs.CallerLemmas.{turn-turn}
 use Rattle.dd_rank.specs.Depths.{FourDepths, depth_in, all_cards, Covers, IsCoverAt}
-use Rattle.dd_rank.proofs.Chains.{covers-chain}
+use Rattle.dd_rank.proofs.CallerLemmas.{covers-chain}
 use Rattle.dd_rank.specs.Strings.{ShapeOf}
 use Rattle.dd_rank.specs.Cover.{CoverOf, IsSameCover}
 use Rattle.dd_shard.specs.Entries.{most_pairs, Told, Pair, Entry, IsEntry, IsPair, Tells, cover_of, narrowed, PutsFirst}

@@ -1,5 +1,5 @@
 use Rattle.std.proofs.Common.{arith}
-use Rattle.dd_cards.proofs.Sets.{length-set_of_cards}
+use Rattle.dd_cards.proofs.CallerLemmas.{length-set_of_cards}
 use Rattle.dd_play.proofs.position.is_even.Goals as goal
 
 pub overflow_add-len : goal.overflow_add-len

@@ -1,7 +1,7 @@
 use Rattle.std.proofs.Common.{ap, ◌∙◌, arith}
 use Rattle.dd_cards.specs.Seats.{is_north_south}
 use Rattle.dd_play.specs.Reach.{reach}
-use Rattle.dd_play.proofs.Worth.{by-fewer}
+use Rattle.dd_play.proofs.CallerLemmas.{by-fewer}
 use Rattle.dd_quick.specs.QuickTricks.{SureTricks, leaders_tricks}
 use Rattle.dd_quick.proofs.Covered.{leader-sure}
 use Rattle.dd_quick.proofs.quick_tricks.leaders_tricks.Goals as goal

@@ -7,7 +7,7 @@ use Rattle.dd_cards.specs.declared.suit.Suit.TheVariants.{Spades}
 use Rattle.dd_cards.specs.Cards.{card_of}
 use Rattle.dd_pbn.specs.declared.fault.PbnFault.TheVariants.{Absent, Twice}
 use Rattle.dd_pbn.specs.Examples.{eight_spades, two_suits}
-use Rattle.dd_pbn.proofs.Examples.{spades-and-hearts, tag-from-east, left-out, two-aces}
+use Rattle.dd_pbn.proofs.CallerLemmas.{left-out, spades-and-hearts, tag-from-east, two-aces}
 use Rattle.dd_play.specs.Board.{board_of}
 use Rattle.dd_reply.proofs.RequestExamples.{asks-best, asks-all, ace-led}
 use Rattle.dd_reply.proofs.laws.worked_lines.Goals as goal

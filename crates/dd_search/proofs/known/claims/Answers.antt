@@ -3,9 +3,9 @@ use mathlib.Core.Bool.{not}
 use Rattle.dd_cards.specs.Seats.{is_north_south}
 use Rattle.dd_play.specs.Board.{Board, left}
 use Rattle.dd_play.specs.Reach.{reach, TakesBy}
-use Rattle.dd_play.proofs.Worth.{by-fewer}
+use Rattle.dd_play.proofs.CallerLemmas.{by-fewer}
 use Rattle.dd_rank.specs.Depths.{depth_in}
-use Rattle.dd_rank.proofs.Told.{told}
+use Rattle.dd_rank.proofs.CallerLemmas.{told}
 use Rattle.dd_search.proofs.Relied.{north-south-leads, east-west-leads}
 use Rattle.dd_search.proofs.known.claims.Goals as goal
 use Rattle.dd_search.proofs.known.claims.Goals.{After-is_north_south}

@@ -2,7 +2,7 @@ use Rattle.std.proofs.Common.{◌≡◌, ◌∙◌, ap, sym, refl, true, false}
 use Rattle.dd_cards.specs.Seats.{is_north_south}
 use Rattle.dd_play.specs.Board.{Board, left}
 use Rattle.dd_rank.specs.Depths.{depth_in}
-use Rattle.dd_rank.proofs.Told.{told}
+use Rattle.dd_rank.proofs.CallerLemmas.{told}
 use Rattle.dd_search.proofs.Relied.{told-answer}
 use Rattle.dd_search.proofs.known.known.Goals as goal
 use Rattle.dd_search.proofs.known.known.Goals.{then-leads, else-leads}

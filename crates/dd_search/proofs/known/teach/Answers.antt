@@ -5,7 +5,7 @@ use Rattle.dd_cards.specs.Seats.{is_north_south}
 use Rattle.dd_play.specs.Board.{left}
 use Rattle.dd_play.specs.Reach.{reach, TakesBy}
 use Rattle.dd_rank.specs.Depths.{depth_in}
-use Rattle.dd_rank.proofs.Told.{noted}
+use Rattle.dd_rank.proofs.CallerLemmas.{noted}
 use Rattle.dd_search.specs.Answers.{AnswerBy}
 use Rattle.dd_search.proofs.known.teach.Goals as goal
 

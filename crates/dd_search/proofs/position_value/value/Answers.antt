@@ -1,6 +1,6 @@
 use Rattle.std.proofs.Common.{◌-◌, ap, sym, ◌∙◌, arith}
 use Rattle.dd_cards.specs.Seats.{is_north_south}
-use Rattle.dd_play.proofs.Lengths.{left-13}
+use Rattle.dd_play.proofs.CallerLemmas.{left-13}
 use Rattle.dd_search.specs.Answers.{ClaimBy}
 use Rattle.dd_search.proofs.Greatest.{value-north-south, value-east-west}
 use Rattle.dd_search.proofs.Relied.{IsExactly, exactly-theirs, exactly-others}

@@ -3,7 +3,7 @@ use Rattle.dd_cards.specs.PlayingCard.{PlayingCard}
 use Rattle.dd_cards.specs.Cards.{has_card, with_card}
 use Rattle.dd_play.specs.Covers.{IsSettled}
 use Rattle.dd_play.specs.Reach.{reach}
-use Rattle.dd_equal.proofs.Wholes.{with-old}
+use Rattle.dd_equal.proofs.CallerLemmas.{with-old}
 use Rattle.dd_search.proofs.Relied.{reach-new}
 use Rattle.dd_search.proofs.rests.settled_by.Goals as goal
 

@@ -5,7 +5,7 @@ use Rattle.dd_cards.specs.PlayingCard.{PlayingCard}
 use Rattle.dd_cards.specs.Seats.{is_north_south}
 use Rattle.dd_play.specs.Board.{Board, cards_left, mover}
 use Rattle.dd_play.specs.Simulations.{IsLegal}
-use Rattle.dd_play.proofs.Values.{cards_left-after}
+use Rattle.dd_play.proofs.CallerLemmas.{cards_left-after}
 use Rattle.dd_search.specs.Answers.{IsAnswer, IsAnswerBy, AnswerBy}
 use Rattle.dd_search.specs.Moves.{WeighedCard}
 use Rattle.dd_search.proofs.Relied.{Walked, Leads, answer-here, one-more, more-spared, leads-against, leads-wider, settled-answer, some-found, none-found}

@@ -2,7 +2,7 @@ use Rattle.std.proofs.Common.{◌≡◌, ◌-◌, ◌≤◌, ap, ◌∙◌, arit
 use Rattle.dd_play.specs.Board.{left}
 use Rattle.dd_play.specs.Value.{lead}
 use Rattle.dd_rank.specs.Depths.{depth_in}
-use Rattle.dd_rank.proofs.Told.{noted}
+use Rattle.dd_rank.proofs.CallerLemmas.{noted}
 use Rattle.dd_shard.proofs.tests.note_most.Goals as goal
 
 pub note-requires-clause-holds : goal.note-requires-clause-holds

@@ -1,7 +1,7 @@
 use Rattle.std.proofs.Common.{◌≡◌, ℕ, sym, subst}
 use Rattle.dd_play.specs.Intervals.{Holds}
 use Rattle.dd_rank.specs.Depths.{depth_in}
-use Rattle.dd_rank.proofs.Fulls.{full-lead}
+use Rattle.dd_rank.proofs.CallerLemmas.{full-lead}
 use Rattle.dd_shard.proofs.tests.note_value.Goals as goal
 
 pub note-requires-clause-holds : goal.note-requires-clause-holds

@@ -3,15 +3,16 @@ use Rattle.std.specs.Prelude.{◌&&◌, ◌↔◌, IsTrue, nat_le}
 use Rattle.std.proofs.lemmas.Bool.{le-leb, leb-true}
 use Rattle.dd_cards.specs.declared.suit.Suit.{Suit}
 use Rattle.dd_cards.specs.declared.suit.Suit.TheVariants.{Spades, Hearts, Diamonds, Clubs}
+use Rattle.dd_cards.proofs.CallerLemmas.{all-four, four-all}
 use Rattle.dd_rank.specs.Depths.{FourDepths, depth_in}
-use Rattle.dd_rank.proofs.Packed.{is-true, true-is, all-four, four-pass}
+use Rattle.dd_rank.proofs.Packed.{is-true, true-is}
 use Rattle.dd_rank.proofs.depths.Depths.are_within.Goals as goal
 
 -- four tests, one for each suit
 within : (d m : FourDepths) → IsTrue (nat_le d.spades m.spades && nat_le d.hearts m.hearts && nat_le d.diamonds m.diamonds && nat_le d.clubs m.clubs) ↔ ((u : Suit) → depth_in d u ≤ depth_in m u)
 within d m = (
   λ t. each (is-true _ t),
-  λ all. true-is _ (four-pass (nat_le d.spades m.spades) (nat_le d.hearts m.hearts) (nat_le d.diamonds m.diamonds) (nat_le d.clubs m.clubs)
+  λ all. true-is _ (four-all (nat_le d.spades m.spades) (nat_le d.hearts m.hearts) (nat_le d.diamonds m.diamonds) (nat_le d.clubs m.clubs)
       (le-leb _ _ (all Spades)) (le-leb _ _ (all Hearts)) (le-leb _ _ (all Diamonds)) (le-leb _ _ (all Clubs))),
 )
   where

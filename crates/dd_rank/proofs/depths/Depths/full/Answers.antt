@@ -6,7 +6,7 @@ use Rattle.dd_cards.specs.Cards.{is_of, has_card}
 use Rattle.dd_play.specs.Board.{Board, IsBoard}
 use Rattle.dd_play.specs.Covers.{count_of}
 use Rattle.dd_cards.specs.Hands.{IsSet}
-use Rattle.dd_cards.proofs.Sets.{times-set}
+use Rattle.dd_cards.proofs.CallerLemmas.{times-set}
 use Rattle.dd_rank.specs.Depths.{all_cards, depth_in}
 use Rattle.dd_rank.proofs.Looked.{all-once}
 use Rattle.dd_rank.proofs.Lowest.{same-count, length-of}

@@ -1,6 +1,7 @@
 use Rattle.dd_cards.specs.declared.suit.Suit.TheVariants.{Spades, Hearts, Diamonds, Clubs}
+use Rattle.dd_cards.proofs.CallerLemmas.{all-four, four-all}
 use Rattle.dd_rank.specs.Strings.{string_in}
-use Rattle.dd_rank.proofs.FirstBits.{same-first, first-same, all-four, four-all, by-suit}
+use Rattle.dd_rank.proofs.FirstBits.{same-first, first-same, by-suit}
 use Rattle.dd_rank.proofs.first_owners.FirstOwners.are_in.Goals as goal
 
 pub returns : goal.returns

@@ -1,5 +1,6 @@
 use Rattle.dd_cards.specs.declared.suit.Suit.TheVariants.{Spades, Hearts, Diamonds, Clubs}
-use Rattle.dd_rank.proofs.FirstBits.{begin-tell, begin-give, all-four, four-all, by-suit}
+use Rattle.dd_cards.proofs.CallerLemmas.{all-four, four-all}
+use Rattle.dd_rank.proofs.FirstBits.{begin-tell, begin-give, by-suit}
 use Rattle.dd_rank.proofs.first_owners.FirstOwners.include.Goals as goal
 
 pub returns : goal.returns

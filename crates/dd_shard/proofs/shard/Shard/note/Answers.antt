@@ -4,7 +4,7 @@ use Rattle.dd_play.specs.Board.{Board, IsBoard}
 use Rattle.dd_play.specs.Intervals.{Holds}
 use Rattle.dd_play.specs.Value.{lead}
 use Rattle.dd_rank.specs.Depths.{FourDepths, depth_in}
-use Rattle.dd_rank.proofs.Fulls.{itself}
+use Rattle.dd_rank.proofs.CallerLemmas.{itself}
 use Rattle.dd_rank.specs.Strings.{ShapeOf, shape_of, shape_in}
 use Rattle.dd_shard.specs.Entries.{Pair, IsAbsent, PutsFirst, pair_at}
 use Rattle.dd_shard.specs.Kept.{entries_of}
