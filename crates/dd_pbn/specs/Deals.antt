@@ -80,5 +80,5 @@ abbrev pub hand_text : List PlayingCard → List ℕ
 hand_text cards = join_with_byte 46 (map (suit_text cards) (Spades ∷ Hearts ∷ Diamonds ∷ Clubs ∷ []))
 
 -- N, a colon, and the hands of North, East, South and West with a space between each two
-abbrev pub written : List (List PlayingCard) → List ℕ
-written hands = codes "N:" ++ join_with_byte 32 (map (λ seat. hand_text (hand_of hands seat)) (North ∷ East ∷ South ∷ West ∷ []))
+abbrev pub text_of_deal : List (List PlayingCard) → List ℕ
+text_of_deal hands = codes "N:" ++ join_with_byte 32 (map (λ seat. hand_text (hand_of hands seat)) (North ∷ East ∷ South ∷ West ∷ []))

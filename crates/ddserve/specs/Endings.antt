@@ -5,9 +5,9 @@ use Rattle.clap.specs.Kinds.{IsAmong}
 use Rattle.clap.specs.Faults.{fault_of}
 use Rattle.clap.specs.declared.error.kind.ErrorKind.{ErrorKind}
 use Rattle.clap.specs.declared.error.kind.ErrorKind.TheVariants as kind
-use Rattle.dd_reply.specs.declared.counting.Counting.{Counting}
-use Rattle.dd_reply.specs.Counting.{device_of, failures_of, FailedOnce}
-use Rattle.dd_reply.specs.Served.{ServedAll, ServedBeginning, WroteText}
+use Rattle.dd_lines.specs.declared.counted_device.CountedDevice.{CountedDevice}
+use Rattle.dd_lines.specs.CountedDevices.{bytes_of, failures_of, FailedOnce}
+use Rattle.dd_lines.specs.Served.{ServedAll, ServedBeginning, WroteText}
 use Rattle.ddserve.specs.declared.command_line.Args.{Args}
 use Rattle.ddserve.specs.declared.command_line.Args.TheVariants.{Solve}
 use Rattle.ddserve.specs.declared.command_line.WordsFault.{WordsFault}
@@ -75,8 +75,8 @@ pub record Device : Type 0 where
   pub failures : ℕ
 
 -- the same of a reader or a writer, by what it knows of its bytes
-abbrev pub state_of : {T : Type 0} → (T → Option (List ℕ)) → Counting T → Device
-state_of bytes counting = record { bytes = bytes (device_of counting); failures = failures_of counting }
+abbrev pub state_of : {T : Type 0} → (T → Option (List ℕ)) → CountedDevice T → Device
+state_of bytes counted = record { bytes = bytes_of bytes counted; failures = failures_of counted }
 
 -- the standard input, output and error
 pub record Streams : Type 0 where

@@ -11,15 +11,15 @@ mod one_shard;
 mod run;
 
 use command_line::given_words;
-use dd_reply::Counting;
+use dd_lines::CountedDevice;
 use run::run_words;
 use std::io;
 use std::process::ExitCode;
 
 fn main(rt: HostRuntime) -> ExitCode {
-    let mut input = Counting::new(rt.reader());
-    let mut output = Counting::new(io::writer(&rt));
-    let mut errors = Counting::new(rt.stderr());
+    let mut input = CountedDevice::new(rt.reader());
+    let mut output = CountedDevice::new(io::writer(&rt));
+    let mut errors = CountedDevice::new(rt.stderr());
     let words = given_words(&rt);
     run_words(rt.alloc(), words, &mut input, &mut output, &mut errors).exit_code()
 }

@@ -10,7 +10,7 @@ use crate::one_shard::OneShard;
 use clap::Error;
 use clap::error::ErrorKind;
 use dd_cache::Cache;
-use dd_reply::{Counting, LineFault, solve_lines, write_whole};
+use dd_lines::{CountedDevice, LineFault, solve_lines, write_whole};
 use std::alloc::{AllocError, Global};
 use std::io::{Read, Write};
 
@@ -19,9 +19,9 @@ use std::io::{Read, Write};
 pub fn run_words<R: Read, O: Write, E: Write>(
     alloc: Global,
     words: Result<Vec<String>, WordsFault>,
-    reader: &mut Counting<R>,
-    output: &mut Counting<O>,
-    errors: &mut Counting<E>,
+    reader: &mut CountedDevice<R>,
+    output: &mut CountedDevice<O>,
+    errors: &mut CountedDevice<E>,
 ) -> Ending
     ensures { Runs (words_of words)
         (streams (state_of R.remaining reader.old) (state_of O.contents output.old)
@@ -55,9 +55,9 @@ fn args_of(alloc: Global, words: Result<Vec<String>, WordsFault>) -> Result<Args
 fn answer<R: Read, O: Write, E: Write>(
     alloc: Global,
     args: Args,
-    reader: &mut Counting<R>,
-    output: &mut Counting<O>,
-    errors: &mut Counting<E>,
+    reader: &mut CountedDevice<R>,
+    output: &mut CountedDevice<O>,
+    errors: &mut CountedDevice<E>,
 ) -> Ending
     requires { IsInRange args }
     ensures { AnswersUntil args
@@ -88,8 +88,8 @@ fn table(alloc: Global, entries: u32) -> Result<Cache<OneShard>, AllocError>
 fn show<O: Write, E: Write>(
     alloc: Global,
     error: &Error,
-    output: &mut Counting<O>,
-    errors: &mut Counting<E>,
+    output: &mut CountedDevice<O>,
+    errors: &mut CountedDevice<E>,
 ) -> Ending
     ensures { (input : Device) → ShowsUntil (kind_of error.now)
         (streams input (state_of O.contents output.old) (state_of E.contents errors.old))
@@ -114,7 +114,7 @@ fn show<O: Write, E: Write>(
 }
 
 /// Says on the standard error why the program ends before its work is done, and ends so.
-fn fail<E: Write>(errors: &mut Counting<E>, ending: Ending) -> Ending
+fn fail<E: Write>(errors: &mut CountedDevice<E>, ending: Ending) -> Ending
     ensures ending { result ≡ ending }
     ensures says { Writes (line_of ending)
         (state_of E.contents errors.old) (state_of E.contents errors.new) }

@@ -2,7 +2,7 @@
 use crate::command_line::WordsFault;
 use crate::ending::Ending;
 use crate::run::run_words;
-use dd_reply::Counting;
+use dd_lines::CountedDevice;
 use std::alloc::{AllocError, Global};
 use std::io;
 use std::io::{Error, ErrorKind, Read, Write};
@@ -91,15 +91,15 @@ pub fn run_over(
     input: &str,
     devices: Devices,
 ) -> Outcome {
-    let mut reader = Counting::new(Source {
+    let mut reader = CountedDevice::new(Source {
         bytes: input.as_bytes(),
         calls: devices.calls,
     });
-    let mut output = Counting::new(Sink {
+    let mut output = CountedDevice::new(Sink {
         taken: Vec::new(alloc),
         room: devices.output,
     });
-    let mut errors = Counting::new(Sink {
+    let mut errors = CountedDevice::new(Sink {
         taken: Vec::new(alloc),
         room: devices.errors,
     });
