@@ -15,6 +15,23 @@ for name in written small full; do
     cmp "$work/replies" "$here/$name.expected"
     echo "$name: $(wc -l < "$here/$name.jsonl") replies agree with DDS"
 done
+# How the built program ends: its status and what it says.
+ends() { # STATUS TEXT COMMAND..
+    status=$1 said=$2
+    shift 2
+    got=0
+    "$@" > "$work/said" 2>&1 || got=$?
+    [ "$got" = "$status" ] && grep -q -- "$said" "$work/said" || { echo "cases: $* ended with $got: $(cat "$work/said")" >&2; exit 1; }
+}
+ddserve=$here/../ddserve
+version=$(sed -n 's/^## \([0-9.]*\)$/\1/p' "$here/../CHANGELOG.md" | head -1)
+ends 0 "^ddserve $version\$" "$ddserve" --version
+ends 0 'Usage: ddserve solve' "$ddserve" solve --help
+ends 2 "unrecognized subcommand 'resolve'" "$ddserve" resolve
+ends 2 '' bash -c '"$1" resolve 2>&-' - "$ddserve"
+ends 1 '^ddserve: read failed$' bash -c '"$1" solve < /' - "$ddserve"
+ends 1 '^ddserve: write failed$' bash -c '"$1" solve < "$2" > /dev/full' - "$ddserve" "$here/written.jsonl"
+echo "endings: six commands end as they should"
 rustc -O --edition 2021 -o "$work/play" "$here/play.rs"
 for name in written small; do
     "$work/play" < "$here/$name.jsonl" > "$work/replies"

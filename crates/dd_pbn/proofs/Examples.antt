@@ -9,7 +9,7 @@ use Rattle.dd_pbn.specs.declared.fault.PbnFault.{PbnFault}
 use Rattle.dd_pbn.specs.declared.fault.PbnFault.TheVariants.{Grammar, Absent, Twice}
 use Rattle.dd_pbn.specs.Letters.{rank_of}
 use Rattle.dd_pbn.specs.Values.{IsValue, IsTag}
-use Rattle.dd_pbn.specs.Deals.{DealText, DealFault, TagText, written}
+use Rattle.dd_pbn.specs.Deals.{DealText, DealFault, TagText, text_of_deal}
 use Rattle.dd_pbn.specs.Examples.{eight_spades, two_suits}
 use Rattle.dd_pbn.specs.Reading.{outcome, value_of, tag_of, value_at, quoted_at, name_at, hands_at, next_hand, hand_at, next_suit, suit_at, seat_at, seat_of, letter_at, byte_at, gap_at, after_blanks, at_end}
 use Rattle.dd_pbn.proofs.ValueTexts.{Reads-value, Reads-tag}
@@ -70,5 +70,5 @@ unfolding rank_of all_ranks lowest_ranks deck suit_cards tag_of quoted_at name_a
 tag-from-east = tag-spells (codes "[Deal \"e:k4... aq... 65... 32...\"]") eight_spades refl
 
 -- ---- the form that is written
-pub written-eight : written eight_spades ≡ codes "N:32... K4... AQ... 65..."
+pub written-eight : text_of_deal eight_spades ≡ codes "N:32... K4... AQ... 65..."
 written-eight = refl

@@ -1,4 +1,5 @@
 pub mod Steps
+pub mod Tags
 pub mod Bytes
 pub mod Blanks
 pub mod HandTexts

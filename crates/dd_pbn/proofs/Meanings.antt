@@ -20,7 +20,7 @@ use Rattle.dd_pbn.specs.Reading.{nothing, note}
 use Rattle.dd_pbn.proofs.Bytes.{rank_of-real}
 use Rattle.dd_pbn.proofs.HandTexts.{note_all, note_hand}
 use Rattle.dd_pbn.proofs.ValueTexts.{seen_of}
-use Rattle.dd_pbn.proofs.Noting.{AllReal, real-has, real-append, times-append, times-piled, doubled, doubled-some, doubled-none, doubled-past, piled, Sees, Sees-all, absent-all, others-all, holds-all}
+use Rattle.dd_pbn.proofs.Noting.{AllReal, real-has, real-append, times-append, times-pile, has_double, doubled-some, doubled-none, doubled-past, pile, Sees, Sees-all, absent-all, others-all, holds-all}
 
 -- ---- real cards
 -- the cards that letters spell are real
@@ -68,10 +68,10 @@ note_hand-all seat a b c d seen =
 
 -- what noting a hand does
 record Noted (past : List PlayingCard) (seat : Seat) (hand : HandText) (seen new : Seen) : Type 0 where
-  sees : Sees (piled past (cards_of_hand hand)) new
+  sees : Sees (pile past (cards_of_hand hand)) new
   absent : new.absent ≡ (seen.absent || is_dash hand)
   others : (s : Seat) → s ≢ seat → hand_of new.hands s ≡ hand_of seen.hands s
-  holds : doubled (piled past (cards_of_hand hand)) ≡ false → (card : PlayingCard) → IsRank card.rank
+  holds : has_double (pile past (cards_of_hand hand)) ≡ false → (card : PlayingCard) → IsRank card.rank
       → has_card (hand_of new.hands seat) card ≡ (has_card (cards_of_hand hand) card || has_card (hand_of seen.hands seat) card)
 
 -- a test that holds is enough
@@ -194,10 +194,10 @@ tells value =
     let c2 = cards_of_hand value.hand2 in
     let c3 = cards_of_hand value.hand3 in
     let c4 = cards_of_hand value.hand4 in
-    let p1 = piled [] c1 in
-    let p2 = piled p1 c2 in
-    let p3 = piled p2 c3 in
-    let p4 = piled p3 c4 in
+    let p1 = pile [] c1 in
+    let p2 = pile p1 c2 in
+    let p3 = pile p2 c3 in
+    let p4 = pile p3 c4 in
     let n1 = hand-noted [] s0 value.hand1 nothing Sees-nothing in
     let seen1 = note_hand s0 value.hand1 nothing in
     let n2 = hand-noted p1 s1 value.hand2 seen1 n1.sees in
@@ -207,10 +207,10 @@ tells value =
     let n4 = hand-noted p3 s3 value.hand4 seen3 n3.sees in
     let seen4 = note_hand s3 value.hand4 seen3 in
     let count : (card : PlayingCard) → times p4 card ≡ times (cards_of_value value) card = λ card. (
-    let t1 = times-piled [] c1 card in
-    let t2 = times-piled p1 c2 card in
-    let t3 = times-piled p2 c3 card in
-    let t4 = times-piled p3 c4 card in
+    let t1 = times-pile [] c1 card in
+    let t2 = times-pile p1 c2 card in
+    let t3 = times-pile p2 c3 card in
+    let t4 = times-pile p3 c4 card in
     let a2 = times-append c1 c2 card in
     let a3 = times-append (c1 ++ c2) c3 card in
     let a4 = times-append (c1 ++ c2 ++ c3) c4 card in
@@ -222,10 +222,10 @@ tells value =
       double = λ twice. (let some = doubled-some p4 (sym n4.sees.twice ∙ twice) in (some.0, subst (λ n. 2 ≤ n) (count some.0) some.1));
       single = λ once card. subst (λ n. n ≤ 1) (count card) (doubled-none p4 (sym n4.sees.twice ∙ once) card);
       holds = λ once. (
-          let d4 : doubled p4 ≡ false = sym n4.sees.twice ∙ once in
-          let d3 : doubled p3 ≡ false = doubled-past p3 c4 d4 in
-          let d2 : doubled p2 ≡ false = doubled-past p2 c3 d3 in
-          let d1 : doubled p1 ≡ false = doubled-past p1 c2 d2 in
+          let d4 : has_double p4 ≡ false = sym n4.sees.twice ∙ once in
+          let d3 : has_double p3 ≡ false = doubled-past p3 c4 d4 in
+          let d2 : has_double p2 ≡ false = doubled-past p2 c3 d3 in
+          let d1 : has_double p1 ≡ false = doubled-past p1 c2 d2 in
           let later1 : hand_of seen4.hands s0 ≡ hand_of seen1.hands s0 = n4.others s0 (λ e. third-other s0 (sym e)) ∙ n3.others s0 (λ e. second-other s0 (sym e)) ∙ n2.others s0 (λ e. next-other s0 (sym e)) in
           let later2 : hand_of seen4.hands s1 ≡ hand_of seen2.hands s1 = n4.others s1 (λ e. second-other s1 (sym e)) ∙ n3.others s1 (λ e. next-other s1 (sym e)) in
           let later3 : hand_of seen4.hands s2 ≡ hand_of seen3.hands s2 = n4.others s2 (λ e. next-other s2 (sym e)) in

@@ -72,15 +72,15 @@ lacks-times (first ∷ cards) card none =
     times-cons first cards card ∙ rw parts.0 (omega (arith, rest))
 
 -- does a card stand twice?
-abbrev pub doubled : List PlayingCard → Bool
-doubled [] = false
-doubled (card ∷ cards) = has_card cards card || doubled cards
+abbrev pub has_double : List PlayingCard → Bool
+has_double [] = false
+has_double (card ∷ cards) = has_card cards card || has_double cards
 
 -- where some card comes twice, there is one
-pub doubled-some : (cards : List PlayingCard) → doubled cards ≡ true → (card : PlayingCard) × (2 ≤ times cards card)
+pub doubled-some : (cards : List PlayingCard) → has_double cards ≡ true → (card : PlayingCard) × (2 ≤ times cards card)
 doubled-some [] h = absurd (cc)
 doubled-some (first ∷ cards) h =
-    elim (or_cases (has_card cards first) (doubled cards) h) [
+    elim (or_cases (has_card cards first) (has_double cards) h) [
       | inl again ↦ (
         first,
         (
@@ -92,10 +92,10 @@ doubled-some (first ∷ cards) h =
     ]
 
 -- where none does, each card stands once at most
-pub doubled-none : (cards : List PlayingCard) → doubled cards ≡ false → (card : PlayingCard) → times cards card ≤ 1
+pub doubled-none : (cards : List PlayingCard) → has_double cards ≡ false → (card : PlayingCard) → times cards card ≤ 1
 doubled-none [] h card = omega arith
 doubled-none (first ∷ cards) h card =
-    let parts = or_parts (has_card cards first) (doubled cards) h in
+    let parts = or_parts (has_card cards first) (has_double cards) h in
     let rest = doubled-none cards parts.1 card in
     let e = times-cons first cards card in
     elim (cases_Bool (same_card first card)) [
@@ -107,15 +107,15 @@ doubled-none (first ∷ cards) h card =
     ]
 
 -- the cards noted so far, the last one first
-abbrev pub piled : List PlayingCard → List PlayingCard → List PlayingCard
-piled past [] = past
-piled past (card ∷ cards) = piled (card ∷ past) cards
+abbrev pub pile : List PlayingCard → List PlayingCard → List PlayingCard
+pile past [] = past
+pile past (card ∷ cards) = pile (card ∷ past) cards
 
 -- a card stands there as often as before and among the cards
-pub times-piled : (past cards : List PlayingCard) (card : PlayingCard) → times (piled past cards) card ≡ times past card + times cards card
-times-piled past [] card = omega arith
-times-piled past (first ∷ cards) card =
-    let ih = times-piled (first ∷ past) cards card in
+pub times-pile : (past cards : List PlayingCard) (card : PlayingCard) → times (pile past cards) card ≡ times past card + times cards card
+times-pile past [] card = omega arith
+times-pile past (first ∷ cards) card =
+    let ih = times-pile (first ∷ past) cards card in
     let one = times-cons first past card in
     let two = times-cons first cards card in
     omega arith
@@ -125,7 +125,7 @@ times-piled past (first ∷ cards) card =
 pub record Sees (past : List PlayingCard) (seen : Seen) : Type 0 where
   pub are : AreHands seen.hands
   pub free : (card : PlayingCard) → IsRank card.rank → is_free seen.hands card ≡ not (has_card past card)
-  pub twice : seen.twice ≡ doubled past
+  pub twice : seen.twice ≡ has_double past
 
 -- whether a card is free depends on which hands have it
 is_free-same : (xs ys : FourHands) (card : PlayingCard) → ((s : Seat) → has_card (hand_of xs s) card ≡ has_card (hand_of ys s) card) → is_free xs card ≡ is_free ys card
@@ -136,8 +136,8 @@ abbrev put : FourHands → Seat → PlayingCard → FourHands
 put hands seat card = with_hand hands seat (with_card (hand_of hands seat) card)
 
 -- what is seen with one more card, where it is free and where it is not
-abbrev noted : Bool → Seat → PlayingCard → Seen → Seen
-noted free seat card seen = cond free (record { hands = put seen.hands seat card; absent = seen.absent; twice = seen.twice }) (record { hands = seen.hands; absent = seen.absent; twice = true })
+abbrev seen_with : Bool → Seat → PlayingCard → Seen → Seen
+seen_with free seat card seen = cond free (record { hands = put seen.hands seat card; absent = seen.absent; twice = seen.twice }) (record { hands = seen.hands; absent = seen.absent; twice = true })
 
 -- the hand has the card that is put in, and those that it had
 pub has_card-put : (hands : FourHands) (seat : Seat) (card other : PlayingCard) → AreHands hands → IsRank other.rank
@@ -186,7 +186,7 @@ Sees-note past seat card seen real sees = go (is_free seen.hands card) refl
     known false e = let n : not (has_card past card) ≡ false = sym (sees.free card real) ∙ e in not-false (has_card past card) n
 
     go : (b : Bool) → is_free seen.hands card ≡ b
-        → Sees (card ∷ past) (noted b seat card seen)
+        → Sees (card ∷ past) (seen_with b seat card seen)
     go true e = record {
       are = AreHands-with_card seen.hands seat card sees.are (lacks seen.hands card e);
       free = λ other there. elim (cases_Bool (same_card card other)) [
@@ -205,7 +205,7 @@ Sees-note past seat card seen real sees = go (is_free seen.hands card) refl
     }
 
 -- cards one after another
-pub Sees-all : (past : List PlayingCard) (seat : Seat) (cards : List PlayingCard) (seen : Seen) → AllReal cards → Sees past seen → Sees (piled past cards) (note_all seat cards seen)
+pub Sees-all : (past : List PlayingCard) (seat : Seat) (cards : List PlayingCard) (seen : Seen) → AllReal cards → Sees past seen → Sees (pile past cards) (note_all seat cards seen)
 Sees-all past seat [] seen real sees = sees
 Sees-all past seat (card ∷ cards) seen real sees = Sees-all (card ∷ past) seat cards (note seat card seen) real.1 (Sees-note past seat card seen real.0 sees)
 
@@ -213,7 +213,7 @@ Sees-all past seat (card ∷ cards) seen real sees = Sees-all (card ∷ past) se
 pub absent-all : (seat : Seat) (cards : List PlayingCard) (seen : Seen) → (note_all seat cards seen).absent ≡ seen.absent
 absent-all seat [] seen = refl
 absent-all seat (card ∷ cards) seen = absent-all seat cards (note seat card seen) ∙ (
-    elim (is_free seen.hands card) as (λ b. (noted b seat card seen).absent ≡ seen.absent) [
+    elim (is_free seen.hands card) as (λ b. (seen_with b seat card seen).absent ≡ seen.absent) [
       | true ↦ refl
       | false ↦ refl
     ])
@@ -221,7 +221,7 @@ absent-all seat (card ∷ cards) seen = absent-all seat cards (note seat card se
 -- what is put into one hand changes no other
 others-note : (seat : Seat) (card : PlayingCard) (seen : Seen) (s : Seat) → AreHands seen.hands → s ≢ seat → hand_of (note seat card seen).hands s ≡ hand_of seen.hands s
 others-note seat card seen s are differs =
-    elim (is_free seen.hands card) as (λ b. hand_of (noted b seat card seen).hands s ≡ hand_of seen.hands s) [
+    elim (is_free seen.hands card) as (λ b. hand_of (seen_with b seat card seen).hands s ≡ hand_of seen.hands s) [
       | true ↦ hand_of-put seen.hands seat card s are differs
       | false ↦ refl
     ]
@@ -233,9 +233,9 @@ others-all past seat (card ∷ cards) seen s real sees differs =
     others-all (card ∷ past) seat cards (note seat card seen) s real.1 (Sees-note past seat card seen real.0 sees) differs ∙ others-note seat card seen s sees.are differs
 
 -- what came twice stays so
-pub doubled-past : (past cards : List PlayingCard) → doubled (piled past cards) ≡ false → doubled past ≡ false
+pub doubled-past : (past cards : List PlayingCard) → has_double (pile past cards) ≡ false → has_double past ≡ false
 doubled-past past [] h = h
-doubled-past past (card ∷ cards) h = (or_parts (has_card past card) (doubled past) (doubled-past (card ∷ past) cards h)).1
+doubled-past past (card ∷ cards) h = (or_parts (has_card past card) (has_double past) (doubled-past (card ∷ past) cards h)).1
 
 -- where no card comes twice, the hand has its cards and those before
 holds-note : (past : List PlayingCard) (seat : Seat) (card : PlayingCard) (seen : Seen) (other : PlayingCard) → IsRank card.rank → IsRank other.rank → Sees past seen → has_card past card ≡ false
@@ -256,11 +256,11 @@ or-turn false false true = refl
 or-turn false false false = refl
 
 -- the same of cards one after another
-pub holds-all : (past : List PlayingCard) (seat : Seat) (cards : List PlayingCard) (seen : Seen) (other : PlayingCard) → AllReal cards → IsRank other.rank → Sees past seen → doubled (piled past cards) ≡ false
+pub holds-all : (past : List PlayingCard) (seat : Seat) (cards : List PlayingCard) (seen : Seen) (other : PlayingCard) → AllReal cards → IsRank other.rank → Sees past seen → has_double (pile past cards) ≡ false
     → has_card (hand_of (note_all seat cards seen).hands seat) other ≡ (has_card cards other || has_card (hand_of seen.hands seat) other)
 holds-all past seat [] seen other real there sees single = refl
 holds-all past seat (card ∷ cards) seen other real there sees single =
-    let new = (or_parts (has_card past card) (doubled past) (doubled-past (card ∷ past) cards single)).0 in
+    let new = (or_parts (has_card past card) (has_double past) (doubled-past (card ∷ past) cards single)).0 in
     holds-all (card ∷ past) seat cards (note seat card seen) other real.1 there (Sees-note past seat card seen real.0 sees) single
     ∙ ap (λ b. has_card cards other || b) (holds-note past seat card seen other real.0 there sees new)
     ∙ or-turn (same_card card other) (has_card (hand_of seen.hands seat) other) (has_card cards other)

@@ -194,9 +194,9 @@ pub record Reads (Form : Value → Type 0) (read : Option Seen) : Type 0 where
   pub complete : (value : Value) → Form value → read ≡ Some (seen_of value)
 
 -- the end is reached only where nothing is left
-ended : (text : List ℕ) (seen new : Seen) → cond (at_end text) (Some seen) None ≡ Some new → (text ≡ []) × (seen ≡ new)
+only-at_end : (text : List ℕ) (seen new : Seen) → cond (at_end text) (Some seen) None ≡ Some new → (text ≡ []) × (seen ≡ new)
 unfolding at_end
-ended text seen new h =
+only-at_end text seen new h =
     let c = cond_some (length text == 0) seen new h in
     (nil_from_length text (eqb-true (length text) 0 c.0), c.1)
 
@@ -211,7 +211,7 @@ Reads-value text =
     record {
       sound = λ seen h.
           let b = bind-some (value_at text) (λ read. cond (at_end read.1) (Some read.0) None) seen h in
-          let end = ended b.0.1 b.0.0 seen b.2 in
+          let end = only-at_end b.0.1 b.0.0 seen b.2 in
           let v = value-sound text b.0 b.1 in
           let whole = nothing-left text v.front b.0.1 v.spelled end.0 in
           (v.value, subst (λ (t : List ℕ). IsValue t v.value) (sym whole) v.is, sym end.1 ∙ v.noted);
@@ -287,7 +287,7 @@ tag-sound text seen h =
     let b2 = bind-some (name_at (after_blanks b1.0)) (λ name. quoted_at (after_blanks name) >>= (λ value. byte_at 93 (after_blanks value.1) >>= last value)) seen b1.2 in
     let b3 = bind-some (quoted_at (after_blanks b2.0)) (λ value. byte_at 93 (after_blanks value.1) >>= last value) seen b2.2 in
     let b4 = bind-some (byte_at 93 (after_blanks b3.0.1)) (last b3.0) seen b3.2 in
-    let end = ended (after_blanks b4.0) b3.0.0 seen b4.2 in
+    let end = only-at_end (after_blanks b4.0) b3.0.0 seen b4.2 in
     let before = blanks-sound text in
     let before_name = blanks-sound b1.0 in
     let name = name-sound (after_blanks b1.0) b2.0 b2.1 in

@@ -15,7 +15,7 @@ use Rattle.dd_cards.specs.Hands.{hand_of, times, IsSet, AreHands, FourHands}
 use Rattle.dd_cards.proofs.CallerLemmas.{IsRank-from, at-most-one, real_deck, set-by-suits, suit_code-injective, times-has_card}
 use Rattle.dd_pbn.specs.Letters.{letter_of}
 use Rattle.dd_pbn.specs.Values.{HandText, suits, IsSuit, IsHand, hand_bytes, Value}
-use Rattle.dd_pbn.specs.Deals.{cards_of_suit, cards_of_hand, cards_of_value, DealText, suit_text, hand_text, written}
+use Rattle.dd_pbn.specs.Deals.{cards_of_suit, cards_of_hand, cards_of_value, DealText, suit_text, hand_text, text_of_deal}
 use Rattle.dd_pbn.proofs.Bytes.{is_letter, rank_of-letter}
 use Rattle.dd_pbn.proofs.HandTexts.{hand_bytes-right}
 use Rattle.dd_pbn.proofs.ValueTexts.{value-right}
@@ -100,9 +100,9 @@ abbrev value_of_deal : FourHands → Value
 value_of_deal deal = record { first = North; hand1 = text_of (hand_of deal North); hand2 = text_of (hand_of deal East); hand3 = text_of (hand_of deal South); hand4 = text_of (hand_of deal West) }
 
 -- N, a colon, and four texts with a space between each two
-spaced : (a b c d : List ℕ) → 78 ∷ (58 ∷ (a ++ (32 ∷ (b ++ (32 ∷ (c ++ (32 ∷ d)))))))
+with_spaces : (a b c d : List ℕ) → 78 ∷ (58 ∷ (a ++ (32 ∷ (b ++ (32 ∷ (c ++ (32 ∷ d)))))))
     ≡ [] ++ 78 ∷ codes ":" ++ [] ++ a ++ (32 ∷ []) ++ b ++ (32 ∷ []) ++ c ++ (32 ∷ []) ++ d ++ []
-spaced a b c d =
+with_spaces a b c d =
     let whole = [] ++ 78 ∷ codes ":" ++ [] ++ a ++ (32 ∷ []) ++ b ++ (32 ∷ []) ++ c ++ (32 ∷ []) ++ d ++ [] in
     let right : 78 ∷ (58 ∷ (a ++ (32 ∷ (b ++ (32 ∷ (c ++ (32 ∷ (d ++ [])))))))) ≡ whole = sym (value-right [] 78 [] a (32 ∷ []) b (32 ∷ []) c (32 ∷ []) d [] []) ∙ append-nil whole in
     ap (λ (t : List ℕ). 78 ∷ (58 ∷ (a ++ (32 ∷ (b ++ (32 ∷ (c ++ (32 ∷ t)))))))) (sym (append-nil d)) ∙ right
@@ -110,7 +110,7 @@ spaced a b c d =
 -- the same with equal texts
 written-form : (n e s w n' e' s' w' : List ℕ) → n ≡ n' → e ≡ e' → s ≡ s' → w ≡ w' → 78 ∷ (58 ∷ (n ++ (32 ∷ (e ++ (32 ∷ (s ++ (32 ∷ w)))))))
     ≡ [] ++ 78 ∷ codes ":" ++ [] ++ n' ++ (32 ∷ []) ++ e' ++ (32 ∷ []) ++ s' ++ (32 ∷ []) ++ w' ++ []
-written-form n e s w n' e' s' w' p q r t = rw (p, q, r, t) (spaced n' e' s' w')
+written-form n e s w n' e' s' w' p q r t = rw (p, q, r, t) (with_spaces n' e' s' w')
 
 -- no card stands twice in four hands
 once : (deal : FourHands) → AreHands deal → (card : PlayingCard) → times (hand_of deal North ++ hand_of deal East ++ hand_of deal South ++ hand_of deal West) card ≤ 1
@@ -132,7 +132,7 @@ once deal are card =
     omega (arith, one, tn, te, ts, tw, two, three, four)
 
 -- what is written spells the deal
-pub written-spells : (deal : FourHands) → AreHands deal → DealText (written deal) deal
+pub written-spells : (deal : FourHands) → AreHands deal → DealText (text_of_deal deal) deal
 written-spells deal are =
     let n = hand_of deal North in
     let e = hand_of deal East in

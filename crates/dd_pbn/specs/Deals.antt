@@ -80,5 +80,5 @@ abbrev pub hand_text : List PlayingCard → List ℕ
 hand_text cards = join_with_byte 46 (map (suit_text cards) (Spades ∷ Hearts ∷ Diamonds ∷ Clubs ∷ []))
 
 -- N, a colon, and the hands of North, East, South and West with a space between each two
-abbrev pub written : FourHands → List ℕ
-written hands = codes "N:" ++ join_with_byte 32 (hand_text hands.north ∷ hand_text hands.east ∷ hand_text hands.south ∷ hand_text hands.west ∷ [])
+abbrev pub text_of_deal : FourHands → List ℕ
+text_of_deal hands = codes "N:" ++ join_with_byte 32 (hand_text hands.north ∷ hand_text hands.east ∷ hand_text hands.south ∷ hand_text hands.west ∷ [])

@@ -1,9 +1,9 @@
 -- The form of the value of a tag Deal, and of the tag (PBN 2.1, tag Deal). A blank is a space or a tab.
-use Rattle.std.specs.Prelude.{◌≡◌, ℕ, ◌<◌, List, ◌∷◌, ◌++◌, map, length, codes, is_some, IsTrue}
+use Rattle.std.specs.Prelude.{◌≡◌, ℕ, ◌<◌, ◌==◌, Bool, false, List, [], ◌∷◌, ◌++◌, map, length, codes, is_some, IsTrue, if◌then◌else◌}
 use Rattle.std.specs.List.{list_all}
 use Rattle.std.specs.Char.{to_ascii_uppercase}
 use Rattle.dd_cards.specs.declared.seat.Seat.{Seat}
-use Rattle.dd_pbn.specs.Letters.{rank_of, seat_letter, AreBlanks}
+use Rattle.dd_pbn.specs.Letters.{rank_of, seat_letter, is_blank, AreBlanks}
 
 -- a hand as it is written: the letters of its spades, hearts, diamonds and clubs, or a dash
 pub data HandText : Type 0 where
@@ -50,6 +50,11 @@ pub record IsValue (text : List ℕ) (value : Value) : Type 0 where
   pub hands : IsHand value.hand1 × IsHand value.hand2 × IsHand value.hand3 × IsHand value.hand4
   pub blanks : AreBlanks before × AreBlanks after × AreBlanks trail
   pub gaps : IsGap gap2 × IsGap gap3 × IsGap gap4
+
+-- is the text to be read as a tag: is [ the first byte that is no blank?
+abbrev pub begins_tag : List ℕ → Bool
+begins_tag [] = false
+begins_tag (byte ∷ text) = (if is_blank byte then begins_tag text else byte == 91)
 
 -- the text is the tag Deal with this value: blanks, [, blanks, the name, blanks, a quoted value, blanks, ], and blanks
 pub record IsTag (text : List ℕ) (value : Value) : Type 0 where

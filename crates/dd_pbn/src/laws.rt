@@ -1,7 +1,7 @@
 ghost use Rattle.std.specs.Prelude.{◌≡◌, ℕ, List, codes};
 ghost use Rattle.dd_cards.specs.PlayingCard.{PlayingCard};
 ghost use Rattle.dd_cards.specs.Hands.{FourHands, AreHands};
-ghost use Rattle.dd_pbn.specs.Deals.{DealText, DealFault, TagText, written};
+ghost use Rattle.dd_pbn.specs.Deals.{DealText, DealFault, TagText, text_of_deal};
 ghost use Rattle.dd_pbn.specs.Examples.{eight_spades, two_suits};
 
 use crate::fault::PbnFault;
@@ -18,8 +18,8 @@ pub fn one_deal_of_a_tag()
 
 /// What is written of a deal spells this deal, and no other.
 pub fn written_is_read()
-    ensures spells { (deal : FourHands) → AreHands deal → DealText (written deal) deal }
-    ensures only { (deal other : FourHands) → AreHands deal → AreHands other → DealText (written deal) other → other ≡ deal }
+    ensures spells { (deal : FourHands) → AreHands deal → DealText (text_of_deal deal) deal }
+    ensures only { (deal other : FourHands) → AreHands deal → AreHands other → DealText (text_of_deal deal) other → other ≡ deal }
 {}
 
 /// Texts worked by hand. Where a hand is left out and a card stands twice, the hand that is left out is the fault.
@@ -28,7 +28,7 @@ pub fn worked_texts()
     ensures from_north { DealText (codes "N:32... K4... AQ... 65...") eight_spades }
     ensures from_east { DealText (codes "e:k4... aq... 65... 32...") eight_spades }
     ensures tag { TagText (codes "[Deal \"e:k4... aq... 65... 32...\"]") eight_spades }
-    ensures writes { written eight_spades ≡ codes "N:32... K4... AQ... 65..." }
+    ensures writes { text_of_deal eight_spades ≡ codes "N:32... K4... AQ... 65..." }
     ensures hands { AreHands eight_spades × AreHands two_suits }
     ensures three_suits { DealFault (codes "N:A.. K... Q... J...") PbnFault.Grammar }
     ensures left_out { DealFault (codes "N:A... - Q... J...") PbnFault.Absent }

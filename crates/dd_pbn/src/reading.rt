@@ -2,6 +2,7 @@ ghost use Rattle.std.specs.Prelude.{◌≡◌, ◌↔◌, List, Ok, Err, IfOk, i
 ghost use Rattle.dd_cards.specs.PlayingCard.{PlayingCard};
 ghost use Rattle.dd_cards.specs.Hands.{FourHands, AreHands};
 ghost use Rattle.dd_pbn.specs.Deals.{DealText, DealFault, TagText, TagFault};
+ghost use Rattle.dd_pbn.specs.Values.{begins_tag};
 ghost use Rattle.dd_pbn.specs.Reading.{Gives, after_blanks, gap_at, byte_at, letter_at, name_at, seat_at, suit_at, next_suit, hand_at, next_hand, hands_at, value_at, value_of, quoted_at, tag_of};
 
 use crate::fault::PbnFault;
@@ -35,6 +36,13 @@ pub fn read_tag(text: &[u8]) -> Result<Hands, PbnFault>
     ensures fault { (fault : PbnFault) → (result ≡ Err fault) ↔ TagFault text.now fault }
 {
     outcome(seen_in_tag(text))
+}
+
+/// Whether a text is to be read as a tag, and else as a value: `[` is its first byte that is no blank.
+pub fn begins_tag(text: &[u8]) -> bool
+    ensures { result ≡ begins_tag text.now }
+{
+    after_byte(b'[', after_blanks(text)).is_some()
 }
 
 // ---- Each reader answers the text after what it read, or None where the text has not the form. Its contract names the

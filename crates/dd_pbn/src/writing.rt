@@ -1,5 +1,5 @@
 ghost use Rattle.std.specs.Prelude.{◌≡◌, ◌++◌, IfOk, OnOk, string_bytes};
-ghost use Rattle.dd_pbn.specs.Deals.{written, hand_text, suit_text};
+ghost use Rattle.dd_pbn.specs.Deals.{text_of_deal, hand_text, suit_text};
 
 use crate::letters::letter_of;
 use dd_cards::{Hand, Hands, Seat, Suit};
@@ -12,7 +12,7 @@ const LONGEST: usize = 69;
 /// hand is its spades, hearts, diamonds and clubs with a point between each two, ranks falling, in upper case (PBN 2.1,
 /// tag Deal). `read_deal` reads it back. An error means that memory ran out.
 pub fn write_deal(alloc: Global, hands: &Hands) -> Result<String, AllocError>
-    ensures { IfOk result (λ text. string_bytes text ≡ written hands.now) }
+    ensures { IfOk result (λ text. string_bytes text ≡ text_of_deal hands.now) }
 {
     let mut text = String::with_capacity(alloc, LONGEST)?;
     text.push_str("N:")?;

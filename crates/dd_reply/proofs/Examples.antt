@@ -13,9 +13,8 @@ use Rattle.dd_cards.specs.Cards.{card_of}
 use Rattle.dd_play.specs.Board.{Board}
 use Rattle.dd_play.specs.Value.{ns_within}
 use Rattle.dd_reply.specs.declared.fault.Fault.TheVariants.{NoCard}
-use Rattle.dd_reply.specs.Answers.{ScoredClass, answer, all_scores}
+use Rattle.dd_reply.specs.ScoredClasses.{ScoredClass, answer, all_scores}
 use Rattle.dd_reply.specs.Replies.{class_text, reply_text}
-use Rattle.dd_reply.specs.Lines.{lines}
 
 -- four hands, from North clockwise, the strain, the seat that leads, and the trick
 abbrev board : List PlayingCard → List PlayingCard → List PlayingCard → List PlayingCard → Strain → Seat → List PlayingCard → Board
@@ -95,11 +94,3 @@ fault-spelled = refl
 answer-spelled : reply_text (Ok (record { board = board (spade 14 ∷ []) (spade 13 ∷ []) (spade 12 ∷ []) (spade 11 ∷ []) Notrump North []; solutions = 3 })) ≡ codes "{\"cards\":[{\"equals\":0,\"rank\":14,\"score\":1,\"suit\":0}]}"
 unfolding ns_within all_scores digits
 answer-spelled = refl
-
--- a line feed ends a line, and a last part without one is a line
-lines-cut : lines (codes "a\n\nbc") ≡ codes "a" ∷ [] ∷ codes "bc" ∷ []
-lines-cut = refl
-
--- nothing follows the last line feed
-no-last-line : lines (codes "a\n") ≡ codes "a" ∷ []
-no-last-line = refl

@@ -28,9 +28,10 @@ use Rattle.dd_pbn.specs.Values.{IsTag}
 use Rattle.dd_pbn.proofs.CallerLemmas.{Reads-tag, deal-decided, decided}
 use Rattle.dd_play.specs.Board.{Board, board_of, times_in, NoneTwice, IsEven, left, cards_at}
 use Rattle.dd_play.proofs.CallerLemmas.{times_in-once}
+use Rattle.dd_pbn.specs.Values.{begins_tag}
 use Rattle.dd_reply.specs.declared.fault.Fault.{Fault}
 use Rattle.dd_reply.specs.declared.fault.Fault.TheVariants.{LineTooLong, NotAnObject, WrongField, CardTwice, WrongTrump, WrongFirst, WrongPlayed, WrongSolutions, UnevenHands, NoCard, OutOfMemory}
-use Rattle.dd_reply.specs.Requests.{SolveFields, Asked, Means, MeansFields, MeansHands, MeansBoard, IsAskedOf, SpellsDeal, SpellsNone, deal_fault, begins_tag, are_cards, pair_of_card, longest_line, object_of, solve_fields}
+use Rattle.dd_reply.specs.Requests.{SolveFields, Asked, Means, MeansFields, MeansHands, MeansBoard, IsAskedOf, SpellsDeal, SpellsNone, deal_fault, are_cards, pair_of_card, longest_line, object_of, solve_fields}
 use Rattle.dd_reply.proofs.Pairs.{is_card}
 use Rattle.dd_reply.proofs.Starts.{means-twice, means-uneven, means-empty, means-some}
 

@@ -24,18 +24,18 @@ object_of-refused line refused =
     at (is_utf8 line) refl
 
 -- what holds of a value that was read holds of it once the error is turned
-pub turned-ok : {T E D : Type 0} (result : Result T E) (turned : Result T D) (Q : E → D → Type 0) (P R : T → Type 0)
+pub map_err-ok : {T E D : Type 0} (result : Result T E) (turned : Result T D) (Q : E → D → Type 0) (P R : T → Type 0)
     → MatchResult result (λ x. turned ≡ Ok x) (λ e. IsErrAnd turned (Q e)) → IfOk result P → ((x : T) → P x → R x) → IfOk turned R
-turned-ok (Ok x) turned Q P R is holds then-r = rw is (then-r x holds)
-turned-ok (Err e) (Err d) Q P R is holds then-r = tt
-turned-ok (Err e) (Ok y) Q P R is holds then-r = elim is [ ]
+map_err-ok (Ok x) turned Q P R is holds then-r = rw is (then-r x holds)
+map_err-ok (Err e) (Err d) Q P R is holds then-r = tt
+map_err-ok (Err e) (Ok y) Q P R is holds then-r = elim is [ ]
 
 -- and of an error, by what turns it
-pub turned-err : {T E D : Type 0} (result : Result T E) (turned : Result T D) (Q : E → D → Type 0) (P S : E → Type 0) (R : D → Type 0)
+pub map_err-err : {T E D : Type 0} (result : Result T E) (turned : Result T D) (Q : E → D → Type 0) (P S : E → Type 0) (R : D → Type 0)
     → MatchResult result (λ x. turned ≡ Ok x) (λ e. IsErrAnd turned (Q e)) → IfErr result P → IfErr result S → ((e : E) (d : D) → Q e d → P e → S e → R d) → IfErr turned R
-turned-err (Ok x) turned Q P S R is holds also then-r = rw is tt
-turned-err (Err e) (Err d) Q P S R is holds also then-r = then-r e d is holds also
-turned-err (Err e) (Ok y) Q P S R is holds also then-r = elim is [ ]
+map_err-err (Ok x) turned Q P S R is holds also then-r = rw is tt
+map_err-err (Err e) (Err d) Q P S R is holds also then-r = then-r e d is holds also
+map_err-err (Err e) (Ok y) Q P S R is holds also then-r = elim is [ ]
 
 -- what holds of each error that a result may be holds of its own
 pub at-each_err : {T E : Type 0} (result : Result T E) (P : E → Type 0) → ((e : E) → result ≡ Err e → P e) → IfErr result P

@@ -17,8 +17,9 @@ use Rattle.dd_pbn.specs.Reading.{outcome, value_of, tag_of}
 use Rattle.dd_pbn.specs.Values.{IsValue, IsTag}
 use Rattle.dd_pbn.proofs.CallerLemmas.{Reads-tag, Reads-value, failed-read, spelled-read}
 use Rattle.dd_play.specs.Board.{Board, board_of, left}
+use Rattle.dd_pbn.specs.Values.{begins_tag}
 use Rattle.dd_reply.specs.declared.fault.Fault.{Fault}
-use Rattle.dd_reply.specs.Requests.{SolveFields, Asked, Means, MeansFields, MeansHands, MeansBoard, IsAskedOf, deal_fault, begins_tag, are_cards, pair_of_card, longest_line, object_of, solve_fields}
+use Rattle.dd_reply.specs.Requests.{SolveFields, Asked, Means, MeansFields, MeansHands, MeansBoard, IsAskedOf, deal_fault, are_cards, pair_of_card, longest_line, object_of, solve_fields}
 use Rattle.dd_reply.proofs.Meanings.{none-twice-decided, even-decided}
 
 abbrev Meaning : Type 0
@@ -98,17 +99,17 @@ one-hands fields hands are =
 
 -- ---- the deal
 -- what reading a text of one of the two forms gives
-told : Bool → List ℕ → Result FourHands PbnFault
-told true text = outcome (tag_of text)
-told false text = outcome (value_of text)
+reading_of : Bool → List ℕ → Result FourHands PbnFault
+reading_of true text = outcome (tag_of text)
+reading_of false text = outcome (value_of text)
 
-spelled-told : (b : Bool) (text : List ℕ) (hands : FourHands) → AreHands hands → MatchBool b (deals.TagText text hands) (deals.DealText text hands) → told b text ≡ Ok hands
-unfolding told
+spelled-told : (b : Bool) (text : List ℕ) (hands : FourHands) → AreHands hands → MatchBool b (deals.TagText text hands) (deals.DealText text hands) → reading_of b text ≡ Ok hands
+unfolding reading_of
 spelled-told true text hands are spelled = spelled-read (IsTag text) (tag_of text) (Reads-tag text) hands are spelled
 spelled-told false text hands are spelled = spelled-read (IsValue text) (value_of text) (Reads-value text) hands are spelled
 
-none-told : (b : Bool) (text : List ℕ) (fault : PbnFault) → MatchBool b (deals.TagFault text fault) (deals.DealFault text fault) → told b text ≡ Err fault
-unfolding told
+none-told : (b : Bool) (text : List ℕ) (fault : PbnFault) → MatchBool b (deals.TagFault text fault) (deals.DealFault text fault) → reading_of b text ≡ Err fault
+unfolding reading_of
 none-told true text fault none = failed-read (IsTag text) (tag_of text) (Reads-tag text) fault none
 none-told false text fault none = failed-read (IsValue text) (value_of text) (Reads-value text) fault none
 
@@ -125,17 +126,17 @@ ok-or-err result x y is_x is_y = cc
 one-fields : (fields : SolveFields) → AtMostOne (MeansFields fields)
 one-fields fields a b (inl (h, are_h, spelled_h, means_h)) (inl (k, are_k, spelled_k, means_k)) =
     let tag = begins_tag fields.deal in
-    let same : k ≡ h = ok-same (told tag fields.deal) k h (spelled-told tag fields.deal k are_k spelled_k) (spelled-told tag fields.deal h are_h spelled_h) in
+    let same : k ≡ h = ok-same (reading_of tag fields.deal) k h (spelled-told tag fields.deal k are_k spelled_k) (spelled-told tag fields.deal h are_h spelled_h) in
     one-hands fields h are_h a b means_h (subst (λ (hands : FourHands). MeansHands fields hands b) same means_k)
 one-fields fields a b (inl (h, are, spelled, means)) (inr (fault, none, is)) =
     let tag = begins_tag fields.deal in
-    absurd (ok-or-err (told tag fields.deal) h fault (spelled-told tag fields.deal h are spelled) (none-told tag fields.deal fault none))
+    absurd (ok-or-err (reading_of tag fields.deal) h fault (spelled-told tag fields.deal h are spelled) (none-told tag fields.deal fault none))
 one-fields fields a b (inr (fault, none, is)) (inl (h, are, spelled, means)) =
     let tag = begins_tag fields.deal in
-    absurd (ok-or-err (told tag fields.deal) h fault (spelled-told tag fields.deal h are spelled) (none-told tag fields.deal fault none))
+    absurd (ok-or-err (reading_of tag fields.deal) h fault (spelled-told tag fields.deal h are spelled) (none-told tag fields.deal fault none))
 one-fields fields a b (inr (f, none_f, is_f)) (inr (g, none_g, is_g)) =
     let tag = begins_tag fields.deal in
-    let same : f ≡ g = err-same (told tag fields.deal) f g (none-told tag fields.deal f none_f) (none-told tag fields.deal g none_g) in
+    let same : f ≡ g = err-same (reading_of tag fields.deal) f g (none-told tag fields.deal f none_f) (none-told tag fields.deal g none_g) in
     is_f ∙ ap (λ fault. Err (deal_fault fault)) same ∙ sym is_g
 
 -- ---- the line

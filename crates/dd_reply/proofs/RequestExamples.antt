@@ -15,8 +15,9 @@ use Rattle.dd_pbn.specs.Examples.{eight_spades, two_suits}
 use Rattle.dd_pbn.proofs.CallerLemmas.{spades-and-hearts, tag-from-east}
 use Rattle.dd_play.specs.Board.{board_of, NoneTwice, IsEven}
 use Rattle.dd_play.proofs.CallerLemmas.{times_in-once}
+use Rattle.dd_pbn.specs.Values.{begins_tag}
 use Rattle.dd_reply.specs.declared.fault.Fault.TheVariants.{CardTwice}
-use Rattle.dd_reply.specs.Requests.{SolveFields, MeansBoard, object_of, solve_fields, are_cards, begins_tag}
+use Rattle.dd_reply.specs.Requests.{SolveFields, MeansBoard, object_of, solve_fields, are_cards}
 use Rattle.dd_reply.proofs.Starts.{means-twice, means-some}
 
 -- the fields of a line

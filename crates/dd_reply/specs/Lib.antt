@@ -1,10 +1,6 @@
 pub mod Faults
 pub mod Requests
 pub mod Reading
-pub mod Answers
+pub mod ScoredClasses
 pub mod Classes
 pub mod Replies
-pub mod Lines
-pub mod Line
-pub mod Counting
-pub mod Served

@@ -1,11 +1,12 @@
 -- The text of a reply: JSON without spaces, keys in the order of their bytes.
-use Rattle.std.specs.Prelude.{ℕ, List, ◌++◌, map, codes, decimal, Result, Ok, Err}
+use Rattle.std.specs.Prelude.{◌≡◌, ℕ, ◌<◌, ◌≤◌, ◌⊎◌, List, ◌++◌, map, length, codes, decimal, Option, IsSome, Result, Ok, Err}
 use Rattle.std.specs.List.{join_with_byte}
 use Rattle.dd_cards.specs.Suits.{suit_code}
 use Rattle.dd_reply.specs.declared.fault.Fault.{Fault}
+use Rattle.dd_reply.specs.declared.fault.Fault.TheVariants.{OutOfMemory}
 use Rattle.dd_reply.specs.Faults.{fault_number}
-use Rattle.dd_reply.specs.Requests.{Asked}
-use Rattle.dd_reply.specs.Answers.{ScoredClass, answer}
+use Rattle.dd_reply.specs.Requests.{Asked, Means, longest_line}
+use Rattle.dd_reply.specs.ScoredClasses.{ScoredClass, answer}
 
 -- {"equals":e,"rank":r,"score":n,"suit":s}
 abbrev pub class_text : ScoredClass → List ℕ
@@ -25,7 +26,19 @@ fault_text fault = codes "{\"fault\":" ++ decimal (fault_number fault) ++ codes 
 abbrev pub spent_text : List ℕ
 spent_text = codes "{\"state\":\"spent\"}"
 
+-- the text of the answer to what is asked
+abbrev pub asked_text : Asked → List ℕ
+asked_text asked = answer_text (answer asked.board asked.solutions)
+
 -- the reply to a line of this meaning
 abbrev pub reply_text : Result Asked Fault → List ℕ
-reply_text (Ok asked) = answer_text (answer asked.board asked.solutions)
+reply_text (Ok asked) = asked_text asked
 reply_text (Err fault) = fault_text fault
+
+-- The text is the reply to the line: what its meaning is answered with; that memory ran out while it was read; or, with a
+-- budget, that this was spent in a search for the answer.
+abbrev pub IsReply : Option ℕ → List ℕ → List ℕ → Type 0
+IsReply budget line text =
+    ((meaning : Result Asked Fault) × Means line meaning × (text ≡ reply_text meaning))
+    ⊎ ((0 < length line) × (length line ≤ longest_line) × (text ≡ fault_text OutOfMemory))
+    ⊎ ((asked : Asked) × Means line (Ok asked) × IsSome budget × (text ≡ spent_text))

@@ -14,15 +14,17 @@ use Rattle.dd_cards.specs.Strains.{strain_code}
 use Rattle.dd_cards.specs.Hands.{FourHands, AreHands}
 use Rattle.dd_pbn.specs.declared.fault.PbnFault.{PbnFault}
 use Rattle.dd_pbn.specs.declared.fault.PbnFault.TheVariants.{Grammar, Absent, Twice}
-use Rattle.dd_pbn.specs.Letters.{is_blank}
+use Rattle.dd_pbn.specs.Reading.{◌>>=◌}
+use Rattle.dd_pbn.specs.Values.{begins_tag}
 use Rattle.dd_pbn.specs.Deals as deals
 use Rattle.dd_play.specs.Board.{Board, NoneTwice, IsEven, left}
 use Rattle.dd_reply.specs.declared.fault.Fault.{Fault}
+use Rattle.dd_reply.specs.declared.request_reader.TheConstants.{LONGEST_LINE}
 use Rattle.dd_reply.specs.declared.fault.Fault.TheVariants.{LineTooLong, NotAnObject, WrongField, DealText, HandLeftOut, CardTwice, WrongTrump, WrongFirst, WrongPlayed, WrongSolutions, UnevenHands, NoCard}
 
 -- the most bytes of a request line
 abbrev pub longest_line : ℕ
-longest_line = 4096
+longest_line = LONGEST_LINE
 
 -- the fields of a request to solve; the cards played as pairs of a suit's code and a rank
 pub record SolveFields : Type 0 where
@@ -62,13 +64,23 @@ whole_number_at members key = option_and_then whole_number (get_member key membe
 abbrev pub pair_of : Items → Option (ℕ × ℕ)
 pair_of no_items = None
 pair_of (item suit no_items) = None
-pair_of (item suit (item rank no_items)) = option_and_then (λ s. option_and_then (λ r. Some (s, r)) (whole_number rank)) (whole_number suit)
+pair_of (item suit (item rank no_items)) = do
+  suit ← whole_number suit
+  rank ← whole_number rank
+  Some (suit, rank)
 pair_of (item suit (item rank (item other rest))) = None
 
--- a list of such lists
+-- a value that is such a list
+abbrev pub pair_of_value : Data → Option (ℕ × ℕ)
+pair_of_value value = as_array value >>= pair_of
+
+-- a list of such values
 abbrev pub pairs_of : Items → Option (List (ℕ × ℕ))
 pairs_of no_items = Some []
-pairs_of (item value rest) = option_and_then (λ pair. option_and_then (λ pairs. Some (pair ∷ pairs)) (pairs_of rest)) (option_and_then pair_of (as_array value))
+pairs_of (item value rest) = do
+  pair ← pair_of_value value
+  pairs ← pairs_of rest
+  Some (pair ∷ pairs)
 
 -- the pairs at this key, and none where the key is left out
 abbrev pub pairs_at : Members → List ℕ → Option (List (ℕ × ℕ))
@@ -87,21 +99,17 @@ are_known keys = list_all (λ key. list_any (bytes_eq key) solve_keys) keys
 
 -- the fields, where all of them are there, each of its kind, and no other is
 abbrev pub solve_fields : Members → Option SolveFields
-solve_fields members =
-    (if are_known (keys_of members)
-    then option_and_then (λ task. (if bytes_eq task (codes "solve")
-    then option_and_then (λ deal. option_and_then (λ trump. option_and_then (λ first. option_and_then (λ played. option_and_then (λ solutions.
-    Some (record { deal = deal; trump = trump; first = first; played = played; solutions = solutions }))
-    (whole_number_at members (codes "solutions"))) (pairs_at members (codes "played"))) (whole_number_at members (codes "first"))) (whole_number_at members (codes "trump"))) (text_at members (codes "deal"))
-    else None)) (text_at members (codes "do"))
-    else None)
+solve_fields members = if are_known (keys_of members) then (do
+  task ← text_at members (codes "do")
+  if bytes_eq task (codes "solve") then (do
+    deal ← text_at members (codes "deal")
+    trump ← whole_number_at members (codes "trump")
+    first ← whole_number_at members (codes "first")
+    played ← pairs_at members (codes "played")
+    solutions ← whole_number_at members (codes "solutions")
+    Some (record { deal = deal; trump = trump; first = first; played = played; solutions = solutions })) else None) else None
 
 -- ---- the deal
-
--- is [ the first byte that is no blank?
-abbrev pub begins_tag : List ℕ → Bool
-begins_tag [] = false
-begins_tag (byte ∷ text) = (if is_blank byte then begins_tag text else byte == 91)
 
 -- the text of a deal, as a tag where it begins as one, and else as a value
 abbrev pub SpellsDeal : List ℕ → FourHands → Type 0

@@ -1,26 +1,22 @@
-//! Requests as lines of JSON, their answers, and the engine that answers the lines of a stream.
+//! Requests as lines of JSON, their answers, and the replies that tell them.
 #![tactic(auto)]
 
 mod answer;
-mod counting;
-mod engine;
 mod fault;
 mod laws;
-mod line;
+mod line_reply;
 mod reply;
 mod request;
 mod request_reader;
 mod solving;
 
 pub use answer::{Answer, Scored};
-pub use counting::Counting;
-pub use engine::{LineFault, solve_lines};
 pub use fault::Fault;
 pub use laws::{one_meaning, worked_lines};
-pub use line::{LONGEST_LINE, Line};
-pub use reply::{LONGEST_REPLY, write_answer, write_fault, write_spent};
+pub use line_reply::reply_to_line;
+pub use reply::{LONGEST_REPLY, Reply, write_answer, write_fault, write_spent};
 pub use request::Request;
-pub use request_reader::read_request;
+pub use request_reader::{LONGEST_LINE, read_request};
 pub use solving::{Solved, solve};
 
 #[cfg(test)]

@@ -11,9 +11,16 @@ use itoa::Buffer;
 /// The most bytes of a reply without its line feed.
 pub const LONGEST_REPLY: usize = 1_024;
 
+/// The most bytes of a reply with its line feed.
+const LONGEST_REPLY_LINE: usize = LONGEST_REPLY + 1;
+
+/// The text of a reply, with room for its line feed.
+pub type Reply = ArrayString<LONGEST_REPLY_LINE>;
+
 /// The reply to a request that has no answer: `{"fault":n}`.
-pub fn write_fault(fault: Fault) -> ArrayString<LONGEST_REPLY>
-    ensures { result.bytes ≡ fault_text fault }
+pub fn write_fault(fault: Fault) -> Reply
+    ensures text { result.bytes ≡ fault_text fault }
+    ensures bound { array_string_len result ≤ LONGEST_REPLY }
 {
     let mut text = ArrayString::new();
     text.push_str("{\"fault\":");
@@ -23,8 +30,9 @@ pub fn write_fault(fault: Fault) -> ArrayString<LONGEST_REPLY>
 }
 
 /// The reply to a request whose budget was spent before there was an answer: `{"state":"spent"}`.
-pub fn write_spent() -> ArrayString<LONGEST_REPLY>
-    ensures { result.bytes ≡ spent_text }
+pub fn write_spent() -> Reply
+    ensures text { result.bytes ≡ spent_text }
+    ensures bound { array_string_len result ≤ LONGEST_REPLY }
 {
     let mut text = ArrayString::new();
     text.push_str("{\"state\":\"spent\"}");
@@ -33,8 +41,9 @@ pub fn write_spent() -> ArrayString<LONGEST_REPLY>
 
 /// The reply to a request that has an answer: `{"cards":[C,C,..]}`, each class C as
 /// `{"equals":mask,"rank":rank,"score":tricks,"suit":suit}`, in the order of the answer.
-pub fn write_answer(answer: &Answer) -> ArrayString<LONGEST_REPLY>
-    ensures { result.bytes ≡ answer_text answer.now.items }
+pub fn write_answer(answer: &Answer) -> Reply
+    ensures text { result.bytes ≡ answer_text answer.now }
+    ensures bound { array_string_len result ≤ LONGEST_REPLY }
 {
     let mut text = ArrayString::new();
     text.push_str("{\"cards\":[");
@@ -49,8 +58,8 @@ pub fn write_answer(answer: &Answer) -> ArrayString<LONGEST_REPLY>
 }
 
 // Appends the text of a class.
-fn push_class(text: &mut ArrayString<LONGEST_REPLY>, scored: &Scored)
-    requires { array_string_len text.old + 56 ≤ 1024 }
+fn push_class(text: &mut Reply, scored: &Scored)
+    requires { array_string_len text.old + 56 ≤ LONGEST_REPLY }
     ensures bytes { text.new.bytes ≡ text.old.bytes ++ class_text scored.now }
     ensures bound { array_string_len text.new ≤ array_string_len text.old + 56 }
 {
@@ -67,8 +76,8 @@ fn push_class(text: &mut ArrayString<LONGEST_REPLY>, scored: &Scored)
 }
 
 // Appends a number in decimal.
-fn push_number(text: &mut ArrayString<LONGEST_REPLY>, number: u16)
-    requires { array_string_len text.old + 5 ≤ 1024 }
+fn push_number(text: &mut Reply, number: u16)
+    requires { array_string_len text.old + 5 ≤ LONGEST_REPLY }
     ensures bytes { text.new.bytes ≡ text.old.bytes ++ decimal number }
     ensures bound { array_string_len text.new ≤ array_string_len text.old + 5 }
 {

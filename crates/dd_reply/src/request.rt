@@ -32,12 +32,21 @@ impl Request {
         ensures value { IfSome result (λ request. request ≡ record { board = position; solutions = solutions }) }
     {
         if (1..=3).contains(&solutions) && position.tricks_left() > 0 {
-            Some(Request {
-                position,
-                solutions,
-            })
+            Some(Request::of(position, solutions))
         } else {
             None
+        }
+    }
+
+    /// A request for the cards of a position in which there is one to play.
+    pub(crate) fn of(position: Position, solutions: u8) -> Request
+        requires play { CanPlay position }
+        requires solutions { (1 ≤ solutions) × (solutions ≤ 3) }
+        ensures { result ≡ record { board = position; solutions = solutions } }
+    {
+        Request {
+            position,
+            solutions,
         }
     }
 

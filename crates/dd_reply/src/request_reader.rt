@@ -1,28 +1,29 @@
-ghost use Rattle.std.specs.Prelude.{◌≡◌, ◌≢◌, ◌<◌, ◌≤◌, ◌⊎◌, ◌↔◌, map, is_some, option_map, option_and_then, length, Some, Ok, Err, IsTrue, IsFalse, IsSome, IfSome, IfOk, IfErr, MatchOption};
+ghost use Rattle.std.specs.Prelude.{◌≡◌, ◌≢◌, ◌<◌, ◌≤◌, ◌⊎◌, ◌↔◌, ℕ, List, [], ◌∷◌, ◌++◌, codes, option_map, length, None, Some, Ok, Err, IsSome, IfSome, IfOk, IfErr, MatchOption};
 ghost use Rattle.std.specs.List.{list_any};
 ghost use Rattle.std.specs.Str.{bytes_eq};
 ghost use Rattle.serde_json.specs.Errors.{IsMemory};
-ghost use Rattle.serde_json.specs.Find.{as_array, as_object, get_member};
+ghost use Rattle.serde_json.specs.Find.{as_object, get_member};
 ghost use Rattle.serde_json.specs.View.{view, items_view, members_view};
 ghost use Rattle.dd_cards.specs.Ranks.{IsRank};
 ghost use Rattle.dd_cards.specs.Seats.{seat_code};
 ghost use Rattle.dd_cards.specs.Strains.{strain_code};
 ghost use Rattle.dd_cards.specs.Hands.{AreHands};
-ghost use Rattle.dd_pbn.specs.Letters.{is_blank};
 ghost use Rattle.dd_pbn.specs.declared.fault.PbnFault.{PbnFault};
 ghost use Rattle.dd_play.specs.Board.{board_of};
-ghost use Rattle.dd_reply.specs.Requests.{Means, MeansFields, MeansHands, MeansBoard, SpellsDeal, SpellsNone, begins_tag, deal_fault, are_cards, pair_of_card, longest_line, object_of, solve_keys, are_known, keys_of, solve_fields, text_at, whole_number_at, pairs_at, pairs_of, pair_of};
-ghost use Rattle.dd_reply.specs.Reading.{IsUnread, ArePairs, pairs_in, fields_of, play_fault};
+ghost use Rattle.dd_reply.specs.Requests.{Means, MeansFields, MeansHands, MeansBoard, SpellsDeal, SpellsNone, deal_fault, pair_of_card, longest_line, object_of, solve_keys, are_known, keys_of, solve_fields, text_at, whole_number_at, pairs_at, pairs_of};
+ghost use Rattle.dd_reply.specs.Reading.{IsUnread, ArePlayed, ReadsPlayed, ReadsFields, pair_in, played_in, fields_of, play_fault};
 
 use crate::fault::Fault;
-use crate::line::LONGEST_LINE;
 use crate::request::Request;
 use arrayvec::ArrayVec;
 use dd_cards::{Card, Hands, Rank, Seat, Strain, Suit};
-use dd_pbn::{PbnFault, read_deal, read_tag};
+use dd_pbn::{PbnFault, begins_tag, read_deal, read_tag};
 use dd_play::{PlayFault, Position};
 use serde_json::{Error, Map, Value};
 use std::alloc::Global;
+
+/// The most bytes of a line that is read.
+pub const LONGEST_LINE: usize = 4_096;
 
 // The most cards that lie on a trick before it is complete.
 const MOST_PLAYED: usize = 3;
@@ -76,20 +77,24 @@ fn fault_of(error: Error) -> Fault
 
 // ---- The fields, as JSON has them.
 
-// The fields of a request to solve. The cards played are pairs of whole numbers, which may be none of a card.
+// The cards on a trick that isn't complete.
+type Played = ArrayVec<Card, MOST_PLAYED>;
+
+// The fields of a request to solve. There are no cards played where the pairs that stand for them are none of such
+// cards: that is a fault, and others go before it.
 #[derive(Drop)]
 struct SolveFields<'a> {
     deal: &'a str,
     trump: u64,
     first: u64,
-    played: &'a [Value],
+    played: Option<Played>,
     solutions: u64,
 }
 
 // The fields, where all of them are there, each of its kind, and no other is.
 fn solve_fields(object: &Map<String, Value>) -> Option<SolveFields<'_>>
-    ensures fields { option_map fields_of result ≡ solve_fields (members_view object.now.entries) }
-    ensures played { IfSome result (λ fields. ArePairs fields.played.now) }
+    ensures { let read = solve_fields (members_view object.now.entries) in
+        MatchOption result (read ≡ None) (ReadsFields read) }
 {
     if !has_solve_keys_alone(object) || text_at(object, "do")? != "solve" {
         return None;
@@ -98,7 +103,7 @@ fn solve_fields(object: &Map<String, Value>) -> Option<SolveFields<'_>>
         deal: text_at(object, "deal")?,
         trump: whole_number_at(object, "trump")?,
         first: whole_number_at(object, "first")?,
-        played: pairs_at(object, "played")?,
+        played: played_at(object)?,
         solutions: whole_number_at(object, "solutions")?,
     })
 }
@@ -132,31 +137,47 @@ fn whole_number_at(object: &Map<String, Value>, key: &str) -> Option<u64>
     member_at(object, key)?.as_u64()
 }
 
-// The list of pairs at this key, which is empty where the key is left out.
-fn pairs_at<'a>(object: &'a Map<String, Value>, key: &str) -> Option<&'a [Value]>
-    ensures pairs { option_map (λ values. pairs_in values.now) result ≡ pairs_at (members_view object.now.entries) key.now }
-    ensures are { IfSome result (λ values. ArePairs values.now) }
+// The cards played, which may be left out: None where they are no list of pairs.
+fn played_at(object: &Map<String, Value>) -> Option<Option<Played>>
+    ensures { let read = pairs_at (members_view object.now.entries) (codes "played") in
+        MatchOption result (read ≡ None) (λ found. ReadsPlayed read (option_map (λ cards. cards.items) found)) }
 {
-    let Some(value) = member_at(object, key) else {
-        return Some(&[]);
+    let Some(value) = member_at(object, "played") else {
+        return Some(Some(ArrayVec::new()));
     };
-    let values = value.as_array()?.as_slice();
-    if are_pairs(values) {
-        Some(values)
-    } else {
-        None
-    }
+    played_of(value.as_array()?.as_slice())
 }
 
-fn are_pairs(values: &[Value]) -> bool
-    ensures { result ≡ is_some (pairs_of (items_view values.now)) }
+// The cards of a list of pairs: None where it is no such list.
+fn played_of(values: &[Value]) -> Option<Option<Played>>
+    ensures { let read = pairs_of (items_view values.now) in
+        MatchOption result (read ≡ None) (λ found. ReadsPlayed read (option_map (λ cards. cards.items) found)) }
 {
-    values.iter().all(|value| pair_of(value).is_some())
+    let mut played = Some(ArrayVec::new());
+    for value in values {
+        let (suit, rank) = pair_of(value)?;
+        played = with_pair(played, suit, rank);
+    }
+    Some(played)
+}
+
+// The cards with that of one more pair.
+fn with_pair(played: Option<Played>, suit: u64, rank: u64) -> Option<Played>
+    ensures { (pairs : List (ℕ × ℕ)) → ArePlayed (option_map (λ cards. cards.items) played) pairs →
+        ArePlayed (option_map (λ cards. cards.items) result) (pairs ++ (suit, rank) ∷ []) }
+{
+    let mut cards = played?;
+    let card = card_of(suit, rank)?;
+    if cards.is_full() {
+        return None;
+    }
+    cards.push(card);
+    Some(cards)
 }
 
 // The two whole numbers of a list of exactly two.
 fn pair_of(value: &Value) -> Option<(u64, u64)>
-    ensures { result ≡ option_and_then pair_of (as_array (view value.now)) }
+    ensures { result ≡ pair_in value.now }
 {
     match value.as_array()?.as_slice() {
         [suit, rank] => Some((suit.as_u64()?, rank.as_u64()?)),
@@ -174,8 +195,8 @@ fn member_at<'a>(object: &'a Map<String, Value>, key: &str) -> Option<&'a Value>
 
 // What the fields ask, or their first fault.
 fn request_of(fields: &SolveFields<'_>) -> Result<Request, Fault>
-    requires { ArePairs fields.now.played.now }
-    ensures { MeansFields (fields_of fields.now) result }
+    ensures { (pairs : List (ℕ × ℕ)) → ArePlayed (played_in fields.now) pairs →
+        MeansFields (fields_of fields.now pairs) result }
 {
     let hands = hands_of(fields.deal.as_bytes())?;
     request_for(hands, fields)
@@ -183,12 +204,12 @@ fn request_of(fields: &SolveFields<'_>) -> Result<Request, Fault>
 
 // What the fields ask of these hands, or their first fault.
 fn request_for(hands: Hands, fields: &SolveFields<'_>) -> Result<Request, Fault>
-    requires { ArePairs fields.now.played.now }
-    ensures { MeansHands (fields_of fields.now) hands result }
+    ensures { (pairs : List (ℕ × ℕ)) → ArePlayed (played_in fields.now) pairs →
+        MeansHands (fields_of fields.now pairs) hands result }
 {
     let strain = strain_of(fields.trump).ok_or(Fault::WrongTrump)?;
     let first = seat_of(fields.first).ok_or(Fault::WrongFirst)?;
-    let trick = cards_of(fields.played).ok_or(Fault::WrongPlayed)?;
+    let trick = fields.played.as_ref().ok_or(Fault::WrongPlayed)?;
     let solutions = solutions_of(fields.solutions).ok_or(Fault::WrongSolutions)?;
     request(hands, strain, first, trick.as_slice(), solutions)
 }
@@ -213,19 +234,6 @@ fn read_text(text: &[u8]) -> Result<Hands, PbnFault>
     }
 }
 
-// Is [ the first byte that is no blank?
-fn begins_tag(text: &[u8]) -> bool
-    ensures { result ≡ begins_tag text.now }
-{
-    text.iter().find(|byte| !is_blank(**byte)) == Some(&b'[')
-}
-
-fn is_blank(byte: u8) -> bool
-    ensures { result ≡ is_blank byte }
-{
-    byte == b' ' || byte == b'\t'
-}
-
 fn deal_fault(fault: PbnFault) -> Fault
     ensures { result ≡ deal_fault fault }
 {
@@ -248,23 +256,6 @@ fn seat_of(code: u64) -> Option<Seat>
     ensures value { IfSome result (λ seat. seat_code seat ≡ code) }
 {
     Seat::from_code(u8::try_from(code).ok()?)
-}
-
-// The cards of at most three pairs.
-fn cards_of(values: &[Value]) -> Option<ArrayVec<Card, MOST_PLAYED>>
-    requires { ArePairs values.now }
-    ensures { MatchOption result (IsFalse (are_cards (pairs_in values.now)))
-        (λ cards. IsTrue (are_cards (pairs_in values.now)) × (map pair_of_card cards.items ≡ pairs_in values.now)) }
-{
-    if values.len() > MOST_PLAYED {
-        return None;
-    }
-    let mut cards = ArrayVec::new();
-    for value in values {
-        let (suit, rank) = pair_of(value)?;
-        cards.push(card_of(suit, rank)?);
-    }
-    Some(cards)
 }
 
 fn card_of(suit: u64, rank: u64) -> Option<Card>
@@ -301,10 +292,7 @@ fn request(
     ensures { MeansBoard (board_of hands strain first trick.now) solutions result }
 {
     let position = Position::new(hands, strain, first, trick).map_err(play_fault)?;
-    match Request::new(position, solutions) {
-        Some(request) => Ok(request),
-        None => unreachable!(),
-    }
+    Ok(Request::of(position, solutions))
 }
 
 fn play_fault(fault: PlayFault) -> Fault

@@ -1,6 +1,19 @@
-//! Lines through `solve_lines`, over devices of memory that give and take little and fail in time.
-mod devices;
-mod faults;
+//! Lines and their replies, as tables of text: the proof of a test then meets one string and one loop, and not each row.
 mod recorded;
-mod served;
 mod worked;
+
+/// The part of a row before its first bar.
+pub fn before_bar(row: &[u8]) -> &[u8] {
+    match row.iter().position(|byte| *byte == b'|') {
+        Some(place) => &row[..place],
+        None => row,
+    }
+}
+
+/// The part of a row after its first bar.
+pub fn after_bar(row: &[u8]) -> &[u8] {
+    match row.iter().position(|byte| *byte == b'|') {
+        Some(place) => &row[place + 1..],
+        None => &[],
+    }
+}

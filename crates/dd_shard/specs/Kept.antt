@@ -2,6 +2,7 @@
 use Rattle.std.specs.Prelude.{◌≤◌, List, map, Contains}
 use Rattle.lru.specs.LruCache.{LruCache}
 use Rattle.dd_rank.specs.Strings.{ShapeOf}
+use Rattle.dd_shard.specs.declared.shard.TheConstants.{MOST_SHAPES}
 use Rattle.dd_shard.specs.Entries.{Pair, Entry, Entries, IsEntry}
 
 -- a shape with the pairs of its slot
@@ -16,4 +17,4 @@ entries_of cache = record { list = map entry_of cache.entries; limit = cache.cap
 pub record IsKept (cache : LruCache ShapeOf (List Pair)) : Type 0 where
   pub filed : (x : ShapeOf × List Pair) → Contains cache.entries x → IsEntry (entry_of x)
   pub least : 1 ≤ cache.cap
-  pub most : cache.cap ≤ 65536
+  pub most : cache.cap ≤ MOST_SHAPES

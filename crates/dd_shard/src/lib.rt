@@ -4,7 +4,7 @@
 mod shard;
 mod slot;
 
-pub use shard::Shard;
+pub use shard::{MOST_SHAPES, Shard};
 
 #[cfg(test)]
 mod tests;

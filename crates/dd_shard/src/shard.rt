@@ -18,6 +18,9 @@ use std::alloc::{AllocError, Global};
 use std::marker::Model;
 use std::num::NonZeroUsize;
 
+/// The most shapes that a shard may have room for.
+pub const MOST_SHAPES: u32 = 65_536;
+
 /// Bounds of the values of positions, by shapes: the last used first, and at most a fixed number of them. A shape has one
 /// to eight pairs, each a cover with bounds of the value of each position that it covers, the newest first.
 #[derive(Drop)]
@@ -38,10 +41,10 @@ impl Model for Shard {
 }
 
 impl Shard {
-    /// A shard that remembers nothing and has room for this number of shapes, 1 to 65,536. It takes memory for a shape
-    /// when it comes. The error says that memory ran out.
+    /// A shard that remembers nothing and has room for this number of shapes, 1 to `MOST_SHAPES`. It takes memory for
+    /// a shape when it comes. The error says that memory ran out.
     pub fn new(alloc: Global, entries: u32) -> Result<Shard, AllocError>
-        requires { (1 ≤ entries) × (entries ≤ 65536) }
+        requires { (1 ≤ entries) × (entries ≤ MOST_SHAPES) }
         ensures { IfOk result (λ shard. (shard.list ≡ []) × (shard.limit ≡ entries)) }
     {
         let limit = match NonZeroUsize::new(entries as usize) {
@@ -56,8 +59,10 @@ impl Shard {
     /// pair of its shape that covers this position. Nothing where none does. A look is a use of the shape.
     pub fn look(&mut self, position: &TrickStart) -> Option<(Interval, Depths)>
         ensures looks { Looks position.now (option_map told_of result) self.old self.new }
-        ensures holds { IfSome result (λ told. (q : Board) → IsBoard q → Covers position.now (depth_in told.1) q → Holds told.0 (lead q)) }
-        ensures within { IfSome result (λ told. (u : Suit) → depth_in told.1 u ≤ count_of u (all_cards position.now)) }
+        ensures holds { IfSome result (λ told. (q : Board) → IsBoard q
+            → Covers position.now (depth_in told.1) q → Holds told.0 (lead q)) }
+        ensures within { IfSome result (λ told. (u : Suit)
+            → depth_in told.1 u ≤ count_of u (all_cards position.now)) }
     {
         // The proof reads here that the position is a legal one.
         let _ = position.position();
@@ -74,10 +79,14 @@ impl Shard {
         interval: Interval,
     ) -> Result<(), AllocError>
         requires within { (u : Suit) → depth_in depths u ≤ count_of u (all_cards position.now) }
-        requires holds { (q : Board) → IsBoard q → Covers position.now (depth_in depths) q → Holds interval (lead q) }
-        ensures ok { OnOk result (Notes position.now (told_of (interval, depths)) self.old self.new) }
-        ensures err { OnErr result ((self.new ≡ self.old) × IsAbsent (shape_of position.now) self.old.list) }
-        ensures succeeds { (e : Entry) → Contains self.old.list e → e.shape ≡ shape_of position.now → IsOk result }
+        requires holds { (q : Board) → IsBoard q → Covers position.now (depth_in depths) q
+            → Holds interval (lead q) }
+        ensures ok { OnOk result
+            (Notes position.now (told_of (interval, depths)) self.old self.new) }
+        ensures err { OnErr result ((self.new ≡ self.old)
+            × IsAbsent (shape_of position.now) self.old.list) }
+        ensures succeeds { (e : Entry) → Contains self.old.list e → e.shape ≡ shape_of position.now
+            → IsOk result }
     {
         // The proof reads here that the position is a legal one.
         let _ = position.position();
@@ -100,7 +109,7 @@ impl Shard {
     /// The number of shapes that there may be.
     pub fn limit(&self) -> u32
         ensures limit { result ≡ self.now.limit }
-        ensures bound { (1 ≤ result) × (result ≤ 65536) }
+        ensures bound { (1 ≤ result) × (result ≤ MOST_SHAPES) }
     {
         self.cache.cap().get() as u32
     }
@@ -108,9 +117,11 @@ impl Shard {
     /// The newest pair of the shape at this place, 0 for the last used: its position, depths and bounds. It is no use of
     /// the shape.
     pub fn entry(&self, place: u32) -> Option<(&TrickStart, Depths, Interval)>
-        ensures { MatchOption result (length self.now.list ≤ place) (λ found. (e : Entry) × (x : Pair) × (rest : List Pair)
+        ensures { MatchOption result (length self.now.list ≤ place) (λ found. (e : Entry)
+            × (x : Pair) × (rest : List Pair)
             × (slice_get self.now.list place ≡ Some e) × (e.pairs ≡ x ∷ rest)
-            × (found.0.now ≡ x.board) × (found.1 ≡ x.depths) × (found.2.lo ≡ x.lo) × (found.2.hi ≡ x.hi)) }
+            × (found.0.now ≡ x.board) × (found.1 ≡ x.depths) × (found.2.lo ≡ x.lo)
+            × (found.2.hi ≡ x.hi)) }
     {
         let (_, slot) = self.cache.iter().nth(place as usize)?;
         let newest = slot.newest()?;

@@ -56,7 +56,8 @@ impl Slot {
     // The bounds of the first pair that covers the position with these owners, and its depths; nothing where no pair does.
     pub fn look(&self, strings: &OwnerStrings) -> Option<(Interval, Depths)>
         requires { HaveShape (shape_in strings.now) self.now }
-        ensures { (q : Board) → IsBoard q → q.trick ≡ [] → strings.now ≡ strings_of q → Tells q self.now (option_map told_of result) }
+        ensures { (q : Board) → IsBoard q → q.trick ≡ [] → strings.now ≡ strings_of q
+            → Tells q self.now (option_map told_of result) }
     {
         let pair = covering_pair(&self.pairs, strings)?;
         Some((pair.bounds, pair.cover.depths()))
@@ -65,7 +66,8 @@ impl Slot {
     // Puts a pair first. One with the same cover goes, and its bounds hold as well; else the oldest of too many goes.
     pub fn note(&mut self, cover: Cover, bounds: Interval)
         requires shape { HaveShape (shape_of cover.board) self.old }
-        requires known { (x : Pair) → Contains self.old x → IsSameCover (cover_of x) cover → (x.lo ≤ lead cover.board) × (lead cover.board ≤ x.hi) }
+        requires known { (x : Pair) → Contains self.old x → IsSameCover (cover_of x) cover
+            → (x.lo ≤ lead cover.board) × (lead cover.board ≤ x.hi) }
         requires holds { Holds bounds (lead cover.board) }
         ensures { PutsFirst (pair_of cover bounds) self.old self.new }
     {
@@ -89,7 +91,8 @@ impl Slot {
 
     // The first pair, and nothing where there is none.
     pub fn newest(&self) -> Option<&Bounded>
-        ensures { MatchOption result (self.now ≡ []) (λ x. (rest : List Pair) × (self.now ≡ pair_of x.now.cover x.now.bounds ∷ rest)) }
+        ensures { MatchOption result (self.now ≡ [])
+            (λ x. (rest : List Pair) × (self.now ≡ pair_of x.now.cover x.now.bounds ∷ rest)) }
     {
         self.pairs.last()?.as_ref()
     }
@@ -99,8 +102,10 @@ impl Slot {
 fn covering_pair<'a>(pairs: &'a [Option<Bounded>], strings: &OwnerStrings) -> Option<&'a Bounded>
     requires { HaveShape (shape_in strings.now) (known_pairs pairs.now) }
     ensures { (q : Board) → IsBoard q → q.trick ≡ [] → strings.now ≡ strings_of q
-        → MatchOption result (NoneCovers q (known_pairs pairs.now)) (λ x. (front : List (Option BoundedOf)) × (back : List (Option BoundedOf))
-        × (pairs.now ≡ front ++ Some x.now ∷ back) × NoneCovers q (known_pairs back) × IsCoverOf (pair_of x.now.cover x.now.bounds) q) }
+        → MatchOption result (NoneCovers q (known_pairs pairs.now))
+        (λ x. (front : List (Option BoundedOf)) × (back : List (Option BoundedOf))
+        × (pairs.now ≡ front ++ Some x.now ∷ back) × NoneCovers q (known_pairs back)
+        × IsCoverOf (pair_of x.now.cover x.now.bounds) q) }
 {
     for place in (0..pairs.len()).rev() {
         if let Some(pair) = &pairs[place] {
@@ -115,9 +120,12 @@ fn covering_pair<'a>(pairs: &'a [Option<Bounded>], strings: &OwnerStrings) -> Op
 // The place of the last of these pairs that has the same cover.
 fn place_of(pairs: &[Option<Bounded>], cover: &Cover) -> Option<usize>
     requires { HaveShape (shape_of cover.now.board) (known_pairs pairs.now) }
-    ensures { MatchOption result ((y : Pair) → Contains (known_pairs pairs.now) y → ¬ IsSameCover (cover_of y) cover.now)
-        (λ place. (front : List (Option BoundedOf)) × (x : BoundedOf) × (back : List (Option BoundedOf))
-        × (pairs.now ≡ front ++ Some x ∷ back) × (length front ≡ place) × ((y : Pair) → Contains (known_pairs back) y → ¬ IsSameCover (cover_of y) cover.now)
+    ensures { MatchOption result ((y : Pair) → Contains (known_pairs pairs.now) y
+        → ¬ IsSameCover (cover_of y) cover.now)
+        (λ place. (front : List (Option BoundedOf)) × (x : BoundedOf)
+        × (back : List (Option BoundedOf))
+        × (pairs.now ≡ front ++ Some x ∷ back) × (length front ≡ place)
+        × ((y : Pair) → Contains (known_pairs back) y → ¬ IsSameCover (cover_of y) cover.now)
         × IsSameCover x.cover cover.now) }
 {
     for place in (0..pairs.len()).rev() {

@@ -34,7 +34,7 @@ fn start(ranks: &[u8], strain: Strain, first: Seat) -> Option<TrickStart>
 }
 
 // .. at notrump, led by North
-fn dealt(rt: &impl Abort, ranks: &[u8]) -> TrickStart
+fn deal_at(rt: &impl Abort, ranks: &[u8]) -> TrickStart
     ensures { (result.strain ≡ Strain.Notrump) × (result.first ≡ Seat.North) }
 {
     start(ranks, Strain::Notrump, Seat::North).expect(rt, "a position")
@@ -58,7 +58,9 @@ fn are_spades(hand: Hand, ranks: &[u8]) -> bool
 
 // Has each hand the spades of these ranks and nothing else?
 fn is_deal(start: &TrickStart, north: &[u8], east: &[u8], south: &[u8], west: &[u8]) -> bool
-    ensures { IsTrue result → start.now ≡ deal (spades north.now) (spades east.now) (spades south.now) (spades west.now) start.now.strain start.now.first }
+    ensures { IsTrue result
+        → start.now ≡ deal (spades north.now) (spades east.now) (spades south.now)
+        (spades west.now) start.now.strain start.now.first }
 {
     let hands = start.position().hands();
     are_spades(hands.hand(Seat::North), north)
@@ -68,21 +70,21 @@ fn is_deal(start: &TrickStart, north: &[u8], east: &[u8], south: &[u8], west: &[
 }
 
 // N:32 K4 AQ 65. A king before the ace and queen is caught.
-fn caught(rt: &impl Abort) -> TrickStart
+fn caught_king(rt: &impl Abort) -> TrickStart
     ensures { lead result ≡ 2 }
 {
     worked_deals();
-    let start = dealt(rt, &[3, 13, 14, 6, 2, 4, 12, 5]);
+    let start = deal_at(rt, &[3, 13, 14, 6, 2, 4, 12, 5]);
     assert!(rt; is_deal(&start, &[3, 2], &[13, 4], &[14, 12], &[6, 5]));
     start
 }
 
 // N:32 65 AQ K4. A king behind the ace and queen is not.
-fn safe(rt: &impl Abort) -> TrickStart
+fn safe_king(rt: &impl Abort) -> TrickStart
     ensures { lead result ≡ 1 }
 {
     worked_deals();
-    let start = dealt(rt, &[3, 6, 14, 13, 2, 5, 12, 4]);
+    let start = deal_at(rt, &[3, 6, 14, 13, 2, 5, 12, 4]);
     assert!(rt; is_deal(&start, &[3, 2], &[6, 5], &[14, 12], &[13, 4]));
     start
 }
@@ -92,7 +94,7 @@ fn ace(rt: &impl Abort) -> TrickStart
     ensures { lead result ≡ 1 }
 {
     worked_deals();
-    let start = dealt(rt, &[14, 13, 12, 11]);
+    let start = deal_at(rt, &[14, 13, 12, 11]);
     assert!(rt; is_deal(&start, &[14], &[13], &[12], &[11]));
     start
 }
@@ -149,7 +151,7 @@ fn listed(shard: &Shard, place: u32) -> Option<(u16, u8, u8, u8)> {
 
 #[test]
 fn a_pair_tells_of_each_position_with_the_same_high_cards(rt: HostRuntime) -> Result<(), Fail> {
-    let (a, b) = (caught(&rt), safe(&rt));
+    let (a, b) = (caught_king(&rt), safe_king(&rt));
     let mut shard = Shard::new(rt.alloc(), 1)?;
     note_most(&mut shard, &a, 12)?;
     let table = [
@@ -164,7 +166,7 @@ fn a_pair_tells_of_each_position_with_the_same_high_cards(rt: HostRuntime) -> Re
         } else {
             None
         };
-        assert_eq!(rt; told(&mut shard, &dealt(&rt, &ranks)), want, "{what}");
+        assert_eq!(rt; told(&mut shard, &deal_at(&rt, &ranks)), want, "{what}");
     }
     let turned = start(&[5, 3, 4, 14, 6, 2, 13, 12], Strain::Notrump, Seat::East);
     let turned = turned.expect(&rt, "a position");
@@ -193,7 +195,7 @@ fn a_pair_tells_of_each_position_with_the_same_high_cards(rt: HostRuntime) -> Re
 #[test]
 fn bounds_at_the_same_cover_meet(rt: HostRuntime) -> Result<(), Fail> {
     let mut shard = Shard::new(rt.alloc(), 1)?;
-    let a = caught(&rt);
+    let a = caught_king(&rt);
     note_most(&mut shard, &a, 2)?;
     assert_eq!(rt; told(&mut shard, &a), Some((0, 2, [8, 0, 0, 0])));
     note_value(&mut shard, &a, bounds(1, 2))?;
@@ -204,7 +206,7 @@ fn bounds_at_the_same_cover_meet(rt: HostRuntime) -> Result<(), Fail> {
         Some((2, 2, [8, 0, 0, 0])),
         "2 to 2 alone is in all three"
     );
-    note_most(&mut shard, &dealt(&rt, &[6, 13, 14, 5, 2, 4, 12, 3]), 12)?;
+    note_most(&mut shard, &deal_at(&rt, &[6, 13, 14, 5, 2, 4, 12, 3]), 12)?;
     assert_eq!(rt;
         listed(&shard, 0),
         Some((40, 0, 2, 3)),
@@ -227,8 +229,8 @@ fn bounds_at_the_same_cover_meet(rt: HostRuntime) -> Result<(), Fail> {
 #[test]
 fn a_ninth_pair_drops_the_oldest(rt: HostRuntime) -> Result<(), Fail> {
     let mut shard = Shard::new(rt.alloc(), 1)?;
-    let a = caught(&rt);
-    let other = dealt(&rt, &[14, 13, 3, 6, 2, 4, 12, 5]);
+    let a = caught_king(&rt);
+    let other = deal_at(&rt, &[14, 13, 3, 6, 2, 4, 12, 5]);
     note_most(&mut shard, &a, 0)?;
     for rank in [14, 13, 12, 6, 5, 4, 3] {
         note_most(&mut shard, &a, rank)?;
@@ -241,7 +243,7 @@ fn a_ninth_pair_drops_the_oldest(rt: HostRuntime) -> Result<(), Fail> {
     note_most(&mut shard, &a, 2)?;
     assert_eq!(rt; told(&mut shard, &other), None, "the first of nine");
     assert_eq!(rt;
-        told(&mut shard, &dealt(&rt, &[3, 12, 14, 6, 2, 4, 13, 5])),
+        told(&mut shard, &deal_at(&rt, &[3, 12, 14, 6, 2, 4, 13, 5])),
         Some((0, 2, [1, 0, 0, 0])),
         "the second"
     );
@@ -251,7 +253,7 @@ fn a_ninth_pair_drops_the_oldest(rt: HostRuntime) -> Result<(), Fail> {
 
 #[test]
 fn the_last_used_shape_stands_first_and_the_last_goes(rt: HostRuntime) -> Result<(), Fail> {
-    let (a, one) = (caught(&rt), ace(&rt));
+    let (a, one) = (caught_king(&rt), ace(&rt));
     let trumps = start(&[3, 13, 14, 6, 2, 4, 12, 5], HEARTS, Seat::North).expect(&rt, "a position");
     let mut shard = Shard::new(rt.alloc(), 2)?;
     assert_eq!(rt; (shard.len(), shard.limit()), (0, 2));
@@ -261,7 +263,7 @@ fn the_last_used_shape_stands_first_and_the_last_goes(rt: HostRuntime) -> Result
     assert_eq!(rt; listed(&shard, 1), Some((96, 2, 2, 8)));
     assert_eq!(rt; told(&mut shard, &trumps), None, "another strain");
     assert_eq!(rt;
-        told(&mut shard, &safe(&rt)),
+        told(&mut shard, &safe_king(&rt)),
         None,
         "a shape that is known, and no cover"
     );
@@ -280,7 +282,7 @@ fn the_last_used_shape_stands_first_and_the_last_goes(rt: HostRuntime) -> Result
 
 #[test]
 fn a_note_of_a_shape_that_is_there_succeeds(rt: HostRuntime) -> Result<(), Fail> {
-    let (a, one) = (caught(&rt), ace(&rt));
+    let (a, one) = (caught_king(&rt), ace(&rt));
     let Ok(mut shard) = Shard::new(rt.alloc(), 2) else {
         return Ok(());
     };

@@ -11,6 +11,7 @@ use Rattle.clap.specs.declared.builder.value_parser.ValueParser.{ValueParser}
 use Rattle.clap.specs.declared.builder.value_parser.ValueParser.TheVariants.{Signed, Unsigned}
 use Rattle.clap.proofs.ValueTestLemmas.{Accepts-accepts, accepts-Accepts}
 use Rattle.clap.specs.Lexer.{without_minus}
+use Rattle.dd_shard.specs.declared.shard.TheConstants.{MOST_SHAPES}
 use Rattle.ddserve.proofs.Numbers.{numeral-without_minus, table-accepted}
 use Rattle.ddserve.proofs.Options.{Opt, budget, entries, rule_for, solve_rules}
 use Rattle.ddserve.proofs.Steps.{first-free, second-free}
@@ -24,7 +25,7 @@ use_of o (Some text) = (o, text) ∷ []
 -- the text passes the option's parser
 abbrev pub Passes : Opt → Text → Type 0
 Passes budget text = IsUnsignedIn 0 1000000000000 text
-Passes entries text = IsSignedIn (pos 1) (pos 65536) text
+Passes entries text = IsSignedIn (pos 1) (pos MOST_SHAPES) text
 
 -- a parser that has no fault at a text accepts it
 accepted : (parser : ValueParser) (text : Text) (rest : Kinds)
@@ -41,8 +42,8 @@ passes-of budget text rows free =
     accepts-Accepts false (Unsigned 0 1000000000000) text
     (accepted (Unsigned 0 1000000000000) text [] (second-free (repeat_fault false (codes "budget") rows) (values_fault (rule_for budget) (text ∷ [])) free))
 passes-of entries text rows free =
-    accepts-Accepts false (Signed (pos 1) (pos 65536)) text
-    (accepted (Signed (pos 1) (pos 65536)) text [] (second-free (repeat_fault false (codes "entries") rows) (values_fault (rule_for entries) (text ∷ [])) free))
+    accepts-Accepts false (Signed (pos 1) (pos MOST_SHAPES)) text
+    (accepted (Signed (pos 1) (pos MOST_SHAPES)) text [] (second-free (repeat_fault false (codes "entries") rows) (values_fault (rule_for entries) (text ∷ [])) free))
 
 -- the rows of the options that are given, with the defaults of those that are not
 abbrev pub with_defaults : List Row → List Row
@@ -128,8 +129,8 @@ budget-free : (text : Text) → Passes budget text → accepts false (Unsigned 0
 budget-free text passes = Accepts-accepts false (Unsigned 0 1000000000000) text passes
 
 -- the same of the entries
-entries-free : (text : Text) → Passes entries text → accepts false (Signed (pos 1) (pos 65536)) text ≡ true
-entries-free text passes = Accepts-accepts false (Signed (pos 1) (pos 65536)) text passes
+entries-free : (text : Text) → Passes entries text → accepts false (Signed (pos 1) (pos MOST_SHAPES)) text ≡ true
+entries-free text passes = Accepts-accepts false (Signed (pos 1) (pos MOST_SHAPES)) text passes
 
 -- options that pass, the budget first
 pub budget-led : (b e : Option Text) → IfSome b (Passes budget) → IfSome e (Passes entries) → Led (use_of budget b ++ use_of entries e) b e

@@ -2,6 +2,7 @@
 use Rattle.std.proofs.Common.{◌≡◌, ◌∙◌, ◌⊎◌, ◌≤◌, ℕ, codes, refl, sym, ap, subst, inl, inr, arith, List, [], ◌∷◌, ◌++◌, append_assoc, Option, Some, None}
 use Rattle.std.specs.Prelude.{IfSome, IsSome, option_map, unwrap_or}
 use Rattle.clap.specs.Walk.{Row, Text, idle}
+use Rattle.dd_shard.specs.declared.shard.TheConstants.{MOST_SHAPES}
 use Rattle.ddserve.specs.CommandLine.{AsksToSolve, GivesOption, IsBudget, IsTableSize}
 use Rattle.ddserve.specs.Program.{FitsBits, HasNumbers, number_of}
 use Rattle.ddserve.proofs.Numbers.{budget-accepted, budget-accepts, numeral-plain, table-accepted, table-accepts, value_of}
@@ -90,7 +91,7 @@ entries-fit : (x : Option Text) → IfSome x (Passes entries) → FitsBits 32 (u
 entries-fit None passes = ((omega arith, (omega arith, (omega arith, (omega arith, (omega arith, tt))))), omega arith)
 entries-fit (Some text) passes =
     let is = table-accepted text passes in
-    let small : value_of text ≤ 65536 = is.1.1 in
+    let small : value_of text ≤ MOST_SHAPES = is.1.1 in
     (is.0.0, omega arith)
 
 -- the text of the default is 4096

@@ -9,6 +9,7 @@ use Rattle.clap.specs.Lexer.{long_of, short_of, without_minus}
 use Rattle.clap.specs.Values.{IsSignedIn, IsUnsignedIn}
 use Rattle.clap.specs.Matches.{ReadsOne}
 use Rattle.clap.specs.Walk.{Text}
+use Rattle.dd_shard.specs.declared.shard.TheConstants.{MOST_SHAPES}
 use Rattle.ddserve.specs.CommandLine.{IsBudget, IsNumberText, IsTableSize}
 use Rattle.ddserve.specs.Program.{FitsBits}
 
@@ -52,7 +53,7 @@ numeral-sign text numeral =
     subst (λ t. starts_with_minus t ≡ false) (sym begun.2) begun.3
 
 -- what the parser of the entries lets through
-pub table-accepted : (text : Text) → IsSignedIn (pos 1) (pos 65536) text → IsNumberText text (value_of text) × IsTableSize (value_of text)
+pub table-accepted : (text : Text) → IsSignedIn (pos 1) (pos MOST_SHAPES) text → IsNumberText text (value_of text) × IsTableSize (value_of text)
 table-accepted text passed = go (starts_with_minus text) refl
   where
     go : (b : Bool) → starts_with_minus text ≡ b → IsNumberText text (value_of text) × IsTableSize (value_of text)
@@ -66,7 +67,7 @@ table-accepted text passed = go (starts_with_minus text) refl
         ((numeral, refl), (omega (arith, ints), omega (arith, ints)))
 
 -- it lets each number of its range through
-pub table-accepts : (text : Text) (number : ℕ) → IsNumberText text number → IsTableSize number → IsSignedIn (pos 1) (pos 65536) text
+pub table-accepts : (text : Text) (number : ℕ) → IsNumberText text number → IsTableSize number → IsSignedIn (pos 1) (pos MOST_SHAPES) text
 table-accepts text number is fits =
     let sign = numeral-sign text is.0 in
     let same = is.1 in

@@ -44,12 +44,12 @@ known_name name =
     go false is-b false is-e false is-h = inr (inr (rw (is-b, is-e, is-h) refl))
 
 -- what a walk holds between two words
-abbrev pub held : List Row → Option (Text × List Text) → Held
-held rows pending = record { rows = rows; pending = pending; skip = 0 }
+abbrev pub held_rows : List Row → Option (Text × List Text) → Held
+held_rows rows pending = record { rows = rows; pending = pending; skip = 0 }
 
 -- a place of the walk before any `--`
 abbrev pub here : List Row → Option (Text × List Text) → Waiting → Walk
-here rows pending waiting = record { held = held rows pending; waiting = waiting; position = 1; is_trailing = false; stopped = None }
+here rows pending waiting = record { held = held_rows rows pending; waiting = waiting; position = 1; is_trailing = false; stopped = None }
 
 -- an option's text that is read and not yet used
 abbrev pub pending_of : Option (Opt × Text) → Option (Text × List Text)

@@ -6,7 +6,7 @@ use Rattle.std.specs.Str.{bytes_eq, chars}
 use Rattle.std.proofs.lemmas.Slice.Eq.{bytes_eq-Decides}
 use Rattle.clap.specs.Lexer.{long_of, short_of}
 use Rattle.clap.specs.Walk.{Held, Names, Row, Rule, Text, Walk, arg_by_long, arg_by_short, finished, has_row, idle, long_or_other, nothing_held, settled, short_or_plain, walk_from, walked, with_default}
-use Rattle.clap.specs.Simple.{Shape, built, entered, filled, help_rule, names_of, subcommand_of}
+use Rattle.clap.specs.Simple.{Shape, built, entered, filled, help_rule, version_rule, names_of, subcommand_of}
 use Rattle.clap.specs.Kinds.{Kinds, or_else}
 use Rattle.clap.specs.Faults.{bundle_fault, check_fault, default_fault, defaults_fault, given_default_fault, entered_fault, fault_of, flag_word_fault, is_simple_and_free, level_fault, long_fault, settle_fault, short_fault, step_fault, turn_fault, walk_fault}
 use Rattle.clap.proofs.OnLiterals.{clap_on_literals}
@@ -20,9 +20,9 @@ use Rattle.ddserve.proofs.Steps.{first-free, second-free}
 pub program_is_simple : is_simple_and_free program_app ≡ true
 program_is_simple = refl
 
--- the program's own rule is the call for help
+-- the program's own rules are the calls for help and for the version
 abbrev program_rules : List Rule
-program_rules = filled help_rule ∷ []
+program_rules = filled help_rule ∷ filled version_rule ∷ []
 
 -- the program without its subcommands, once it is built
 abbrev program_shape : Shape
@@ -46,22 +46,26 @@ unfolding walked walk_fault
 stopped-free w name seen [] = refl
 stopped-free w name seen (x ∷ xs) = stopped-free w name (seen ++ x ∷ []) xs
 
--- a call for help is a fault, and so is any other long word
+-- a call for help or for the version is a fault, and so is any other long word
 program-long-fails : (name : Text) (value : Option Text) → long_fault program_rules false (arg_by_long program_rules name) value nothing_held ≡ [] → ⊥
-program-long-fails name value e = go (bytes_eq (codes "help") name) refl value e
+program-long-fails name value e = go (bytes_eq (codes "help") name) refl (bytes_eq (codes "version") name) refl value e
   where
-    go : (b : Bool) → bytes_eq (codes "help") name ≡ b → (v : Option Text) → long_fault program_rules false (arg_by_long program_rules name) v nothing_held ≡ [] → ⊥
-    go true is None free = let bad = rw is at free in cc
-    go true is (Some v) free = let bad = rw is at free in cc
-    go false is v free = let bad = rw is at free in cc
+    go : (b : Bool) → bytes_eq (codes "help") name ≡ b → (d : Bool) → bytes_eq (codes "version") name ≡ d → (v : Option Text)
+        → long_fault program_rules false (arg_by_long program_rules name) v nothing_held ≡ [] → ⊥
+    go true is d is-v None free = let bad = rw is at free in cc
+    go true is d is-v (Some v) free = let bad = rw is at free in cc
+    go false is true is-v None free = let bad = rw (is, is-v) at free in cc
+    go false is true is-v (Some v) free = let bad = rw (is, is-v) at free in cc
+    go false is false is-v v free = let bad = rw (is, is-v) at free in cc
 
 -- a short flag is a fault
 program-flag-fails : (c : ℕ) (rest : Text) (next-fault : Held → Kinds) → short_fault program_rules false (arg_by_short program_rules c) rest nothing_held next-fault ≡ [] → ⊥
-program-flag-fails c rest next-fault e = go (104 == c) refl e
+program-flag-fails c rest next-fault e = go (104 == c) refl (86 == c) refl e
   where
-    go : (b : Bool) → (104 == c) ≡ b → short_fault program_rules false (arg_by_short program_rules c) rest nothing_held next-fault ≡ [] → ⊥
-    go true is free = let bad = rw is at free in cc
-    go false is free = let bad = rw is at free in cc
+    go : (b : Bool) → (104 == c) ≡ b → (d : Bool) → (86 == c) ≡ d → short_fault program_rules false (arg_by_short program_rules c) rest nothing_held next-fault ≡ [] → ⊥
+    go true is d is-d free = let bad = rw is at free in cc
+    go false is true is-d free = let bad = rw (is, is-d) at free in cc
+    go false is false is-d free = let bad = rw (is, is-d) at free in cc
 
 -- any other word is one that no positional takes
 program-short-fails : (word : Text) (flags : Option Text)

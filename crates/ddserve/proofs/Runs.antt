@@ -6,9 +6,9 @@ use Rattle.clap.specs.Kinds.{Kinds, or_else}
 use Rattle.clap.specs.Faults.{settle_fault, turn_fault, use_fault, walk_fault}
 use Rattle.clap.proofs.OnLiterals.{clap_on_literals}
 use Rattle.ddserve.proofs.Numbers.{IsPlain}
-use Rattle.ddserve.proofs.Options.{IsFaultless, Opt, budget, entries, held, here, name_of, pending_of, rows_at_end, rule_for, solve_rules, solve_shape}
+use Rattle.ddserve.proofs.Options.{IsFaultless, Opt, budget, entries, held_rows, here, name_of, pending_of, rows_at_end, rule_for, solve_rules, solve_shape}
 use Rattle.ddserve.proofs.Steps.{after_end, after_end-fails, apart-fault, apart-walked, end-walked, first-free, idle-form, joined-fault, joined-walked, second-free, settle-fails, text-free, text-walked, waiting-form}
-use Rattle.ddserve.proofs.Words.{joined}
+use Rattle.ddserve.proofs.Words.{with_value}
 
 -- an option with its text
 abbrev pub Use : Type 0
@@ -16,11 +16,11 @@ Use = Opt × Text
 
 -- an option's word alone
 abbrev pub flag : Opt → Text
-flag o = 45 ∷ 45 ∷ joined (name_of o) None
+flag o = 45 ∷ 45 ∷ with_value (name_of o) None
 
 -- an option's word with its text
 abbrev pub flag_with : Use → Text
-flag_with u = 45 ∷ 45 ∷ joined (name_of u.0) (Some u.1)
+flag_with u = 45 ∷ 45 ∷ with_value (name_of u.0) (Some u.1)
 
 -- the words are these uses, and then the end
 abbrev pub Spells : List Use → List Text → List Text → Type 0
@@ -69,8 +69,8 @@ same-end : (w after : Walk) (word : Text) (rest : List Text) → walked solve_ru
 same-end w after word rest is = sym (ap (λ v. rows_at_end v rest) is)
 
 -- what is pending is used first
-settled-first : (rows : List Row) (pending : Option Use) (us : List Use) (out : List Row) → settle_fault solve_rules false (held rows (pending_of pending)) ≡ []
-    → Leads (settled solve_rules (held rows (pending_of pending))).rows us out → Leads rows (with_pending pending us) out
+settled-first : (rows : List Row) (pending : Option Use) (us : List Use) (out : List Row) → settle_fault solve_rules false (held_rows rows (pending_of pending)) ≡ []
+    → Leads (settled solve_rules (held_rows rows (pending_of pending))).rows us out → Leads rows (with_pending pending us) out
 settled-first rows None us out free leads = leads
 settled-first rows (Some (budget, text)) us out free leads = (free, leads)
 settled-first rows (Some (entries, text)) us out free leads = (free, leads)
@@ -123,10 +123,10 @@ idle-joined rest runs rows pending o text free =
     let before = here rows (pending_of pending) idle in
     let step = joined-walked rows (pending_of pending) o text in
     let faults = first-free _ _ (sym (joined-fault rows (pending_of pending) o text) ∙ faultless-turn before (flag_with (o, text)) rest free) in
-    let settles : settle_fault solve_rules false (held rows (pending_of pending)) ≡ [] = first-free _ _ faults in
-    let passes : use_fault false (rule_for o) (text ∷ []) (settled solve_rules (held rows (pending_of pending))).rows ≡ [] =
-    second-free (settle_fault solve_rules false (held rows (pending_of pending))) _ faults in
-    let later = runs (used (rule_for o) (text ∷ []) (settled solve_rules (held rows (pending_of pending))).rows) None (faultless-rest before _ (flag_with (o, text)) rest step free) in
+    let settles : settle_fault solve_rules false (held_rows rows (pending_of pending)) ≡ [] = first-free _ _ faults in
+    let passes : use_fault false (rule_for o) (text ∷ []) (settled solve_rules (held_rows rows (pending_of pending))).rows ≡ [] =
+    second-free (settle_fault solve_rules false (held_rows rows (pending_of pending))) _ faults in
+    let later = runs (used (rule_for o) (text ∷ []) (settled solve_rules (held_rows rows (pending_of pending))).rows) None (faultless-rest before _ (flag_with (o, text)) rest step free) in
     let same = same-end before _ (flag_with (o, text)) rest step in
     record {
       uses = (o, text) ∷ later.uses;
@@ -134,7 +134,7 @@ idle-joined rest runs rows pending o text free =
       spells = (rest, inr refl, later.spells);
       ends = later.ends;
       leads = settled-first rows pending ((o, text) ∷ later.uses) _ settles
-          (passes, subst (Leads (used (rule_for o) (text ∷ []) (settled solve_rules (held rows (pending_of pending))).rows) later.uses) same later.leads);
+          (passes, subst (Leads (used (rule_for o) (text ∷ []) (settled solve_rules (held_rows rows (pending_of pending))).rows) later.uses) same later.leads);
     }
 
 -- an option and then its text, and then the rest
@@ -143,9 +143,9 @@ idle-apart : (rest : List Text) → WaitingRuns rest → (rows : List Row) (pend
     → Ran rows pending (flag o ∷ rest) (rows_at_end (here rows (pending_of pending) idle) (flag o ∷ rest))
 idle-apart rest runs rows pending o free =
     let before = here rows (pending_of pending) idle in
-    let now = (settled solve_rules (held rows (pending_of pending))).rows in
+    let now = (settled solve_rules (held_rows rows (pending_of pending))).rows in
     let step = apart-walked rows (pending_of pending) o in
-    let settles : settle_fault solve_rules false (held rows (pending_of pending)) ≡ [] =
+    let settles : settle_fault solve_rules false (held_rows rows (pending_of pending)) ≡ [] =
     first-free _ _ (sym (apart-fault rows (pending_of pending) o) ∙ faultless-turn before (flag o) rest free) in
     let later = runs now o (faultless-rest before _ (flag o) rest step free) in
     let same = same-end before _ (flag o) rest step in
@@ -201,7 +201,7 @@ ArePlain (u ∷ us) = IsPlain u.1 × ArePlain us
 
 -- uses that pass begin with the one that is pending
 settled-back : (rows : List Row) (pending : Option Use) (us : List Use) (out : List Row) → Leads rows (with_pending pending us) out
-    → (settle_fault solve_rules false (held rows (pending_of pending)) ≡ []) × Leads (settled solve_rules (held rows (pending_of pending))).rows us out
+    → (settle_fault solve_rules false (held_rows rows (pending_of pending)) ≡ []) × Leads (settled solve_rules (held_rows rows (pending_of pending))).rows us out
 settled-back rows None us out leads = (refl, leads)
 settled-back rows (Some (budget, text)) us out leads = (leads.0, leads.1)
 settled-back rows (Some (entries, text)) us out leads = (leads.0, leads.1)
@@ -237,7 +237,7 @@ pub uses-run : (us : List Use) (words end : List Text) (rows : List Row) (pendin
 uses-run [] words end rows pending out spells ends are-plain leads =
     subst (λ ws. RunsTo (here rows (pending_of pending) idle) ws out) (sym spells) (ended-runs end rows pending out ends leads)
 uses-run ((o, text) ∷ us) words end rows pending out spells ends are-plain leads =
-    let now = (settled solve_rules (held rows (pending_of pending))).rows in
+    let now = (settled solve_rules (held_rows rows (pending_of pending))).rows in
     let back = settled-back rows pending ((o, text) ∷ us) out leads in
     elim spells.1 [
       | inl is ↦

@@ -3,6 +3,7 @@ use Rattle.std.specs.Prelude.{◌≡◌, ◌≤◌, ◌⊎◌, ℕ, false, List,
 use Rattle.std.specs.List.{list_any}
 use Rattle.std.specs.Str.{bytes_eq}
 use Rattle.std.specs.Str.Parse.{IsNumeral, digits_value, without_leading_plus}
+use Rattle.dd_shard.specs.declared.shard.TheConstants.{MOST_SHAPES}
 use Rattle.ddserve.specs.declared.command_line.Args.{Args}
 use Rattle.ddserve.specs.declared.command_line.Args.TheVariants.{Solve}
 
@@ -24,9 +25,9 @@ GivesOption option (Some number) words =
 abbrev pub IsBudget : ℕ → Type 0
 IsBudget positions = positions ≤ 1000000000000
 
--- a table has 1 to 65,536 entries
+-- a table has at least one entry, and no more than a shard may have shapes
 abbrev pub IsTableSize : ℕ → Type 0
-IsTableSize entries = (1 ≤ entries) × (entries ≤ 65536)
+IsTableSize entries = (1 ≤ entries) × (entries ≤ MOST_SHAPES)
 
 -- The line is the program's name, `solve`, the options that are given, each once and in either order, and maybe `--`.
 pub record AsksToSolve (words : List Text) (budget entries : Option ℕ) : Type 0 where

@@ -1,6 +1,7 @@
 -- The program's command, as `clap` sees it.
 use Rattle.std.specs.Prelude.{◌≡◌, ◌<◌, ◌^◌, ℕ, true, false, pos, List, [], ◌∷◌, Option, Some, IfSome, IsSome, option_map, codes}
 use Rattle.std.specs.Str.Parse.{IsNumeral, digits_value, without_leading_plus}
+use Rattle.dd_shard.specs.declared.shard.TheConstants.{MOST_SHAPES}
 use Rattle.clap.specs.Words.{App, Row, Rule, Shape, new_app, new_rule, one_of, rule_of, shape_of, with_rule, with_subcommand}
 use Rattle.clap.specs.declared.builder.arg.Arg.{Arg}
 use Rattle.clap.specs.declared.builder.command.Command.{Command}
@@ -20,7 +21,7 @@ abbrev pub entries_rule : Rule
 entries_rule = record (new_rule (codes "entries")) {
   long = Some (codes "entries");
   value_names = 1;
-  parser = Some (Signed (pos 1) (pos 65536));
+  parser = Some (Signed (pos 1) (pos MOST_SHAPES));
   defaults = codes "4096" ∷ [];
 }
 
@@ -30,7 +31,7 @@ solve_app = with_rule (with_rule (new_app (codes "solve")) budget_rule) entries_
 
 -- the program without a subcommand, which it wants
 abbrev pub bare_app : App
-bare_app = record { top = record (new_app (codes "ddserve")).top { subcommand_required = true }; subs = [] }
+bare_app = record { top = record (new_app (codes "ddserve")).top { has_version = true; subcommand_required = true }; subs = [] }
 
 -- the program
 abbrev pub program_app : App

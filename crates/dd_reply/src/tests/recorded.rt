@@ -1,8 +1,7 @@
 //! Positions of one to five cards a hand, 0 to 3 of them on the trick, with the answers of DDS 2.9, which plain minimax gives
 //! too.
-use super::devices::{Pieces, run};
-use super::served::GOOD;
-use crate::engine::LineFault;
+use crate::line_reply::reply_to_line;
+use dd_search::NoTable;
 
 /// The request lines.
 const LINES: &str =
@@ -205,8 +204,7 @@ const LINES: &str =
 {"do":"solve","deal":"N:...8 .8.. 9...9 .9..","trump":1,"first":3,"played":[[2,8],[0,8],[2,9]],"solutions":1}
 {"do":"solve","deal":"N:Q..9. 7.8.. T.T..J ..Q.3","trump":0,"first":3,"played":[[3,10],[2,5],[1,14]],"solutions":3}
 {"do":"solve","deal":"W:543... J.K5.2. ..K.54 .AQ.6.","trump":3,"first":1,"played":[[0,6],[0,14],[0,2]],"solutions":3}
-{"do":"solve","deal":"W:J.T.T5. Q4..7.AJ ..A.K64 T.8.K3.","trump":2,"first":1,"played":[[1,14],[1,5],[1,6]],"solutions":3}
-"#;
+{"do":"solve","deal":"W:J.T.T5. Q4..7.AJ ..A.K64 T.8.K3.","trump":2,"first":1,"played":[[1,14],[1,5],[1,6]],"solutions":3}"#;
 
 /// Their replies, as DDS's scores give them.
 const REPLIES: &str = r#"{"cards":[{"equals":0,"rank":13,"score":0,"suit":3}]}
@@ -408,30 +406,18 @@ const REPLIES: &str = r#"{"cards":[{"equals":0,"rank":13,"score":0,"suit":3}]}
 {"cards":[{"equals":0,"rank":9,"score":0,"suit":0}]}
 {"cards":[{"equals":0,"rank":11,"score":3,"suit":3}]}
 {"cards":[{"equals":0,"rank":11,"score":1,"suit":0}]}
-{"cards":[{"equals":0,"rank":7,"score":3,"suit":2},{"equals":0,"rank":12,"score":1,"suit":0},{"equals":0,"rank":4,"score":1,"suit":0},{"equals":0,"rank":14,"score":1,"suit":3},{"equals":0,"rank":11,"score":1,"suit":3}]}
-"#;
+{"cards":[{"equals":0,"rank":7,"score":3,"suit":2},{"equals":0,"rank":12,"score":1,"suit":0},{"equals":0,"rank":4,"score":1,"suit":0},{"equals":0,"rank":14,"score":1,"suit":3},{"equals":0,"rank":11,"score":1,"suit":3}]}"#;
 
 #[test]
 fn recorded_deals_have_the_answers_of_dds(rt: HostRuntime) {
-    let run = run(
-        rt.alloc(),
-        Pieces::of(LINES.as_bytes()),
-        usize::MAX,
-        usize::MAX,
-    );
-    assert_eq!(rt; run.result, Ok(()));
     let mut replies = REPLIES.as_bytes().split(|byte| *byte == b'\n');
-    let mut place = 0u64;
-    for reply in run.written.split(|byte| *byte == b'\n') {
-        place = place.saturating_add(1);
-        assert_eq!(rt; Some(reply), replies.next(), "line {place}");
+    for line in LINES.as_bytes().split(|byte| *byte == b'\n') {
+        let reply = reply_to_line(rt.alloc(), line, &mut NoTable, None);
+        assert_eq!(rt;
+            Some(reply.as_str().as_bytes()),
+            replies.next(),
+            "at {line:?}"
+        );
     }
     assert_eq!(rt; replies.next(), None);
-}
-
-#[test]
-fn a_writer_that_takes_five_bytes_of_a_reply_ends_the_run(rt: HostRuntime) {
-    let run = run(rt.alloc(), Pieces::of(GOOD.as_bytes()), usize::MAX, 5);
-    assert_eq!(rt; run.result, Err(LineFault::Write));
-    assert_eq!(rt; run.written.as_slice(), b"{\"car".as_slice());
 }

@@ -1,7 +1,7 @@
 use Rattle.std.proofs.Common.{◌≡◌, ℕ, ◌<◌, ◌++◌, ◌∷◌, [], ◌∙◌, ap, arith, List, length, get_or}
 use Rattle.std.specs.Prelude.{codes}
 use Rattle.arrayvec.specs.ArrayString.{ArrayString}
-use Rattle.dd_reply.specs.Answers.{ScoredClass}
+use Rattle.dd_reply.specs.ScoredClasses.{ScoredClass}
 use Rattle.dd_reply.specs.Replies.{class_text}
 use Rattle.dd_reply.proofs.Texts.{join-first, join-next}
 use Rattle.dd_reply.proofs.reply.write_answer.Goals as goal
@@ -9,11 +9,11 @@ use Rattle.dd_reply.proofs.reply.write_answer.Goals.{then-place-gt0, else-place-
 
 pub loop-place-preserved : goal.loop-place-preserved
 loop-place-preserved c =
-    let items : List ScoredClass = c.args.answer.now.items in
+    let items : List ScoredClass = c.args.answer.now in
     let place : ℕ = c.loop-place.place in
     let scored : ScoredClass = c.scored-item.result in
     let before : List ℕ = c.loop-place.text.bytes in
-    let same = c.as_slice-scored-items.ensures.value in
+    let same = c.as_slice-scored-items.ensures.classes in
     let within : place < length items = (let k = c.loop-place-test.true in let e = ap length same in omega arith) in
     let here : scored ≡ get_or items place scored = c.scored-item.is ∙ ap (λ xs. get_or xs place scored) same in
     let pushed = c.push_class.ensures.bytes in

@@ -6,6 +6,6 @@ use Rattle.dd_reply.proofs.reply.write_answer.Given as goal
 
 abbrev pub invariant-loop-place : goal.invariant-loop-place
 invariant-loop-place l = record {
-  written : l.text.bytes ≡ codes "{\"cards\":[" ++ join_with_byte 44 (map class_text (take l.place l.answer.items));
+  written : l.text.bytes ≡ codes "{\"cards\":[" ++ join_with_byte 44 (map class_text (take l.place l.answer));
   short : length l.text.bytes ≤ 10 + 57 * l.place;
 }

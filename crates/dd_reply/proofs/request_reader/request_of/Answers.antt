@@ -5,7 +5,7 @@ use Rattle.dd_reply.specs.Requests.{SpellsNone}
 use Rattle.dd_reply.proofs.request_reader.request_of.Goals as goal
 
 pub returns-in_err-hands : goal.returns-in_err-hands
-returns-in_err-hands c =
+returns-in_err-hands c = λ pairs played.
     let p = err_from_is_err_and c.from_residual.result c.from_residual.ensures.1 in
     let none = c.in_err-hands.ensures.err in
     let why : SpellsNone c.args.fields.now.deal.now none.0 = rw c.as_bytes.ensures.value at none.1 in

@@ -1,0 +1,4 @@
+pub mod CountedDevices
+pub mod Line
+pub mod Lines
+pub mod Served

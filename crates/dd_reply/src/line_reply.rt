@@ -1,0 +1,53 @@
+//! The reply to a line.
+ghost use Rattle.std.specs.Prelude.{◌≡◌, ◌≤◌, ◌⊎◌};
+ghost use Rattle.arrayvec.specs.ArrayString.{array_string_len};
+ghost use Rattle.dd_reply.specs.Replies.{IsReply, asked_text, spent_text};
+
+use crate::reply::{LONGEST_REPLY, Reply, write_answer, write_fault, write_spent};
+use crate::request::Request;
+use crate::request_reader::read_request;
+use crate::solving::solve;
+use dd_search::{Bounds, Budget, Endless};
+use std::alloc::Global;
+
+/// The reply to a line of any length, without a line feed at its end.
+///
+/// The budget is the most positions that the search for the answer comes to, and `None` lets it go on to its end: a line
+/// whose search spends it is told so in place of an answer.
+pub fn reply_to_line<B: Bounds>(
+    alloc: Global,
+    line: &[u8],
+    bounds: &mut B,
+    budget: Option<u64>,
+) -> Reply
+    ensures text { IsReply budget line.now result.bytes }
+    ensures bound { array_string_len result ≤ LONGEST_REPLY }
+{
+    match (read_request(alloc, line), budget) {
+        (Ok(request), Some(limit)) => reply_within(request, bounds, limit),
+        (Ok(request), None) => reply_in_the_end(request, bounds),
+        (Err(fault), _) => write_fault(fault),
+    }
+}
+
+/// The answer to a request, or that the budget is spent.
+fn reply_within<B: Bounds>(request: Request, bounds: &mut B, limit: u64) -> Reply
+    ensures text { (result.bytes ≡ asked_text request) ⊎ (result.bytes ≡ spent_text) }
+    ensures bound { array_string_len result ≤ LONGEST_REPLY }
+{
+    match solve(request, bounds, &mut Budget::new(limit)) {
+        Ok(solved) => write_answer(solved.answer()),
+        Err(_) => write_spent(),
+    }
+}
+
+/// The answer to a request, however long it takes.
+fn reply_in_the_end<B: Bounds>(request: Request, bounds: &mut B) -> Reply
+    ensures text { result.bytes ≡ asked_text request }
+    ensures bound { array_string_len result ≤ LONGEST_REPLY }
+{
+    match solve(request, bounds, &mut Endless) {
+        Ok(solved) => write_answer(solved.answer()),
+        Err(_) => unreachable!(),
+    }
+}

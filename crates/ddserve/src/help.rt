@@ -1,0 +1,45 @@
+//! What the help of `solve` says of requests and replies.
+
+/// Requests, replies, faults and the status of the end.
+pub const REQUESTS: &str = "\
+A request is one line of JSON of at most 4096 bytes:
+
+  {\"do\":\"solve\",\"deal\":\"N:32... K4... AQ... 65...\",\"trump\":4,\"first\":0,\"solutions\":3}
+
+  deal       the hands as in the tag Deal of PBN 2.1: the first hand's letter, then the four hands
+             clockwise, each its spades, hearts, diamonds and clubs; or the whole tag
+  trump      0 spades, 1 hearts, 2 diamonds, 3 clubs, 4 notrump
+  first      the hand that leads to the current trick, or led to it where cards were played:
+             0 North, 1 East, 2 South, 3 West
+  played     the cards on the current trick in their order, at most three, as [suit, rank] each;
+             they are in no hand; may be left out
+  solutions  3 all cards, 2 those of the greatest score, 1 the first of these
+
+A suit is 0 spades, 1 hearts, 2 diamonds, 3 clubs; a rank is 2 to 14: 11 knave, 12 queen, 13 king,
+14 ace.
+
+Its reply is one line too. For each class of equal cards that may be played, the greatest score
+first: its highest card, the mask `equals` of its other cards (bit r, the number 2 to the r-th, for
+rank r), and in `score` the tricks that its side wins from here on, the current one included:
+
+  {\"cards\":[{\"equals\":4,\"rank\":3,\"score\":2,\"suit\":0}]}
+
+A line whose budget was spent has the reply {\"state\":\"spent\"}. A line that can't be answered has
+the reply {\"fault\":F}:
+
+   1  it is no JSON object
+   2  it is over 4096 bytes
+   3  a field is missing, unknown or of the wrong kind
+   4  the text of the deal hasn't the form of a deal
+   5  a hand of the deal is `-`
+   6  a card stands twice, the current trick included
+   7  the numbers of the hands' cards are uneven
+   8  there is no card to play
+   9  trump is not 0 to 4
+  10  first is not 0 to 3
+  11  played has more than three cards, or one that is no card
+  12  solutions is not 1 to 3
+  19  memory ran out while the line was read
+
+Exit status: 0 at the end of the input, 1 where a read or a write failed or memory ran out, and 2
+for a bad command line.";

@@ -1,0 +1,258 @@
+use super::devices::{Devices, Outcome, SOUND, run_line, run_over};
+use crate::command_line::{WordsFault, given_words};
+use crate::ending::Ending;
+use std::alloc::{AllocError, Global};
+use std::env::FillError;
+use std::rt::Env;
+use std::test::Fail;
+
+const ACE: &str =
+    "{\"do\":\"solve\",\"deal\":\"N:A... K... Q... J...\",\"trump\":4,\"first\":0,\"solutions\":3}\n";
+
+const ACE_REPLY: &str = "{\"cards\":[{\"equals\":0,\"rank\":14,\"score\":1,\"suit\":0}]}\n";
+
+// The last card of a trick: the search comes to one position.
+const LAST_CARD: &str =
+    "{\"do\":\"solve\",\"deal\":\"N:A... ... ... ...\",\"trump\":4,\"first\":1,\"played\":[[0,13],[0,12],[0,11]],\"solutions\":3}\n";
+
+const SPENT_REPLY: &str = "{\"state\":\"spent\"}\n";
+
+const GOOD_AND_BAD: &str = "\
+{\"do\":\"solve\",\"deal\":\"N:A... K... Q... J...\",\"trump\":4,\"first\":0,\"solutions\":3}
+{\"do\":\"solve\",\"deal\":\"N:A... K... Q... J...\",\"trump\":5,\"first\":0,\"solutions\":3}
+{\"do\":\"solve\",\"deal\":\"N:A... K... Q... J...\",\"trump\":4,\"first\":0,\"solutions\":3}";
+
+const GOOD_AND_BAD_REPLIES: &str = "\
+{\"cards\":[{\"equals\":0,\"rank\":14,\"score\":1,\"suit\":0}]}
+{\"fault\":9}
+{\"cards\":[{\"equals\":0,\"rank\":14,\"score\":1,\"suit\":0}]}
+";
+
+#[test]
+fn the_lines_of_the_input_are_answered_within_the_budget(rt: HostRuntime) -> Result<(), Fail> {
+    let rows = [
+        ("ddserve solve", ACE, ACE_REPLY),
+        ("ddserve solve --entries 1", ACE, ACE_REPLY),
+        ("ddserve solve", "", ""),
+        ("ddserve solve", GOOD_AND_BAD, GOOD_AND_BAD_REPLIES),
+        ("ddserve solve --budget 0", LAST_CARD, SPENT_REPLY),
+        ("ddserve solve --budget 1", LAST_CARD, ACE_REPLY),
+    ];
+    for (line, input, want) in rows {
+        let outcome = run_line(rt.alloc(), line, input, SOUND)?;
+        assert_eq!(rt; outcome.ending, Ending::Answered, "{line}");
+        assert_eq!(rt; outcome.ending.status(), 0);
+        assert_eq!(rt; outcome.output.as_slice(), want.as_bytes(), "{line}");
+        assert!(rt; outcome.errors.is_empty());
+        assert_eq!(rt; outcome.unread, 0);
+    }
+    Ok(())
+}
+
+#[test]
+fn a_call_is_shown_on_the_output_and_ends_with_0(rt: HostRuntime) -> Result<(), Fail> {
+    let rows = [
+        ("ddserve --help", "Usage: ddserve <COMMAND>"),
+        ("ddserve help", "Usage: ddserve <COMMAND>"),
+        ("ddserve help solve", "Usage: ddserve solve [OPTIONS]"),
+        ("ddserve solve --help", "Usage: ddserve solve [OPTIONS]"),
+        ("ddserve --version", "ddserve 0.2.0\n"),
+        ("ddserve -V", "ddserve 0.2.0\n"),
+    ];
+    for (line, part) in rows {
+        let outcome = run_line(rt.alloc(), line, ACE, SOUND)?;
+        assert_eq!(rt; outcome.ending, Ending::Shown, "{line}");
+        assert_eq!(rt; outcome.ending.status(), 0);
+        assert!(rt; has_part(&outcome.output, part), "{line}");
+        assert!(rt; outcome.errors.is_empty());
+        assert_eq!(rt; outcome.unread, ACE.len());
+    }
+    Ok(())
+}
+
+// Does the text stand in the bytes?
+fn has_part(bytes: &[u8], part: &str) -> bool {
+    match str::from_utf8(bytes) {
+        Ok(text) => text.contains(part),
+        Err(_) => false,
+    }
+}
+
+// A bad line ends with status 2, whether the standard error takes its text or not.
+fn is_refused(outcome: &Outcome, said: &str) -> bool {
+    outcome.ending == Ending::BadLine
+        && outcome.ending.status() == 2
+        && outcome.output.is_empty()
+        && outcome.unread == ACE.len()
+        && has_part(&outcome.errors, said)
+}
+
+#[test]
+fn a_bad_line_is_explained_on_the_standard_error_and_ends_with_2(
+    rt: HostRuntime,
+) -> Result<(), Fail> {
+    let rows = [
+        ("ddserve resolve", "unrecognized subcommand 'resolve'"),
+        ("ddserve solve --entries 0", "0 is not in 1..=65536"),
+        ("ddserve solve --limit 5", "unexpected argument '--limit'"),
+        ("ddserve", "requires a subcommand"),
+    ];
+    let closed = Devices { errors: 0, ..SOUND };
+    for (line, said) in rows {
+        let outcome = run_line(rt.alloc(), line, ACE, SOUND)?;
+        assert!(rt; is_refused(&outcome, said), "{line}");
+        let outcome = run_line(rt.alloc(), line, ACE, closed)?;
+        assert!(rt; is_refused(&outcome, ""), "{line}");
+    }
+    Ok(())
+}
+
+#[test]
+fn a_device_that_fails_is_named_and_the_run_ends_with_1(rt: HostRuntime) -> Result<(), Fail> {
+    let no_read = Devices { calls: 0, ..SOUND };
+    let one_read = Devices { calls: 1, ..SOUND };
+    let short = Devices { output: 5, ..SOUND };
+    let rows = [
+        (
+            "ddserve solve",
+            no_read,
+            Ending::ReadFailed,
+            "",
+            "ddserve: read failed\n",
+        ),
+        (
+            "ddserve solve",
+            one_read,
+            Ending::ReadFailed,
+            ACE_REPLY,
+            "ddserve: read failed\n",
+        ),
+        (
+            "ddserve solve",
+            short,
+            Ending::WriteFailed,
+            "{\"car",
+            "ddserve: write failed\n",
+        ),
+        (
+            "ddserve --version",
+            short,
+            Ending::WriteFailed,
+            "ddser",
+            "ddserve: write failed\n",
+        ),
+    ];
+    for (line, devices, ending, written, said) in rows {
+        let outcome = run_line(rt.alloc(), line, ACE, devices)?;
+        assert_eq!(rt; outcome.ending, ending, "{line}");
+        assert_eq!(rt; outcome.ending.status(), 1);
+        assert_eq!(rt; outcome.output.as_slice(), written.as_bytes());
+        assert_eq!(rt; outcome.errors.as_slice(), said.as_bytes());
+        let closed = Devices {
+            errors: 0,
+            ..devices
+        };
+        let outcome = run_line(rt.alloc(), line, ACE, closed)?;
+        assert_eq!(rt; outcome.ending, ending, "{line}");
+        assert!(rt; outcome.errors.is_empty());
+    }
+    Ok(())
+}
+
+#[test]
+fn words_that_cannot_be_had_are_a_bad_line_or_want_of_memory(rt: HostRuntime) {
+    let outcome = run_over(rt.alloc(), Err(WordsFault::NotText), ACE, SOUND);
+    assert!(rt; is_refused(&outcome, "a word of the command line is not UTF-8 text"));
+    let outcome = run_over(rt.alloc(), Err(WordsFault::OutOfMemory), ACE, SOUND);
+    assert_eq!(rt; outcome.ending, Ending::OutOfMemory);
+    assert_eq!(rt; outcome.ending.status(), 1);
+    assert_eq!(rt; outcome.unread, ACE.len());
+    assert!(rt; outcome.output.is_empty());
+    assert_eq!(rt;
+        outcome.errors.as_slice(),
+        b"ddserve: out of memory\n".as_slice()
+    );
+}
+
+// An environment with these words.
+#[derive(Drop)]
+struct Started<'a> {
+    words: &'a [&'a [u8]],
+}
+
+impl Env for Started<'_> {
+    fn arg(&self, i: usize, buf: &mut [u8]) -> Result<usize, FillError> {
+        let word = self.words.get(i).ok_or(FillError::NotPresent)?;
+        let place = buf.get_mut(..word.len()).ok_or(FillError::TooLong)?;
+        place.copy_from_slice(word);
+        Ok(word.len())
+    }
+
+    fn var(&self, _name: &str, _buf: &mut [u8]) -> Result<usize, FillError> {
+        Err(FillError::NotPresent)
+    }
+
+    fn var_at(&self, _i: usize, _buf: &mut [u8]) -> Result<usize, FillError> {
+        Err(FillError::NotPresent)
+    }
+}
+
+// What the words of such an environment are read as.
+fn read_words(alloc: Global, words: &[&[u8]]) -> Result<Vec<String>, WordsFault> {
+    given_words(&(Started { words }, alloc))
+}
+
+#[test]
+fn the_words_are_those_of_the_environment(rt: HostRuntime) {
+    let read = read_words(rt.alloc(), &[b"ddserve", b"solve", b"--budget", b"", b"7"]);
+    let words = read.ok().expect(&rt, "words");
+    assert_eq!(rt; words.len(), 5);
+    for (word, want) in words
+        .iter()
+        .zip(["ddserve", "solve", "--budget", "", "7"].iter())
+    {
+        assert_eq!(rt; word.as_str(), *want);
+    }
+    let read = read_words(rt.alloc(), &[b"ddserve", b"\xff"]);
+    assert_eq!(rt; read.err(), Some(WordsFault::NotText));
+}
+
+// A position of three classes, of which two are best.
+const THREE_CLASSES: &str =
+    "{\"do\":\"solve\",\"deal\":\"N:A2.K.. K3.A.. Q4.Q.. J5.J..\",\"trump\":4,\"first\":0,\"solutions\":3}\n";
+
+// The same, asked for the first of the best.
+const FIRST_OF_THREE: &str =
+    "{\"do\":\"solve\",\"deal\":\"N:A2.K.. K3.A.. Q4.Q.. J5.J..\",\"trump\":4,\"first\":0,\"solutions\":1}\n";
+
+// The least budget, below 100, with which the last of these lines is answered.
+fn least_budget(alloc: Global, entries: u32, lines: &str) -> Result<Option<u32>, AllocError> {
+    for budget in 0u32..100 {
+        let line = format!(in alloc; "ddserve solve --entries {entries} --budget {budget}")?;
+        let outcome = run_line(alloc, line.as_str(), lines, SOUND)?;
+        if !outcome.output.ends_with(SPENT_REPLY.as_bytes()) {
+            return Ok(Some(budget));
+        }
+    }
+    Ok(None)
+}
+
+#[test]
+fn a_line_that_comes_again_needs_fewer_positions(rt: HostRuntime) -> Result<(), Fail> {
+    let alloc = rt.alloc();
+    let twice = format!(in alloc; "{THREE_CLASSES}{THREE_CLASSES}")?;
+    let first = least_budget(alloc, 2, THREE_CLASSES)?.ok_or("a budget")?;
+    let second = least_budget(alloc, 2, twice.as_str())?.ok_or("a budget")?;
+    assert!(rt; second < first);
+    Ok(())
+}
+
+#[test]
+fn a_table_of_one_entry_forgets_the_shape_before(rt: HostRuntime) -> Result<(), Fail> {
+    let alloc = rt.alloc();
+    let lines = format!(in alloc; "{FIRST_OF_THREE}{ACE}{THREE_CLASSES}")?;
+    let one = least_budget(alloc, 1, lines.as_str())?.ok_or("a budget")?;
+    let two = least_budget(alloc, 2, lines.as_str())?.ok_or("a budget")?;
+    assert!(rt; two < one);
+    Ok(())
+}
