@@ -15,11 +15,6 @@ pub record Serving (budget : Option ℕ) (read_old read_now write_old write_now 
   pub wrote : WroteReplies budget write_old write_now (ended_lines [] input)
   pub begun : StandsFor line (begun_line [] input)
 
--- before the first read
-pub Serving-begun : (budget : Option ℕ) (read write : Option (List ℕ)) (line : Line) → StandsFor line [] → Serving budget read read write write line
-Serving-begun budget read write line none =
-    record { input = []; consumed = Consumes-nil read; wrote = WroteReplies-none budget write; begun = none }
-
 -- after a piece whose lines were answered
 pub Serving-further : (budget : Option ℕ) (r0 r1 r2 w0 w1 w2 : Option (List ℕ)) (old new : Line) (piece : List ℕ) → Serving budget r0 r1 w0 w1 old → Consumes r1 r2 piece
     → ((held : List ℕ) → StandsFor old held → WroteReplies budget w1 w2 (ended_lines held piece)) → ((held : List ℕ) → StandsFor old held → StandsFor new (begun_line held piece))

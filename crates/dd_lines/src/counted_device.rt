@@ -3,7 +3,7 @@ ghost use Rattle.std.specs.Prelude.{◌≡◌, ◌<◌, ◌≤◌, ◌↔◌, Is
 ghost use Rattle.std.specs.Io.{ReadsAtMost, WritesAtMost};
 ghost use Rattle.std.specs.Io.KnownBytes.{ReadConsumes, WriteAppends, Keeps};
 ghost use Rattle.std.specs.IoError.{error_kind};
-ghost use Rattle.dd_lines.specs.CountedDevices.{device_of, failures_of, calls_of, one_more, most_calls, Failed, CountsCall, TakesSome};
+ghost use Rattle.dd_lines.specs.CountedDevices.{bytes_of, device_of, failures_of, calls_of, one_more, most_calls, Failed, CountsCall, TakesSome};
 
 use std::io;
 use std::io::{Error, ErrorKind, Read, Write};
@@ -58,7 +58,8 @@ impl<R: Read> Read for CountedDevice<R> {
 
     fn read(&mut self, buf: &mut [u8]) -> io::Result<usize>
         ensures bound { ReadsAtMost result buf.new }
-        ensures bytes { ReadConsumes (R.remaining (device_of self.old)) (R.remaining (device_of self.new)) result buf.new }
+        ensures bytes { ReadConsumes (bytes_of R.remaining self.old) (bytes_of R.remaining self.new)
+            result buf.new }
         ensures counted { CountsCall self.old self.new result }
     {
         let CountedDevice {
@@ -80,7 +81,8 @@ impl<W: Write> Write for CountedDevice<W> {
 
     fn write(&mut self, buf: &[u8]) -> io::Result<usize>
         ensures bound { WritesAtMost result buf.now }
-        ensures bytes { WriteAppends (W.contents (device_of self.old)) (W.contents (device_of self.new)) result buf.now }
+        ensures bytes { WriteAppends (bytes_of W.contents self.old) (bytes_of W.contents self.new)
+            result buf.now }
         ensures some { TakesSome result buf.now }
         ensures counted { CountsCall self.old self.new result }
     {
@@ -98,7 +100,7 @@ impl<W: Write> Write for CountedDevice<W> {
     }
 
     fn flush(&mut self) -> io::Result<()>
-        ensures bytes { Keeps (W.contents (device_of self.old)) (W.contents (device_of self.new)) }
+        ensures bytes { Keeps (bytes_of W.contents self.old) (bytes_of W.contents self.new) }
         ensures counted { CountsCall self.old self.new result }
     {
         let CountedDevice {
@@ -128,7 +130,8 @@ fn is_let_through(calls: &mut u64) -> bool
 /// Counts the call as failed where it answered an error.
 fn count_failure<T>(failures: &mut u64, answer: io::Result<T>) -> io::Result<T>
     ensures answer { result ≡ answer }
-    ensures failures { MatchResult result (λ _. failures.new ≡ failures.old) (λ _. failures.new ≡ one_more failures.old) }
+    ensures failures { MatchResult result (λ _. failures.new ≡ failures.old)
+        (λ _. failures.new ≡ one_more failures.old) }
     ensures failed { OnErr result (Failed failures.old failures.new) }
 {
     if answer.is_err() {

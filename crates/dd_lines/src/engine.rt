@@ -51,7 +51,8 @@ pub fn solve_lines<R: Read, W: Write, B: Bounds>(
         (ServesAll R.remaining W.contents budget reader.old reader.new writer.old writer.new) }
     // What was written is a beginning of the replies to what was read.
     ensures err { OnErr result
-        (ServesBeginning R.remaining W.contents budget reader.old reader.new writer.old writer.new) }
+        (ServesBeginning R.remaining W.contents budget reader.old reader.new
+        writer.old writer.new) }
     // No call failed before the one that ended the run.
     ensures first { StopsAtFirstFailure reader.old reader.new writer.old writer.new result }
     ensures read { result ≡ Err LineFault.Read → HasFailed reader.old reader.new }
@@ -77,8 +78,10 @@ fn answer_last<W: Write, B: Bounds>(
     bounds: &mut B,
     budget: Option<u64>,
 ) -> Result<(), LineFault>
-    ensures ok { OnOk result (WritesReplies W.contents budget writer.old writer.new line.now last_line) }
-    ensures err { OnErr result (WritesBeginning W.contents budget writer.old writer.new line.now last_line) }
+    ensures ok { OnOk result
+        (WritesReplies W.contents budget writer.old writer.new line.now last_line) }
+    ensures err { OnErr result
+        (WritesBeginning W.contents budget writer.old writer.new line.now last_line) }
     ensures fault { StopsAtFailedWrite writer.old writer.new result }
 {
     if line.is_empty() {
@@ -98,11 +101,13 @@ fn take_piece<W: Write, B: Bounds>(
     budget: Option<u64>,
 ) -> Result<(), LineFault>
     ensures ok { OnOk result
-        (WritesReplies W.contents budget writer.old writer.new line.old (λ held. ended_lines held piece.now)) }
+        (WritesReplies W.contents budget writer.old writer.new line.old
+        (λ held. ended_lines held piece.now)) }
     ensures kept { OnOk result ((held : List ℕ) → StandsFor line.old held →
         StandsFor line.new (begun_line held piece.now)) }
     ensures err { OnErr result
-        (WritesBeginning W.contents budget writer.old writer.new line.old (λ held. ended_lines held piece.now)) }
+        (WritesBeginning W.contents budget writer.old writer.new line.old
+        (λ held. ended_lines held piece.now)) }
     ensures fault { StopsAtFailedWrite writer.old writer.new result }
 {
     for byte in piece {
@@ -124,8 +129,10 @@ fn answer_line<W: Write, B: Bounds>(
     bounds: &mut B,
     budget: Option<u64>,
 ) -> Result<(), LineFault>
-    ensures ok { OnOk result (WritesReplies W.contents budget writer.old writer.new line.now (λ held. held ∷ [])) }
-    ensures err { OnErr result (WritesBeginning W.contents budget writer.old writer.new line.now (λ held. held ∷ [])) }
+    ensures ok { OnOk result (WritesReplies W.contents budget writer.old writer.new line.now
+        (λ held. held ∷ [])) }
+    ensures err { OnErr result (WritesBeginning W.contents budget writer.old writer.new line.now
+        (λ held. held ∷ [])) }
     ensures fault { StopsAtFailedWrite writer.old writer.new result }
 {
     let reply = reply_line(alloc, line, bounds, budget);

@@ -114,28 +114,11 @@ module _ (Form : Value → Type 0) (read : Option Seen) (reads : Reads Form read
 pub deal-decided : (text : List ℕ) → ((deal : FourHands) × AreHands deal × DealText text deal) ⊎ ((fault : PbnFault) × DealFault text fault)
 deal-decided text = decided (IsValue text) (value_of text) (Reads-value text)
 
--- a text that spells a deal has no fault
-pub deal-or-fault : (text : List ℕ) (deal : FourHands) (fault : PbnFault) → AreHands deal → DealText text deal → DealFault text fault → ⊥
-deal-or-fault text deal fault are spells fails =
-    let ok = spelled-read (IsValue text) (value_of text) (Reads-value text) deal are spells in
-    let err = failed-read (IsValue text) (value_of text) (Reads-value text) fault fails in
-    cc
-
 -- a text spells no two deals
 pub one-deal : (text : List ℕ) (a b : FourHands) → AreHands a → AreHands b → DealText text a → DealText text b → a ≡ b
 one-deal text a b x y in_x in_y =
     let reads = Reads-value text in
     ok-is (outcome (value_of text)) a b (spelled-read (IsValue text) (value_of text) reads a x in_x) (spelled-read (IsValue text) (value_of text) reads b y in_y)
-
--- a text has no two faults
-pub one-fault : (text : List ℕ) (a b : PbnFault) → DealFault text a → DealFault text b → a ≡ b
-one-fault text a b in_a in_b =
-    let reads = Reads-value text in
-    err-is (outcome (value_of text)) a b (failed-read (IsValue text) (value_of text) reads a in_a) (failed-read (IsValue text) (value_of text) reads b in_b)
-
--- each text, as a tag, spells a deal or has a fault
-pub tag-decided : (text : List ℕ) → ((deal : FourHands) × AreHands deal × TagText text deal) ⊎ ((fault : PbnFault) × TagFault text fault)
-tag-decided text = decided (IsTag text) (tag_of text) (Reads-tag text)
 
 -- a tag spells no two deals
 pub one-tag-deal : (text : List ℕ) (a b : FourHands) → AreHands a → AreHands b → TagText text a → TagText text b → a ≡ b

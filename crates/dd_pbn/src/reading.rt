@@ -21,7 +21,8 @@ use dd_cards::{Card, Hands, Seat, Suit};
 pub fn read_deal(text: &[u8]) -> Result<Hands, PbnFault>
     ensures read { IfOk result (λ deal. DealText text.now deal) }
     ensures hands { IfOk result (λ deal. AreHands deal) }
-    ensures only { (deal : FourHands) → AreHands deal → DealText text.now deal → result ≡ Ok deal }
+    ensures only { (deal : FourHands) → AreHands deal → DealText text.now deal →
+        result ≡ Ok deal }
     ensures fault { (fault : PbnFault) → (result ≡ Err fault) ↔ DealFault text.now fault }
 {
     outcome(seen_in_value(text))
@@ -32,7 +33,8 @@ pub fn read_deal(text: &[u8]) -> Result<Hands, PbnFault>
 pub fn read_tag(text: &[u8]) -> Result<Hands, PbnFault>
     ensures read { IfOk result (λ deal. TagText text.now deal) }
     ensures hands { IfOk result (λ deal. AreHands deal) }
-    ensures only { (deal : FourHands) → AreHands deal → TagText text.now deal → result ≡ Ok deal }
+    ensures only { (deal : FourHands) → AreHands deal → TagText text.now deal →
+        result ≡ Ok deal }
     ensures fault { (fault : PbnFault) → (result ≡ Err fault) ↔ TagFault text.now fault }
 {
     outcome(seen_in_tag(text))
@@ -146,7 +148,8 @@ fn read_hand<'a>(seen: &mut Seen, seat: Seat, text: &'a [u8]) -> Option<&'a [u8]
 // A point, and a suit.
 #[tactic(auto, unfolding(crate::specs::Reading::next_suit))]
 fn read_next_suit<'a>(seen: &mut Seen, seat: Seat, suit: Suit, text: &'a [u8]) -> Option<&'a [u8]>
-    ensures { Gives (λ rest. (seen.new, rest.now)) result (next_suit seat suit (seen.old, text.now)) }
+    ensures { Gives (λ rest. (seen.new, rest.now))
+        result (next_suit seat suit (seen.old, text.now)) }
 {
     let rest = after_byte(b'.', text)?;
     Some(read_suit(seen, seat, suit, rest))

@@ -2,7 +2,7 @@
 use Rattle.std.proofs.Common.{◌≡◌, ◌≢◌, ℕ, zero, suc, ◌+◌, ◌-◌, ◌%◌, ◌<◌, ◌≤◌, Bool, true, false, cond, refl, sym, ap, ◌∙◌, subst, arith, List, [], ◌∷◌, ◌++◌, length, length-append, inl, inr, eq-eqb, zero-le, max, min}
 use Rattle.std.specs.Prelude.{nat_lt, filter, map, fold, ◌||◌, ◌&&◌, if◌then◌else◌}
 use mathlib.Core.Bool.{not}
-use Rattle.dd_cards.proofs.CallerLemmas.{IsSet-without, or-right, real-set, same_card-eq, seat_code-injective, times-cons, hand_of-with_hand}
+use Rattle.dd_cards.proofs.CallerLemmas.{IsSet-without, hand_of-with_hand, or-right, real-set, same_card-eq, seat_code-injective, times-cons}
 use Rattle.std.proofs.lemmas.Bool.Decides.{eqb_tells, nat_tests}
 use Rattle.std.proofs.lemmas.Bool.{lt-ltb, le-ltb, eqb-true}
 use Rattle.dd_cards.specs.declared.seat.Seat.{Seat}

@@ -125,7 +125,7 @@ pub use Rattle.dd_play.proofs.Winners.{strength_by}
 pub use Rattle.dd_play.proofs.Winners.{has-at}
 
 -- ---- one step of play keeps the relation
--- the mover of the one is the mover of the other, turned
+
 pub use Rattle.dd_play.proofs.Steps.{mover-turned}
 -- each card of a hand of q answers one of that hand of p
 pub use Rattle.dd_play.proofs.Steps.{reply'}
@@ -147,10 +147,10 @@ pub use Rattle.dd_play.proofs.ClaimRules.{one-point}
 pub use Rattle.dd_play.proofs.ClaimRules.{all}
 -- the two sides claim no more together than is left
 pub use Rattle.dd_play.proofs.ClaimRules.{both}
--- the leader's tricks are those of its side
-pub use Rattle.dd_play.proofs.ClaimRules.{lead-won}
 -- where the claims of the two sides add up to all tricks, each takes what it claims
 pub use Rattle.dd_play.proofs.ClaimRules.{exactly}
+-- the leader's tricks are those of its side
+pub use Rattle.dd_play.proofs.ClaimRules.{lead-won}
 
 -- ---- fewer top cards cover more positions, and play keeps the order within a hand
 -- two relations of cards that can meet on one trick hold together

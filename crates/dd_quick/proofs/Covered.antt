@@ -20,12 +20,12 @@ use Rattle.dd_play.specs.Value.{ns, lead}
 use Rattle.dd_play.specs.Won.{won}
 use Rattle.dd_play.specs.Covers.{IsCover, AllAnswer}
 use Rattle.dd_play.specs.Reach.{TakesBy}
-use Rattle.dd_play.proofs.CallerLemmas.{after-code, all, both, by-fewer, by-here, by-more, card-real, code-lt, has-first, in-rest, inject, of-suit', once-in, reach-of, reach-upward, reach-within, suit-of, turn-apart, turn-turn, lead-won}
+use Rattle.dd_play.proofs.CallerLemmas.{after-code, all, both, by-fewer, by-here, by-more, card-real, code-lt, has-first, in-rest, inject, lead-won, of-suit', once-in, reach-of, reach-upward, reach-within, suit-of, turn-apart, turn-turn}
 use Rattle.std.proofs.Common.{Option, Some, None}
 use Rattle.std.specs.Prelude.{MatchOption, slice_get}
 use Rattle.dd_cards.specs.Ranks.{IsRank, has_rank}
 use Rattle.dd_cards.specs.Cards.{card_of, with_card, same_card}
-use Rattle.dd_cards.proofs.CallerLemmas.{and-left, and-right, else-false, has_card-with_card, has_rank-holding, same_card-self, same-self, same-other, is-same, is-other}
+use Rattle.dd_cards.proofs.CallerLemmas.{and-left, and-right, else-false, has_card-with_card, has_rank-holding, is-other, is-same, same-other, same-self, same_card-self}
 use Rattle.dd_cards.specs.Sides.{side_of, other_side, is_side}
 use Rattle.dd_cards.specs.declared.side.Side.{Side}
 use Rattle.dd_play.specs.Reach.{reach}

@@ -12,9 +12,9 @@ use Rattle.dd_play.specs.Board.{Board, IsBoard, cards_at, left}
 use Rattle.dd_play.specs.Value.{ns, lead}
 use Rattle.dd_play.specs.Won.{won}
 use Rattle.dd_play.specs.Covers.{ForMet, Keeps, IsOver, AllAnswer, count_of, IsCover, any_card}
-use Rattle.dd_play.proofs.CallerLemmas.{inject, of-suit', once-in, suit-of, twins-won, lead-won}
+use Rattle.dd_play.proofs.CallerLemmas.{inject, lead-won, of-suit', once-in, suit-of, twins-won}
 use Rattle.dd_rank.specs.Alike.{IsAlikeBy, AreAlike, IsAlike}
-use Rattle.dd_cards.proofs.CallerLemmas.{same-others, next-side}
+use Rattle.dd_cards.proofs.CallerLemmas.{next-side, same-others}
 
 -- two seats of one side, one of them turned with the side, stay of one side
 pub turned-sides : (k : ℕ) (x y : Seat) → is_side (side_of (seat_after y k)) (seat_after x k) ≡ is_side (side_of y) x

@@ -10,7 +10,7 @@ use Rattle.dd_cards.specs.PlayingCard.{PlayingCard}
 use Rattle.dd_cards.specs.Cards.{is_of, same_card, has_card}
 use Rattle.dd_cards.specs.Seats.{seat_code, seat_after}
 use Rattle.dd_cards.specs.Hands.{times}
-use Rattle.dd_cards.proofs.CallerLemmas.{and-left, and-right, else-true, same-self, same-other, is-same, is-other}
+use Rattle.dd_cards.proofs.CallerLemmas.{and-left, and-right, else-true, is-other, is-same, same-other, same-self}
 use Rattle.dd_cards.specs.Sides.{side_of, other_side, is_side}
 use Rattle.dd_cards.specs.declared.side.Side.{Side}
 use Rattle.dd_play.specs.Board.{Board, IsBoard, cards_at}

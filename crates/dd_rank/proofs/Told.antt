@@ -10,7 +10,7 @@ use Rattle.dd_play.specs.Board.{Board, IsBoard, left}
 use Rattle.dd_play.specs.Value.{lead}
 use Rattle.dd_play.specs.Won.{won}
 use Rattle.dd_play.specs.Reach.{reach, TakesBy}
-use Rattle.dd_play.proofs.CallerLemmas.{all, reach-some, reach-upward, lead-won}
+use Rattle.dd_play.proofs.CallerLemmas.{all, lead-won, reach-some, reach-upward}
 use Rattle.dd_rank.specs.Depths.{Covers, depths_of}
 use Rattle.dd_rank.proofs.Covered.{IsLifted}
 use Rattle.dd_rank.proofs.Looked.{covers-less, by-looked, by-looked'}

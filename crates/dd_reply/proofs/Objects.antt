@@ -41,9 +41,3 @@ map_err-err (Err e) (Ok y) Q P S R is holds also then-r = elim is [ ]
 pub at-each_err : {T E : Type 0} (result : Result T E) (P : E → Type 0) → ((e : E) → result ≡ Err e → P e) → IfErr result P
 at-each_err (Ok x) P holds = tt
 at-each_err (Err e) P holds = holds e refl
-
--- the error that was named for nothing
-pub named-err : {T E : Type 0} (o : Option T) (named fault : E) → Err fault ≡ ok_or o named → o ≡ None → fault ≡ named
-named-err o named fault is none =
-    let same : Err fault ≡ Err named = is ∙ ap (λ x. ok_or x named) none in
-    cc

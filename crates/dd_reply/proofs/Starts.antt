@@ -35,7 +35,3 @@ means-fault board solutions Played short is = absurd (omega arith)
 means-fault board solutions Twice short is = means-twice board solutions is.1
 means-fault board solutions Uneven short is = means-uneven board solutions is.1 is.2
 means-fault board solutions Empty short is = means-empty board solutions is.1 is.2 is.3
-
--- a board to play from
-pub means-play : (board : Board) (solutions : ℕ) → CanPlay board → MeansBoard board solutions (Ok (record { board = board; solutions = solutions }))
-means-play board solutions play = let more : 0 < left board = play.cards in means-some board solutions play.board.once play.board.even more

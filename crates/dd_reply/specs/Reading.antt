@@ -1,5 +1,6 @@
 -- Reading a request line, step by step.
 use Rattle.std.specs.Prelude.{◌≡◌, ℕ, ◌<◌, ◌⊎◌, List, length, map, Option, None, Some, option_map, IsTrue, IsFalse}
+use Rattle.arrayvec.specs.declared.array_vec.ArrayVec.{ArrayVec}
 use Rattle.serde_json.specs.View.{view}
 use Rattle.serde_json.specs.declared.value.Value.{Value}
 use Rattle.dd_cards.specs.PlayingCard.{PlayingCard}
@@ -8,6 +9,7 @@ use Rattle.dd_play.specs.declared.play_fault.PlayFault.TheVariants.{Played, Twic
 use Rattle.dd_reply.specs.declared.fault.Fault.{Fault}
 use Rattle.dd_reply.specs.declared.fault.Fault.TheVariants.{NotAnObject, CardTwice, WrongPlayed, UnevenHands, NoCard, OutOfMemory}
 use Rattle.dd_reply.specs.declared.request_reader.SolveFields as kept
+use Rattle.dd_reply.specs.declared.request_reader.TheConstants.{MOST_PLAYED}
 use Rattle.dd_reply.specs.Requests.{SolveFields, object_of, pair_of_value, are_cards, pair_of_card}
 
 -- why a line gives no object: memory ran out, or the line is none
@@ -29,9 +31,13 @@ pub record ReadsPlayed (read : Option (List (ℕ × ℕ))) (cards : Option (List
   pub are : read ≡ Some pairs
   pub played : ArePlayed cards pairs
 
+-- the cards that are kept, where there are any
+abbrev pub cards_in : Option (ArrayVec PlayingCard MOST_PLAYED (Unit {0})) → Option (List PlayingCard)
+cards_in kept = option_map (λ cards. cards.items) kept
+
 -- the cards played, as the program keeps them
 abbrev pub played_in : kept.SolveFields → Option (List PlayingCard)
-played_in fields = option_map (λ cards. cards.items) fields.played
+played_in fields = cards_in fields.played
 
 -- the fields, as the program keeps them, where these are the pairs
 abbrev pub fields_of : kept.SolveFields → List (ℕ × ℕ) → SolveFields

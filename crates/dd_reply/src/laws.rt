@@ -11,7 +11,8 @@ use crate::fault::Fault;
 /// A line has a meaning, and only one.
 pub fn one_meaning()
     ensures some { (line : List ℕ) → (meaning : Result Asked Fault) × Means line meaning }
-    ensures only { (line : List ℕ) (a b : Result Asked Fault) → Means line a → Means line b → a ≡ b }
+    ensures only { (line : List ℕ) (a b : Result Asked Fault) → Means line a → Means line b →
+        a ≡ b }
 {}
 
 /// Lines worked by hand.

@@ -29,7 +29,8 @@ impl Request {
     /// `None` where the solutions are not 1 to 3, or there is no card to play.
     pub fn new(position: Position, solutions: u8) -> Option<Request>
         ensures valid { IsSome result ↔ ((1 ≤ solutions) × (solutions ≤ 3) × (1 ≤ left position)) }
-        ensures value { IfSome result (λ request. request ≡ record { board = position; solutions = solutions }) }
+        ensures value { IfSome result (λ request. request ≡
+            record { board = position; solutions = solutions }) }
     {
         if (1..=3).contains(&solutions) && position.tricks_left() > 0 {
             Some(Request::of(position, solutions))

@@ -11,7 +11,7 @@ ghost use Rattle.dd_cards.specs.Hands.{AreHands};
 ghost use Rattle.dd_pbn.specs.declared.fault.PbnFault.{PbnFault};
 ghost use Rattle.dd_play.specs.Board.{board_of};
 ghost use Rattle.dd_reply.specs.Requests.{Means, MeansFields, MeansHands, MeansBoard, SpellsDeal, SpellsNone, deal_fault, pair_of_card, longest_line, object_of, solve_keys, are_known, keys_of, solve_fields, text_at, whole_number_at, pairs_at, pairs_of};
-ghost use Rattle.dd_reply.specs.Reading.{IsUnread, ArePlayed, ReadsPlayed, ReadsFields, pair_in, played_in, fields_of, play_fault};
+ghost use Rattle.dd_reply.specs.Reading.{IsUnread, ArePlayed, ReadsPlayed, ReadsFields, pair_in, cards_in, played_in, fields_of, play_fault};
 
 use crate::fault::Fault;
 use crate::request::Request;
@@ -33,7 +33,8 @@ const MOST_PLAYED: usize = 3;
 pub fn read_request(alloc: Global, line: &[u8]) -> Result<Request, Fault>
     ensures ok { IfOk result (λ asked. Means line.now (Ok asked)) }
     ensures err { IfErr result (λ fault. (fault ≢ Fault.OutOfMemory → Means line.now (Err fault))) }
-    ensures memory { result ≡ Err Fault.OutOfMemory → (0 < length line.now) × (length line.now ≤ longest_line) }
+    ensures memory { result ≡ Err Fault.OutOfMemory →
+        (0 < length line.now) × (length line.now ≤ longest_line) }
 {
     if line.len() > LONGEST_LINE {
         return Err(Fault::LineTooLong);
@@ -66,7 +67,8 @@ fn read_json(alloc: Global, line: &[u8]) -> Result<Value, Fault>
 
 // Why a line is not read as JSON.
 fn fault_of(error: Error) -> Fault
-    ensures { (IsMemory error × (result ≡ Fault.OutOfMemory)) ⊎ ((¬ IsMemory error) × (result ≡ Fault.NotAnObject)) }
+    ensures { (IsMemory error × (result ≡ Fault.OutOfMemory)) ⊎
+        ((¬ IsMemory error) × (result ≡ Fault.NotAnObject)) }
 {
     if error.is_memory() {
         Fault::OutOfMemory
@@ -125,7 +127,8 @@ fn is_solve_key(key: &str) -> bool
 }
 
 fn text_at<'a>(object: &'a Map<String, Value>, key: &str) -> Option<&'a str>
-    ensures { option_map (λ text. text.now) result ≡ text_at (members_view object.now.entries) key.now }
+    ensures { option_map (λ text. text.now) result ≡
+        text_at (members_view object.now.entries) key.now }
 {
     member_at(object, key)?.as_str()
 }
@@ -140,7 +143,7 @@ fn whole_number_at(object: &Map<String, Value>, key: &str) -> Option<u64>
 // The cards played, which may be left out: None where they are no list of pairs.
 fn played_at(object: &Map<String, Value>) -> Option<Option<Played>>
     ensures { let read = pairs_at (members_view object.now.entries) (codes "played") in
-        MatchOption result (read ≡ None) (λ found. ReadsPlayed read (option_map (λ cards. cards.items) found)) }
+        MatchOption result (read ≡ None) (λ found. ReadsPlayed read (cards_in found)) }
 {
     let Some(value) = member_at(object, "played") else {
         return Some(Some(ArrayVec::new()));
@@ -151,7 +154,7 @@ fn played_at(object: &Map<String, Value>) -> Option<Option<Played>>
 // The cards of a list of pairs: None where it is no such list.
 fn played_of(values: &[Value]) -> Option<Option<Played>>
     ensures { let read = pairs_of (items_view values.now) in
-        MatchOption result (read ≡ None) (λ found. ReadsPlayed read (option_map (λ cards. cards.items) found)) }
+        MatchOption result (read ≡ None) (λ found. ReadsPlayed read (cards_in found)) }
 {
     let mut played = Some(ArrayVec::new());
     for value in values {
@@ -163,8 +166,8 @@ fn played_of(values: &[Value]) -> Option<Option<Played>>
 
 // The cards with that of one more pair.
 fn with_pair(played: Option<Played>, suit: u64, rank: u64) -> Option<Played>
-    ensures { (pairs : List (ℕ × ℕ)) → ArePlayed (option_map (λ cards. cards.items) played) pairs →
-        ArePlayed (option_map (λ cards. cards.items) result) (pairs ++ (suit, rank) ∷ []) }
+    ensures { (pairs : List (ℕ × ℕ)) → ArePlayed (cards_in played) pairs →
+        ArePlayed (cards_in result) (pairs ++ (suit, rank) ∷ []) }
 {
     let mut cards = played?;
     let card = card_of(suit, rank)?;
@@ -186,7 +189,8 @@ fn pair_of(value: &Value) -> Option<(u64, u64)>
 }
 
 fn member_at<'a>(object: &'a Map<String, Value>, key: &str) -> Option<&'a Value>
-    ensures { option_map (λ value. view value.now) result ≡ get_member key.now (members_view object.now.entries) }
+    ensures { option_map (λ value. view value.now) result ≡
+        get_member key.now (members_view object.now.entries) }
 {
     object.get(key)
 }
@@ -217,7 +221,8 @@ fn request_for(hands: Hands, fields: &SolveFields<'_>) -> Result<Request, Fault>
 // The hands of a deal's text, which is a tag where it begins as one, and else a value.
 fn hands_of(text: &[u8]) -> Result<Hands, Fault>
     ensures ok { IfOk result (λ hands. AreHands hands × SpellsDeal text.now hands) }
-    ensures err { IfErr result (λ fault. (why : PbnFault) × SpellsNone text.now why × (fault ≡ deal_fault why)) }
+    ensures err { IfErr result (λ fault. (why : PbnFault) × SpellsNone text.now why ×
+        (fault ≡ deal_fault why)) }
 {
     read_text(text).map_err(deal_fault)
 }

@@ -5,7 +5,7 @@ use Rattle.std.proofs.lemmas.Bool.{eqb-false}
 use Rattle.dd_cards.specs.PlayingCard.{PlayingCard}
 use Rattle.dd_cards.specs.Cards.{has_card, same_card}
 use Rattle.dd_cards.specs.Seats.{is_north_south, seat_after}
-use Rattle.dd_cards.proofs.CallerLemmas.{same_card-eq, same-self, same-other, is-same}
+use Rattle.dd_cards.proofs.CallerLemmas.{is-same, same-other, same-self, same_card-eq}
 use Rattle.dd_cards.specs.Sides.{side_of, other_side, same_side}
 use Rattle.dd_cards.specs.declared.side.Side.{Side}
 use Rattle.dd_cards.specs.declared.side.Side.TheVariants.{NorthSouth, EastWest}
@@ -15,7 +15,7 @@ use Rattle.dd_play.specs.Value.{ns, ns_with, score, lead}
 use Rattle.dd_play.specs.Won.{won}
 use Rattle.dd_play.specs.Simulations.{IsLegal}
 use Rattle.dd_play.specs.Claims.{Takes}
-use Rattle.dd_play.proofs.CallerLemmas.{all, can, exactly, has-first, in-rest, legal-leads, one-point, won-east-west, won-north-south, won_with, lead-won}
+use Rattle.dd_play.proofs.CallerLemmas.{all, can, exactly, has-first, in-rest, lead-won, legal-leads, one-point, won-east-west, won-north-south, won_with}
 use Rattle.dd_equal.specs.EqualCards.{tops}
 use Rattle.dd_equal.proofs.CallerLemmas.{every-class}
 use Rattle.dd_search.proofs.Orders.{top-legal}
