@@ -125,7 +125,7 @@ pub use Rattle.dd_play.proofs.Winners.{strength_by}
 pub use Rattle.dd_play.proofs.Winners.{has-at}
 
 -- ---- one step of play keeps the relation
-
+-- where one position covers another, the mover of the one is the mover of the other, turned
 pub use Rattle.dd_play.proofs.Steps.{mover-turned}
 -- each card of a hand of q answers one of that hand of p
 pub use Rattle.dd_play.proofs.Steps.{reply'}
