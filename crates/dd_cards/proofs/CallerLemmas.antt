@@ -53,7 +53,6 @@ pub use Rattle.dd_cards.proofs.RankLists.{has_rank-lowest_ranks}
 -- ---- which ranks the mask of some ranks has
 -- the mask of a set of ranks has these ranks
 pub use Rattle.dd_cards.proofs.MaskRanks.{in_mask-mask_of}
-
 -- ---- cards as suits and ranks, and the deck
 -- two suits with one code are one suit
 pub use Rattle.dd_cards.proofs.CardLists.{suit_code-injective}
