@@ -28,18 +28,21 @@ pub fn classes_part_the_legal_cards()
         → length (filter (λ class. class_has class c) (classes_of p)) ≡ 1 }
     ensures only { (p : Board) (c : PlayingCard) → IsBoard p
         → 1 ≤ length (filter (λ class. class_has class c) (classes_of p)) → IsLegal p c }
-    ensures lower { (p : Board) (t : PlayingCard) → IsBoard p → in_mask (equals_of p t) t.rank ≡ false }
+    ensures lower { (p : Board) (t : PlayingCard) → IsBoard p
+        → in_mask (equals_of p t) t.rank ≡ false }
 {}
 
 /// Where the other side is to play, it is enough that one card of each class, its highest, leaves the side as many.
 pub fn one_card_of_each_class()
-    ensures { (side : Side) (p : Board) (n : ℕ) → IsBoard p → is_side side (mover p) ≡ false → 1 ≤ left p
+    ensures { (side : Side) (p : Board) (n : ℕ) → IsBoard p → is_side side (mover p) ≡ false
+        → 1 ≤ left p
         → ((c : PlayingCard) → has_card (tops p) c ≡ true → (m : ℕ) × Takes side (after p c) m × (n ≤ m + point side p c))
         → Takes side p n }
 {}
 
 /// The same of claims that rest on high cards, if a class of which they rest on the highest card is among these cards wholly.
 pub fn one_card_of_each_class_by_high_cards()
-    ensures { (top : PlayingCard → Bool) (side : Side) (p : Board) (n : ℕ) → IsUpward top → IsBoard p → is_side side (mover p) ≡ false → 1 ≤ left p
+    ensures { (top : PlayingCard → Bool) (side : Side) (p : Board) (n : ℕ) → IsUpward top
+        → IsBoard p → is_side side (mover p) ≡ false → 1 ≤ left p
         → IsWhole top p → ((c : PlayingCard) → has_card (tops p) c ≡ true → IsWorth top side p c n) → TakesBy top side p n }
 {}

@@ -60,7 +60,8 @@ pub fn bounds(start: &TrickStart) -> (Interval, Depths)
 /// The winners on which it rests that the leader's side takes at least `need` tricks, where its quick tricks are so many.
 pub fn for_leader(start: &TrickStart, need: u8) -> Option<Hand>
     ensures found { need ≤ quick_lo start.now → IsSome result }
-    ensures claim { IfSome result (λ cards. TakesBy (reach cards) (side_of start.now.first) start.now need) }
+    ensures claim { IfSome result
+        (λ cards. TakesBy (reach cards) (side_of start.now.first) start.now need) }
 {
     enough(leaders(start.position()), need)
 }
@@ -68,7 +69,8 @@ pub fn for_leader(start: &TrickStart, need: u8) -> Option<Hand>
 /// The winners on which it rests that the other side takes at least `need` tricks, where its quick tricks are so many.
 pub fn against_leader(start: &TrickStart, need: u8) -> Option<Hand>
     ensures found { need ≤ left start.now - quick_hi start.now → IsSome result }
-    ensures claim { IfSome result (λ cards. TakesBy (reach cards) (other_side (side_of start.now.first)) start.now need) }
+    ensures claim { IfSome result
+        (λ cards. TakesBy (reach cards) (other_side (side_of start.now.first)) start.now need) }
 {
     enough(others(start.position()), need)
 }
@@ -89,7 +91,8 @@ fn enough(sure: Sure, need: u8) -> Option<Hand>
 fn leaders(position: &Position) -> Sure
     requires { position.now.trick ≡ [] }
     ensures tricks { result.tricks ≡ quick_lo position.now }
-    ensures claim { TakesBy (reach result.cards) (side_of position.now.first) position.now result.tricks }
+    ensures claim { TakesBy (reach result.cards) (side_of position.now.first) position.now
+        result.tricks }
 {
     let partner = position.first().partner();
     better(leaders_tricks(position), top_trumps(position, partner))
@@ -100,7 +103,8 @@ fn others(position: &Position) -> Sure
     requires { position.now.trick ≡ [] }
     ensures tricks { result.tricks ≡ max (top_trumps position.now.strain position.now (seat_after position.now.first 1))
         (top_trumps position.now.strain position.now (seat_after position.now.first 3)) }
-    ensures claim { TakesBy (reach result.cards) (other_side (side_of position.now.first)) position.now result.tricks }
+    ensures claim { TakesBy (reach result.cards) (other_side (side_of position.now.first))
+        position.now result.tricks }
 {
     let leader = position.first();
     let left = leader.left();
@@ -125,7 +129,8 @@ fn better(one: Sure, other: Sure) -> Sure
 fn leaders_tricks(position: &Position) -> Sure
     requires { position.now.trick ≡ [] }
     ensures tricks { result.tricks ≡ leaders_tricks position.now }
-    ensures claim { TakesBy (reach result.cards) (side_of position.now.first) position.now result.tricks }
+    ensures claim { TakesBy (reach result.cards) (side_of position.now.first) position.now
+        result.tricks }
 {
     let spades = cashed_tricks(position, Hand::new(), Suit::Spades);
     let hearts = cashed_tricks(position, spades.cards, Suit::Hearts);
