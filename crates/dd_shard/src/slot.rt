@@ -99,8 +99,10 @@ impl Slot {
 fn covering_pair<'a>(pairs: &'a [Option<Bounded>], strings: &OwnerStrings) -> Option<&'a Bounded>
     requires { HaveShape (shape_in strings.now) (known_pairs pairs.now) }
     ensures { (q : Board) → IsBoard q → q.trick ≡ [] → strings.now ≡ strings_of q
-        → MatchOption result (NoneCovers q (known_pairs pairs.now)) (λ x. (front : List (Option BoundedOf)) × (back : List (Option BoundedOf))
-        × (pairs.now ≡ front ++ Some x.now ∷ back) × NoneCovers q (known_pairs back) × IsCoverOf (pair_of x.now.cover x.now.bounds) q) }
+        → MatchOption result (NoneCovers q (known_pairs pairs.now))
+        (λ x. (front : List (Option BoundedOf)) × (back : List (Option BoundedOf))
+        × (pairs.now ≡ front ++ Some x.now ∷ back) × NoneCovers q (known_pairs back)
+        × IsCoverOf (pair_of x.now.cover x.now.bounds) q) }
 {
     for place in (0..pairs.len()).rev() {
         if let Some(pair) = &pairs[place] {
@@ -115,9 +117,12 @@ fn covering_pair<'a>(pairs: &'a [Option<Bounded>], strings: &OwnerStrings) -> Op
 // The place of the last of these pairs that has the same cover.
 fn place_of(pairs: &[Option<Bounded>], cover: &Cover) -> Option<usize>
     requires { HaveShape (shape_of cover.now.board) (known_pairs pairs.now) }
-    ensures { MatchOption result ((y : Pair) → Contains (known_pairs pairs.now) y → ¬ IsSameCover (cover_of y) cover.now)
-        (λ place. (front : List (Option BoundedOf)) × (x : BoundedOf) × (back : List (Option BoundedOf))
-        × (pairs.now ≡ front ++ Some x ∷ back) × (length front ≡ place) × ((y : Pair) → Contains (known_pairs back) y → ¬ IsSameCover (cover_of y) cover.now)
+    ensures { MatchOption result
+        ((y : Pair) → Contains (known_pairs pairs.now) y → ¬ IsSameCover (cover_of y) cover.now)
+        (λ place. (front : List (Option BoundedOf)) × (x : BoundedOf)
+        × (back : List (Option BoundedOf)) × (pairs.now ≡ front ++ Some x ∷ back)
+        × (length front ≡ place)
+        × ((y : Pair) → Contains (known_pairs back) y → ¬ IsSameCover (cover_of y) cover.now)
         × IsSameCover x.cover cover.now) }
 {
     for place in (0..pairs.len()).rev() {
