@@ -111,7 +111,8 @@ fn rest_after(need: u8, winner: Option<Seat>) -> u8
 /// The answer where counting settles it: none needed, or more than are left.
 #[inline]
 pub(crate) fn answer_by_counting(position: &Position, need: u8) -> Option<bool>
-    ensures answer { MatchOption result ((1 ≤ need) × (need ≤ left position.now)) (λ yes. IsAnswer position.now need yes) }
+    ensures answer { MatchOption result ((1 ≤ need) × (need ≤ left position.now))
+        (λ yes. IsAnswer position.now need yes) }
     ensures rests { IfSome result (λ yes. IsAnswerBy position.now need [] yes) }
 {
     if need == 0 {

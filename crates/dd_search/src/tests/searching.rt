@@ -56,23 +56,26 @@ impl Log {
 
 // The value as bounds that hold at its depths.
 fn exact_bounds(start: &TrickStart) -> Option<(Interval, Depths)>
-    ensures holds { IfSome result (λ told. (q : Board) → IsBoard q → Covers start.now (depth_in told.1) q → Holds told.0 (lead q)) }
-    ensures within { IfSome result (λ told. (u : SuitOf) → depth_in told.1 u ≤ count_of u (all_cards start.now)) }
+    ensures holds { IfSome result (λ told. (q : Board) → IsBoard q
+        → Covers start.now (depth_in told.1) q → Holds told.0 (lead q)) }
+    ensures within { IfSome result (λ told. (u : SuitOf)
+        → depth_in told.1 u ≤ count_of u (all_cards start.now)) }
 {
     match start_value(start, &mut NoTable, &mut Endless) {
-        Ok((value, depths)) => Some((
+        Ok(found) => Some((
             Interval {
-                lo: value,
-                hi: value,
+                lo: found.0,
+                hi: found.0,
             },
-            depths,
+            found.1,
         )),
         Err(_) => None,
     }
 }
 
 impl Bounds for Log {
-    ghost tells = { λ table p depths interval. (q : Board) → IsBoard q → Covers p (depth_in depths) q → Holds interval (lead q) };
+    ghost tells = { λ table p depths interval. (q : Board) → IsBoard q
+        → Covers p (depth_in depths) q → Holds interval (lead q) };
 
     ghost holds = { λ table p depths interval q told. told q };
 
