@@ -1,4 +1,5 @@
-//! Lines and their replies, as tables of text: the proof of a test then meets one string and one loop, and not each row.
+//! Lines and their replies, as tables of bytes: the proof of a test then meets one literal and one loop, and not each
+//! row, nor that a text is UTF-8.
 mod recorded;
 mod worked;
 

@@ -39,7 +39,7 @@ fn changed(alloc: Global, members: &[u8]) -> Result<Vec<u8>, AllocError> {
 }
 
 // Each row of these tables is a meaning, a bar and a line.
-const JSON_OBJECTS: &str = "1|\n\
+const JSON_OBJECTS: &[u8] = b"1|\n\
      1| \t\n\
      1|3\n\
      1|null\n\
@@ -54,9 +54,9 @@ const JSON_OBJECTS: &str = "1|\n\
      1|{},\n\
      1|{}\0\n\
      1|{}\x0c\n\
-     1|{}\u{a0}\n\
+     1|{}\xc2\xa0\n\
      1|{}// all\n\
-     1|\u{feff}{}\n\
+     1|\xef\xbb\xbf{}\n\
      1|{\"x\":1\n\
      1|{\"do\":\"sol\n\
      1|{\"do\":\"solve\",}\n\
@@ -74,13 +74,13 @@ const JSON_OBJECTS: &str = "1|\n\
      1|{\"trump\":.5}\n\
      1|{\"trump\":0x1}\n\
      1|{\"trump\":NaN}\n\
-     1|{\"trump\":1e400}";
+     1|{\"trump\":1e400}\n\
+     1|{\"do\":\"\xff\"}\n\
+     1|{\"do\":\"\xc0\xaf\"}\n\
+     1|{\"\xed\xa0\x80\":1}";
 
-const LINES_THAT_ARE_NO_TEXT: &[u8] =
-    b"1|{\"do\":\"\xff\"}\n1|{\"do\":\"\xc0\xaf\"}\n1|{\"\xed\xa0\x80\":1}";
-
-const FIELDS_LEFT_OUT: &str =
-    r#"4 0 1 0 3|{"do":"solve","deal":"N:A... K... Q... J...","trump":4,"first":0,"solutions":3}
+const FIELDS_LEFT_OUT: &[u8] =
+    br#"4 0 1 0 3|{"do":"solve","deal":"N:A... K... Q... J...","trump":4,"first":0,"solutions":3}
 1 2 2 0 2|{"trump":1,"solutions":2,"played":[],"first":2,"do":"solve","deal":"N:32... K4... AQ... 65..."}
 4 0 1 0 3| { "\u0064o" : "so\u006cve" , "deal":"N\u003aA... K... Q... J...","trump":4,"first":0,"solutions":3 } 
 3|{"deal":"N:A... K... Q... J...","trump":4,"first":0,"solutions":3}
@@ -91,11 +91,7 @@ const FIELDS_LEFT_OUT: &str =
 
 #[test]
 fn a_line_is_one_json_object_with_all_fields(rt: HostRuntime) -> Result<(), Fail> {
-    for table in [
-        JSON_OBJECTS.as_bytes(),
-        LINES_THAT_ARE_NO_TEXT,
-        FIELDS_LEFT_OUT.as_bytes(),
-    ] {
+    for table in [JSON_OBJECTS, FIELDS_LEFT_OUT] {
         for row in table.split(|byte| *byte == b'\n') {
             let meaning = meaning(rt.alloc(), after_bar(row))?;
             assert_eq!(rt; meaning.as_bytes(), before_bar(row), "at {row:?}");
@@ -105,7 +101,7 @@ fn a_line_is_one_json_object_with_all_fields(rt: HostRuntime) -> Result<(), Fail
 }
 
 // Each row of these tables is a meaning, a bar and the members that change the request.
-const FIELDS: &str = r#"3|"do":"Solve"
+const FIELDS: &[u8] = br#"3|"do":"Solve"
 3|"do":"table"
 3|"do":"solve\u0000"
 3|"do":1
@@ -168,8 +164,8 @@ const FIELDS: &str = r#"3|"do":"Solve"
 7|"deal":"N:... ... ... ...","played":[[0,14]]
 6|"played":[[0,13]]"#;
 
-const DEALS: &str =
-    r#"4 0 13 0 3|"deal":"N:AKQJT98765432... .AKQJT98765432.. ..AKQJT98765432. ...AKQJT98765432"
+const DEALS: &[u8] =
+    br#"4 0 13 0 3|"deal":"N:AKQJT98765432... .AKQJT98765432.. ..AKQJT98765432. ...AKQJT98765432"
 4 0 13 0 3|"deal":"w:2TaJ6Q3K87954... .akqjt98765432.. ..23456789tjqka. ...akqjt98765432"
 4 0 1 0 3|"deal":" \t N:A... K... Q... J..."
 4 0 1 0 3|"deal":"N: \tA... K... Q... J..."
@@ -211,7 +207,7 @@ const DEALS: &str =
 7|"deal":"N:AKQJT98765432.2.. .K.. .Q.. .J.."
 8|"deal":"N:... ... ... ...""#;
 
-const TWO_FAULTS: &str = r#"1|"x":1,
+const TWO_FAULTS: &[u8] = br#"1|"x":1,
 3|"x":1,"deal":"N:A... K... Q... J.."
 3|"solutions":3.0,"deal":"N:A... K... Q... J.."
 3|"played":[[0,1,2]],"deal":"N:A... K... Q... J.."
@@ -234,7 +230,7 @@ const TWO_FAULTS: &str = r#"1|"x":1,
 #[test]
 fn each_field_has_its_meaning_and_the_first_fault_is_told(rt: HostRuntime) -> Result<(), Fail> {
     for table in [FIELDS, DEALS, TWO_FAULTS] {
-        for row in table.as_bytes().split(|byte| *byte == b'\n') {
+        for row in table.split(|byte| *byte == b'\n') {
             let line = changed(rt.alloc(), after_bar(row))?;
             let meaning = meaning(rt.alloc(), &line)?;
             assert_eq!(rt; meaning.as_bytes(), before_bar(row), "at {row:?}");
@@ -296,7 +292,7 @@ fn spades(alloc: Global, request: &Request) -> Result<String, AllocError> {
 }
 
 // Each row is the spades, a bar and a deal.
-const FIRST_HANDS: &str = r#"16384 8192 4096 2048|"deal":"N:A... K... Q... J..."
+const FIRST_HANDS: &[u8] = br#"16384 8192 4096 2048|"deal":"N:A... K... Q... J..."
 16384 8192 4096 2048|"deal":"n:A... K... Q... J..."
 2048 16384 8192 4096|"deal":"E:A... K... Q... J..."
 2048 16384 8192 4096|"deal":"e:A... K... Q... J..."
@@ -308,7 +304,7 @@ const FIRST_HANDS: &str = r#"16384 8192 4096 2048|"deal":"N:A... K... Q... J..."
 
 #[test]
 fn the_first_hand_is_that_of_the_letter(rt: HostRuntime) -> Result<(), Fail> {
-    for row in FIRST_HANDS.as_bytes().split(|byte| *byte == b'\n') {
+    for row in FIRST_HANDS.split(|byte| *byte == b'\n') {
         let line = changed(rt.alloc(), after_bar(row))?;
         let request = read_request(rt.alloc(), &line)?.copy();
         let spades = spades(rt.alloc(), &request)?;

@@ -4,8 +4,8 @@ use crate::line_reply::reply_to_line;
 use dd_search::NoTable;
 
 /// The request lines.
-const LINES: &str =
-    r#"{"do":"solve","deal":"W:.9.. ..Q. ...K 5...","trump":2,"first":1,"solutions":2}
+const LINES: &[u8] =
+    br#"{"do":"solve","deal":"W:.9.. ..Q. ...K 5...","trump":2,"first":1,"solutions":2}
 {"do":"solve","deal":"E:8.5.. ...92 2..A. 3..Q.","trump":1,"first":0,"solutions":3}
 {"do":"solve","deal":"E:.7.AT. ..K6.K .83.2. ...953","trump":2,"first":3,"played":[],"solutions":3}
 {"do":"solve","deal":"W:5..J72. .K.K.AQ KT..T.T J2.52..","trump":4,"first":3,"played":[],"solutions":3}
@@ -207,7 +207,7 @@ const LINES: &str =
 {"do":"solve","deal":"W:J.T.T5. Q4..7.AJ ..A.K64 T.8.K3.","trump":2,"first":1,"played":[[1,14],[1,5],[1,6]],"solutions":3}"#;
 
 /// Their replies, as DDS's scores give them.
-const REPLIES: &str = r#"{"cards":[{"equals":0,"rank":13,"score":0,"suit":3}]}
+const REPLIES: &[u8] = br#"{"cards":[{"equals":0,"rank":13,"score":0,"suit":3}]}
 {"cards":[{"equals":0,"rank":3,"score":0,"suit":0},{"equals":0,"rank":12,"score":0,"suit":2}]}
 {"cards":[{"equals":0,"rank":8,"score":2,"suit":1},{"equals":0,"rank":3,"score":2,"suit":1},{"equals":0,"rank":2,"score":2,"suit":2}]}
 {"cards":[{"equals":0,"rank":5,"score":1,"suit":0},{"equals":0,"rank":11,"score":0,"suit":2},{"equals":4,"rank":7,"score":0,"suit":2}]}
@@ -410,8 +410,8 @@ const REPLIES: &str = r#"{"cards":[{"equals":0,"rank":13,"score":0,"suit":3}]}
 
 #[test]
 fn recorded_deals_have_the_answers_of_dds(rt: HostRuntime) {
-    let mut replies = REPLIES.as_bytes().split(|byte| *byte == b'\n');
-    for line in LINES.as_bytes().split(|byte| *byte == b'\n') {
+    let mut replies = REPLIES.split(|byte| *byte == b'\n');
+    for line in LINES.split(|byte| *byte == b'\n') {
         let reply = reply_to_line(rt.alloc(), line, &mut NoTable, None);
         assert_eq!(rt;
             Some(reply.as_str().as_bytes()),

@@ -5,8 +5,8 @@ use dd_search::NoTable;
 use std::alloc::Global;
 
 /// Each row is a line, a bar and its reply without a budget.
-const REPLIES: &str =
-    r#"{"do":"solve","deal":"N:A... K... Q... J...","trump":4,"first":0,"solutions":3}|{"cards":[{"equals":0,"rank":14,"score":1,"suit":0}]}
+const REPLIES: &[u8] =
+    br#"{"do":"solve","deal":"N:A... K... Q... J...","trump":4,"first":0,"solutions":3}|{"cards":[{"equals":0,"rank":14,"score":1,"suit":0}]}
 {"do":"solve","deal":"N:A... K... Q... J...","trump":4,"first":1,"solutions":3}|{"cards":[{"equals":0,"rank":13,"score":0,"suit":0}]}
 {"do":"solve","deal":"N:32... K4... AQ... 65...","trump":4,"first":0,"solutions":3}|{"cards":[{"equals":4,"rank":3,"score":2,"suit":0}]}
 {"do":"solve","deal":"N:32... 65... AQ... K4...","trump":4,"first":0,"solutions":3}|{"cards":[{"equals":4,"rank":3,"score":1,"suit":0}]}
@@ -33,31 +33,31 @@ const REPLIES: &str =
 {"do":"solve","deal":"N:A... K... Q... J...","trump":4,"first":1,"solutions":2}|{"cards":[{"equals":0,"rank":13,"score":0,"suit":0}]}"#;
 
 /// The same with a budget of 1,000.
-const REPLIES_WITH_1_000_POSITIONS: &str =
-    r#"{"do":"solve","deal":"N:AKQJT98765432... .AKQJT98765432.. ..AKQJT98765432. ...AKQJT98765432","trump":4,"first":0,"solutions":3}|{"cards":[{"equals":16380,"rank":14,"score":13,"suit":0}]}"#;
+const REPLIES_WITH_1_000_POSITIONS: &[u8] =
+    br#"{"do":"solve","deal":"N:AKQJT98765432... .AKQJT98765432.. ..AKQJT98765432. ...AKQJT98765432","trump":4,"first":0,"solutions":3}|{"cards":[{"equals":16380,"rank":14,"score":13,"suit":0}]}"#;
 
 /// The same with a budget of 1.
-const REPLIES_WITH_ONE_POSITION: &str =
-    r#"{"do":"solve","deal":"N:A... ... ... ...","trump":4,"first":1,"played":[[0,13],[0,12],[0,11]],"solutions":3}|{"cards":[{"equals":0,"rank":14,"score":1,"suit":0}]}"#;
+const REPLIES_WITH_ONE_POSITION: &[u8] =
+    br#"{"do":"solve","deal":"N:A... ... ... ...","trump":4,"first":1,"played":[[0,13],[0,12],[0,11]],"solutions":3}|{"cards":[{"equals":0,"rank":14,"score":1,"suit":0}]}"#;
 
 /// The same with a budget of 0.
-const REPLIES_WITH_NO_POSITION: &str =
-    r#"{"do":"solve","deal":"N:A... ... ... ...","trump":4,"first":1,"played":[[0,13],[0,12],[0,11]],"solutions":3}|{"state":"spent"}
+const REPLIES_WITH_NO_POSITION: &[u8] =
+    br#"{"do":"solve","deal":"N:A... ... ... ...","trump":4,"first":1,"played":[[0,13],[0,12],[0,11]],"solutions":3}|{"state":"spent"}
 {"do":"solve","deal":"N:2.A.. AK... Q.4.. J.5..","trump":4,"first":0,"solutions":3}|{"state":"spent"}
 {"do":"solve","deal":"N:A... K... Q... J...","trump":4,"first":1.5,"solutions":3}|{"fault":3}
 {"do":"solve","deal":"N:A... K... Q... J...","trump":4,"first":0,"solutions":4}|{"fault":12}"#;
 
 /// The same with a budget of 10,000.
-const REPLIES_WITH_10_000_POSITIONS: &str =
-    r#"{"do":"solve","deal":"N:AKQ.AKQ.AKQ.AKQJ J852.J85.J85.T74 T74.T742.T74.963 963.963.9632.852","trump":4,"first":0,"solutions":3}|{"cards":[{"equals":12288,"rank":14,"score":13,"suit":0},{"equals":12288,"rank":14,"score":13,"suit":1},{"equals":12288,"rank":14,"score":13,"suit":2},{"equals":14336,"rank":14,"score":13,"suit":3}]}"#;
+const REPLIES_WITH_10_000_POSITIONS: &[u8] =
+    br#"{"do":"solve","deal":"N:AKQ.AKQ.AKQ.AKQJ J852.J85.J85.T74 T74.T742.T74.963 963.963.9632.852","trump":4,"first":0,"solutions":3}|{"cards":[{"equals":12288,"rank":14,"score":13,"suit":0},{"equals":12288,"rank":14,"score":13,"suit":1},{"equals":12288,"rank":14,"score":13,"suit":2},{"equals":14336,"rank":14,"score":13,"suit":3}]}"#;
 
 /// The first row whose line has another reply, or nothing.
 fn first_with_another_reply(
     alloc: Global,
-    table: &'static str,
+    table: &'static [u8],
     budget: Option<u64>,
 ) -> Option<&'static [u8]> {
-    for row in table.as_bytes().split(|byte| *byte == b'\n') {
+    for row in table.split(|byte| *byte == b'\n') {
         let reply = reply_to_line(alloc, before_bar(row), &mut NoTable, budget);
         if reply.as_str().as_bytes() != after_bar(row) {
             return Some(row);

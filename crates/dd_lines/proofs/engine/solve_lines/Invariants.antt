@@ -1,5 +1,6 @@
 use Rattle.std.proofs.Common.{◌≡◌, ◌<◌, ◌≤◌, length}
 use Rattle.dd_lines.specs.CountedDevices.{device_of, failures_of, calls_of, most_calls}
+use Rattle.dd_lines.specs.declared.engine.TheConstants.{PIECE}
 use Rattle.dd_lines.proofs.Serving.{Serving}
 use Rattle.dd_lines.proofs.engine.solve_lines.Given as goal
 
@@ -11,5 +12,5 @@ invariant-loop g l =
       writes : failures_of l.writer ≡ failures_of l.fn.writer;
       turns : l.counter ≤ calls_of l.reader;
       few : 0 < l.counter → calls_of l.reader ≤ most_calls;
-      room : length l.buffer ≡ 4096;
+      room : length l.buffer ≡ PIECE;
     }
