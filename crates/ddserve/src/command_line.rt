@@ -16,7 +16,7 @@ use std::{env, io};
 const MOST_POSITIONS: i64 = 1_000_000_000_000;
 
 /// The program's version, as `CHANGELOG.md` has it.
-const VERSION: &str = "0.2.0";
+pub const VERSION: &str = "0.2.0";
 
 /// What the program is asked to do.
 #[derive(Clone, Copy, Debug, PartialEq, Eq)]

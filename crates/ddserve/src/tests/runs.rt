@@ -1,5 +1,5 @@
 use super::devices::{Devices, Outcome, SOUND, run_line, run_over};
-use crate::command_line::{WordsFault, given_words};
+use crate::command_line::{VERSION, WordsFault, given_words};
 use crate::ending::Ending;
 use std::alloc::{AllocError, Global};
 use std::env::FillError;
@@ -51,13 +51,14 @@ fn the_lines_of_the_input_are_answered_within_the_budget(rt: HostRuntime) -> Res
 
 #[test]
 fn a_call_is_shown_on_the_output_and_ends_with_0(rt: HostRuntime) -> Result<(), Fail> {
+    let version = format!(in rt.alloc(); "ddserve {VERSION}\n")?;
     let rows = [
         ("ddserve --help", "Usage: ddserve <COMMAND>"),
         ("ddserve help", "Usage: ddserve <COMMAND>"),
         ("ddserve help solve", "Usage: ddserve solve [OPTIONS]"),
         ("ddserve solve --help", "Usage: ddserve solve [OPTIONS]"),
-        ("ddserve --version", "ddserve 0.2.0\n"),
-        ("ddserve -V", "ddserve 0.2.0\n"),
+        ("ddserve --version", version.as_str()),
+        ("ddserve -V", version.as_str()),
     ];
     for (line, part) in rows {
         let outcome = run_line(rt.alloc(), line, ACE, SOUND)?;
