@@ -1,18 +1,17 @@
 -- what keeps four hands four hands
 use Rattle.std.proofs.Common.{◌≡◌, ◌≢◌, true, false, Bool, refl, sym, ap, ◌∙◌, List, [], inl, inr, ◌⊎◌}
 use Rattle.std.specs.Prelude.{◌||◌}
-use mathlib.Core.Bool.{not}
 use Rattle.std.proofs.lemmas.Bool.Decides.{eqb_tells}
 use Rattle.dd_cards.specs.declared.seat.Seat.{Seat}
 use Rattle.dd_cards.specs.declared.seat.Seat.TheVariants.{North, East, South, West}
 use Rattle.dd_cards.specs.Seats.{seat_code}
 use Rattle.dd_cards.specs.PlayingCard.{PlayingCard}
-use Rattle.dd_cards.specs.Cards.{same_card, deck, has_card, with_card, without}
+use Rattle.dd_cards.specs.Cards.{same_card, deck, has_card, with_card}
 use Rattle.dd_cards.specs.Hands.{FourHands, dealt, hand_of, with_hand, IsSet, AreHands}
 use Rattle.dd_cards.proofs.CardLists.{same_card-eq}
 use Rattle.dd_cards.proofs.HandLists.{seat_code-injective}
-use Rattle.dd_cards.proofs.SetLaws.{IsSet-empty, IsSet-without, IsSet-with_card, has_card-filter, has_card-without}
-use Rattle.dd_cards.proofs.General.{and-left, and-right}
+use Rattle.dd_cards.proofs.SetLaws.{IsSet-empty, IsSet-with_card, has_card-filter}
+use Rattle.dd_cards.proofs.General.{and-left}
 
 -- the hand that is written, and the others
 pub hand_of-with_hand : (hands : FourHands) (seat : Seat) (cards : List PlayingCard) (s : Seat)
@@ -82,12 +81,6 @@ AreHands-with_hand hands seat cards valid set own =
         ]
       ];
     }
-
--- a card taken out of a hand
-pub AreHands-without : (hands : FourHands) (seat : Seat) (c : PlayingCard) → AreHands hands → AreHands (with_hand hands seat (without (hand_of hands seat) c))
-AreHands-without hands seat c valid =
-    AreHands-with_hand hands seat (without (hand_of hands seat) c) valid (IsSet-without (hand_of hands seat) c (valid.sets seat))
-    (λ d s h k. valid.disjoint d s seat k (and-right (not (same_card d c)) (has_card (hand_of hands seat) d) (sym (has_card-without (hand_of hands seat) c d) ∙ h)))
 
 -- a card put into a hand, that no hand has
 pub AreHands-with_card : (hands : FourHands) (seat : Seat) (c : PlayingCard) → AreHands hands → ((s : Seat) → has_card (hand_of hands s) c ≡ false)

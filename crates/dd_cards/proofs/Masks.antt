@@ -2,7 +2,7 @@
 use Rattle.std.proofs.Common.{◌≡◌, ◌≢◌, ℕ, zero, suc, ◌+◌, ◌-◌, ◌*◌, ◌/◌, ◌%◌, ◌^◌, ◌<◌, ◌≤◌, nat_eq, refl, sym, ap, ◌∙◌, arith, bit_and, bit_or, w16, ◌⊎◌, inl, inr, min}
 use mathlib.Core.Bool.{not}
 use Rattle.std.specs.Int.{bit_at, bit_not, leading_zeros}
-use Rattle.std.proofs.lemmas.Nat.{one_shl, or_lt, pow_pos, or_mod, and_le_l, and_mod, and_mask, pow-add, leading_top, pow_below, div_below, le-div}
+use Rattle.std.proofs.lemmas.Nat.{one_shl, or_lt, pow_pos, or_mod, and_le_l, and_mod, pow-add, leading_top, pow_below, div_below, le-div}
 use Rattle.std.proofs.Math.Nat.{pow-suc}
 use Rattle.std.proofs.lemmas.Bool.{cases_lt}
 use Rattle.std.proofs.lemmas.Nat.Bits.{and_pow, bit_at-lt, bit_at_set_same, bit_at_set_other, bit_at_clear_same, bit_at_clear_other, bit_at_above, bit_at_and, bit_at_ones, bit_at_ones_above, ones_shl, bit_at_mask_inside, bit_at_mask_below}
@@ -112,10 +112,6 @@ IsHighest-leading m pos small =
     let t = leading_top 16 m pos (omega arith) in
     let e : 15 - leading_zeros w16 m ≡ t.0 = omega (arith, t.1) in
     rw e (highest_at m t.0 t.2 t.3)
-
--- `m & (1 << r) - 1` has the ranks below r
-pub below_mask : (m r : ℕ) → r ≤ 14 → bit_and m (1 * 2 ^ r % 65536 - 1) ≡ m % 2 ^ r
-below_mask m r h = rw (one_shl r 16 (omega arith)) (and_mask m r)
 
 -- a bit times a power of two is zero just where the bit is zero
 bit_times_none : (b p : ℕ) → b < 2 → 0 < p → nat_eq (b * p) 0 ≡ nat_eq b 0

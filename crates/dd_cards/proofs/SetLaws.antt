@@ -1,12 +1,9 @@
 -- what holds of every set of cards, and of every four hands
 use Rattle.std.proofs.Common.{◌≡◌, ℕ, ◌+◌, ◌≤◌, Bool, true, false, cond, refl, sym, ap, ◌∙◌, arith, List, [], ◌∷◌, ◌++◌, length, eq-eqb}
 use Rattle.std.specs.Prelude.{filter, map, ◌&&◌, ◌||◌, ◌==◌}
-use Rattle.std.specs.List.{list_all}
 use mathlib.Core.Bool.{not}
 use Rattle.std.proofs.lemmas.Map.Views.{any-filter_same}
 use Rattle.std.proofs.lemmas.List.Filters.{length-filter_both}
-use Rattle.dd_cards.specs.declared.seat.Seat.{Seat}
-use Rattle.dd_cards.specs.declared.seat.Seat.TheVariants.{North, East, South, West}
 use Rattle.dd_cards.specs.declared.suit.Suit.{Suit}
 use Rattle.dd_cards.specs.declared.suit.Suit.TheVariants.{Spades, Hearts, Diamonds, Clubs}
 use Rattle.dd_cards.specs.Suits.{suit_code}
@@ -14,21 +11,17 @@ use Rattle.dd_cards.specs.PlayingCard.{PlayingCard}
 use Rattle.dd_cards.specs.Ranks.{IsRank, is_rank, has_rank, all_ranks, lowest_ranks}
 use Rattle.dd_cards.specs.Masks.{in_mask, ranks_of}
 use Rattle.dd_cards.specs.Cards.{is_of, same_card, card_of, suit_cards, deck, has_card, with_card, without}
-use Rattle.dd_cards.specs.Hands.{hand_of, times, IsSet, AreHands, FourHands}
+use Rattle.dd_cards.specs.Hands.{times, IsSet}
 use Rattle.dd_cards.proofs.CardLists.{same_card-eq, has_card-deck, real_deck, IsRank-from}
 use Rattle.dd_cards.proofs.HandLists.{filter-deck, passes}
 use Rattle.dd_cards.proofs.Lanes.{parts, four-parts}
-use Rattle.dd_cards.proofs.Sets.{at-most-one, four-filters, length-deck, times-set}
-use Rattle.dd_cards.proofs.General.{and-swap, and-true, filter-filter, filter-map, filter-same, filter-swap, filter-true, filter-where, length-filter-le}
+use Rattle.dd_cards.proofs.Sets.{times-set}
+use Rattle.dd_cards.proofs.General.{and-swap, and-true, filter-filter, filter-map, filter-same, filter-swap, filter-true, length-filter-le}
 
 -- a test that is always false keeps nothing
 pub filter-false : {X : Type 0} (xs : List X) → filter (λ _. false) xs ≡ []
 filter-false [] = refl
 filter-false (x ∷ xs) = filter-false xs
-
--- a test that all pass keeps all
-pub filter-all : {X : Type 0} (p : X → Bool) (xs : List X) → list_all p xs ≡ true → filter p xs ≡ xs
-filter-all p xs all = filter-where p p (λ _. true) (λ x h. h) xs all ∙ filter-true xs
 
 -- ---- which cards a list has
 -- a card is the same as itself
@@ -162,22 +155,6 @@ length-suit s cards set =
     let k = length-suit_cards s in
     rw (suit-part s cards set) (omega arith)
 
--- four hands hold at most 52 cards
-pub length-hands : (hands : FourHands) → AreHands hands
-    → length (hand_of hands North) + length (hand_of hands East) + length (hand_of hands South) + length (hand_of hands West) ≤ 52
-length-hands hands valid =
-    let has = λ (s : Seat). has_card (hand_of hands s) in
-    let apart = λ (s t : Seat) (c : PlayingCard) (differ : s ≡ t → ⊥) (h : has_card (hand_of hands s) c ≡ true) (k : has_card (hand_of hands t) c ≡ true). differ (valid.disjoint c s t h k) in
-    let all : length (filter (has North) deck) + length (filter (has East) deck) + length (filter (has South) deck) + length (filter (has West) deck) ≤ length deck =
-    four-filters (has North) (has East) (has South) (has West)
-    (λ c. at-most-one _ _ _ _ (apart North East c (λ e. cc)) (apart North South c (λ e. cc)) (apart North West c (λ e. cc)) (apart East South c (λ e. cc)) (apart East West c (λ e. cc)) (apart South West c (λ e. cc))) deck in
-    let k : length deck ≡ 52 = length-deck in
-    let north : length (filter (has North) deck) ≡ length (hand_of hands North) = ap length (valid.sets North) in
-    let east : length (filter (has East) deck) ≡ length (hand_of hands East) = ap length (valid.sets East) in
-    let south : length (filter (has South) deck) ≡ length (hand_of hands South) = ap length (valid.sets South) in
-    let west : length (filter (has West) deck) ≡ length (hand_of hands West) = ap length (valid.sets West) in
-    omega (arith, all, k, north, east, south, west)
-
 -- ---- a card put in and a card taken out
 -- a card that is not there is taken out in vain
 pub without-absent : (cards : List PlayingCard) (c : PlayingCard) → has_card cards c ≡ false → without cards c ≡ cards
@@ -187,33 +164,6 @@ without-absent (d ∷ cards) c absent =
       | true ↦ λ h. absurd (cc)
       | false ↦ λ h. ap (λ xs. d ∷ xs) (without-absent cards c h)
     ] absent
-
--- a card put in and taken out again
-pub without-with_card : (cards : List PlayingCard) (c : PlayingCard) → IsSet cards → has_card cards c ≡ false → without (with_card cards c) c ≡ cards
-without-with_card cards c set absent =
-    same-members (without (with_card cards c) c) cards (IsSet-without (with_card cards c) c (IsSet-with_card cards c)) set
-    (λ d real. has_card-without (with_card cards c) c d ∙ ap (λ b. not (same_card d c) && b) (has_card-with_card cards c d real) ∙ go d (same_card d c) refl)
-  where
-    go : (d : PlayingCard) (b : Bool) → same_card d c ≡ b → (not b && (b || has_card cards d)) ≡ has_card cards d
-    go d true e = sym (ap (has_card cards) (same_card-eq d c e) ∙ absent)
-    go d false e = refl
-
--- a card taken out and put in again
-pub with_card-without : (cards : List PlayingCard) (c : PlayingCard) → IsSet cards → has_card cards c ≡ true → with_card (without cards c) c ≡ cards
-with_card-without cards c set has =
-    same-members (with_card (without cards c) c) cards (IsSet-with_card (without cards c) c) set
-    (λ d real. has_card-with_card (without cards c) c d real ∙ ap (λ b. same_card d c || b) (has_card-without cards c d) ∙ go d (same_card d c) refl)
-  where
-    go : (d : PlayingCard) (b : Bool) → same_card d c ≡ b → (b || (not b && has_card cards d)) ≡ has_card cards d
-    go d true e = sym (ap (has_card cards) (same_card-eq d c e) ∙ has)
-    go d false e = refl
-
--- a new card makes a set one longer
-pub length-with_card : (cards : List PlayingCard) (c : PlayingCard) → IsSet cards → IsRank c.rank → has_card cards c ≡ false → length (with_card cards c) ≡ length cards + 1
-length-with_card cards c set real absent =
-    let has : has_card (with_card cards c) c ≡ true = has_card-with_card cards c c real ∙ ap (λ b. b || has_card cards c) (same_card-self c) in
-    let one : length (without (with_card cards c) c) + 1 ≡ length (with_card cards c) = length-without (with_card cards c) c (IsSet-with_card cards c) has in
-    sym one ∙ ap (λ xs. length xs + 1) (without-with_card cards c set absent)
 
 -- a set has at most thirteen ranks
 pub at-most-13 : (m : ℕ) → length (ranks_of m) ≤ 13

@@ -101,16 +101,3 @@ at-most-one false false true true ab ac ad bc bd cd = absurd (cd refl refl)
 at-most-one false false true false ab ac ad bc bd cd = omega arith
 at-most-one false false false true ab ac ad bc bd cd = omega arith
 at-most-one false false false false ab ac ad bc bd cd = omega arith
-
--- one longer where the first element passes
-pub length-filter-cons : (p : PlayingCard → Bool) (x : PlayingCard) (cards : List PlayingCard) → length (filter p (x ∷ cards)) ≡ flag_of (p x) + length (filter p cards)
-length-filter-cons p x cards = elim (p x) as (λ b. length (cond b (x ∷ filter p cards) (filter p cards)) ≡ flag_of b + length (filter p cards)) [ true ↦ omega arith | false ↦ omega arith ]
-
--- four filters that share nothing keep no more than there is
-pub four-filters : (p q r s : PlayingCard → Bool) → ((c : PlayingCard) → flag_of (p c) + flag_of (q c) + flag_of (r c) + flag_of (s c) ≤ 1)
-    → (cards : List PlayingCard) → length (filter p cards) + length (filter q cards) + length (filter r cards) + length (filter s cards) ≤ length cards
-four-filters p q r s one [] = omega arith
-four-filters p q r s one (x ∷ cards) =
-    let ih = four-filters p q r s one cards in
-    let h = one x in
-    omega (arith, ih, h, length-filter-cons p x cards, length-filter-cons q x cards, length-filter-cons r x cards, length-filter-cons s x cards)

@@ -43,9 +43,6 @@ IsHandMask-or m n valid valid' i h = elim (one (bit_at m i) (bit_at n i) (sym (b
 pub IsHandMask-insert : (m : ℕ) (c : PlayingCard) → IsRank c.rank → IsHandMask m → IsHandMask (bit_or m (1 * 2 ^ place_of c % 2 ^ 64))
 IsHandMask-insert m c real valid i h = elim (bit_of-or m c i real h) [ inl old ↦ valid i old | inr new ↦ rw new (place_of-lt c real, rw (place_of-mod c real) real.0, rw (place_of-mod c real) real.1) ]
 
-pub IsHandMask-none : IsHandMask 0
-IsHandMask-none i h = absurd (let e = bit_at-zero i in omega (arith, e, h))
-
 -- the cards of a mask are cards of the pack
 pub cards-real : (m : ℕ) (c : PlayingCard) → has_card (cards_of m) c ≡ true → IsRank c.rank
 unfolding cards_of

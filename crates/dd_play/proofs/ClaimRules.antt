@@ -77,13 +77,6 @@ lead-won p = go (side_of p.first)
     go NorthSouth = refl
     go EastWest = refl
 
--- and so they are at most those that are left
-pub lead-le : (p : Board) → IsBoard p → lead p ≤ left p
-lead-le p valid =
-    let e = lead-won p in
-    let s = all (side_of p.first) p valid in
-    omega (arith, e, s)
-
 -- bounds of the leader's tricks are a claim of each side
 pub bounds : (p : Board) (lo hi : ℕ) → IsBoard p → p.trick ≡ [] → ((lo ≤ lead p) × (lead p ≤ hi))
     ↔ (Takes (side_of p.first) p lo × Takes (other_side (side_of p.first)) p (left p - hi))

@@ -47,10 +47,6 @@ from-seats first seat k place h e is =
     let b = code-lt first in
     omega (arith, h, a, b, is)
 
--- which of four cards
-abbrev pub chosen : ℕ → PlayingCard → PlayingCard → PlayingCard → PlayingCard → PlayingCard
-chosen k a b c d = get_or (a ∷ b ∷ c ∷ d ∷ []) k d
-
 -- four cards and the seat of the winner among them
 abbrev pub IsFour : Board → PlayingCard → List PlayingCard → Seat → Seat → ℕ → PlayingCard → Type 0
 IsFour p card four first seat place won = (trick_with p card ≡ four) × (first ≡ p.first) × (seat ≡ winner_of (trick_with p card) p.first p.strain)

@@ -163,7 +163,10 @@ fn equal_shapes_have_one_mixing_number(rt: HostRuntime) {
         shape == OwnerStrings::of(&two).shape(),
         "two spades a hand"
     );
-    assert_eq!(rt; shape.mixing_number(), OwnerStrings::of(&two).shape().mixing_number());
+    assert_eq!(rt;
+        shape.mixing_number(),
+        OwnerStrings::of(&two).shape().mixing_number()
+    );
     assert!(rt;
         shape != OwnerStrings::of(&hearts).shape(),
         "hearts are trumps"
