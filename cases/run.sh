@@ -21,7 +21,7 @@ ends() { # STATUS TEXT COMMAND..
     shift 2
     got=0
     "$@" > "$work/said" 2>&1 || got=$?
-    [ "$got" = "$status" ] && grep -q -- "$said" "$work/said" || { echo "cases: $* ended with $got: $(cat "$work/said")" >&2; exit 1; }
+    [ "$got" = "$status" ] && { [ -z "$said" ] || grep -q -- "$said" "$work/said"; } || { echo "cases: $* ended with $got: $(cat "$work/said")" >&2; exit 1; }
 }
 ddserve=$here/../ddserve
 version=$(sed -n 's/^## \([0-9.]*\)$/\1/p' "$here/../CHANGELOG.md" | head -1)
