@@ -4,12 +4,13 @@
 # lines, taken in turns, and their ratio. Then full deals, 8 of each strain, line by line through a pipe to each program in
 # one run, over a table of 65,536 entries: the time of each reply, and of these the mean, the geometric mean and the
 # slowest. Deals are from fixed seeds; it says whether the replies agree, and ends with status 1 where some don't.
-# Words: the number of runs (5), and of full deals (40).
+# Words: the number of runs (5), of full deals (40), and the seed of the full deals (1013).
 set -eu
 here=$(cd -- "$(dirname -- "$0")" && pwd)
 top=$(cd -- "$here/../.." && pwd)
 runs=${1:-5}
 full=${2:-40}
+seed=${3:-1013}
 
 for tool in python3 g++; do
     command -v "$tool" > /dev/null || { echo "bench/dds: the command $tool is missing" >&2; exit 1; }
@@ -23,7 +24,7 @@ g++ -O2 -o "$work/dds" "$here/dds.cpp" -ldds
 for cards in 6 8 9; do
     python3 "$top/bench/deals.py" "$cards" 40 --seed $((1000 + cards)) --requests > "$work/$cards.jsonl"
 done
-python3 "$top/bench/deals.py" 13 "$full" --seed 1013 --requests > "$work/13.jsonl"
+python3 "$top/bench/deals.py" 13 "$full" --seed "$seed" --requests > "$work/13.jsonl"
 
 python3 - "$runs" "$top/crates/ddserve/out/ddserve" "$work" <<'PY'
 import math

@@ -2,7 +2,7 @@
 use Rattle.std.specs.Prelude.{ℕ, zero, suc, ◌+◌, ◌≤◌, Bool, ◌||◌, ◌&&◌, ◌==◌, nat_le, List, [], ◌∷◌, filter}
 use Rattle.std.specs.List.{list_any}
 
--- the number of a rank: 2 to 10, knave 11, queen 12, king 13, ace 14
+-- the number of a rank: 2 to 10, jack 11, queen 12, king 13, ace 14
 abbrev pub IsRank : ℕ → Type 0
 IsRank r = (2 ≤ r) × (r ≤ 14)
 

@@ -2,7 +2,7 @@ ghost use Rattle.std.specs.Prelude.{◌≡◌, ℕ, ◌<◌, ◌≤◌, ◌↔�
 
 use std::marker::Model;
 
-/// A rank by its number: 2 to 10, knave 11, queen 12, king 13, ace 14 (Laws of Duplicate Bridge 2017, Law 1).
+/// A rank by its number: 2 to 10, jack 11, queen 12, king 13, ace 14 (Laws of Duplicate Bridge 2017, Law 1).
 #[derive(Clone, Copy, Debug, PartialEq, Eq)]
 pub struct Rank {
     code: u8,

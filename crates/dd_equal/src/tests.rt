@@ -28,7 +28,7 @@ fn class_at(classes: &ArrayVec<Class, 13>, place: usize) -> (u8, u16) {
 }
 
 #[test]
-fn the_knave_on_the_trick_separates_the_queen_and_the_ten(rt: HostRuntime) {
+fn the_jack_on_the_trick_separates_the_queen_and_the_ten(rt: HostRuntime) {
     let cards = [
         (Seat::North, 16 + 6),
         (Seat::North, 16 + 5),
@@ -38,8 +38,8 @@ fn the_knave_on_the_trick_separates_the_queen_and_the_ten(rt: HostRuntime) {
         (Seat::West, 16 + 4),
         (Seat::West, 16 + 3),
     ];
-    let knave = Card::from_code(11).expect(&rt, "the knave of spades");
-    let found = classes_at(&cards, Seat::East, &[knave]);
+    let jack = Card::from_code(11).expect(&rt, "the jack of spades");
+    let found = classes_at(&cards, Seat::East, &[jack]);
     assert_eq!(rt; found.len(), 2);
     assert_eq!(rt; class_at(&found, 0), (12, 0));
     assert_eq!(rt; class_at(&found, 1), (10, 0));

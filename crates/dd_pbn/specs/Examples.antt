@@ -10,7 +10,7 @@ abbrev pub eight_spades : FourHands
 eight_spades =
     dealt (card_of Spades 3 ∷ card_of Spades 2 ∷ []) (card_of Spades 13 ∷ card_of Spades 4 ∷ []) (card_of Spades 14 ∷ card_of Spades 12 ∷ []) (card_of Spades 6 ∷ card_of Spades 5 ∷ [])
 
--- North has the ace of spades and the two of hearts, East spade king and heart ace, South spade queen and heart king, West spade knave and heart queen
+-- North has the ace of spades and the two of hearts, East spade king and heart ace, South spade queen and heart king, West spade jack and heart queen
 abbrev pub two_suits : FourHands
 two_suits =
     dealt (card_of Spades 14 ∷ card_of Hearts 2 ∷ []) (card_of Spades 13 ∷ card_of Hearts 14 ∷ []) (card_of Spades 12 ∷ card_of Hearts 13 ∷ []) (card_of Spades 11 ∷ card_of Hearts 12 ∷ [])

@@ -8,7 +8,7 @@ use Rattle.dd_cards.specs.Cards.{card_of}
 use Rattle.dd_cards.specs.Hands.{dealt}
 use Rattle.dd_play.specs.Board.{Board, board_of}
 
--- the spades of these ranks, the knave being 11 and the ace 14
+-- the spades of these ranks, the jack being 11 and the ace 14
 abbrev pub spades : List ℕ → List PlayingCard
 spades ranks = map (card_of Spades) ranks
 

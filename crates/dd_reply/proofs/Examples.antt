@@ -65,7 +65,7 @@ same-score : answer (board (spade 14 ∷ heart 2 ∷ []) (spade 13 ∷ heart 14 
 unfolding ns_within all_scores
 same-score = refl
 
--- a card on the trick separates: the knave lies between South's queen and ten
+-- a card on the trick separates: the jack lies between South's queen and ten
 trick-separates : answer (board (heart 6 ∷ heart 5 ∷ []) (heart 2 ∷ []) (spade 12 ∷ spade 10 ∷ []) (heart 4 ∷ heart 3 ∷ []) Notrump East (spade 11 ∷ [])) 3 ≡ class (spade 12) 0 2 ∷ class (spade 10) 0 1 ∷ []
 unfolding ns_within all_scores
 trick-separates = refl

@@ -140,7 +140,7 @@ fn told(shard: &mut Shard, start: &TrickStart) -> Option<(u8, u8, [u8; 4])> {
 }
 
 // Of the newest pair at a place West's spades, the bounds and the depth of spades. The DDS manual writes 65 as 96, 54 as
-// 48, K4 as 8208 and the knave as 2048.
+// 48, K4 as 8208 and the jack as 2048.
 fn listed(shard: &Shard, place: u32) -> Option<(u16, u8, u8, u8)> {
     let Some((start, depths, bounds)) = shard.entry(place) else {
         return None;
