@@ -50,6 +50,9 @@ pub use Rattle.dd_cards.proofs.General.{any-filter}
 -- ---- what a mask's operations do to the list of its ranks
 -- each of the lowest ranks is one of them
 pub use Rattle.dd_cards.proofs.RankLists.{has_rank-lowest_ranks}
+-- ---- which ranks the mask of some ranks has
+-- the mask of a set of ranks has these ranks
+pub use Rattle.dd_cards.proofs.MaskRanks.{in_mask-mask_of}
 -- ---- cards as suits and ranks, and the deck
 -- two suits with one code are one suit
 pub use Rattle.dd_cards.proofs.CardLists.{suit_code-injective}

@@ -1,5 +1,5 @@
 -- Booleans and parts of lists: what the standard library lacks, for all crates
-use Rattle.std.proofs.Common.{◌≡◌, ◌≤◌, ℕ, Bool, true, false, cond, refl, sym, ap, ◌∙◌, arith, List, [], ◌∷◌, length, ◌⊎◌, inl, inr}
+use Rattle.std.proofs.Common.{◌≡◌, ◌≤◌, Bool, true, false, cond, refl, sym, ap, ◌∙◌, arith, List, [], ◌∷◌, length, ◌⊎◌, inl, inr}
 use Rattle.std.specs.Prelude.{filter, map, ◌&&◌, ◌||◌}
 use Rattle.std.specs.List.{list_all, list_any}
 use mathlib.Core.Bool.{not}

@@ -11,5 +11,6 @@ pub mod HandsLaws
 pub mod Codes
 pub mod Unions
 pub mod SideLaws
+pub mod MaskRanks
 pub mod General
 pub mod CallerLemmas

@@ -1,6 +1,6 @@
 -- what a mask's operations do to the list of its ranks
 use Rattle.std.proofs.Common.{◌≡◌, ℕ, zero, suc, ◌+◌, ◌-◌, ◌*◌, ◌%◌, ◌^◌, ◌<◌, ◌≤◌, Bool, true, false, cond, refl, sym, ap, ◌∙◌, arith, List, [], ◌∷◌, length, Some, None, subst, nat_eq, max, bit_and, bit_or, w16, inl, inr, ◌⊎◌, eq-eqb, zero-add}
-use Rattle.std.specs.Prelude.{filter, map, find, slice_get, ◌==◌, ◌||◌, ◌&&◌, nat_lt, count_ones}
+use Rattle.std.specs.Prelude.{filter, find, slice_get, ◌==◌, ◌||◌, ◌&&◌, nat_lt, count_ones}
 use mathlib.Core.Bool.{not}
 use Rattle.std.specs.Int.{bit_at, bit_not}
 use Rattle.std.proofs.lemmas.Nat.{ones_cat, mod_below, pow_pos}

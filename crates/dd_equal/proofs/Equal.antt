@@ -22,7 +22,7 @@ use Rattle.dd_equal.proofs.Swaps.{IsNotBetween, AreEqual, one-hand, not-on-trick
 -- ---- no card passes a test
 
 -- a test that no card of a list passes, at one of them
-none-at : (test : PlayingCard → Bool) (cards : List PlayingCard) (e : PlayingCard) → list_any test cards ≡ false → has_card cards e ≡ true → test e ≡ false
+pub none-at : (test : PlayingCard → Bool) (cards : List PlayingCard) (e : PlayingCard) → list_any test cards ≡ false → has_card cards e ≡ true → test e ≡ false
 none-at test [] e none has = absurd (cc)
 none-at test (d ∷ cards) e none has = go (same_card d e) (test d) refl refl (none-at test cards e)
   where

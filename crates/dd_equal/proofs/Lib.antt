@@ -6,4 +6,5 @@ pub mod Equal
 pub mod Tops
 pub mod Images
 pub mod Wholes
+pub mod OneClass
 pub mod CallerLemmas

@@ -48,7 +48,7 @@ any-found f (c ∷ cards) h = go (f c) refl (λ k. any-found f cards k) h
     go false e ih h = (let rest = ih h in record { card = rest.card; has = or-right (same_card c rest.card) _ rest.has; passes = rest.passes })
 
 -- a card that is there and passes is found
-any-card : (f : PlayingCard → Bool) (cards : List PlayingCard) (c : PlayingCard) → has_card cards c ≡ true → f c ≡ true → list_any f cards ≡ true
+pub any-card : (f : PlayingCard → Bool) (cards : List PlayingCard) (c : PlayingCard) → has_card cards c ≡ true → f c ≡ true → list_any f cards ≡ true
 any-card f [] c has h = absurd (cc)
 any-card f (d ∷ cards) c has h = go (same_card d c) refl (λ k. any-card f cards c k h) has
   where
@@ -139,7 +139,7 @@ others-real p valid c has = go (has_card (cards_at p (seat_after (mover p) 1)) c
     go false false false e f g h = valid.real c h
 
 -- no other card is one of the mover's
-others-differ : (p : Board) (c : PlayingCard) → IsBoard p → has_card (cards_at p (mover p)) c ≡ true → has_card (other_cards p) c ≡ true → ⊥
+pub others-differ : (p : Board) (c : PlayingCard) → IsBoard p → has_card (cards_at p (mover p)) c ≡ true → has_card (other_cards p) c ≡ true → ⊥
 others-differ p c valid own has =
     let sum = valid.once c in
     let mine = times-has (cards_at p (mover p)) c own in
@@ -212,7 +212,7 @@ top-ranks p s own others r valid are =
     g d = not (list_any (is_between (card_of s r) d) (other_cards p)) && nat_lt r d.rank
 
 -- the class of a card, by its rank
-class-ranks : (p : Board) (s : Suit) (own others : List ℕ) (r : ℕ) → IsBoard p → AreRanks p s own others → class_of p (card_of s r) ≡ class_of_rank s own others r
+pub class-ranks : (p : Board) (s : Suit) (own others : List ℕ) (r : ℕ) → IsBoard p → AreRanks p s own others → class_of p (card_of s r) ≡ class_of_rank s own others r
 class-ranks p s own others r valid are = ap seen (ap mask_of (ap (map (λ c. c.rank)) cards ∙ ranks-of-suit s (equal_ranks own others r)))
   where
     seen : ℕ → EqualCards

@@ -3,9 +3,9 @@ use Rattle.std.specs.Prelude.{◌≡◌, true, ℕ, ◌&&◌, ◌||◌, Bool, Li
 use Rattle.std.specs.List.{list_any}
 use mathlib.Core.Bool.{not}
 use Rattle.dd_cards.specs.PlayingCard.{PlayingCard}
-use Rattle.dd_cards.specs.Cards.{is_of, has_card}
+use Rattle.dd_cards.specs.Cards.{is_of, same_card, has_card}
 use Rattle.dd_cards.specs.Seats.{seat_after}
-use Rattle.dd_cards.specs.Masks.{mask_of}
+use Rattle.dd_cards.specs.Masks.{in_mask, mask_of}
 use Rattle.dd_play.specs.Board.{Board, cards_at, mover}
 use Rattle.dd_play.specs.Play.{legal}
 use Rattle.dd_play.specs.Simulations.{IsLegal}
@@ -41,6 +41,10 @@ pub record EqualCards : Type 0 where
 
 abbrev pub class_of : Board → PlayingCard → EqualCards
 class_of p c = record { top = c; equals = equals_of p c }
+
+-- has the class this card: as its highest, or in the mask of its others?
+abbrev pub class_has : EqualCards → PlayingCard → Bool
+class_has class c = same_card class.top c || (is_of class.top.suit c && in_mask class.equals c.rank)
 
 -- every class of the legal cards, in the order of their highest cards
 abbrev pub classes_of : Board → List EqualCards

@@ -8,7 +8,8 @@ mod whole_classes;
 
 pub use class::Class;
 pub use laws::{
-    equal_cards_score_alike, one_card_of_each_class, one_card_of_each_class_by_high_cards,
+    classes_part_the_legal_cards, equal_cards_score_alike, one_card_of_each_class,
+    one_card_of_each_class_by_high_cards,
 };
 pub use partition::{classes, list_classes};
 pub use whole_classes::whole;

@@ -84,3 +84,54 @@ fn the_thirteen_spades_are_one_class(rt: HostRuntime) {
     assert_eq!(rt; found.len(), 1);
     assert_eq!(rt; class_at(&found, 0), (14, 16380));
 }
+
+// Is the card of this code in just one of the classes, as its highest or in the mask of its others?
+fn is_in_one(classes: &ArrayVec<Class, 13>, code: u8) -> bool {
+    let mut once = false;
+    let mut twice = false;
+    for class in classes.as_slice() {
+        let class = *class;
+        let top = class.top.code();
+        let of_suit = top / 16 == code / 16;
+        if top == code || of_suit && class.equals & (1 << (code % 16)) != 0 {
+            twice = once;
+            once = true;
+        }
+    }
+    once && !twice
+}
+
+#[test]
+fn each_legal_card_is_in_one_class(rt: HostRuntime) {
+    // North: spades AKJ, hearts 53. East's queen and West's four stand between.
+    let cards = [
+        (Seat::North, 14),
+        (Seat::North, 13),
+        (Seat::North, 11),
+        (Seat::North, 16 + 5),
+        (Seat::North, 16 + 3),
+        (Seat::East, 12),
+        (Seat::East, 16 + 14),
+        (Seat::East, 16 + 13),
+        (Seat::East, 16 + 12),
+        (Seat::East, 16 + 11),
+        (Seat::South, 32 + 2),
+        (Seat::South, 32 + 3),
+        (Seat::South, 32 + 4),
+        (Seat::South, 32 + 5),
+        (Seat::South, 32 + 6),
+        (Seat::West, 16 + 4),
+        (Seat::West, 48 + 2),
+        (Seat::West, 48 + 3),
+        (Seat::West, 48 + 4),
+        (Seat::West, 48 + 5),
+    ];
+    let found = classes_at(&cards, Seat::North, &[]);
+    assert_eq!(rt; found.len(), 4);
+    for code in [14, 13, 11, 16 + 5, 16 + 3] {
+        assert!(rt; is_in_one(&found, code), "at {code}");
+    }
+    for code in [12, 16 + 4, 32 + 2] {
+        assert!(rt; !is_in_one(&found, code), "at {code}");
+    }
+}

@@ -8,18 +8,21 @@ use crate::fault::PbnFault;
 
 /// A value spells one deal at most.
 pub fn one_deal()
-    ensures { (text : List ℕ) (a b : FourHands) → AreHands a → AreHands b → DealText text a → DealText text b → a ≡ b }
+    ensures { (text : List ℕ) (a b : FourHands) → AreHands a → AreHands b → DealText text a
+        → DealText text b → a ≡ b }
 {}
 
 /// A tag spells one deal at most.
 pub fn one_deal_of_a_tag()
-    ensures { (text : List ℕ) (a b : FourHands) → AreHands a → AreHands b → TagText text a → TagText text b → a ≡ b }
+    ensures { (text : List ℕ) (a b : FourHands) → AreHands a → AreHands b → TagText text a
+        → TagText text b → a ≡ b }
 {}
 
 /// What is written of a deal spells this deal, and no other.
 pub fn written_is_read()
     ensures spells { (deal : FourHands) → AreHands deal → DealText (written deal) deal }
-    ensures only { (deal other : FourHands) → AreHands deal → AreHands other → DealText (written deal) other → other ≡ deal }
+    ensures only { (deal other : FourHands) → AreHands deal → AreHands other
+        → DealText (written deal) other → other ≡ deal }
 {}
 
 /// Texts worked by hand. Where a hand is left out and a card stands twice, the hand that is left out is the fault.

@@ -1,5 +1,5 @@
 -- What a bound or a search claims of a position.
-use Rattle.std.specs.Prelude.{ℕ, ◌≤◌, Bool}
+use Rattle.std.specs.Prelude.{ℕ, ◌≤◌}
 use Rattle.dd_play.specs.Board.{Board}
 use Rattle.dd_play.specs.Won.{won}
 use Rattle.dd_cards.specs.declared.side.Side.{Side}

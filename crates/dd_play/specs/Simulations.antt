@@ -1,5 +1,5 @@
 -- A relation between games, each a side and a position, under which the second side does at least as well.
-use Rattle.std.specs.Prelude.{◌≡◌, ◌≤◌, Bool, true, false, []}
+use Rattle.std.specs.Prelude.{◌≡◌, ◌≤◌, true, false, []}
 use Rattle.dd_cards.specs.PlayingCard.{PlayingCard}
 use Rattle.dd_cards.specs.Cards.{has_card}
 use Rattle.dd_cards.specs.Sides.{is_side}

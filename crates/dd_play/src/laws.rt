@@ -23,7 +23,8 @@ use dd_cards::{Seat, Strain, Suit};
 
 /// The value is the best of the values after each legal card, so the number of cards looked ahead never shows.
 pub fn value_by_play()
-    ensures { (p : Board) → IsBoard p → ns p ≡ best (side_of (mover p)) (map (ns_with p) (legal p)) }
+    ensures { (p : Board) → IsBoard p
+        → ns p ≡ best (side_of (mover p)) (map (ns_with p) (legal p)) }
 {}
 
 /// After a legal card comes a legal state of play with one card fewer in the hands, and with one trick fewer left
@@ -57,14 +58,20 @@ pub fn winner_by_strength()
 pub fn claims()
     ensures nothing { (side : Side) (p : Board) → Takes side p 0 }
     ensures fewer { (side : Side) (p : Board) (n m : ℕ) → Takes side p n → m ≤ n → Takes side p m }
-    ensures one_card { (side : Side) (p : Board) (c : PlayingCard) (n : ℕ) → IsBoard p → is_side side (mover p) ≡ true
+    ensures one_card { (side : Side) (p : Board) (c : PlayingCard) (n : ℕ) → IsBoard p
+        → is_side side (mover p) ≡ true
         → IsLegal p c → Takes side (after p c) n → Takes side p (n + point side p c) }
-    ensures every_card { (side : Side) (p : Board) (n : ℕ) → IsBoard p → is_side side (mover p) ≡ false → 1 ≤ left p
+    ensures every_card { (side : Side) (p : Board) (n : ℕ) → IsBoard p
+        → is_side side (mover p) ≡ false → 1 ≤ left p
         → ((c : PlayingCard) → IsLegal p c → (m : ℕ) × Takes side (after p c) m × (n ≤ m + point side p c)) → Takes side p n }
-    ensures point { (side : Side) (p : Board) (c : PlayingCard) → point side p c + point (other_side side) p c ≡ (if completes p then 1 else 0) }
-    ensures both { (side : Side) (p : Board) (n m : ℕ) → IsBoard p → Takes side p n → Takes (other_side side) p m → n + m ≤ left p }
-    ensures all { (side : Side) (p : Board) → IsBoard p → won side p + won (other_side side) p ≡ left p }
-    ensures exactly { (side : Side) (p : Board) (n m : ℕ) → IsBoard p → Takes side p n → Takes (other_side side) p m → n + m ≡ left p → won side p ≡ n }
+    ensures point { (side : Side) (p : Board) (c : PlayingCard)
+        → point side p c + point (other_side side) p c ≡ (if completes p then 1 else 0) }
+    ensures both { (side : Side) (p : Board) (n m : ℕ) → IsBoard p → Takes side p n
+        → Takes (other_side side) p m → n + m ≤ left p }
+    ensures all { (side : Side) (p : Board) → IsBoard p
+        → won side p + won (other_side side) p ≡ left p }
+    ensures exactly { (side : Side) (p : Board) (n m : ℕ) → IsBoard p → Takes side p n
+        → Takes (other_side side) p m → n + m ≡ left p → won side p ≡ n }
     ensures bounds { (p : Board) (lo hi : ℕ) → IsBoard p → p.trick ≡ [] → ((lo ≤ lead p) × (lead p ≤ hi))
         ↔ (Takes (side_of p.first) p lo × Takes (other_side (side_of p.first)) p (left p - hi)) }
 {}
@@ -82,21 +89,30 @@ pub fn claims()
 /// `reached`: what is no lower than one of these cards.
 pub fn claims_by_high_cards()
     ensures nothing { (top : PlayingCard → Bool) (side : Side) (p : Board) → TakesBy top side p 0 }
-    ensures fewer { (top : PlayingCard → Bool) (side : Side) (p : Board) (n m : ℕ) → TakesBy top side p n → m ≤ n → TakesBy top side p m }
-    ensures more { (few many : PlayingCard → Bool) (side : Side) (p : Board) (n : ℕ) → ((c : PlayingCard) → few c ≡ true → many c ≡ true)
+    ensures fewer { (top : PlayingCard → Bool) (side : Side) (p : Board) (n m : ℕ)
+        → TakesBy top side p n → m ≤ n → TakesBy top side p m }
+    ensures more { (few many : PlayingCard → Bool) (side : Side) (p : Board) (n : ℕ)
+        → ((c : PlayingCard) → few c ≡ true → many c ≡ true)
         → IsUpward few → TakesBy few side p n → TakesBy many side p n }
-    ensures one_card { (top : PlayingCard → Bool) (side : Side) (p : Board) (c : PlayingCard) (n : ℕ) → is_side side (mover p) ≡ true
+    ensures one_card { (top : PlayingCard → Bool) (side : Side) (p : Board) (c : PlayingCard) (n : ℕ)
+        → is_side side (mover p) ≡ true
         → IsLegal p c → IsWorth top side p c n → TakesBy top side p n }
-    ensures every_card { (top : PlayingCard → Bool) (side : Side) (p : Board) (n : ℕ) → is_side side (mover p) ≡ false → 1 ≤ left p
+    ensures every_card { (top : PlayingCard → Bool) (side : Side) (p : Board) (n : ℕ)
+        → is_side side (mover p) ≡ false → 1 ≤ left p
         → ((c : PlayingCard) → IsLegal p c → IsWorth top side p c n) → TakesBy top side p n }
-    ensures after { (top : PlayingCard → Bool) (side : Side) (p : Board) (c : PlayingCard) (n : ℕ) → IsLegal p c → IsSettled top p c
+    ensures after { (top : PlayingCard → Bool) (side : Side) (p : Board) (c : PlayingCard) (n : ℕ)
+        → IsLegal p c → IsSettled top p c
         → TakesBy top side (after p c) n → IsWorth top side p c (n + point side p c) }
-    ensures less { (top : PlayingCard → Bool) (side : Side) (p : Board) (c : PlayingCard) (n m : ℕ) → IsWorth top side p c n → m ≤ n → IsWorth top side p c m }
-    ensures wider { (few many : PlayingCard → Bool) (side : Side) (p : Board) (c : PlayingCard) (n : ℕ) → ((c : PlayingCard) → few c ≡ true → many c ≡ true)
+    ensures less { (top : PlayingCard → Bool) (side : Side) (p : Board) (c : PlayingCard) (n m : ℕ)
+        → IsWorth top side p c n → m ≤ n → IsWorth top side p c m }
+    ensures wider { (few many : PlayingCard → Bool) (side : Side) (p : Board) (c : PlayingCard) (n : ℕ)
+        → ((c : PlayingCard) → few c ≡ true → many c ≡ true)
         → IsUpward few → IsWorth few side p c n → IsWorth many side p c n }
-    ensures low { (top : PlayingCard → Bool) (side : Side) (p : Board) (c d : PlayingCard) (n : ℕ) → top c ≡ false → top d ≡ false → d.suit ≡ c.suit
+    ensures low { (top : PlayingCard → Bool) (side : Side) (p : Board) (c d : PlayingCard) (n : ℕ)
+        → top c ≡ false → top d ≡ false → d.suit ≡ c.suit
         → IsWorth top side p c n → IsWorth top side p d n }
-    ensures here { (top : PlayingCard → Bool) (side : Side) (p : Board) (n : ℕ) → IsBoard p → IsUpward top → TakesBy top side p n → Takes side p n }
+    ensures here { (top : PlayingCard → Bool) (side : Side) (p : Board) (n : ℕ) → IsBoard p
+        → IsUpward top → TakesBy top side p n → Takes side p n }
     ensures reached { (cards : List PlayingCard) → IsUpward (reach cards) }
 {}
 

@@ -85,11 +85,11 @@ joint_trumps (Trump trump) p seat = min (unbeaten p seat trump + unbeaten p (sea
 -- ---- both
 
 -- the side of the leader takes at least this number
-abbrev pub quick_lo : Board → ℕ
+unfoldable pub quick_lo : Board → ℕ
 quick_lo p = side_tricks p + joint_trumps p.strain p p.first
 
 -- and no more than this
-abbrev pub quick_hi : Board → ℕ
+unfoldable pub quick_hi : Board → ℕ
 quick_hi p = left p - joint_trumps p.strain p (seat_after p.first 1)
 
 -- the tricks that the leader cashes in a suit, and the number of cards on which they rest, if there are any

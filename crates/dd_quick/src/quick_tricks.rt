@@ -1,7 +1,7 @@
 //! Quick tricks. The leader cashes side suits, and its side keeps its joint trumps; the other side has joint trumps. So a
 //! side's quick tricks are no more than it takes, and they rest on winners alone: it takes as many where the lower cards
 //! are others.
-ghost use Rattle.std.specs.Prelude.{◌≡◌, ◌≤◌, ◌-◌, IsSome, ℕ, [], IfSome};
+ghost use Rattle.std.specs.Prelude.{◌≡◌, ◌≤◌, ◌+◌, ◌-◌, IsSome, ℕ, [], IfSome};
 ghost use Rattle.dd_cards.specs.declared.suit.Suit.{Suit as SuitOf};
 ghost use Rattle.dd_cards.specs.declared.suit.Suit.TheVariants.{Spades, Hearts, Diamonds, Clubs};
 ghost use Rattle.dd_cards.specs.Sides.{side_of, other_side};
@@ -24,6 +24,7 @@ use dd_rank::Depths;
 /// Bounds of the tricks, 0 to 13, that the leader's side takes from here on: at least its quick tricks, and no more than
 /// those of the other side leave it. They hold of each position that this one covers at the depths: in each suit how many
 /// of the cards left, from the highest down to the lowest winner. It plays no card and takes no memory.
+#[tactic(auto, unfolding(crate::specs::QuickTricks::quick_lo, crate::specs::QuickTricks::quick_hi))]
 pub fn bounds(start: &TrickStart) -> (Interval, Depths)
     ensures holds { (q : Board) → IsBoard q → Covers start.now (depth_in result.1) q → Holds result.0 (lead q) }
     ensures within { (quick_lo start.now ≤ result.0.lo) × (result.0.hi ≤ quick_hi start.now) }
@@ -42,9 +43,11 @@ pub fn bounds(start: &TrickStart) -> (Interval, Depths)
 }
 
 /// The winners on which it rests that the leader's side takes at least `need` tricks, where its quick tricks are so many.
+#[tactic(auto, unfolding(crate::specs::QuickTricks::quick_lo))]
 pub fn for_leader(start: &TrickStart, need: u8) -> Option<Hand>
     ensures found { need ≤ quick_lo start.now → IsSome result }
-    ensures claim { IfSome result (λ cards. TakesBy (reach cards) (side_of start.now.first) start.now need) }
+    ensures claim { IfSome result
+        (λ cards. TakesBy (reach cards) (side_of start.now.first) start.now need) }
 {
     let position = start.position();
     let ours = leaders(position);
@@ -56,9 +59,11 @@ pub fn for_leader(start: &TrickStart, need: u8) -> Option<Hand>
 }
 
 /// The winners on which it rests that the other side takes at least `need` tricks, where its quick tricks are so many.
+#[tactic(auto, unfolding(crate::specs::QuickTricks::quick_hi))]
 pub fn against_leader(start: &TrickStart, need: u8) -> Option<Hand>
     ensures found { need ≤ left start.now - quick_hi start.now → IsSome result }
-    ensures claim { IfSome result (λ cards. TakesBy (reach cards) (other_side (side_of start.now.first)) start.now need) }
+    ensures claim { IfSome result
+        (λ cards. TakesBy (reach cards) (other_side (side_of start.now.first)) start.now need) }
 {
     let position = start.position();
     if need <= others(position) {
@@ -119,7 +124,7 @@ fn leaders_cards(position: &Position, ours: Sure, need: u8) -> Hand
     requires diamonds { IsCash position.now Diamonds ours.cashed.diamonds.tricks ours.cashed.diamonds.depth }
     requires clubs { IsCash position.now Clubs ours.cashed.clubs.tricks ours.cashed.clubs.depth }
     requires side { ours.side ≡ side_tricks position.now }
-    requires few { need ≤ quick_lo position.now }
+    requires few { need ≤ side_tricks position.now + joint_trumps position.now.strain position.now position.now.first }
     ensures { TakesBy (reach result) (side_of position.now.first) position.now need }
 {
     let cashed = ours.cashed;

@@ -1,16 +1,13 @@
 -- alike positions have one value, also with the seats turned
-use Rattle.std.proofs.Common.{◌≡◌, ◌≢◌, ℕ, zero, suc, ◌-◌, ◌≤◌, Bool, true, false, refl, sym, ap, ◌∙◌, subst, arith, List, []}
-use Rattle.std.specs.Prelude.{if◌then◌else◌}
+use Rattle.std.proofs.Common.{◌≡◌, ◌≢◌, ℕ, zero, suc, ◌≤◌, true, false, refl, sym, ap, ◌∙◌, subst, arith, List, []}
 use Rattle.dd_cards.specs.declared.seat.Seat.{Seat}
-use Rattle.dd_cards.specs.declared.seat.Seat.TheVariants.{North, East, South, West}
 use Rattle.dd_cards.specs.declared.suit.Suit.{Suit}
 use Rattle.dd_cards.specs.PlayingCard.{PlayingCard}
 use Rattle.dd_cards.specs.Cards.{is_of, has_card}
-use Rattle.dd_cards.specs.Seats.{seat_after, next_seat}
+use Rattle.dd_cards.specs.Seats.{seat_after}
 use Rattle.dd_cards.specs.Sides.{side_of, is_side}
-use Rattle.dd_play.specs.Board.{Board, IsBoard, cards_at, left}
-use Rattle.dd_play.specs.Value.{ns, lead}
-use Rattle.dd_play.specs.Won.{won}
+use Rattle.dd_play.specs.Board.{Board, IsBoard, cards_at}
+use Rattle.dd_play.specs.Value.{lead}
 use Rattle.dd_play.specs.Covers.{ForMet, Keeps, IsOver, AllAnswer, count_of, IsCover, any_card}
 use Rattle.dd_play.proofs.CallerLemmas.{inject, of-suit', once-in, suit-of, twins-won, lead-won}
 use Rattle.dd_rank.specs.Alike.{IsAlikeBy, AreAlike, IsAlike}

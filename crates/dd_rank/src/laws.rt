@@ -34,10 +34,12 @@ pub fn covered_positions()
     ensures told { (cards : List PlayingCard) (depths : Suit → ℕ) (p : Board) (lo hi : ℕ) → ((c : PlayingCard) → has_card cards c ≡ true → IsRank c.rank)
         → p.trick ≡ [] → ((u : Suit) → depths u ≤ depths_of (reach cards) p u)
         → ((q : Board) → IsBoard q → Covers p depths q → (lo ≤ lead q) × (lead q ≤ hi))
-        → TakesBy (reach cards) (side_of p.first) p lo × TakesBy (reach cards) (other_side (side_of p.first)) p (left p - hi) }
+        → TakesBy (reach cards) (side_of p.first) p lo
+        × TakesBy (reach cards) (other_side (side_of p.first)) p (left p - hi) }
     ensures noted { (cards : List PlayingCard) (depths : Suit → ℕ) (p : Board) (lo hi : ℕ) → ((c : PlayingCard) → has_card cards c ≡ true → IsRank c.rank)
         → IsBoard p → ((u : Suit) → depths_of (reach cards) p u ≤ depths u)
-        → TakesBy (reach cards) (side_of p.first) p lo → TakesBy (reach cards) (other_side (side_of p.first)) p (left p - hi)
+        → TakesBy (reach cards) (side_of p.first) p lo
+        → TakesBy (reach cards) (other_side (side_of p.first)) p (left p - hi)
         → (q : Board) → IsBoard q → Covers p depths q → (lo ≤ lead q) × (lead q ≤ hi) }
     ensures chained { (depths : Suit → ℕ) (p q r : Board) → Covers p depths q → Covers q depths r → Covers p depths r }
     ensures itself { (p : Board) (depths : Suit → ℕ) → p.trick ≡ [] → ((u : Suit) → depths u ≤ count_of u (all_cards p)) → Covers p depths p }

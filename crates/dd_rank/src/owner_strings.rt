@@ -144,8 +144,8 @@ struct SuitString {
 // What four hands hold of a suit, in the order in which they play.
 fn suit_string(leader: Hand, second: Hand, third: Hand, fourth: Hand, suit: Suit) -> SuitString
     requires { AreHands (dealt leader second third fourth) }
-    ensures lengths { result.lengths ≡ number_of 16
-        (count_of suit leader ∷ count_of suit second ∷ count_of suit third ∷ count_of suit fourth ∷ []) }
+    ensures lengths { result.lengths ≡ number_of 16 (count_of suit leader ∷ count_of suit second
+        ∷ count_of suit third ∷ count_of suit fourth ∷ []) }
     ensures bound { result.lengths < 2 ^ 16 }
     ensures owners { result.owners ≡ number_of 4
         (map seat_code (owners_in (dealt leader second third fourth) suit)) }

@@ -76,7 +76,8 @@ fn taught(start: &TrickStart, need: u8, answer: Answer) -> Interval
     requires answer { IsAnswerBy start.now need answer.cards answer.yes }
     ensures board { IsBoard start.now }
     ensures theirs { TakesBy (reach answer.cards) (side_of start.now.first) start.now result.lo }
-    ensures others { TakesBy (reach answer.cards) (other_side (side_of start.now.first)) start.now (left start.now - result.hi) }
+    ensures others { TakesBy (reach answer.cards) (other_side (side_of start.now.first)) start.now
+        (left start.now - result.hi) }
     ensures yes { OnTrue answer.yes ((n : ℕ) → Holds result n → need ≤ north_souths start.now n) }
     ensures no { OnFalse answer.yes ((n : ℕ) → Holds result n → north_souths start.now n < need) }
 {

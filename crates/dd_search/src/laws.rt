@@ -12,7 +12,9 @@ ghost use Rattle.dd_equal.specs.EqualCards.{tops};
 
 /// The value is the greatest score: no legal card has a greater one, and the highest card of some class has it.
 pub fn value_is_the_greatest_score()
-    ensures most { (p : Board) (c : PlayingCard) → IsBoard p → IsLegal p c → score p c ≤ won (side_of (mover p)) p }
+    ensures most { (p : Board) (c : PlayingCard) → IsBoard p → IsLegal p c
+        → score p c ≤ won (side_of (mover p)) p }
     ensures reached { (p : Board) → IsBoard p → 1 ≤ left p
-        → (c : PlayingCard) × (has_card (tops p) c ≡ true) × (score p c ≡ won (side_of (mover p)) p) }
+        → (c : PlayingCard) × (has_card (tops p) c ≡ true)
+        × (score p c ≡ won (side_of (mover p)) p) }
 {}

@@ -21,7 +21,8 @@ pub fn value<B: Bounds, M: Meter>(
     bounds: &mut B,
     meter: &mut M,
 ) -> Result<u8, Halt>
-    ensures value { IfOk result (λ tricks. tricks ≡ won (side_of (mover position.now)) position.now) }
+    ensures value { IfOk result
+        (λ tricks. tricks ≡ won (side_of (mover position.now)) position.now) }
     ensures bound { IfOk result (λ tricks. tricks ≤ 13) }
     ensures ticked { OnOk result (M.ticked meter.old meter.new) }
     ensures spent { result ≡ Err Halt.Spent → M.says meter.new Tick.Spent }
@@ -43,8 +44,11 @@ pub(crate) fn north_souths_tricks<B: Bounds, M: Meter>(
     bounds: &mut B,
     meter: &mut M,
 ) -> Result<Claim, Halt>
-    ensures theirs { IfOk result (λ found. TakesBy (reach found.cards) Side.NorthSouth position.now found.tricks) }
-    ensures others { IfOk result (λ found. TakesBy (reach found.cards) Side.EastWest position.now (left position.now - found.tricks)) }
+    ensures theirs { IfOk result
+        (λ found. TakesBy (reach found.cards) Side.NorthSouth position.now found.tricks) }
+    ensures others { IfOk result
+        (λ found. TakesBy (reach found.cards) Side.EastWest position.now
+        (left position.now - found.tricks)) }
     ensures within { IfOk result (λ found. found.tricks ≤ left position.now) }
     ensures ticked { OnOk result (M.ticked meter.old meter.new) }
     ensures spent { result ≡ Err Halt.Spent → M.says meter.new Tick.Spent }

@@ -92,7 +92,7 @@ program-other-fails word (Some (name, value)) e = program-long-fails name value 
 first-form : (word : Text) → turn_fault program_shape names (walk_from nothing_held) word ≡ [] → (word ≡ codes "solve") ⊎ (word ≡ codes "--")
 first-form word e = go (bytes_eq (codes "solve") word) refl (bytes_eq (codes "help") word) refl (bytes_eq word (codes "--")) refl
   where
-    go : (s : Side) → bytes_eq (codes "solve") word ≡ s → (h : Bool) → bytes_eq (codes "help") word ≡ h → (d : Bool) → bytes_eq word (codes "--") ≡ d
+    go : (s : Bool) → bytes_eq (codes "solve") word ≡ s → (h : Bool) → bytes_eq (codes "help") word ≡ h → (d : Bool) → bytes_eq word (codes "--") ≡ d
         → (word ≡ codes "solve") ⊎ (word ≡ codes "--")
     go true is-s h is-h d is-d = inl (sym ((bytes_eq-Decides (codes "solve") word).0 is-s))
     go false is-s true is-h d is-d = let bad = rw (is-s, is-h) at e in cc
