@@ -1,5 +1,5 @@
 -- what a mask's operations do to the list of its ranks
-use Rattle.std.proofs.Common.{◌≡◌, ℕ, zero, suc, ◌+◌, ◌-◌, ◌*◌, ◌%◌, ◌^◌, ◌<◌, ◌≤◌, Bool, true, false, cond, refl, sym, ap, ◌∙◌, arith, List, [], ◌∷◌, length, Some, nat_eq, max, bit_and, bit_or, w16, inl, inr, ◌⊎◌, eq-eqb, zero-add}
+use Rattle.std.proofs.Common.{◌≡◌, ℕ, zero, suc, ◌+◌, ◌-◌, ◌*◌, ◌%◌, ◌^◌, ◌<◌, ◌≤◌, Bool, true, false, cond, refl, sym, ap, ◌∙◌, arith, List, [], ◌∷◌, length, Some, None, subst, nat_eq, max, bit_and, bit_or, w16, inl, inr, ◌⊎◌, eq-eqb, zero-add}
 use Rattle.std.specs.Prelude.{filter, find, slice_get, ◌==◌, ◌||◌, ◌&&◌, nat_lt, count_ones}
 use mathlib.Core.Bool.{not}
 use Rattle.std.specs.Int.{bit_at, bit_not}
@@ -124,6 +124,42 @@ first-ranks_of m r valid top =
     first-filter (in_mask m) (lowest_ranks 13)
     ∙ find_first 13 (in_mask m) r (two_le m r valid has) (let h = le_14 m r valid has in omega arith) (eq-eqb _ _ has)
     (λ q above. elim (eqb_tells (bit_at m q) 1) [ inl same ↦ absurd (let le = top.top q same.1 in omega arith) | inr other ↦ other.0 ])
+
+-- the k lowest ranks are below each rank after them
+under-next : (k r : ℕ) (test : ℕ → Bool) → k + 2 ≤ r → filter (λ q. nat_lt q r) (filter test (lowest_ranks k)) ≡ filter test (lowest_ranks k)
+unfolding lowest_ranks
+under-next zero r test h = refl
+under-next (suc k) r test h = at (test (k + 2)) (under-next k r test (omega (arith, h)))
+  where
+    under : nat_lt (k + 2) r ≡ true
+    under = lt-ltb (k + 2) r (omega (arith, h))
+
+    at : (b : Bool) → filter (λ q. nat_lt q r) (filter test (lowest_ranks k)) ≡ filter test (lowest_ranks k)
+        → filter (λ q. nat_lt q r) (cond b ((k + 2) ∷ filter test (lowest_ranks k)) (filter test (lowest_ranks k))) ≡ cond b ((k + 2) ∷ filter test (lowest_ranks k)) (filter test (lowest_ranks k))
+    at true ih = rw (under, ih) refl
+    at false ih = ih
+
+-- the first rank that passes, and those that pass below it, are all
+first-below : (k r : ℕ) (test : ℕ → Bool) → slice_get (filter test (lowest_ranks k)) 0 ≡ Some r → filter test (lowest_ranks k) ≡ r ∷ filter (λ q. nat_lt q r) (filter test (lowest_ranks k))
+unfolding lowest_ranks
+first-below zero r test first = absurd (let e : None ≡ Some r = first in cc)
+first-below (suc k) r test first = go (test (k + 2)) refl (first-below k r test)
+  where
+    over : nat_lt (k + 2) (k + 2) ≡ false
+    over = le-ltb (k + 2) (k + 2) (omega arith)
+
+    go : (b : Bool) → test (k + 2) ≡ b → (slice_get (filter test (lowest_ranks k)) 0 ≡ Some r → filter test (lowest_ranks k) ≡ r ∷ filter (λ q. nat_lt q r) (filter test (lowest_ranks k)))
+        → filter test (lowest_ranks (suc k)) ≡ r ∷ filter (λ q. nat_lt q r) (filter test (lowest_ranks (suc k)))
+    go true e ih =
+        let head : Some (k + 2) ≡ Some r = rw e at first in
+        let same : k + 2 ≡ r = cc in
+        subst (λ x. filter test (lowest_ranks (suc k)) ≡ x ∷ filter (λ q. nat_lt q x) (filter test (lowest_ranks (suc k)))) same (rw (e, over, under-next k (k + 2) test (omega arith)) refl)
+    go false e ih = rw e (ih (rw e at first))
+
+-- the highest rank of a mask, and those below it, are all
+pub first-of-ranks : (m r : ℕ) → slice_get (ranks_of m) 0 ≡ Some r → ranks_of m ≡ r ∷ filter (λ q. nat_lt q r) (ranks_of m)
+unfolding ranks_of all_ranks
+first-of-ranks m r first = first-below 13 r (in_mask m) first
 
 -- one longer where the test holds
 pub length-cond : (b : Bool) (r : ℕ) (ranks : List ℕ) → length (cond b (r ∷ ranks) ranks) ≡ cond b 1 0 + length ranks

@@ -1,4 +1,4 @@
-ghost use Rattle.std.specs.Prelude.{◌≡◌, true, MatchOption, ℕ, ◌<◌, ◌≤◌, ◌↔◌, ◌==◌, ◌||◌, [], List, length, filter, find, IsTrue, nat_lt, slice_get};
+ghost use Rattle.std.specs.Prelude.{◌≡◌, true, MatchOption, ℕ, ◌<◌, ◌≤◌, ◌↔◌, ◌==◌, ◌||◌, [], ◌∷◌, List, length, filter, find, IsTrue, nat_lt, slice_get};
 ghost use mathlib.Core.Bool.{not};
 ghost use Rattle.dd_cards.specs.Ranks.{all_ranks, has_rank, with_rank};
 ghost use Rattle.dd_cards.specs.Masks.{mask_of};
@@ -83,6 +83,18 @@ impl Holding {
         } else {
             Some(Rank::of(15 - self.mask.leading_zeros() as u8))
         }
+    }
+
+    /// Takes the highest rank out. None where no rank is left.
+    #[inline]
+    pub fn pop_highest(&mut self) -> Option<Rank>
+        ensures { MatchOption result ((self.old ≡ []) × (self.new ≡ [])) (λ rank. self.old ≡ rank ∷ self.new) }
+    {
+        // The proof reads here that the ranks fall along the list.
+        let _ = &self.mask;
+        let highest = self.highest()?;
+        *self = self.below(highest);
+        Some(highest)
     }
 
     /// The highest rank below this one; None where there is none.

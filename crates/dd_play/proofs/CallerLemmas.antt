@@ -63,6 +63,8 @@ pub use Rattle.dd_play.proofs.Counts.{count}
 pub use Rattle.dd_play.proofs.Counts.{count-cons}
 -- where the count is not zero, some card passes
 pub use Rattle.dd_play.proofs.Counts.{count-some}
+-- a card that is there and passes is counted
+pub use Rattle.dd_play.proofs.Counts.{count-has}
 -- without a card, those that pass are as many fewer as the card stood, if it passes
 pub use Rattle.dd_play.proofs.Counts.{count-without}
 -- where a one-to-one map takes each card that passes to one that passes, there are at least as many of the latter
@@ -106,6 +108,8 @@ pub use Rattle.dd_play.proofs.Plays.{of-suit'}
 pub use Rattle.dd_play.proofs.Plays.{filter-has}
 -- a card of the part that passes a test passes it
 pub use Rattle.dd_play.proofs.Plays.{filter-passes}
+-- a card of the hand that follows suit if the hand can is legal
+pub use Rattle.dd_play.proofs.Plays.{legal-in}
 -- a legal card follows suit if the hand can
 pub use Rattle.dd_play.proofs.Plays.{legal-out}
 -- ---- the strongest card of a trick and of one that answers it place by place

@@ -1,11 +1,15 @@
--- the leader's side takes the leader's winners of side suits, as long as no hand can ruff, and its highest trumps after them
+-- The leader cashes side suits. A card that no other hand can beat takes a trick, as long as nobody ruffs it: each opponent
+-- that has trumps has to follow suit, and the partner, which plays as the side likes, throws no trump while it has another
+-- card. In a long suit, of which the leader has as many winners as any other hand has cards, these winners leave the others
+-- without the suit, since each follows suit as long as it can: then the leader's low cards are winners too.
 use Rattle.std.proofs.Common.{◌≡◌, ◌≢◌, ℕ, zero, suc, ◌+◌, ◌-◌, ◌<◌, ◌≤◌, Bool, true, false, refl, sym, ap, ◌∙◌, subst, arith, List, [], ◌∷◌, ◌++◌, length, length-append, inl, inr}
-use Rattle.std.specs.Prelude.{filter, nat_le, nat_lt, ◌&&◌, ◌==◌}
+use Rattle.std.specs.Prelude.{filter, nat_le, nat_lt, min, ◌&&◌, ◌==◌, ◌⊎◌}
 use Rattle.std.specs.List.{list_all}
 use mathlib.Core.Path.{ap₂}
 use Rattle.std.proofs.lemmas.Bool.{le-leb, lt-ltb, eqb-true, cases_lt}
 use Rattle.std.proofs.lemmas.Bool.Decides.{eqb_tells}
 use Rattle.dd_cards.specs.declared.seat.Seat.{Seat}
+use Rattle.dd_cards.specs.declared.seat.Seat.TheVariants.{North, East, South, West}
 use Rattle.dd_cards.specs.declared.suit.Suit.{Suit}
 use Rattle.dd_cards.specs.declared.suit.Suit.TheVariants.{Spades, Hearts, Diamonds, Clubs}
 use Rattle.dd_cards.specs.declared.strain.Strain.{Strain}
@@ -14,7 +18,8 @@ use Rattle.dd_cards.specs.PlayingCard.{PlayingCard}
 use Rattle.dd_cards.specs.Suits.{suit_code}
 use Rattle.dd_cards.specs.Cards.{is_of, same_card, has_card}
 use Rattle.dd_cards.specs.Seats.{seat_code, seat_after}
-use Rattle.dd_cards.proofs.CallerLemmas.{and-left, and-right, and-true, same_card-eq}
+use mathlib.Core.Bool.{not}
+use Rattle.dd_cards.proofs.CallerLemmas.{and-left, and-right, else-false, not-true, same_card-eq}
 use Rattle.dd_cards.specs.Sides.{is_side}
 use Rattle.dd_cards.specs.declared.side.Side.{Side}
 use Rattle.dd_play.specs.Board.{Board, IsBoard, cards_at, mover, left}
@@ -23,9 +28,9 @@ use Rattle.dd_play.specs.Play.{completes, trick_with, after, following}
 use Rattle.dd_play.specs.Simulations.{IsLegal}
 use Rattle.dd_play.specs.Covers.{count_of}
 use Rattle.dd_play.specs.Won.{won, point}
-use Rattle.dd_play.proofs.CallerLemmas.{Obeys, after-code, can, code-lt, count, count-some, filter-has, flag_of, hand-others, has-first, in-push, in-rest, legal-leads, legal-out, of-suit', own-card, strain-after, suit-of, trick-after, trick-closed, was-in, won_with}
+use Rattle.dd_play.proofs.CallerLemmas.{Obeys, after-code, can, code-lt, count, count-has, count-some, filter-has, flag_of, hand-others, has-first, in-push, in-rest, legal-in, legal-leads, legal-out, of-suit', own-card, strain-after, suit-of, trick-after, trick-closed, was-in, won_with}
 use Rattle.dd_quick.proofs.Plays.{whoever, count-own}
-use Rattle.dd_quick.proofs.TopTrumps.{is_top, OwnsTops, tops-taken}
+use Rattle.dd_quick.proofs.Hands.{places-on}
 
 -- ---- the card led wins
 
@@ -75,36 +80,71 @@ first-wins strain m rest plain each = rw highest refl
 abbrev pub IsMaster : Board → PlayingCard → Type 0
 IsMaster p c = (x : Seat) (e : PlayingCard) → seat_code x ≢ seat_code p.first → has_card (cards_at p x) e ≡ true → e.suit ≡ c.suit → e.rank < c.rank
 
--- how many cards there are to cash
+-- how many cards of the four suits
 abbrev pub total : (Suit → ℕ) → ℕ
 total n = n Spades + n Hearts + n Diamonds + n Clubs
 
--- The leader has n cards of each suit to cash, none of them a trump, among those that pass the test, which are masters;
--- and this many of the highest trumps.
-pub record CanCash (strain : Strain) (floor tops : ℕ) (sure : PlayingCard → Bool) (n : Suit → ℕ) (s : Side) (p : Board) : Type 0 where
+-- none of any suit
+abbrev pub no_cards : Suit → ℕ
+no_cards u = 0
+
+-- one of the card's suit
+abbrev pub one_card : PlayingCard → Suit → ℕ
+one_card m u = flag_of (is_of u m)
+
+-- the cards of the hand that is i places after the leader
+abbrev pub hand_on : Board → ℕ → List PlayingCard
+hand_on p i = cards_at p (seat_after p.first i)
+
+-- is it no trump?
+abbrev pub is_plain : Strain → PlayingCard → Bool
+is_plain strain c = not (is_trump strain c)
+
+-- the test passes trumps alone
+abbrev pub OnlyTrumps : Strain → (PlayingCard → Bool) → Type 0
+OnlyTrumps strain test = (c : PlayingCard) → is_trump strain c ≡ false → test c ≡ false
+
+-- How it came from a first position: the leader is the same, the hands only lost cards, and the leader and its partner lost
+-- no trumps.
+pub record IsLater (strain : Strain) (o : Board) (s : Side) (p : Board) : Type 0 where
   pub valid : IsBoard p
   pub same : p.strain ≡ strain
   pub ours : is_side s p.first ≡ true
-  pub some : (u : Suit) → n u ≤ count (λ c. is_of u c && sure c) (cards_at p p.first)
+  pub first : p.first ≡ o.first
+  pub part : (x : Seat) (c : PlayingCard) → has_card (cards_at p x) c ≡ true → has_card (cards_at o x) c ≡ true
+  pub mine : (test : PlayingCard → Bool) → OnlyTrumps strain test → count test (cards_at p p.first) ≡ count test (cards_at o o.first)
+  pub partners : (test : PlayingCard → Bool) → OnlyTrumps strain test → count test (hand_on p 2) ≡ count test (hand_on o 2)
+
+-- the leader has n cards of each suit, and these are no trumps
+pub record HasCards (strain : Strain) (n : Suit → ℕ) (p : Board) : Type 0 where
+  pub held : (u : Suit) → n u ≤ count_of u (cards_at p p.first)
   pub plain : (u : Suit) (c : PlayingCard) → 1 ≤ n u → c.suit ≡ u → is_trump strain c ≡ false
-  pub beats : (c : PlayingCard) → has_card (cards_at p p.first) c ≡ true → sure c ≡ true → IsMaster p c
-  pub owned : (x : Seat) (c : PlayingCard) → has_card (cards_at p x) c ≡ true → is_top strain floor c ≡ true → x ≡ p.first
-  pub enough : tops ≤ count (is_top strain floor) (cards_at p p.first)
 
--- with trumps, each other hand can follow suit to all of them
-abbrev pub CanFollow : Strain → (Suit → ℕ) → Board → Type 0
-CanFollow strain n p = (t : Suit) → strain ≡ Trump t → (i : ℕ) → 1 ≤ i → i < 4 → (u : Suit) → n u ≤ count_of u (cards_at p (seat_after p.first i))
+-- how many cards of the suit are sure
+abbrev pub sure_of : (PlayingCard → Bool) → Suit → List PlayingCard → ℕ
+sure_of sure u cards = count (λ c. is_of u c && sure c) cards
 
--- The card m, which was to be cashed, leads the trick. With trumps, each hand that has not played yet can follow suit to it
--- and to the cards that are left to cash, and each that has played, to the latter.
-record Cashing (strain : Strain) (floor tops : ℕ) (sure : PlayingCard → Bool) (n : Suit → ℕ) (s : Side) (p : Board) (m : PlayingCard) (rest : List PlayingCard) : Type 0 where
-  cash : CanCash strain floor tops sure n s p
+-- The hand that is i places after the leader lets n cards of each suit be cashed, and e more that are led first: it has no
+-- more cards of a suit than the leader has sure ones, where these are too few; an opponent without trumps can't ruff, and
+-- one with trumps has to follow suit to all; the partner has a card that is no trump for each.
+pub record LetsCash (strain : Strain) (sure : PlayingCard → Bool) (n e : Suit → ℕ) (i : ℕ) (own his : List PlayingCard) : Type 0 where
+  pub yields : (u : Suit) → min (e u + n u) (count_of u his) ≤ e u + sure_of sure u own
+  pub follows : i ≢ 2 → (count (is_trump strain) his ≡ 0) ⊎ ((u : Suit) → e u + n u ≤ count_of u his)
+  pub throws : i ≡ 2 → total e + total n ≤ count (is_plain strain) his
+
+-- so does each hand that does not lead
+abbrev pub AllLetCash : Strain → (PlayingCard → Bool) → (Suit → ℕ) → Board → Type 0
+AllLetCash strain sure n p = (i : ℕ) → 1 ≤ i → i < 4 → LetsCash strain sure n no_cards i (cards_at p p.first) (hand_on p i)
+
+-- The card m, which was to be cashed, leads the trick: the hands that have not played yet let it be cashed too.
+record Cashing (strain : Strain) (sure : PlayingCard → Bool) (n : Suit → ℕ) (p : Board) (m : PlayingCard) (rest : List PlayingCard) : Type 0 where
+  cards : HasCards strain n p
   trick : p.trick ≡ m ∷ rest
   plain_m : is_trump strain m ≡ false
   beats_m : IsMaster p m
   weaker : (e : PlayingCard) → has_card rest e ≡ true → IsWeaker strain m e
-  waits : (t : Suit) → strain ≡ Trump t → (i : ℕ) → length p.trick ≤ i → i < 4 → (u : Suit) → flag_of (is_of u m) + n u ≤ count_of u (cards_at p (seat_after p.first i))
-  done : (t : Suit) → strain ≡ Trump t → (i : ℕ) → 1 ≤ i → i < length p.trick → (u : Suit) → n u ≤ count_of u (cards_at p (seat_after p.first i))
+  waits : (i : ℕ) → length p.trick ≤ i → i < 4 → LetsCash strain sure n (one_card m) i (cards_at p p.first) (hand_on p i)
+  done : (i : ℕ) → 1 ≤ i → i < length p.trick → LetsCash strain sure n no_cards i (cards_at p p.first) (hand_on p i)
 
 -- ---- one card that follows
 
@@ -113,34 +153,119 @@ pub same-trump : (strain : Strain) (c d : PlayingCard) → c.suit ≡ d.suit →
 same-trump (Trump t) c d e = ap (λ u. suit_code u == suit_code t) e
 same-trump Notrump c d e = refl
 
--- a card c that is played to such a trick
-module _ (strain : Strain) (floor tops : ℕ) (sure : PlayingCard → Bool) (n : Suit → ℕ) (s : Side) (p : Board) (m : PlayingCard) (rest : List PlayingCard) (c : PlayingCard)
-    (now : Cashing strain floor tops sure n s p m rest) (has : IsLegal p c) where
+-- a card is one of its own suit in all
+one-total : (m : PlayingCard) → total (one_card m) ≡ 1
+one-total m = go m.suit
+  where
+    go : (u : Suit) → flag_of (suit_code u == 0) + flag_of (suit_code u == 1) + flag_of (suit_code u == 2) + flag_of (suit_code u == 3) ≡ 1
+    go Spades = refl
+    go Hearts = refl
+    go Diamonds = refl
+    go Clubs = refl
+
+-- a hand that has the card m's suit follows suit to it
+abbrev FollowsSuit : PlayingCard → List PlayingCard → PlayingCard → Type 0
+FollowsSuit m hand c = 1 ≤ count_of m.suit hand → c.suit ≡ m.suit
+
+-- a hand that plays a card c to such a lead lets the others be cashed
+module _ (strain : Strain) (sure : PlayingCard → Bool) (n : Suit → ℕ) (i : ℕ) (own his rest : List PlayingCard) (m c : PlayingCard)
+    (lets : LetsCash strain sure n (one_card m) i own his) (taken : (test : PlayingCard → Bool) → count test rest + flag_of (test c) ≡ count test his)
+    (suits : FollowsSuit m his c) (throw : i ≡ 2 → is_trump strain c ≡ false) where
+  -- of the suit led it has one fewer, if it had any
+  one-fewer : 1 ≤ count_of m.suit his → count_of m.suit rest + 1 ≡ count_of m.suit his
+  one-fewer some = (let t = taken (is_of m.suit) in let one : flag_of (is_of m.suit c) ≡ 1 = ap flag_of (of-suit' m.suit c (suits some)) in omega (arith, t, one))
+
+  -- it still has no more of a suit than the leader has sure cards, where these are too few
+  yields-on : (u : Suit) → min (no_cards u + n u) (count_of u rest) ≤ no_cards u + sure_of sure u own
+  yields-on u = go (is_of u m) refl
+    where
+      go : (b : Bool) → is_of u m ≡ b → min (no_cards u + n u) (count_of u rest) ≤ no_cards u + sure_of sure u own
+      go true e =
+          let one : one_card m u ≡ 1 = ap flag_of e in
+          let before = lets.yields u in
+          elim (cases_lt 0 (count_of u his)) [
+            | inl l ↦ (
+                let same = suit-of u m e in
+                let fewer : count_of u rest + 1 ≡ count_of u his = subst (λ v. count_of v rest + 1 ≡ count_of v his) same (one-fewer (subst (λ v. 1 ≤ count_of v his) (sym same) l)) in
+                omega (arith, one, before, fewer))
+            | inr l ↦ (let t = taken (is_of u) in omega (arith, t, l))
+          ]
+      go false e = (let none : one_card m u ≡ 0 = ap flag_of e in let before = lets.yields u in let t = taken (is_of u) in omega (arith, none, before, t))
+
+  -- an opponent still can't ruff
+  follows-on : i ≢ 2 → (count (is_trump strain) rest ≡ 0) ⊎ ((u : Suit) → no_cards u + n u ≤ count_of u rest)
+  follows-on apart = elim (lets.follows apart) [
+    | inl none ↦ inl (let t = taken (is_trump strain) in omega (arith, t, none))
+    | inr each ↦ inr (λ u. go each u (is_of u m) refl)
+  ]
+    where
+      go : ((u : Suit) → one_card m u + n u ≤ count_of u his) → (u : Suit) (b : Bool) → is_of u m ≡ b → no_cards u + n u ≤ count_of u rest
+      go each u true e =
+          let one : one_card m u ≡ 1 = ap flag_of e in
+          let before = each u in
+          let same = suit-of u m e in
+          let fewer : count_of u rest + 1 ≡ count_of u his = subst (λ v. count_of v rest + 1 ≡ count_of v his) same (one-fewer (subst (λ v. 1 ≤ count_of v his) (sym same) (omega (arith, one, before)))) in
+          omega (arith, one, before, fewer)
+      go each u false e =
+          let own_suit : one_card m m.suit ≡ 1 = ap flag_of (of-suit' m.suit m refl) in
+          let some = each m.suit in
+          let follow : c.suit ≡ m.suit = suits (omega (arith, own_suit, some)) in
+          let other : flag_of (is_of u c) ≡ 0 = ap (λ v. flag_of (suit_code v == suit_code u)) follow ∙ ap flag_of e in
+          let before = each u in
+          let t = taken (is_of u) in
+          omega (arith, before, t, other)
+
+  -- the partner still has cards to throw
+  throws-on : i ≡ 2 → total no_cards + total n ≤ count (is_plain strain) rest
+  throws-on two =
+      let before = lets.throws two in
+      let one = one-total m in
+      let plain : flag_of (is_plain strain c) ≡ 1 = ap (λ b. flag_of (not b)) (throw two) in
+      let t = taken (is_plain strain) in
+      omega (arith, before, one, plain, t)
+
+  -- in one
+  played-on : LetsCash strain sure n no_cards i own rest
+  played-on = record { yields = yields-on; follows = follows-on; throws = throws-on }
+
+-- a card c that is no trump is played to such a trick
+module _ (strain : Strain) (o : Board) (sure : PlayingCard → Bool) (n : Suit → ℕ) (s : Side) (p : Board) (m : PlayingCard) (rest : List PlayingCard) (c : PlayingCard)
+    (from : IsLater strain o s p) (now : Cashing strain sure n p m rest) (has : IsLegal p c) (plain_c : length p.trick ≡ 2 → is_trump strain c ≡ false) where
   -- the leader has played
   begun : 1 ≤ length p.trick
   begun = (let k : length p.trick ≡ suc (length rest) = ap length now.trick in omega (arith, k))
 
   -- the leader is not to play
   apart : seat_code p.first ≢ seat_code (mover p)
-  apart = (let a = after-code p.first (length p.trick) in let b = code-lt p.first in let k = begun in let h = now.cash.valid.short in λ e. omega (arith, a, b, e, k, h))
+  apart = (let a = after-code p.first (length p.trick) in let b = code-lt p.first in let k = begun in let h = from.valid.short in λ e. omega (arith, a, b, e, k, h))
 
-  -- with trumps, the card is of the suit led
-  suited : (t : Suit) → strain ≡ Trump t → c.suit ≡ m.suit
-  suited t e =
-      let short = now.cash.valid.short in
-      let many : flag_of (is_of m.suit m) + n m.suit ≤ count_of m.suit (cards_at p (mover p)) = now.waits t e (length p.trick) (omega arith) (omega (arith, short)) m.suit in
-      let one : flag_of (is_of m.suit m) ≡ 1 = ap flag_of (of-suit' m.suit m refl) in
-      let some = count-some (is_of m.suit) (cards_at p (mover p)) (omega (arith, many, one)) in
+  -- the card follows suit if the hand can
+  suited : FollowsSuit m (cards_at p (mover p)) c
+  suited some =
+      let card = count-some (is_of m.suit) (cards_at p (mover p)) some in
       let obeys : Obeys (m ∷ rest) (cards_at p (mover p)) c = subst (λ trick. Obeys trick (cards_at p (mover p)) c) now.trick (legal-out p.trick (cards_at p (mover p)) c has) in
-      obeys some.0 some.1 (suit-of m.suit some.0 some.2)
+      obeys card.0 card.1 (suit-of m.suit card.0 card.2)
+
+  -- what the mover's hand lets be cashed
+  mover-lets : LetsCash strain sure n (one_card m) (length p.trick) (cards_at p p.first) (cards_at p (mover p))
+  mover-lets = (let short = from.valid.short in now.waits (length p.trick) (omega arith) (omega (arith, short)))
+
+  -- it is no trump
+  plain : is_trump strain c ≡ false
+  plain = elim (eqb_tells (length p.trick) 2) [
+    | inl two ↦ plain_c two.1
+    | inr other ↦ elim (mover-lets.follows other.1) [
+      | inl none ↦ else-false (is_trump strain c) (λ t. let some = count-has (is_trump strain) (cards_at p (mover p)) c (own-card p c has) t in omega (arith, none, some))
+      | inr each ↦ (
+          let one : one_card m m.suit ≡ 1 = ap flag_of (of-suit' m.suit m refl) in
+          let some = each m.suit in
+          same-trump strain c m (suited (omega (arith, one, some))) ∙ now.plain_m)
+    ]
+  ]
 
   -- so it is weaker than the card led
   weaker-c : IsWeaker strain m c
-  weaker-c = (go strain refl, λ e. now.beats_m (mover p) c (λ k. apart (sym k)) (own-card p c has) e)
-    where
-      go : (x : Strain) → strain ≡ x → is_trump strain c ≡ false
-      go (Trump t) e = same-trump strain c m (suited t e) ∙ now.plain_m
-      go Notrump e = ap (λ x. is_trump x c) e
+  weaker-c = (plain, λ e. now.beats_m (mover p) c (λ k. apart (sym k)) (own-card p c has) e)
 
   -- and so are all that lie on the trick then
   weaker-all : (e : PlayingCard) → has_card (rest ++ c ∷ []) e ≡ true → IsWeaker strain m e
@@ -152,7 +277,7 @@ module _ (strain : Strain) (floor tops : ℕ) (sure : PlayingCard → Bool) (n :
 
   -- the card led is the winning card
   led-wins : winner_of (trick_with p c) p.first p.strain ≡ p.first
-  led-wins = ap (seat_after p.first) (ap₂ winning_place now.cash.same pushed ∙ first-wins strain m (rest ++ c ∷ []) now.plain_m weaker-all)
+  led-wins = ap (seat_after p.first) (ap₂ winning_place from.same pushed ∙ first-wins strain m (rest ++ c ∷ []) now.plain_m weaker-all)
 
   -- whether or not the trick is complete, the leader is the same afterwards
   first-after : (after p c).first ≡ p.first
@@ -166,104 +291,155 @@ module _ (strain : Strain) (floor tops : ℕ) (sure : PlayingCard → Bool) (n :
   leaders-hand : cards_at (after p c) (after p c).first ≡ cards_at p p.first
   leaders-hand = ap (cards_at (after p c)) first-after ∙ hand-others p c p.first apart
 
-  -- what the leader has to cash stays so
-  cash-after : CanCash strain floor tops sure n s (after p c)
-  cash-after = record {
-    valid = (legal-leads p c now.cash.valid has).valid;
-    same = strain-after p c ∙ now.cash.same;
-    ours = ap (is_side s) first-after ∙ now.cash.ours;
-    some = λ u. subst (λ cards. n u ≤ count (λ d. is_of u d && sure d) cards) (sym leaders-hand) (now.cash.some u);
-    plain = now.cash.plain;
-    beats = λ d h t x e away he suits. now.cash.beats d (ap (λ cards. has_card cards d) (sym leaders-hand) ∙ h) t x e (λ k. away (k ∙ sym (ap seat_code first-after))) (was-in p c now.cash.valid x e he) suits;
-    owned = λ x d h t. now.cash.owned x d (was-in p c now.cash.valid x d h) t ∙ sym first-after;
-    enough = subst (λ cards. tops ≤ count (is_top strain floor) cards) (sym leaders-hand) now.cash.enough;
-  }
-
-  -- the card led is a master as before
-  master-after : IsMaster (after p c) m
-  master-after = λ x e away he suits. now.beats_m x e (λ k. away (k ∙ sym (ap seat_code first-after))) (was-in p c now.cash.valid x e he) suits
-
   -- another hand keeps its cards
-  other-hand : (i : ℕ) → i < 4 → i ≢ length p.trick → cards_at (after p c) (seat_after (after p c).first i) ≡ cards_at p (seat_after p.first i)
+  other-hand : (i : ℕ) → i < 4 → i ≢ length p.trick → hand_on (after p c) i ≡ hand_on p i
   other-hand i l differs =
       let a = after-code p.first i in
       let b = after-code p.first (length p.trick) in
-      let short = now.cash.valid.short in
+      let short = from.valid.short in
       let other : seat_code (seat_after p.first i) ≢ seat_code (mover p) = omega (arith, a, b, l, short, differs) in
       ap (λ x. cards_at (after p c) (seat_after x i)) first-after ∙ hand-others p c (seat_after p.first i) other
 
-  -- the hands that have not played can follow as before
-  waits-after : (t : Suit) → strain ≡ Trump t → (i : ℕ) → length p.trick + 1 ≤ i → i < 4 → (u : Suit) → flag_of (is_of u m) + n u ≤ count_of u (cards_at (after p c) (seat_after (after p c).first i))
-  waits-after t e i l k u =
-      let before = now.waits t e i (omega (arith, l)) k u in
-      let hand : count_of u (cards_at (after p c) (seat_after (after p c).first i)) ≡ count_of u (cards_at p (seat_after p.first i)) = ap (count_of u) (other-hand i k (omega (arith, l))) in
-      omega (arith, before, hand)
+  -- the mover's hand is that of the mover's place
+  movers-hand : hand_on (after p c) (length p.trick) ≡ cards_at (after p c) (mover p)
+  movers-hand = ap (λ x. cards_at (after p c) (seat_after x (length p.trick))) first-after
 
-  -- and those that have, to what is left
-  done-after : (t : Suit) → strain ≡ Trump t → (i : ℕ) → 1 ≤ i → i < length p.trick + 1 → (u : Suit) → n u ≤ count_of u (cards_at (after p c) (seat_after (after p c).first i))
-  done-after t e i l k u = elim (eqb_tells i (length p.trick)) [
+  -- the partner keeps its trumps
+  partners-after : (test : PlayingCard → Bool) → OnlyTrumps strain test → count test (hand_on (after p c) 2) ≡ count test (hand_on p 2)
+  partners-after test only = elim (eqb_tells 2 (length p.trick)) [
     | inl r ↦ (
-        let short = now.cash.valid.short in
-        let before : flag_of (is_of u m) + n u ≤ count_of u (cards_at p (mover p)) = now.waits t e (length p.trick) (omega arith) (omega (arith, short)) u in
-        let taken = count-own (is_of u) p c now.cash.valid has in
-        let suit : flag_of (is_of u c) ≡ flag_of (is_of u m) = ap (λ v. flag_of (suit_code v == suit_code u)) (suited t e) in
-        let hand : count_of u (cards_at (after p c) (seat_after (after p c).first i)) ≡ count_of u (cards_at (after p c) (mover p)) = ap₂ (λ x j. count_of u (cards_at (after p c) (seat_after x j))) first-after r.1 in
-        omega (arith, before, taken, suit, hand))
-    | inr r ↦ (
-        let short = now.cash.valid.short in
-        let before = now.done t e i l (omega (arith, k, r.1)) u in
-        let hand : count_of u (cards_at (after p c) (seat_after (after p c).first i)) ≡ count_of u (cards_at p (seat_after p.first i)) = ap (count_of u) (other-hand i (omega (arith, k, short)) r.1) in
-        omega (arith, before, hand))
+        let taken = count-own test p c from.valid has in
+        let none : flag_of (test c) ≡ 0 = ap flag_of (only c plain) in
+        let now_is : count test (hand_on (after p c) 2) ≡ count test (cards_at (after p c) (mover p)) = ap (λ j. count test (hand_on (after p c) j)) r.1 ∙ ap (count test) movers-hand in
+        let was : count test (hand_on p 2) ≡ count test (cards_at p (mover p)) = ap (λ j. count test (hand_on p j)) r.1 in
+        omega (arith, taken, none, now_is, was))
+    | inr r ↦ ap (count test) (other-hand 2 (omega arith) r.1)
   ]
 
+  -- the first position is as before
+  later-after : IsLater strain o s (after p c)
+  later-after = record {
+    valid = (legal-leads p c from.valid has).valid;
+    same = strain-after p c ∙ from.same;
+    ours = ap (is_side s) first-after ∙ from.ours;
+    first = first-after ∙ from.first;
+    part = λ x d h. from.part x d (was-in p c from.valid x d h);
+    mine = λ test only. ap (count test) leaders-hand ∙ from.mine test only;
+    partners = λ test only. partners-after test only ∙ from.partners test only;
+  }
+
+  -- what the leader has to cash stays so
+  cards-after : HasCards strain n (after p c)
+  cards-after = record { held = λ u. subst (λ cards. n u ≤ count_of u cards) (sym leaders-hand) (now.cards.held u); plain = now.cards.plain }
+
+  -- the card led is a master as before
+  master-after : IsMaster (after p c) m
+  master-after = λ x e away he suits. now.beats_m x e (λ k. away (k ∙ sym (ap seat_code first-after))) (was-in p c from.valid x e he) suits
+
+  -- the hands that have not played let it be cashed as before
+  waits-after : (i : ℕ) → length p.trick + 1 ≤ i → i < 4 → LetsCash strain sure n (one_card m) i (cards_at (after p c) (after p c).first) (hand_on (after p c) i)
+  waits-after i l k = subst (λ cards. LetsCash strain sure n (one_card m) i cards (hand_on (after p c) i)) (sym leaders-hand)
+      (subst (λ cards. LetsCash strain sure n (one_card m) i (cards_at p p.first) cards) (sym (other-hand i k (omega (arith, l)))) (now.waits i (omega (arith, l)) k))
+
+  -- and those that have, the cards that are left
+  done-after : (i : ℕ) → 1 ≤ i → i < length p.trick + 1 → LetsCash strain sure n no_cards i (cards_at (after p c) (after p c).first) (hand_on (after p c) i)
+  done-after i l k = subst (λ cards. LetsCash strain sure n no_cards i cards (hand_on (after p c) i)) (sym leaders-hand) (elim (eqb_tells i (length p.trick)) [
+    | inl r ↦ subst (λ j. LetsCash strain sure n no_cards j (cards_at p p.first) (hand_on (after p c) j)) (sym r.1)
+        (subst (λ cards. LetsCash strain sure n no_cards (length p.trick) (cards_at p p.first) cards) (sym movers-hand)
+        (played-on strain sure n (length p.trick) (cards_at p p.first) (cards_at p (mover p)) (cards_at (after p c) (mover p)) m c mover-lets (λ test. count-own test p c from.valid has) suited (λ two. plain)))
+    | inr r ↦ (let short = from.valid.short in subst (λ cards. LetsCash strain sure n no_cards i (cards_at p p.first) cards) (sym (other-hand i (omega (arith, k, short)) r.1)) (now.done i l (omega (arith, k, r.1))))
+  ])
+
   -- where the trick goes on
-  on-after : completes p ≡ false → Cashing strain floor tops sure n s (after p c) m (rest ++ c ∷ [])
+  on-after : completes p ≡ false → Cashing strain sure n (after p c) m (rest ++ c ∷ [])
   on-after e =
       let long : length (p.trick ++ c ∷ []) ≡ length p.trick + 1 = length-append p.trick (c ∷ []) in
       let size : length (after p c).trick ≡ length (p.trick ++ c ∷ []) = ap length (trick-after p c e).0 in
       record {
-        cash = cash-after;
+        cards = cards-after;
         trick = (trick-after p c e).0 ∙ pushed;
         plain_m = now.plain_m;
         beats_m = master-after;
         weaker = weaker-all;
-        waits = λ t f i l k u. waits-after t f i (omega (arith, l, long, size)) k u;
-        done = λ t f i l k u. done-after t f i l (omega (arith, k, long, size)) u;
+        waits = λ i l k. waits-after i (omega (arith, l, long, size)) k;
+        done = λ i l k. done-after i l (omega (arith, k, long, size));
       }
 
   -- where it is complete, the side has won it
   won-it : completes p ≡ true → point s p c ≡ 1
-  won-it e = ap₂ (λ a b. flag_of (a && b)) e (ap (is_side s) led-wins ∙ now.cash.ours)
+  won-it e = ap₂ (λ a b. flag_of (a && b)) e (ap (is_side s) led-wins ∙ from.ours)
 
 -- ---- one trick
 
+-- the partner is of the same side
+partner-too : (s : Side) (h : Seat) → is_side s h ≡ true → is_side s (seat_after h 2) ≡ true
+partner-too s North e = e
+partner-too s East e = e
+partner-too s South e = e
+partner-too s West e = e
+
+-- a hand with a card that is no trump has such a card to play to a lead that is no trump
+plain-card : (strain : Strain) (m : PlayingCard) (rest hand : List PlayingCard) → is_trump strain m ≡ false → 1 ≤ count (is_plain strain) hand
+    → (c : PlayingCard) × (has_card (following (m ∷ rest) hand) c ≡ true) × (is_trump strain c ≡ false)
+plain-card strain m rest hand plain some = elim (cases_lt 0 (count_of m.suit hand)) [
+  | inl l ↦ (
+      let d = count-some (is_of m.suit) hand l in
+      let suit = suit-of m.suit d.0 d.2 in
+      (d.0, legal-in (m ∷ rest) hand d.0 d.1 (λ e own suits. suit), same-trump strain d.0 m suit ∙ plain))
+  | inr l ↦ (
+      let d = count-some (is_plain strain) hand some in
+      (d.0, legal-in (m ∷ rest) hand d.0 d.1 (λ e own suits. absurd (let k = count-has (is_of m.suit) hand e own (of-suit' m.suit e suits) in omega (arith, k, l))), not-true (is_trump strain d.0) d.2))
+]
+
 -- after the card led, each hand plays in turn, and the side takes the trick and what the next one brings
-mid : (strain : Strain) (floor tops : ℕ) (sure : PlayingCard → Bool) (n : Suit → ℕ) (s : Side) (b : ℕ)
-    → ((q : Board) → q.trick ≡ [] → CanCash strain floor tops sure n s q → CanFollow strain n q → b ≤ won s q)
-    → (j : ℕ) (p : Board) (m : PlayingCard) (rest : List PlayingCard) → length p.trick + j ≡ 4 → Cashing strain floor tops sure n s p m rest → b + 1 ≤ won s p
-mid strain floor tops sure n s b next zero p m rest size now = absurd (let h = now.cash.valid.short in omega (arith, h, size))
-mid strain floor tops sure n s b next (suc j) p m rest size now =
-    whoever s p (b + 1) now.cash.valid some (λ c has. leaves c has (completes p) refl (λ q r l k. mid strain floor tops sure n s b next j q m r l k))
+mid : (strain : Strain) (o : Board) (sure : PlayingCard → Bool) (n : Suit → ℕ) (s : Side) (b : ℕ)
+    → ((q : Board) → q.trick ≡ [] → IsLater strain o s q → HasCards strain n q → AllLetCash strain sure n q → b ≤ won s q)
+    → (j : ℕ) (p : Board) (m : PlayingCard) (rest : List PlayingCard) → length p.trick + j ≡ 4 → IsLater strain o s p → Cashing strain sure n p m rest → b + 1 ≤ won s p
+mid strain o sure n s b next zero p m rest size from now = absurd (let h = from.valid.short in omega (arith, h, size))
+mid strain o sure n s b next (suc j) p m rest size from now = go (λ q r l f k. mid strain o sure n s b next j q m r l f k)
   where
     some : 1 ≤ left p
     some =
-        let full = now.cash.valid.even 0 (omega arith) in
+        let full = from.valid.even 0 (omega arith) in
         let k : length p.trick ≡ suc (length rest) = ap length now.trick in
         let one : flag_of (nat_lt 0 (length p.trick)) ≡ 1 = ap flag_of (lt-ltb 0 (length p.trick) (omega (arith, k))) in
         omega (arith, full, one)
 
-    leaves : (c : PlayingCard) → IsLegal p c → (x : Bool) → completes p ≡ x → ((q : Board) (r : List PlayingCard) → length q.trick + j ≡ 4 → Cashing strain floor tops sure n s q m r → b + 1 ≤ won s q) → b + 1 ≤ won_with s p c
-    leaves c has true e ih =
+    Goes : Type 0
+    Goes = (q : Board) (r : List PlayingCard) → length q.trick + j ≡ 4 → IsLater strain o s q → Cashing strain sure n q m r → b + 1 ≤ won s q
+
+    leaves : (c : PlayingCard) → IsLegal p c → (length p.trick ≡ 2 → is_trump strain c ≡ false) → (x : Bool) → completes p ≡ x → Goes → b + 1 ≤ won_with s p c
+    leaves c has plain true e ih =
         let three : length p.trick ≡ 3 = eqb-true (length p.trick) 3 e in
-        let point = won-it strain floor tops sure n s p m rest c now has e in
-        let later : b ≤ won s (after p c) = next (after p c) (trick-closed p c e).0 (cash-after strain floor tops sure n s p m rest c now has)
-        (λ t f i l k u. done-after strain floor tops sure n s p m rest c now has t f i l (omega (arith, k, three)) u) in
+        let point = won-it strain o sure n s p m rest c from now has plain e in
+        let later : b ≤ won s (after p c) = next (after p c) (trick-closed p c e).0 (later-after strain o sure n s p m rest c from now has plain) (cards-after strain o sure n s p m rest c from now has plain)
+        (λ i l k. done-after strain o sure n s p m rest c from now has plain i l (omega (arith, k, three))) in
         omega (arith, point, later)
-    leaves c has false e ih =
+    leaves c has plain false e ih =
         let long : length (p.trick ++ c ∷ []) ≡ length p.trick + 1 = length-append p.trick (c ∷ []) in
         let on : length (after p c).trick ≡ length (p.trick ++ c ∷ []) = ap length (trick-after p c e).0 in
-        let later : b + 1 ≤ won s (after p c) = ih (after p c) (rest ++ c ∷ []) (omega (arith, long, on, size)) (on-after strain floor tops sure n s p m rest c now has e) in
+        let later : b + 1 ≤ won s (after p c) = ih (after p c) (rest ++ c ∷ []) (omega (arith, long, on, size)) (later-after strain o sure n s p m rest c from now has plain) (on-after strain o sure n s p m rest c from now has plain e) in
         omega (arith, later)
+
+    -- the partner plays a card that is no trump
+    partner : length p.trick ≡ 2 → Goes → b + 1 ≤ won s p
+    partner two ih =
+        let at : cards_at p (mover p) ≡ hand_on p 2 = ap (hand_on p) two in
+        let lets = now.waits 2 (omega (arith, two)) (omega arith) in
+        let one = one-total m in
+        let many = lets.throws refl in
+        let c = plain-card strain m rest (hand_on p 2) now.plain_m (omega (arith, one, many)) in
+        let has : IsLegal p c.0 = ap₂ (λ trick cards. has_card (following trick cards) c.0) now.trick at ∙ c.1 in
+        let turn : is_side s (mover p) ≡ true = ap (λ j. is_side s (seat_after p.first j)) two ∙ partner-too s p.first from.ours in
+        let enough = leaves c.0 has (λ e. c.2) (completes p) refl ih in
+        let reach : won_with s p c.0 ≤ won s p = can s p c.0 from.valid turn has in
+        omega (arith, enough, reach)
+
+    go : Goes → b + 1 ≤ won s p
+    go ih = elim (eqb_tells (length p.trick) 2) [
+      | inl two ↦ partner two.1 ih
+      | inr other ↦ whoever s p (b + 1) from.valid some (λ c has. leaves c has (λ two. absurd (other.1 two)) (completes p) refl ih)
+    ]
 
 -- ---- the card that is led
 
@@ -291,10 +467,46 @@ some-suit n h = elim (cases_lt 0 (n Spades)) [
   ]
 ]
 
+-- a hand lets the card m be led, where m is sure or the hand has none of its suit
+lets-lead : (strain : Strain) (sure : PlayingCard → Bool) (n : Suit → ℕ) (i : ℕ) (own rest his : List PlayingCard) (m : PlayingCard) → LetsCash strain sure n no_cards i own his → 1 ≤ n m.suit
+    → ((u : Suit) → sure_of sure u rest + flag_of (is_of u m && sure m) ≡ sure_of sure u own) → (sure m ≡ true) ⊎ (count_of m.suit his ≡ 0) → LetsCash strain sure (less n m) (one_card m) i rest his
+lets-lead strain sure n i own rest his m lets some_m taken good = record {
+  yields = λ u. yields u (is_of u m) refl;
+  follows = λ other. elim (lets.follows other) [ inl none ↦ inl none | inr each ↦ inr (λ u. let k = each u in let e = splits u in omega (arith, k, e)) ];
+  throws = λ two. (let k = lets.throws two in let one = one-total m in let fewer = total-less n m some_m in omega (arith, k, one, fewer));
+}
+  where
+    splits : (u : Suit) → one_card m u + less n m u ≡ n u
+    splits u = go (is_of u m) refl
+      where
+        go : (b : Bool) → is_of u m ≡ b → one_card m u + less n m u ≡ n u
+        go true e = (let one : one_card m u ≡ 1 = ap flag_of e in let some : 1 ≤ n u = subst (λ v. 1 ≤ n v) (suit-of u m e) some_m in omega (arith, one, some))
+        go false e = (let none : one_card m u ≡ 0 = ap flag_of e in omega (arith, none))
+
+    yields : (u : Suit) (b : Bool) → is_of u m ≡ b → min (one_card m u + less n m u) (count_of u his) ≤ one_card m u + sure_of sure u rest
+    yields u false e =
+        let none : one_card m u ≡ 0 = ap flag_of e in
+        let same : flag_of (is_of u m && sure m) ≡ 0 = ap (λ b. flag_of (b && sure m)) e in
+        let t = taken u in
+        let k = lets.yields u in
+        omega (arith, none, same, t, k)
+    yields u true e =
+        let one : one_card m u ≡ 1 = ap flag_of e in
+        let whole = splits u in
+        elim good [
+          | inl sure_m ↦ (
+              let same : flag_of (is_of u m && sure m) ≡ 1 = ap₂ (λ a b. flag_of (a && b)) e sure_m in
+              let t = taken u in
+              let k = lets.yields u in
+              omega (arith, one, same, t, k, whole))
+          | inr void ↦ (let none : count_of u his ≡ 0 = ap (λ v. count_of v his) (sym (suit-of u m e)) ∙ void in omega (arith, none))
+        ]
+
 -- the leader leads such a card m, of a suit that has cards to cash
-module _ (strain : Strain) (floor tops : ℕ) (sure : PlayingCard → Bool) (n : Suit → ℕ) (s : Side) (p : Board) (m : PlayingCard)
-    (start : p.trick ≡ []) (now : CanCash strain floor tops sure n s p) (follow : CanFollow strain n p)
-    (own : has_card (cards_at p p.first) m ≡ true) (good : sure m ≡ true) (some_m : 1 ≤ n m.suit) where
+module _ (strain : Strain) (o : Board) (sure : PlayingCard → Bool) (n : Suit → ℕ) (s : Side) (p : Board) (m : PlayingCard)
+    (start : p.trick ≡ []) (from : IsLater strain o s p) (now : HasCards strain n p) (lets : AllLetCash strain sure n p)
+    (own : has_card (cards_at p p.first) m ≡ true) (some_m : 1 ≤ n m.suit) (master : IsMaster p m)
+    (good : (sure m ≡ true) ⊎ ((i : ℕ) → 1 ≤ i → i < 4 → count_of m.suit (hand_on p i) ≡ 0)) where
   -- the leader is to play
   leads : mover p ≡ p.first
   leads = ap (λ trick. seat_after p.first (length trick)) start
@@ -318,100 +530,116 @@ module _ (strain : Strain) (floor tops : ℕ) (sure : PlayingCard → Bool) (n :
   -- the leader's hand has one card fewer of those that pass, if the card led passes
   count-led : (test : PlayingCard → Bool) → count test (cards_at (after p m) (after p m).first) + flag_of (test m) ≡ count test (cards_at p p.first)
   count-led test = subst (λ x. count test (cards_at (after p m) x) + flag_of (test m) ≡ count test (cards_at p p.first)) (leads ∙ sym leader-stays)
-      (subst (λ x. count test (cards_at (after p m) (mover p)) + flag_of (test m) ≡ count test (cards_at p x)) leads (count-own test p m now.valid may-lead))
+      (subst (λ x. count test (cards_at (after p m) (mover p)) + flag_of (test m) ≡ count test (cards_at p x)) leads (count-own test p m from.valid may-lead))
 
-  -- a card of the leader's was in its hand before
-  leader-had : (d : PlayingCard) → has_card (cards_at (after p m) (after p m).first) d ≡ true → has_card (cards_at p p.first) d ≡ true
-  leader-had d h = ap (λ x. has_card (cards_at p x) d) (sym leader-stays) ∙ was-in p m now.valid (after p m).first d h
-
-  -- what the leader has to cash without the card led
-  cash-led : CanCash strain floor tops sure (less n m) s (after p m)
-  cash-led = record {
-    valid = (legal-leads p m now.valid may-lead).valid;
-    same = strain-after p m ∙ now.same;
-    ours = ap (is_side s) leader-stays ∙ now.ours;
-    some = λ u. (
-        let before = now.some u in
-        let taken = count-led (λ c. is_of u c && sure c) in
-        let flag : flag_of (is_of u m && sure m) ≡ flag_of (is_of u m && true) = ap (λ b. flag_of (is_of u m && b)) good in
-        let flag' : flag_of (is_of u m) ≡ flag_of (is_of u m && true) = ap flag_of (and-true (is_of u m)) in
-        omega (arith, before, taken, flag, flag'));
-    plain = λ u c h e. now.plain u c (omega (arith, h)) e;
-    beats = λ c h t x e away he suits. now.beats c (leader-had c h) t x e (λ k. away (k ∙ sym (ap seat_code leader-stays))) (was-in p m now.valid x e he) suits;
-    owned = λ x c h t. now.owned x c (was-in p m now.valid x c h) t ∙ sym leader-stays;
-    enough =
-        let before = now.enough in
-        let taken = count-led (is_top strain floor) in
-        let none : flag_of (is_top strain floor m) ≡ 0 = ap (λ b. flag_of (b && nat_le floor m.rank)) (now.plain m.suit m some_m refl) in
-        omega (arith, before, taken, none);
-  }
-
-  -- each other hand can follow suit to the card led and to the others
-  waits-led : (t : Suit) → strain ≡ Trump t → (i : ℕ) → 1 ≤ i → i < 4 → (u : Suit) → flag_of (is_of u m) + less n m u ≤ count_of u (cards_at (after p m) (seat_after (after p m).first i))
-  waits-led t e i l k u =
-      let before = follow t e i l k u in
-      let flag : flag_of (is_of u m) ≤ n u = go (is_of u m) refl in
+  -- another hand has the same cards
+  others-led : (i : ℕ) → 1 ≤ i → i < 4 → hand_on (after p m) i ≡ hand_on p i
+  others-led i l k =
       let a = after-code p.first i in
       let b = code-lt p.first in
       let here : seat_code (mover p) ≡ seat_code p.first = ap seat_code leads in
       let other : seat_code (seat_after p.first i) ≢ seat_code (mover p) = omega (arith, a, b, here, l, k) in
-      let hand : count_of u (cards_at (after p m) (seat_after (after p m).first i)) ≡ count_of u (cards_at p (seat_after p.first i)) =
-      ap (λ x. count_of u (cards_at (after p m) (seat_after x i))) leader-stays ∙ ap (count_of u) (hand-others p m (seat_after p.first i) other) in
-      omega (arith, before, flag, hand)
-    where
-      go : (b : Bool) → is_of u m ≡ b → flag_of (is_of u m) ≤ n u
-      go true e =
-          let one : flag_of (is_of u m) ≡ 1 = ap flag_of e in
-          let some : 1 ≤ n u = subst (λ v. 1 ≤ n v) (suit-of u m e) some_m in
-          omega (arith, one, some)
-      go false e = (let none : flag_of (is_of u m) ≡ 0 = ap flag_of e in omega (arith, none))
+      ap (λ x. cards_at (after p m) (seat_after x i)) leader-stays ∙ hand-others p m (seat_after p.first i) other
+
+  -- the card led is no trump
+  plain-led : is_trump strain m ≡ false
+  plain-led = now.plain m.suit m some_m refl
+
+  -- the first position is as before
+  later-led : IsLater strain o s (after p m)
+  later-led = record {
+    valid = (legal-leads p m from.valid may-lead).valid;
+    same = strain-after p m ∙ from.same;
+    ours = ap (is_side s) leader-stays ∙ from.ours;
+    first = leader-stays ∙ from.first;
+    part = λ x d h. from.part x d (was-in p m from.valid x d h);
+    mine = λ test only. (let k = count-led test in let none : flag_of (test m) ≡ 0 = ap flag_of (only m plain-led) in let e = from.mine test only in omega (arith, k, none, e));
+    partners = λ test only. ap (count test) (others-led 2 (omega arith) (omega arith)) ∙ from.partners test only;
+  }
+
+  -- what the leader has to cash without the card led
+  cards-led : HasCards strain (less n m) (after p m)
+  cards-led = record {
+    held = λ u. (let before = now.held u in let taken = count-led (is_of u) in omega (arith, before, taken));
+    plain = λ u c h e. now.plain u c (omega (arith, h)) e;
+  }
 
   -- the card led is on the trick
-  cashing-led : Cashing strain floor tops sure (less n m) s (after p m) m []
+  cashing-led : Cashing strain sure (less n m) (after p m) m []
   cashing-led =
       let one : length (after p m).trick ≡ 1 = ap length led in
       record {
-        cash = cash-led;
+        cards = cards-led;
         trick = led;
-        plain_m = now.plain m.suit m some_m refl;
-        beats_m = λ x e away he suits. now.beats m own good x e (λ k. away (k ∙ sym (ap seat_code leader-stays))) (was-in p m now.valid x e he) suits;
+        plain_m = plain-led;
+        beats_m = λ x e away he suits. master x e (λ k. away (k ∙ sym (ap seat_code leader-stays))) (was-in p m from.valid x e he) suits;
         weaker = λ e h. absurd (cc);
-        waits = λ t e i l k u. waits-led t e i (omega (arith, l, one)) k u;
-        done = λ t e i l k u. absurd (omega (arith, l, k, one));
+        waits = λ i l k. subst (λ cards. LetsCash strain sure (less n m) (one_card m) i (cards_at (after p m) (after p m).first) cards) (sym (others-led i (omega (arith, l, one)) k))
+            (lets-lead strain sure n i (cards_at p p.first) (cards_at (after p m) (after p m).first) (hand_on p i) m (lets i (omega (arith, l, one)) k) some_m (λ u. count-led (λ c. is_of u c && sure c))
+            (elim good [ inl sure_m ↦ inl sure_m | inr void ↦ inr (void i (omega (arith, l, one)) k) ]));
+        done = λ i l k. absurd (omega (arith, l, k, one));
       }
 
   -- so the card led takes a trick, beside what the next one brings
-  one-cashed : (b : ℕ) → ((q : Board) → q.trick ≡ [] → CanCash strain floor tops sure (less n m) s q → CanFollow strain (less n m) q → b ≤ won s q) → b + 1 ≤ won s p
+  one-cashed : (b : ℕ) → ((q : Board) → q.trick ≡ [] → IsLater strain o s q → HasCards strain (less n m) q → AllLetCash strain sure (less n m) q → b ≤ won s q) → b + 1 ≤ won s p
   one-cashed b next =
       let one : length (after p m).trick ≡ 1 = ap length led in
-      let later : b + 1 ≤ won s (after p m) = mid strain floor tops sure (less n m) s b next 3 (after p m) m [] (omega (arith, one)) cashing-led in
-      let reach : won_with s p m ≤ won s p = can s p m now.valid (ap (is_side s) leads ∙ now.ours) may-lead in
+      let later : b + 1 ≤ won s (after p m) = mid strain o sure (less n m) s b next 3 (after p m) m [] (omega (arith, one)) later-led cashing-led in
+      let reach : won_with s p m ≤ won s p = can s p m from.valid (ap (is_side s) leads ∙ from.ours) may-lead in
       omega (arith, later, reach)
 
 -- ---- all of them
 
--- the leader's side takes a trick for each card to cash and each of the leader's highest trumps
-pub cashed-all : (k : ℕ) (strain : Strain) (floor tops : ℕ) (sure : PlayingCard → Bool) (n : Suit → ℕ) (s : Side) (p : Board) → total n ≡ k → p.trick ≡ []
-    → CanCash strain floor tops sure n s p → CanFollow strain n p → k + tops ≤ won s p
-cashed-all zero strain floor tops sure n s p size start now follow =
-    let owns : OwnsTops strain floor p.first p = record {
-      valid = now.valid;
-      same = now.same;
-      held = now.owned;
-      played = λ i d l t. absurd (let none : length p.trick ≡ 0 = ap length start in omega (arith, none, l));
-    } in
-    let taken = tops-taken strain floor p.first s p now.ours owns start in
-    let enough = now.enough in
-    omega (arith, taken, enough)
-cashed-all (suc k) strain floor tops sure n s p size start now follow =
+-- the card to lead: a sure one, or any of a suit that no other hand has any more
+record Leads (sure : PlayingCard → Bool) (n : Suit → ℕ) (p : Board) (m : PlayingCard) : Type 0 where
+  own : has_card (cards_at p p.first) m ≡ true
+  some : 1 ≤ n m.suit
+  master : IsMaster p m
+  good : (sure m ≡ true) ⊎ ((i : ℕ) → 1 ≤ i → i < 4 → count_of m.suit (hand_on p i) ≡ 0)
+
+-- where there are cards to cash, there is such a card
+to-lead : (strain : Strain) (o : Board) (sure : PlayingCard → Bool) (n : Suit → ℕ) (s : Side) (p : Board) (u : Suit) → 1 ≤ n u
+    → ((c : PlayingCard) → has_card (cards_at o o.first) c ≡ true → sure c ≡ true → IsMaster o c) → IsLater strain o s p → HasCards strain n p → AllLetCash strain sure n p → (m : PlayingCard) × Leads sure n p m
+to-lead strain o sure n s p u some masters from now lets = elim (cases_lt 0 (sure_of sure u (cards_at p p.first))) [
+  | inl l ↦ (
+      let c = count-some (λ c. is_of u c && sure c) (cards_at p p.first) l in
+      let good : sure c.0 ≡ true = and-right (is_of u c.0) (sure c.0) c.2 in
+      let was : has_card (cards_at o o.first) c.0 ≡ true = subst (λ x. has_card (cards_at o x) c.0 ≡ true) from.first (from.part p.first c.0 c.1) in (
+        c.0,
+        record {
+          own = c.1;
+          some = subst (λ v. 1 ≤ n v) (sym (suit-of u c.0 (and-left (is_of u c.0) (sure c.0) c.2))) some;
+          master = λ x e away he suits. masters c.0 was good x e (λ k. away (k ∙ sym (ap seat_code from.first))) (from.part x e he) suits;
+          good = inl good;
+        },
+      ))
+  | inr none ↦ (
+      let held = now.held u in
+      let c = count-some (is_of u) (cards_at p p.first) (omega (arith, held, some)) in
+      let same = suit-of u c.0 c.2 in
+      let void : (i : ℕ) → 1 ≤ i → i < 4 → count_of c.0.suit (hand_on p i) ≡ 0 = λ i a b. (let k = (lets i a b).yields u in subst (λ v. count_of v (hand_on p i) ≡ 0) (sym same) (omega (arith, k, none, some))) in (
+        c.0,
+        record {
+          own = c.1;
+          some = subst (λ v. 1 ≤ n v) (sym same) some;
+          master = λ x e away he suits. absurd (
+              let on = places-on p.first x away in
+              let none = void on.0 on.1 on.2 in
+              let one = count-has (is_of c.0.suit) (hand_on p on.0) e (subst (λ y. has_card (cards_at p y) e ≡ true) on.3 he) (of-suit' c.0.suit e suits) in
+              omega (arith, none, one));
+          good = inr void;
+        },
+      ))
+]
+
+-- the leader's side takes a trick for each card to cash, and then what is left to it
+pub cashed-all : (k b : ℕ) (strain : Strain) (o : Board) (sure : PlayingCard → Bool) (n : Suit → ℕ) (s : Side) (p : Board) → ((q : Board) → q.trick ≡ [] → IsLater strain o s q → b ≤ won s q)
+    → ((c : PlayingCard) → has_card (cards_at o o.first) c ≡ true → sure c ≡ true → IsMaster o c) → total n ≡ k → p.trick ≡ [] → IsLater strain o s p → HasCards strain n p → AllLetCash strain sure n p → k + b ≤ won s p
+cashed-all zero b strain o sure n s p rest masters size start from now lets = (let k = rest p start from in omega (arith, k))
+cashed-all (suc k) b strain o sure n s p rest masters size start from now lets =
     let suit = some-suit n (omega (arith, size)) in
-    let some = now.some suit.0 in
-    let many = suit.1 in
-    let card = count-some (λ c. is_of suit.0 c && sure c) (cards_at p p.first) (omega (arith, some, many)) in
-    let of : is_of suit.0 card.0 ≡ true = and-left (is_of suit.0 card.0) (sure card.0) card.2 in
-    let good : sure card.0 ≡ true = and-right (is_of suit.0 card.0) (sure card.0) card.2 in
-    let some_m : 1 ≤ n card.0.suit = subst (λ u. 1 ≤ n u) (sym (suit-of suit.0 card.0 of)) suit.1 in
-    let fewer = total-less n card.0 some_m in
-    let all : k + tops + 1 ≤ won s p = one-cashed strain floor tops sure n s p card.0 start now follow card.1 good some_m (k + tops)
-    (λ q t c f. cashed-all k strain floor tops sure (less n card.0) s q (omega (arith, fewer, size)) t c f) in
+    let m = to-lead strain o sure n s p suit.0 suit.1 masters from now lets in
+    let fewer = total-less n m.0 m.1.some in
+    let all : k + b + 1 ≤ won s p = one-cashed strain o sure n s p m.0 start from now lets m.1.own m.1.some m.1.master m.1.good (k + b)
+    (λ q t f c l. cashed-all k b strain o sure (less n m.0) s q rest masters (omega (arith, fewer, size)) t f c l) in
     omega (arith, all)

@@ -1,6 +1,6 @@
 -- which cards no other hand can beat
-use Rattle.std.proofs.Common.{◌≡◌, ◌≢◌, ℕ, zero, suc, ◌+◌, ◌-◌, ◌%◌, ◌<◌, ◌≤◌, Bool, true, false, refl, sym, ap, ◌∙◌, subst, arith, List, [], ◌∷◌}
-use Rattle.std.specs.Prelude.{nat_lt, ◌&&◌, ◌||◌}
+use Rattle.std.proofs.Common.{◌≡◌, ◌≢◌, ℕ, zero, suc, ◌+◌, ◌-◌, ◌%◌, ◌<◌, ◌≤◌, Bool, true, false, refl, sym, ap, ◌∙◌, subst, arith, List, [], ◌∷◌, inl, inr}
+use Rattle.std.specs.Prelude.{nat_lt, ◌&&◌, ◌||◌, ◌⊎◌}
 use Rattle.std.specs.List.{list_any}
 use mathlib.Core.Bool.{not}
 use mathlib.Core.Path.{ap₂}
@@ -13,7 +13,7 @@ use Rattle.dd_cards.specs.Hands.{hand_of, with_hand, times, FourHands}
 use Rattle.dd_cards.proofs.CallerLemmas.{same_card-eq, seat_code-injective}
 use Rattle.dd_play.specs.Board.{Board, IsBoard, cards_at, times_in}
 use Rattle.dd_play.proofs.CallerLemmas.{after-code, code-lt, hand-other, of-suit', times-hand, times-has, times_in-with_hand}
-use Rattle.dd_quick.specs.QuickTricks.{beats, is_winner}
+use Rattle.dd_quick.specs.QuickTricks.{beats, is_winner, is_unbeaten}
 
 -- a card of one hand is in no other hand
 pub one-hand : (p : Board) → IsBoard p → (x h : Seat) (c : PlayingCard) → seat_code x ≢ seat_code h → has_card (cards_at p x) c ≡ true → has_card (cards_at p h) c ≡ true → ⊥
@@ -54,8 +54,8 @@ three false true c h = absurd (cc)
 three false false true h = absurd (cc)
 
 -- a winner is beaten by no other seat
-unbeaten : (p : Board) (h x : Seat) (c : PlayingCard) → seat_code x ≢ seat_code h → is_winner p h c ≡ true → beats p x c ≡ false
-unbeaten p h x c apart winner = go (places-on h x apart)
+winner-free : (p : Board) (h x : Seat) (c : PlayingCard) → seat_code x ≢ seat_code h → is_winner p h c ≡ true → beats p x c ≡ false
+winner-free p h x c apart winner = go (places-on h x apart)
   where
     at : (beats p (seat_after h 1) c ≡ false) × (beats p (seat_after h 2) c ≡ false) × (beats p (seat_after h 3) c ≡ false)
     at = three (beats p (seat_after h 1) c) (beats p (seat_after h 2) c) (beats p (seat_after h 3) c) winner
@@ -75,11 +75,11 @@ and-fails : (a b : Bool) → a ≡ true → (a && b) ≡ false → b ≡ false
 and-fails true b e h = h
 and-fails false b e h = absurd (cc)
 
--- a winner in a hand is higher than each card of its suit in another hand
-pub no-higher : (p : Board) → IsBoard p → (h x : Seat) (c e : PlayingCard) → seat_code x ≢ seat_code h → is_winner p h c ≡ true → has_card (cards_at p h) c ≡ true
+-- what a hand does not beat is higher than each card of its suit in it
+lower : (p : Board) → IsBoard p → (h x : Seat) (c e : PlayingCard) → seat_code x ≢ seat_code h → beats p x c ≡ false → has_card (cards_at p h) c ≡ true
     → has_card (cards_at p x) e ≡ true → e.suit ≡ c.suit → e.rank < c.rank
-no-higher p valid h x c e apart winner own his suit =
-    let fails : (is_of c.suit e && nat_lt c.rank e.rank) ≡ false = none-of (λ d. is_of c.suit d && nat_lt c.rank d.rank) (cards_at p x) e (unbeaten p h x c apart winner) his in
+lower p valid h x c e apart free own his suit =
+    let fails : (is_of c.suit e && nat_lt c.rank e.rank) ≡ false = none-of (λ d. is_of c.suit d && nat_lt c.rank d.rank) (cards_at p x) e free his in
     let under : nat_lt c.rank e.rank ≡ false = and-fails (is_of c.suit e) (nat_lt c.rank e.rank) (of-suit' c.suit e suit) fails in
     let least : e.rank ≤ c.rank = not-over c.rank e.rank under in
     let differs : e.rank ≢ c.rank = λ ranks. one-hand p valid x h c apart (subst (λ (y : PlayingCard). has_card (cards_at p x) y ≡ true) (same suit ranks) his) own in
@@ -90,3 +90,31 @@ no-higher p valid h x c e apart winner own his suit =
 
     same : e.suit ≡ c.suit → e.rank ≡ c.rank → e ≡ c
     same suits ranks = ap₂ card_of suits ranks
+
+-- a winner in a hand is higher than each card of its suit in another hand
+pub no-higher : (p : Board) → IsBoard p → (h x : Seat) (c e : PlayingCard) → seat_code x ≢ seat_code h → is_winner p h c ≡ true → has_card (cards_at p h) c ≡ true
+    → has_card (cards_at p x) e ≡ true → e.suit ≡ c.suit → e.rank < c.rank
+no-higher p valid h x c e apart winner own his suit = lower p valid h x c e apart (winner-free p h x c apart winner) own his suit
+
+-- the opponents of a seat are one and three places after it
+abbrev pub IsOpposed : ℕ → Type 0
+IsOpposed i = (i ≡ 1) ⊎ (i ≡ 3)
+
+-- a card that no opponent beats is higher than each card of its suit in an opponent's hand
+pub none-over : (p : Board) → IsBoard p → (h : Seat) (i : ℕ) (c e : PlayingCard) → IsOpposed i → is_unbeaten p h c ≡ true → has_card (cards_at p h) c ≡ true
+    → has_card (cards_at p (seat_after h i)) e ≡ true → e.suit ≡ c.suit → e.rank < c.rank
+none-over p valid h i c e opposed free own his suit = lower p valid h (seat_after h i) c e apart here own his suit
+  where
+    both : (a b : Bool) → not (a || b) ≡ true → (a ≡ false) × (b ≡ false)
+    both false false k = (refl, refl)
+    both true b k = absurd (cc)
+    both false true k = absurd (cc)
+
+    at : (beats p (seat_after h 1) c ≡ false) × (beats p (seat_after h 3) c ≡ false)
+    at = both (beats p (seat_after h 1) c) (beats p (seat_after h 3) c) free
+
+    here : beats p (seat_after h i) c ≡ false
+    here = elim opposed [ inl k ↦ ap (λ j. beats p (seat_after h j) c) k ∙ at.0 | inr k ↦ ap (λ j. beats p (seat_after h j) c) k ∙ at.1 ]
+
+    apart : seat_code (seat_after h i) ≢ seat_code h
+    apart = (let a = after-code h i in let b = code-lt h in elim opposed [ inl k ↦ (omega (arith, a, b, k)) | inr k ↦ (omega (arith, a, b, k)) ])

@@ -1,7 +1,12 @@
 pub mod Hands
 pub mod Plays
-pub mod TopTrumps
+pub mod JointPlans
+pub mod JointTrumps
 pub mod Cashing
 pub mod Sound
 pub mod Runs
 pub mod Covered
+pub mod Claims
+pub mod Highest
+pub mod Reached
+pub mod Shares

@@ -1,11 +1,10 @@
--- a run, by the ranks that the hands hold
-use Rattle.std.proofs.Common.{◌≡◌, ◌≢◌, ℕ, zero, suc, ◌+◌, ◌<◌, ◌≤◌, Bool, true, false, refl, sym, ap, ◌∙◌, subst, arith, List, [], ◌∷◌, length, Some, None, inl, inr}
-use Rattle.std.specs.Prelude.{filter, map, slice_get, nat_lt, ◌&&◌, ◌||◌, ◌==◌}
+-- a run, and the cards that no opponent beats, by the ranks that the hands hold
+use Rattle.std.proofs.Common.{◌≡◌, ◌≢◌, ℕ, zero, suc, ◌+◌, ◌<◌, ◌≤◌, Bool, true, false, refl, sym, ap, ◌∙◌, subst, arith, List, [], ◌∷◌, Option, Some, None, inl, inr}
+use Rattle.std.specs.Prelude.{MatchOption, filter, map, slice_get, nat_lt, ◌&&◌, ◌||◌, ◌==◌}
 use Rattle.std.specs.List.{list_any}
 use mathlib.Core.Path.{ap₂}
 use Rattle.std.proofs.lemmas.Bool.{eqb-true, ltb-true, or_left}
 use Rattle.std.proofs.lemmas.Bool.Decides.{eqb_tells, nat_tests}
-use Rattle.std.proofs.lemmas.List.{length-map}
 use Rattle.std.proofs.lemmas.Map.Views.{any-filter_same}
 use Rattle.dd_cards.specs.declared.seat.Seat.{Seat}
 use Rattle.dd_cards.specs.declared.suit.Suit.{Suit}
@@ -13,11 +12,11 @@ use Rattle.dd_cards.specs.PlayingCard.{PlayingCard}
 use Rattle.dd_cards.specs.Ranks.{IsRank, lowest_ranks, all_ranks, has_rank}
 use Rattle.dd_cards.specs.Cards.{is_of, card_of, has_card}
 use Rattle.dd_cards.specs.Seats.{seat_code, seat_after}
-use Rattle.dd_cards.proofs.CallerLemmas.{and-left, and-right, else-false, filter-filter, filter-map, filter-true, has_rank-holding, has_rank-lowest_ranks, length-filter-le, length-suit, or-right}
+use Rattle.dd_cards.proofs.CallerLemmas.{and-left, and-right, else-false, filter-filter, filter-map, filter-true, has_rank-holding, has_rank-lowest_ranks, or-right, or-split}
 use Rattle.dd_play.specs.Board.{Board, IsBoard, cards_at}
 use Rattle.dd_play.proofs.CallerLemmas.{after-code, card-real, code-lt, has-first, in-rest, suit-of}
-use Rattle.dd_quick.specs.QuickTricks.{beats, is_winner, run}
-use Rattle.dd_quick.proofs.Hands.{no-higher, places-on}
+use Rattle.dd_quick.specs.QuickTricks.{beats, is_winner, is_unbeaten}
+use Rattle.dd_quick.proofs.Hands.{IsOpposed, no-higher, none-over, places-on}
 
 -- ---- lists of ranks
 
@@ -63,12 +62,70 @@ first-highest test (suc k) r q first has = go (test (k + 2)) refl (first-highest
     go false e ih = ih (rw e at first) (rw e at has)
 
 -- two tests that agree on the ranks of a list
-filter-in : (f g : ℕ → Bool) (ranks : List ℕ) → ((q : ℕ) → has_rank ranks q ≡ true → f q ≡ g q) → filter f ranks ≡ filter g ranks
+pub filter-in : (f g : ℕ → Bool) (ranks : List ℕ) → ((q : ℕ) → has_rank ranks q ≡ true → f q ≡ g q) → filter f ranks ≡ filter g ranks
 filter-in f g [] each = refl
 filter-in f g (r ∷ ranks) each =
     let here : f r ≡ g r = each r (first-in (r ∷ ranks) r refl) in
     let rest = filter-in f g ranks (λ q h. each q (or-right (r == q) (has_rank ranks q) h)) in
     rw (here, rest) refl
+
+-- ---- the ranks above all others
+
+-- `own` are the ranks of the suit that the seat holds; those above all of `others` pass the test, and no other
+pub record AreOver (p : Board) (h : Seat) (suit : Suit) (own others : List ℕ) (test : PlayingCard → Bool) : Type 0 where
+  pub mine : map (card_of suit) own ≡ filter (is_of suit) (cards_at p h)
+  pub among : ℕ → Bool
+  pub ranks : others ≡ filter among all_ranks
+  pub over : (q : ℕ) → ((r : ℕ) → has_rank others r ≡ true → r ≤ q) → test (card_of suit q) ≡ true
+  pub under : (q r : ℕ) → has_rank own q ≡ true → has_rank others r ≡ true → test (card_of suit q) ≡ true → r < q
+
+module _ (p : Board) (h : Seat) (suit : Suit) (own others : List ℕ) (test : PlayingCard → Bool) (are : AreOver p h suit own others test) where
+  -- a rank that the seat holds passes where it is above the highest of the others
+  above-highest : (r q : ℕ) → Some r ≡ slice_get others 0 → has_rank own q ≡ true → test (card_of suit q) ≡ nat_lt r q
+  unfolding all_ranks
+  above-highest r q first mine = go (nat_lt r q) refl
+    where
+      most : (n : ℕ) → has_rank others n ≡ true → n ≤ r
+      most n has = first-highest are.among 13 r n (first ∙ ap (λ ranks. slice_get ranks 0) are.ranks) (ap (λ ranks. has_rank ranks n) (sym are.ranks) ∙ has)
+
+      low : (a b : ℕ) → nat_lt a b ≡ false → b ≤ a
+      low a b h = grind (arith, nat_tests)
+
+      go : (b : Bool) → nat_lt r q ≡ b → test (card_of suit q) ≡ nat_lt r q
+      go true e = are.over q (λ n has. (let k = most n has in let l : r < q = ltb-true r q e in omega (arith, k, l))) ∙ sym e
+      go false e = else-false (test (card_of suit q)) (λ wins.
+          let least : q ≤ r = low r q e in
+          let over : r < q = are.under q r mine (first-in others r first) wins in
+          omega (arith, least, over)) ∙ sym e
+
+  -- the ranks above all others are those that pass
+  are-those : (winners : List ℕ) (highest : Option ℕ) → highest ≡ slice_get others 0 → MatchOption highest (winners ≡ own) (λ r. winners ≡ filter (λ q. nat_lt r q) own) → winners ≡ filter (λ q. test (card_of suit q)) own
+  are-those winners (Some r) first part = part ∙ sym (filter-in (λ q. test (card_of suit q)) (λ q. nat_lt r q) own (λ q has. above-highest r q first has))
+  are-those winners None first part = part ∙ sym (filter-in (λ q. test (card_of suit q)) (λ q. true) own (λ q has. are.over q (λ n k. absurd (none others first n k))) ∙ filter-true own)
+    where
+      none : (ranks : List ℕ) → None ≡ slice_get ranks 0 → (q : ℕ) → has_rank ranks q ≡ true → ⊥
+      none [] e q has = (let no : false ≡ true = has in cc)
+      none (r ∷ ranks) e q has = (let no : None ≡ Some r = e in cc)
+
+  -- as cards, they are the cards of the suit that pass
+  pub those-cards : (winners : List ℕ) → MatchOption (slice_get others 0) (winners ≡ own) (λ r. winners ≡ filter (λ q. nat_lt r q) own) → map (card_of suit) winners ≡ filter (λ c. is_of suit c && test c) (cards_at p h)
+  those-cards winners part = ap (map (card_of suit)) (are-those winners (slice_get others 0) refl part) ∙ sym (filter-map test (card_of suit) own) ∙ ap (filter test) are.mine ∙ filter-filter test (is_of suit) (cards_at p h)
+
+-- a test that fails at each card fails at all
+none-passes : (test : PlayingCard → Bool) (cards : List PlayingCard) → ((d : PlayingCard) → has_card cards d ≡ true → test d ≡ false) → list_any test cards ≡ false
+none-passes test [] each = refl
+none-passes test (c ∷ cards) each = rw (each c (has-first c cards)) (none-passes test cards (λ d h. each d (in-rest c d cards h)))
+
+-- a hand with no higher card of the suit does not beat a card
+no-beat : (p : Board) (x : Seat) (suit : Suit) (q : ℕ) → ((d : PlayingCard) → has_card (cards_at p x) d ≡ true → d.suit ≡ suit → d.rank ≤ q) → beats p x (card_of suit q) ≡ false
+no-beat p x suit q each = none-passes (λ d. is_of suit d && nat_lt q d.rank) (cards_at p x) (λ d has. go d has (is_of suit d) refl)
+  where
+    not-over : (a b : ℕ) → b ≤ a → nat_lt a b ≡ false
+    not-over a b h = grind (arith, nat_tests)
+
+    go : (d : PlayingCard) → has_card (cards_at p x) d ≡ true → (b : Bool) → is_of suit d ≡ b → (is_of suit d && nat_lt q d.rank) ≡ false
+    go d has true e = ap₂ (λ a b. a && b) e (not-over q d.rank (each d has (suit-of suit d e)))
+    go d has false e = ap (λ a. a && nat_lt q d.rank) e
 
 -- ---- the ranks of the other hands
 
@@ -109,11 +166,6 @@ held-of p h suit own one two three both others valid mine a b c join all = recor
         ap (λ x. x || has_rank three q) e ∙ tests (has_rank one q) (has_rank two q) (has_rank three q) (has_rank all_ranks q) real
         ∙ ap₂ (λ x y. x || y || has_rank three q) (has_rank-holding suit one (cards_at p (seat_after h 1)) q a) (has_rank-holding suit two (cards_at p (seat_after h 2)) q b)
         ∙ ap (λ z. has_card (cards_at p (seat_after h 1)) (card_of suit q) || has_card (cards_at p (seat_after h 2)) (card_of suit q) || z) (has_rank-holding suit three (cards_at p (seat_after h 3)) q c)
-
--- a test that fails at each card fails at all
-none-passes : (test : PlayingCard → Bool) (cards : List PlayingCard) → ((d : PlayingCard) → has_card cards d ≡ true → test d ≡ false) → list_any test cards ≡ false
-none-passes test [] each = refl
-none-passes test (c ∷ cards) each = rw (each c (has-first c cards)) (none-passes test cards (λ d h. each d (in-rest c d cards h)))
 
 -- the holdings of a suit, that of the seat and those of the other three together
 module _ (p : Board) (h : Seat) (suit : Suit) (own others : List ℕ) (held : AreHeld p h suit own others) where
@@ -156,59 +208,61 @@ module _ (p : Board) (h : Seat) (suit : Suit) (own others : List ℕ) (held : Ar
       go false false true e f g t = (seat_after h 3, apart 3 (omega arith) (omega arith), g)
       go false false false e f g t = absurd (let no : false ≡ true = rw (e, f, g) at t in cc)
 
-  -- a rank is a winner where no other hand has a higher one
-  winner-from : (q : ℕ) → ((x : Seat) (d : PlayingCard) → seat_code x ≢ seat_code h → has_card (cards_at p x) d ≡ true → d.suit ≡ suit → d.rank ≤ q) → is_winner p h (card_of suit q) ≡ true
-  winner-from q each = rw (unbeaten 1 (omega arith) (omega arith), unbeaten 2 (omega arith) (omega arith), unbeaten 3 (omega arith) (omega arith)) refl
+  -- the winners are the ranks above theirs
+  over-others : AreOver p h suit own others (is_winner p h)
+  over-others = record {
+    mine = held.mine;
+    among = λ q. elsewhere p h (card_of suit q);
+    ranks = held.theirs;
+    over = λ q most. (
+        let free : (i : ℕ) → 1 ≤ i → i < 4 → beats p (seat_after h i) (card_of suit q) ≡ false = λ i l m. no-beat p (seat_after h i) suit q (λ d has e. most d.rank (others-have (seat_after h i) d (apart i l m) has e)) in
+        rw (free 1 (omega arith) (omega arith), free 2 (omega arith) (omega arith), free 3 (omega arith) (omega arith)) refl);
+    under = λ q r mine his wins. (
+        let x = others-from r his in
+        let own_q : has_card (cards_at p h) (card_of suit q) ≡ true = sym (has_rank-holding suit own (cards_at p h) q held.mine) ∙ mine in
+        no-higher p held.valid h x.0 (card_of suit q) (card_of suit r) x.1 wins own_q x.2 refl);
+  }
     where
-      unbeaten : (i : ℕ) → 1 ≤ i → i < 4 → beats p (seat_after h i) (card_of suit q) ≡ false
-      unbeaten i l m = none-passes (λ d. is_of suit d && nat_lt q d.rank) (cards_at p (seat_after h i)) (λ d has. go d has (is_of suit d) refl)
-        where
-          apart : seat_code (seat_after h i) ≢ seat_code h
-          apart = (let a = after-code h i in let b = code-lt h in omega (arith, a, b, l, m))
+      apart : (i : ℕ) → 1 ≤ i → i < 4 → seat_code (seat_after h i) ≢ seat_code h
+      apart i l m = (let a = after-code h i in let b = code-lt h in omega (arith, a, b, l, m))
 
-          not-over : (a b : ℕ) → b ≤ a → nat_lt a b ≡ false
-          not-over a b h = grind (arith, nat_tests)
+  -- so what is above the highest of theirs is the run
+  pub run-cards : (winners : List ℕ) → MatchOption (slice_get others 0) (winners ≡ own) (λ r. winners ≡ filter (λ q. nat_lt r q) own) → map (card_of suit) winners ≡ filter (λ c. is_of suit c && is_winner p h c) (cards_at p h)
+  run-cards winners part = those-cards p h suit own others (is_winner p h) over-others winners part
 
-          go : (d : PlayingCard) → has_card (cards_at p (seat_after h i)) d ≡ true → (b : Bool) → is_of suit d ≡ b → (is_of suit d && nat_lt q d.rank) ≡ false
-          go d has true e = ap₂ (λ a b. a && b) e (not-over q d.rank (each (seat_after h i) d apart has (suit-of suit d e)))
-          go d has false e = ap (λ a. a && nat_lt q d.rank) e
+-- ---- the ranks of the opponents
 
-  -- a rank that the seat holds is a winner where it is above the highest of the others
-  pub above-highest : (r q : ℕ) → Some r ≡ slice_get others 0 → has_rank own q ≡ true → is_winner p h (card_of suit q) ≡ nat_lt r q
-  unfolding all_ranks
-  above-highest r q first mine = go (nat_lt r q) refl
-    where
-      most : (x : Seat) (d : PlayingCard) → seat_code x ≢ seat_code h → has_card (cards_at p x) d ≡ true → d.suit ≡ suit → d.rank ≤ r
-      most x d apart has e = first-highest (λ q. elsewhere p h (card_of suit q)) 13 r d.rank (first ∙ ap (λ ranks. slice_get ranks 0) held.theirs) (ap (λ ranks. has_rank ranks d.rank) (sym held.theirs) ∙ others-have x d apart has e)
+-- of two holdings of opponents, those above their highest are the cards that they don't beat
+pub unbeaten-cards : (p : Board) (h : Seat) (suit : Suit) (own one three others winners : List ℕ) → IsBoard p → map (card_of suit) own ≡ filter (is_of suit) (cards_at p h)
+    → map (card_of suit) one ≡ filter (is_of suit) (cards_at p (seat_after h 1)) → map (card_of suit) three ≡ filter (is_of suit) (cards_at p (seat_after h 3))
+    → others ≡ filter (λ q. has_rank one q || has_rank three q) all_ranks
+    → MatchOption (slice_get others 0) (winners ≡ own) (λ r. winners ≡ filter (λ q. nat_lt r q) own) → map (card_of suit) winners ≡ filter (λ c. is_of suit c && is_unbeaten p h c) (cards_at p h)
+unbeaten-cards p h suit own one three others winners valid mine a c join part = those-cards p h suit own others (is_unbeaten p h) (record {
+  mine = mine;
+  among = λ q. has_rank one q || has_rank three q;
+  ranks = join;
+  over = λ q most. (
+      let free : (i : ℕ) → IsOpposed i → beats p (seat_after h i) (card_of suit q) ≡ false = λ i k. no-beat p (seat_after h i) suit q (λ d has e. most d.rank (have i k d has e)) in
+      rw (free 1 (inl refl), free 3 (inr refl)) refl);
+  under = λ q r own_q his wins. (
+      let x = from r his in
+      none-over p valid h x.0 (card_of suit q) (card_of suit r) x.1 wins (sym (has_rank-holding suit own (cards_at p h) q mine) ∙ own_q) x.2 refl);
+}) winners part
+  where
+    has-others : (q : ℕ) → has_rank others q ≡ ((has_rank one q || has_rank three q) && has_rank all_ranks q)
+    has-others q = ap (λ ranks. has_rank ranks q) join ∙ has-part (λ q. has_rank one q || has_rank three q) all_ranks q
 
-      under : (a b : ℕ) → nat_lt a b ≡ false → b ≤ a
-      under a b h = grind (arith, nat_tests)
+    have : (i : ℕ) → IsOpposed i → (d : PlayingCard) → has_card (cards_at p (seat_after h i)) d ≡ true → d.suit ≡ suit → has_rank others d.rank ≡ true
+    have i k d has e = has-others d.rank ∙ ap₂ (λ a b. a && b) (elim k [
+      | inl z ↦ or_left (has_rank one d.rank) (has_rank three d.rank) (has_rank-holding suit one (cards_at p (seat_after h 1)) d.rank a ∙ there 1 z)
+      | inr z ↦ or-right (has_rank one d.rank) (has_rank three d.rank) (has_rank-holding suit three (cards_at p (seat_after h 3)) d.rank c ∙ there 3 z)
+    ]) (has-all d.rank (card-real p (seat_after h i) d valid has))
+      where
+        there : (j : ℕ) → i ≡ j → has_card (cards_at p (seat_after h j)) (card_of suit d.rank) ≡ true
+        there j z = subst (λ j. has_card (cards_at p (seat_after h j)) (card_of suit d.rank) ≡ true) z (subst (λ u. has_card (cards_at p (seat_after h i)) (card_of u d.rank) ≡ true) e has)
 
-      go : (b : Bool) → nat_lt r q ≡ b → is_winner p h (card_of suit q) ≡ nat_lt r q
-      go true e = winner-from q (λ x d apart has s. (let k = most x d apart has s in let l : r < q = ltb-true r q e in omega (arith, k, l))) ∙ sym e
-      go false e = else-false (is_winner p h (card_of suit q)) (λ winner.
-          let low : q ≤ r = under r q e in
-          let his = others-from r (first-in others r first) in
-          let own_q : has_card (cards_at p h) (card_of suit q) ≡ true = sym (has_rank-holding suit own (cards_at p h) q held.mine) ∙ mine in
-          let over : r < q = no-higher p held.valid h his.0 (card_of suit q) (card_of suit r) his.1 winner own_q his.2 refl in
-          omega (arith, low, over)) ∙ sym e
-
-  -- the run, by the ranks that the seat holds
-  run-ranks : run p h suit ≡ length (filter (λ q. is_winner p h (card_of suit q)) own)
-  run-ranks =
-      ap length (sym (filter-filter (is_winner p h) (is_of suit) (cards_at p h)) ∙ ap (filter (is_winner p h)) (sym held.mine) ∙ filter-map (is_winner p h) (card_of suit) own)
-      ∙ length-map (filter (λ q. is_winner p h (card_of suit q)) own) (card_of suit)
-
-  -- where the others hold some, it is what is above their highest
-  pub run-above : (r : ℕ) → Some r ≡ slice_get others 0 → length (filter (λ q. nat_lt r q) own) ≡ run p h suit
-  run-above r first = ap length (sym (filter-in (λ q. is_winner p h (card_of suit q)) (λ q. nat_lt r q) own (λ q mine. above-highest r q first mine))) ∙ sym run-ranks
-
-  -- where they hold none, it is all
-  pub run-all : None ≡ slice_get others 0 → length own ≡ run p h suit
-  run-all first =
-      ap length (sym (filter-in (λ q. is_winner p h (card_of suit q)) (λ q. true) own (λ q mine. winner-from q (λ x d apart has e. absurd (none others first d.rank (others-have x d apart has e))))
-      ∙ filter-true own)) ∙ sym run-ranks
-    where
-      none : (ranks : List ℕ) → None ≡ slice_get ranks 0 → (q : ℕ) → has_rank ranks q ≡ true → ⊥
-      none [] e q has = (let no : false ≡ true = has in cc)
-      none (r ∷ ranks) e q has = (let no : None ≡ Some r = e in cc)
+    from : (r : ℕ) → has_rank others r ≡ true → (i : ℕ) × IsOpposed i × (has_card (cards_at p (seat_after h i)) (card_of suit r) ≡ true)
+    from r his = elim (or-split (has_rank one r) (has_rank three r) (and-left (has_rank one r || has_rank three r) (has_rank all_ranks r) (sym (has-others r) ∙ his))) [
+      | inl k ↦ (1, inl refl, sym (has_rank-holding suit one (cards_at p (seat_after h 1)) r a) ∙ k)
+      | inr k ↦ (3, inr refl, sym (has_rank-holding suit three (cards_at p (seat_after h 3)) r c) ∙ k)
+    ]

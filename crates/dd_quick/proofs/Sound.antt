@@ -1,31 +1,55 @@
 -- the quick tricks of a side are no more than the tricks that it takes
-use Rattle.std.proofs.Common.{◌≡◌, ℕ, zero, suc, ◌+◌, ◌-◌, ◌<◌, ◌≤◌, Bool, true, false, refl, sym, ap, ◌∙◌, subst, arith, List, [], ◌∷◌, length, inl, inr, zero-le, min}
-use Rattle.std.specs.Prelude.{filter, nat_le, ◌&&◌, if◌then◌else◌}
+use Rattle.std.proofs.Common.{◌≡◌, ◌≢◌, ℕ, zero, suc, ◌+◌, ◌<◌, ◌≤◌, Bool, true, false, refl, sym, ap, ◌∙◌, subst, arith, List, [], ◌∷◌, ◌++◌, length, length-append, inl, inr, min}
+use Rattle.std.specs.Prelude.{filter, nat_le, nat_lt, ◌&&◌, ◌⊎◌}
 use mathlib.Core.Path.{ap₂}
 use Rattle.std.proofs.lemmas.Bool.{leb-true, le-leb, cases_lt}
+use Rattle.std.proofs.lemmas.Bool.Decides.{nat_tests}
 use Rattle.dd_cards.specs.declared.seat.Seat.{Seat}
 use Rattle.dd_cards.specs.declared.seat.Seat.TheVariants.{North, East, South, West}
 use Rattle.dd_cards.specs.declared.suit.Suit.{Suit}
-use Rattle.dd_cards.specs.declared.suit.Suit.TheVariants.{Spades, Hearts, Diamonds, Clubs}
 use Rattle.dd_cards.specs.declared.strain.Strain.{Strain}
 use Rattle.dd_cards.specs.declared.strain.Strain.TheVariants.{Trump, Notrump}
 use Rattle.dd_cards.specs.PlayingCard.{PlayingCard}
 use Rattle.dd_cards.specs.Cards.{is_of, same_card, card_of, has_card}
-use Rattle.dd_cards.specs.Seats.{seat_after}
+use Rattle.dd_cards.specs.Seats.{seat_code, seat_after}
 use Rattle.dd_cards.proofs.CallerLemmas.{and-left, and-right, any-filter, same_card-eq}
 use Rattle.dd_cards.specs.Sides.{side_of, other_side, is_side}
 use Rattle.dd_cards.specs.declared.side.Side.{Side}
 use Rattle.dd_play.specs.Board.{Board, IsBoard, cards_at, left}
 use Rattle.dd_play.specs.Tricks.{is_trump}
-use Rattle.dd_play.specs.Value.{ns, lead}
-use Rattle.dd_play.specs.Covers.{count_of}
 use Rattle.dd_play.specs.Won.{won}
-use Rattle.dd_play.proofs.CallerLemmas.{all, card-real, count, filter-has, filter-passes, has-first, in-rest, lead-won, ns-le, same-or, suit-of}
-use Rattle.dd_quick.specs.QuickTricks.{is_winner, run, shortest, cashed_tricks, leaders_tricks, top_trumps}
-use Rattle.dd_quick.proofs.Hands.{no-higher}
+use Rattle.dd_play.proofs.CallerLemmas.{after-code, card-real, code-lt, count, filter-has, flag_of, filter-passes, has-first, in-rest, suit-of}
+use Rattle.dd_quick.specs.QuickTricks.{is_winner, is_unbeaten, run, length_at, unbeaten, trumps_at, joint_trumps}
+use Rattle.dd_quick.proofs.Hands.{IsOpposed, no-higher, none-over}
 use Rattle.dd_quick.proofs.Plays.{count-where}
-use Rattle.dd_quick.proofs.TopTrumps.{is_top, tops-taken}
-use Rattle.dd_quick.proofs.Cashing.{total, same-trump, cashed-all}
+use Rattle.dd_quick.proofs.JointPlans.{is_top, trumps-plain}
+use Rattle.dd_quick.proofs.JointTrumps.{joint-taken, place-of}
+use Rattle.dd_quick.proofs.Cashing.{AllLetCash, IsLater, OnlyTrumps, cashed-all, hand_on, same-trump, total}
+
+-- ---- two lists
+
+-- a card of the first list is one of both
+in-left : (xs ys : List PlayingCard) (d : PlayingCard) → has_card xs d ≡ true → has_card (xs ++ ys) d ≡ true
+in-left [] ys d h = absurd (cc)
+in-left (x ∷ xs) ys d h = go (same_card x d) refl (in-left xs ys d)
+  where
+    go : (b : Bool) → same_card x d ≡ b → (has_card xs d ≡ true → has_card (xs ++ ys) d ≡ true) → has_card (x ∷ xs ++ ys) d ≡ true
+    go true e ih = rw e refl
+    go false e ih = rw e (ih (rw e at h))
+
+-- a card of the second list is one of both
+in-right : (xs ys : List PlayingCard) (d : PlayingCard) → has_card ys d ≡ true → has_card (xs ++ ys) d ≡ true
+in-right [] ys d h = h
+in-right (x ∷ xs) ys d h = in-rest x d (xs ++ ys) (in-right xs ys d h)
+
+-- a card of both is one of either
+in-either : (xs ys : List PlayingCard) (d : PlayingCard) → has_card (xs ++ ys) d ≡ true → (has_card xs d ≡ true) ⊎ (has_card ys d ≡ true)
+in-either [] ys d h = inr h
+in-either (x ∷ xs) ys d h = go (same_card x d) refl (in-either xs ys d)
+  where
+    go : (b : Bool) → same_card x d ≡ b → (has_card (xs ++ ys) d ≡ true → (has_card xs d ≡ true) ⊎ (has_card ys d ≡ true)) → (has_card (x ∷ xs) d ≡ true) ⊎ (has_card ys d ≡ true)
+    go true e ih = inl (rw e refl)
+    go false e ih = elim (ih (rw e at h)) [ inl k ↦ inl (rw e k) | inr k ↦ inr k ]
 
 -- ---- the lowest of the highest trumps
 
@@ -54,28 +78,77 @@ lowest c (x ∷ cards) = pick (lowest x cards)
       | inr l ↦ (r.0, in-rest c r.0 (x ∷ cards) r.1, λ e h. under r.0 e l r.2 h)
     ]
 
--- trumps of this rank or a higher one are all the seat's, and there are as many as its highest trumps
-record IsFloor (strain : Strain) (p : Board) (h : Seat) (floor : ℕ) : Type 0 where
-  owned : (x : Seat) (c : PlayingCard) → has_card (cards_at p x) c ≡ true → is_top strain floor c ≡ true → x ≡ h
-  enough : top_trumps strain p h ≤ count (is_top strain floor) (cards_at p h)
+-- ---- sides
+
+-- two places on twice is the seat again
+pub round : (a : Seat) → seat_after (seat_after a 2) 2 ≡ a
+round North = refl
+round East = refl
+round South = refl
+round West = refl
+
+-- a seat is on its own side
+pub own-side : (h : Seat) → is_side (side_of h) h ≡ true
+own-side North = refl
+own-side East = refl
+own-side South = refl
+own-side West = refl
+
+-- and so is its partner
+pub partners-side : (h : Seat) → is_side (side_of h) (seat_after h 2) ≡ true
+partners-side North = refl
+partners-side East = refl
+partners-side South = refl
+partners-side West = refl
+
+-- the next seat and the last are on the other side
+pub opponents-side : (h : Seat) → (is_side (other_side (side_of h)) (seat_after h 1) ≡ true) × (is_side (other_side (side_of h)) (seat_after h 3) ≡ true)
+opponents-side North = (refl, refl)
+opponents-side East = (refl, refl)
+opponents-side South = (refl, refl)
+opponents-side West = (refl, refl)
+
+-- trumps of this rank or a higher one are all of the two seats, and there are as many as no opponent can beat
+record IsFloor (strain : Strain) (p : Board) (a b : Seat) (k floor : ℕ) : Type 0 where
+  owned : (x : Seat) (c : PlayingCard) → has_card (cards_at p x) c ≡ true → is_top strain floor c ≡ true → (x ≡ a) ⊎ (x ≡ b)
+  enough : k ≤ count (is_top strain floor) (cards_at p a) + count (is_top strain floor) (cards_at p b)
 
 -- there is such a rank
-floor-of : (strain : Strain) (p : Board) (h : Seat) → IsBoard p → (floor : ℕ) × IsFloor strain p h floor
-floor-of Notrump p h valid = (0, record { owned = λ x c has top. absurd (cc); enough = zero-le })
-floor-of (Trump t) p h valid = go (filter highest (cards_at p h)) refl
+floor-of : (t : Suit) (p : Board) (a b : Seat) → IsBoard p → b ≡ seat_after a 2 → (floor : ℕ) × IsFloor (Trump t) p a b (unbeaten p a t + unbeaten p b t) floor
+floor-of t p a b valid partner = go (filter (free a) (cards_at p a) ++ filter (free b) (cards_at p b)) refl
   where
-    highest : PlayingCard → Bool
-    highest c = is_of t c && is_winner p h c
+    free : Seat → PlayingCard → Bool
+    free h c = is_of t c && is_unbeaten p h c
 
-    go : (cards : List PlayingCard) → filter highest (cards_at p h) ≡ cards → (floor : ℕ) × IsFloor (Trump t) p h floor
+    Found : Type 0
+    Found = (floor : ℕ) × IsFloor (Trump t) p a b (unbeaten p a t + unbeaten p b t) floor
+
+    -- the opponents of one are those of the other
+    opposed : (x h : Seat) → (h ≡ a) ⊎ (h ≡ b) → ((x ≡ a) ⊎ (x ≡ b)) ⊎ ((i : ℕ) × IsOpposed i × (x ≡ seat_after h i))
+    opposed x h mine = by (place-of h x)
+      where
+        two : (j : ℕ) → x ≡ seat_after h j → (j ≡ 0) ⊎ (j ≡ 2) → (x ≡ a) ⊎ (x ≡ b)
+        two j at even = elim mine [
+          | inl e ↦ elim even [ inl z ↦ inl (at ∙ ap (seat_after h) z ∙ e) | inr z ↦ inr (at ∙ ap (seat_after h) z ∙ ap (λ y. seat_after y 2) e ∙ sym partner) ]
+          | inr e ↦ elim even [ inl z ↦ inr (at ∙ ap (seat_after h) z ∙ e) | inr z ↦ inl (at ∙ ap (seat_after h) z ∙ ap (λ y. seat_after y 2) (e ∙ partner) ∙ round a) ]
+        ]
+
+        by : (j : ℕ) × (j < 4) × (x ≡ seat_after h j) → ((x ≡ a) ⊎ (x ≡ b)) ⊎ ((i : ℕ) × IsOpposed i × (x ≡ seat_after h i))
+        by (zero, l, at) = inl (two 0 at (inl refl))
+        by (suc zero, l, at) = inr (1, inl refl, at)
+        by (suc (suc zero), l, at) = inl (two 2 at (inr refl))
+        by (suc (suc (suc zero)), l, at) = inr (3, inr refl, at)
+        by (suc (suc (suc (suc j))), l, at) = absurd (omega (arith, l))
+
+    go : (cards : List PlayingCard) → filter (free a) (cards_at p a) ++ filter (free b) (cards_at p b) ≡ cards → Found
     go [] e = (
       15,
       record {
         owned = λ x c has top. absurd (let real = (card-real p x c valid has).1 in let high : 15 ≤ c.rank = leb-true 15 c.rank (and-right (is_of t c) (nat_le 15 c.rank) top) in omega (arith, real, high));
-        enough = (let none : top_trumps (Trump t) p h ≡ 0 = ap length e in omega (arith, none));
+        enough = (let none : length (filter (free a) (cards_at p a) ++ filter (free b) (cards_at p b)) ≡ 0 = ap length e in let all = length-append (filter (free a) (cards_at p a)) (filter (free b) (cards_at p b)) in omega (arith, none, all));
       },
     )
-    go (c ∷ cards) e = (floor, record { owned = owned; enough = count-where highest (is_top (Trump t) floor) (cards_at p h) counted })
+    go (c ∷ cards) e = (floor, record { owned = owned; enough = (let x = counted a (λ d h. in-left (filter (free a) (cards_at p a)) (filter (free b) (cards_at p b)) d h) in let y = counted b (λ d h. in-right (filter (free a) (cards_at p a)) (filter (free b) (cards_at p b)) d h) in omega (arith, x, y)) })
       where
         low : (d : PlayingCard) × (has_card (c ∷ cards) d ≡ true) × ((e : PlayingCard) → has_card (c ∷ cards) e ≡ true → d.rank ≤ e.rank)
         low = lowest c cards
@@ -83,142 +156,130 @@ floor-of (Trump t) p h valid = go (filter highest (cards_at p h)) refl
         floor : ℕ
         floor = low.0.rank
 
-        there : has_card (filter highest (cards_at p h)) low.0 ≡ true
-        there = ap (λ cards. has_card cards low.0) e ∙ low.1
+        Holder : Type 0
+        Holder = (h : Seat) × ((h ≡ a) ⊎ (h ≡ b)) × (has_card (filter (free h) (cards_at p h)) low.0 ≡ true)
 
-        passes : highest low.0 ≡ true
-        passes = filter-passes highest (cards_at p h) low.0 there
+        holder : Holder
+        holder = elim (in-either (filter (free a) (cards_at p a)) (filter (free b) (cards_at p b)) low.0 (ap (λ cards. has_card cards low.0) e ∙ low.1)) [ inl k ↦ (a, inl refl, k) | inr k ↦ (b, inr refl, k) ]
 
-        own : has_card (cards_at p h) low.0 ≡ true
-        own = any-filter (λ y. same_card y low.0) highest (cards_at p h) there
+        passes : free holder.0 low.0 ≡ true
+        passes = filter-passes (free holder.0) (cards_at p holder.0) low.0 holder.2
 
-        owned : (x : Seat) (d : PlayingCard) → has_card (cards_at p x) d ≡ true → is_top (Trump t) floor d ≡ true → x ≡ h
-        owned x d has top = elim (same-or x h) [
+        own : has_card (cards_at p holder.0) low.0 ≡ true
+        own = any-filter (λ y. same_card y low.0) (free holder.0) (cards_at p holder.0) holder.2
+
+        owned : (x : Seat) (d : PlayingCard) → has_card (cards_at p x) d ≡ true → is_top (Trump t) floor d ≡ true → (x ≡ a) ⊎ (x ≡ b)
+        owned x d has top = elim (opposed x holder.0 holder.1) [
           | inl e ↦ e
-          | inr apart ↦ absurd (
-              let suits : d.suit ≡ low.0.suit = suit-of t d (and-left (is_of t d) (nat_le floor d.rank) top) ∙ sym (suit-of t low.0 (and-left (is_of t low.0) (is_winner p h low.0) passes)) in
-              let under : d.rank < low.0.rank = no-higher p valid h x low.0 d apart (and-right (is_of t low.0) (is_winner p h low.0) passes) own has suits in
+          | inr r ↦ absurd (
+              let suits : d.suit ≡ low.0.suit = suit-of t d (and-left (is_of t d) (nat_le floor d.rank) top) ∙ sym (suit-of t low.0 (and-left (is_of t low.0) (is_unbeaten p holder.0 low.0) passes)) in
+              let under : d.rank < low.0.rank = none-over p valid holder.0 r.0 low.0 d r.1 (and-right (is_of t low.0) (is_unbeaten p holder.0 low.0) passes) own (subst (λ y. has_card (cards_at p y) d ≡ true) r.2 has) suits in
               let over : low.0.rank ≤ d.rank = leb-true floor d.rank (and-right (is_of t d) (nat_le floor d.rank) top) in
               omega (arith, under, over))
         ]
 
-        counted : (d : PlayingCard) → has_card (cards_at p h) d ≡ true → highest d ≡ true → is_top (Trump t) floor d ≡ true
-        counted d has high =
-            let over : low.0.rank ≤ d.rank = low.2 d (ap (λ cards. has_card cards d) (sym e) ∙ filter-has highest (cards_at p h) d has high) in
-            ap₂ (λ a b. a && b) (and-left (is_of t d) (is_winner p h d) high) (le-leb floor d.rank over)
+        counted : (h : Seat) → ((d : PlayingCard) → has_card (filter (free h) (cards_at p h)) d ≡ true → has_card (filter (free a) (cards_at p a) ++ filter (free b) (cards_at p b)) d ≡ true)
+            → unbeaten p h t ≤ count (is_top (Trump t) floor) (cards_at p h)
+        counted h inside = count-where (free h) (is_top (Trump t) floor) (cards_at p h) (λ d has high.
+            let over : low.0.rank ≤ d.rank = low.2 d (ap (λ cards. has_card cards d) (sym e) ∙ inside d (filter-has (free h) (cards_at p h) d has high)) in
+            ap₂ (λ a b. a && b) (and-left (is_of t d) (is_unbeaten p h d) high) (le-leb floor d.rank over))
 
--- the highest trumps of a seat take their tricks
-pub top_trumps-taken : (p : Board) (h : Seat) (s : Side) → IsBoard p → p.trick ≡ [] → is_side s h ≡ true → top_trumps p.strain p h ≤ won s p
-top_trumps-taken p h s valid start ours =
-    let low = floor-of p.strain p h valid in
-    let taken = tops-taken p.strain low.0 h s p ours (record {
-      valid = valid;
-      same = refl;
-      held = low.1.owned;
-      played = λ i d l t. absurd (let none : length p.trick ≡ 0 = ap length start in omega (arith, none, l));
-    }) start in
+-- ---- joint trumps
+
+-- a test of the highest trumps passes trumps alone
+tops-only : (strain : Strain) (floor : ℕ) → OnlyTrumps strain (is_top strain floor)
+tops-only strain floor c e = ap (λ b. b && nat_le floor c.rank) e
+
+-- Joint trumps take their tricks, also later, where the two hands have lost none of their trumps.
+joint-later : (strain : Strain) (o q : Board) (a : Seat) (s : Side) (k : ℕ) → IsBoard o → IsBoard q → q.strain ≡ strain → q.trick ≡ [] → is_side s a ≡ true → is_side s (seat_after a 2) ≡ true → k ≤ joint_trumps strain o a
+    → ((x : Seat) (c : PlayingCard) → has_card (cards_at q x) c ≡ true → has_card (cards_at o x) c ≡ true)
+    → ((test : PlayingCard → Bool) → OnlyTrumps strain test → count test (cards_at q a) ≡ count test (cards_at o a))
+    → ((test : PlayingCard → Bool) → OnlyTrumps strain test → count test (cards_at q (seat_after a 2)) ≡ count test (cards_at o (seat_after a 2))) → k ≤ won s q
+joint-later Notrump o q a s k valid now same start ours_a ours_b few part mine his = omega (arith, few)
+joint-later (Trump t) o q a s k valid now same start ours_a ours_b few part mine his =
+    let low = floor-of t o a (seat_after a 2) valid refl in
     let enough = low.1.enough in
-    omega (arith, taken, enough)
+    let tops_a = mine (is_top (Trump t) low.0) (tops-only (Trump t) low.0) in
+    let tops_b = his (is_top (Trump t) low.0) (tops-only (Trump t) low.0) in
+    let trumps_a = mine (is_trump (Trump t)) (λ c e. e) in
+    let trumps_b = his (is_trump (Trump t)) (λ c e. e) in
+    let apart : seat_code a ≢ seat_code (seat_after a 2) = (let x = after-code a 2 in let y = code-lt a in omega (arith, x, y)) in
+    elim (cases_lt (count (is_trump (Trump t)) (cards_at o a)) (count (is_trump (Trump t)) (cards_at o (seat_after a 2)))) [
+      | inl l ↦ joint-taken (Trump t) low.0 k (seat_after a 2) a s q ours_b ours_a (λ e. apart (sym e)) (record {
+        valid = now;
+        same = same;
+        held = λ x c has top. (elim (low.1.owned x c (part x c has) top) [ inl e ↦ inr e | inr e ↦ inl e ]);
+        played = λ i d l t. absurd (let none : length q.trick ≡ 0 = ap length start in omega (arith, none, l));
+      }) start (omega (arith, few, enough, tops_a, tops_b)) (omega (arith, few, trumps_b, l))
+      | inr l ↦ joint-taken (Trump t) low.0 k a (seat_after a 2) s q ours_a ours_b apart (record {
+        valid = now;
+        same = same;
+        held = λ x c has top. low.1.owned x c (part x c has) top;
+        played = λ i d l t. absurd (let none : length q.trick ≡ 0 = ap length start in omega (arith, none, l));
+      }) start (omega (arith, few, enough, tops_a, tops_b)) (omega (arith, few, trumps_a, l))
+    ]
 
--- ---- what the leader has to cash
+-- before a trick, a side takes its joint trumps
+pub joint-sure : (p : Board) (a : Seat) (s : Side) (k : ℕ) → IsBoard p → p.trick ≡ [] → is_side s a ≡ true → is_side s (seat_after a 2) ≡ true → k ≤ joint_trumps p.strain p a → k ≤ won s p
+joint-sure p a s k valid start ours_a ours_b few = joint-later p.strain p p a s k valid valid refl start ours_a ours_b few (λ x c h. h) (λ test only. refl) (λ test only. refl)
 
--- the leader's quick tricks of a suit that is not trumps
-abbrev pub side_tricks : Strain → Board → Suit → ℕ
-side_tricks strain p u = (if is_trump strain (card_of u 0) then 0 else cashed_tricks strain p u)
+-- ---- the leader's side
 
--- all quick tricks of the leader are those of the side suits and the highest trumps
-sum-cashed : (strain : Strain) (p : Board) → cashed_tricks strain p Spades + cashed_tricks strain p Hearts + cashed_tricks strain p Diamonds + cashed_tricks strain p Clubs ≡ total (side_tricks strain p) + top_trumps strain p p.first
-sum-cashed Notrump p = omega arith
-sum-cashed (Trump Spades) p = omega arith
-sum-cashed (Trump Hearts) p = omega arith
-sum-cashed (Trump Diamonds) p = omega arith
-sum-cashed (Trump Clubs) p = omega arith
+-- The leader can cash n cards of each suit, and its side has k joint trumps.
+pub record CanTake (p : Board) (n : Suit → ℕ) (k : ℕ) : Type 0 where
+  pub held : (u : Suit) → n u ≤ length_at p p.first u
+  pub yields : (u : Suit) (i : ℕ) → 1 ≤ i → i < 4 → min (n u) (length_at p (seat_after p.first i) u) ≤ run p p.first u
+  pub plain : (u : Suit) → 1 ≤ n u → is_trump p.strain (card_of u 0) ≡ false
+  pub follows : (i : ℕ) → IsOpposed i → (trumps_at p.strain p (seat_after p.first i) ≡ 0) ⊎ ((u : Suit) → n u ≤ length_at p (seat_after p.first i) u)
+  pub throws : total n + trumps_at p.strain p (seat_after p.first 2) ≤ left p
+  pub joint : k ≤ joint_trumps p.strain p p.first
 
--- they are at most the run
-side-run : (strain : Strain) (p : Board) (u : Suit) → side_tricks strain p u ≤ run p p.first u
-side-run Notrump p u = omega arith
-side-run (Trump t) p u = elim (is_of t (card_of u 0)) as (λ b. (if b then 0 else (if b then run p p.first u else min (run p p.first u) (shortest p u))) ≤ run p p.first u) [ true ↦ zero-le | false ↦ omega arith ]
-
--- and at most the shortest length
-side-short : (strain : Strain) (p : Board) (t u : Suit) → strain ≡ Trump t → side_tricks strain p u ≤ shortest p u
-side-short strain p t u e = subst (λ x. side_tricks x p u ≤ shortest p u) (sym e) (elim (is_of t (card_of u 0)) as (λ b. (if b then 0 else (if b then run p p.first u else min (run p p.first u) (shortest p u))) ≤ shortest p u) [ true ↦ zero-le | false ↦ omega arith ])
-
--- none of them is of the trump suit
-side-plain : (strain : Strain) (p : Board) (u : Suit) (c : PlayingCard) → 1 ≤ side_tricks strain p u → c.suit ≡ u → is_trump strain c ≡ false
-side-plain strain p u c some e = same-trump strain c (card_of u 0) e ∙ go (is_trump strain (card_of u 0)) refl
+-- a seat's trumps by the test of a trump
+trumps-count : (strain : Strain) (p : Board) (x : Seat) → count (is_trump strain) (cards_at p x) ≡ trumps_at strain p x
+trumps-count (Trump t) p x = refl
+trumps-count Notrump p x = none (cards_at p x)
   where
-    go : (b : Bool) → is_trump strain (card_of u 0) ≡ b → is_trump strain (card_of u 0) ≡ false
-    go false f = f
-    go true f = absurd (let none : side_tricks strain p u ≡ 0 = ap (λ b. (if b then 0 else cashed_tricks strain p u)) f in omega (arith, none, some))
+    none : (cards : List PlayingCard) → count (is_trump Notrump) cards ≡ 0
+    none [] = refl
+    none (c ∷ cards) = none cards
 
--- the shortest length is at most that of each hand that does not lead
-short-each : (p : Board) (i : ℕ) → 1 ≤ i → i < 4 → (u : Suit) → shortest p u ≤ count_of u (cards_at p (seat_after p.first i))
-short-each p zero l k u = absurd (omega (arith, l))
-short-each p (suc zero) l k u = omega arith
-short-each p (suc (suc zero)) l k u = omega arith
-short-each p (suc (suc (suc zero))) l k u = omega arith
-short-each p (suc (suc (suc (suc i)))) l k u = absurd (omega (arith, k))
+-- then it takes so many tricks
+pub can-take : (p : Board) (n : Suit → ℕ) (k : ℕ) → IsBoard p → p.trick ≡ [] → CanTake p n k → total n + k ≤ won (side_of p.first) p
+can-take p n k valid start can =
+    cashed-all (total n) k p.strain p (is_winner p p.first) n (side_of p.first) p rest (λ c own winner x e away his suits. no-higher p valid p.first x c e away winner own his suits) refl start
+    (record { valid = valid; same = refl; ours = own-side p.first; first = refl; part = λ x c h. h; mine = λ test only. refl; partners = λ test only. refl })
+    (record { held = can.held; plain = λ u c some e. same-trump p.strain c (card_of u 0) e ∙ can.plain u some }) lets
+  where
+    rest : (q : Board) → q.trick ≡ [] → IsLater p.strain p (side_of p.first) q → k ≤ won (side_of p.first) q
+    rest q empty later =
+        joint-later p.strain p q p.first (side_of p.first) k valid later.valid later.same empty (own-side p.first) (partners-side p.first) can.joint later.part
+        (λ test only. ap (λ x. count test (cards_at q x)) (sym later.first) ∙ later.mine test only)
+        (λ test only. ap (λ x. count test (cards_at q (seat_after x 2))) (sym later.first) ∙ later.partners test only)
 
--- the leader's side takes the leader's quick tricks
-pub leaders_tricks-taken : (p : Board) (s : Side) → IsBoard p → p.trick ≡ [] → is_side s p.first ≡ true → leaders_tricks p ≤ won s p
-leaders_tricks-taken p s valid start ours =
-    let low = floor-of p.strain p p.first valid in
-    let sum = sum-cashed p.strain p in
-    let taken = cashed-all (total (side_tricks p.strain p)) p.strain low.0 (top_trumps p.strain p p.first) (is_winner p p.first) (side_tricks p.strain p) s p refl start (record {
-      valid = valid;
-      same = refl;
-      ours = ours;
-      some = side-run p.strain p;
-      plain = side-plain p.strain p;
-      beats = λ c own winner x e away his suits. no-higher p valid p.first x c e away winner own his suits;
-      owned = low.1.owned;
-      enough = low.1.enough;
-    }) (λ t e i l k u. (let a = side-short p.strain p t u e in let b = short-each p i l k u in omega (arith, a, b))) in
-    omega (arith, sum, taken)
-
--- ---- both sides
-
--- a seat is on its own side
-own-side : (h : Seat) → is_side (side_of h) h ≡ true
-own-side North = refl
-own-side East = refl
-own-side South = refl
-own-side West = refl
-
--- and so is its partner
-partners-side : (h : Seat) → is_side (side_of h) (seat_after h 2) ≡ true
-partners-side North = refl
-partners-side East = refl
-partners-side South = refl
-partners-side West = refl
-
--- the next seat and the last are on the other side
-opponents-side : (h : Seat) → (is_side (other_side (side_of h)) (seat_after h 1) ≡ true) × (is_side (other_side (side_of h)) (seat_after h 3) ≡ true)
-opponents-side North = (refl, refl)
-opponents-side East = (refl, refl)
-opponents-side South = (refl, refl)
-opponents-side West = (refl, refl)
-
--- what a start of a trick is worth to the leader's side is bounded by the quick tricks of each hand
-pub record IsBounded (p : Board) : Type 0 where
-  pub leader : leaders_tricks p ≤ lead p
-  pub partner : top_trumps p.strain p (seat_after p.first 2) ≤ lead p
-  pub next : lead p + top_trumps p.strain p (seat_after p.first 1) ≤ left p
-  pub last : lead p + top_trumps p.strain p (seat_after p.first 3) ≤ left p
-
--- at each start of a trick
-pub bounded : (p : Board) → IsBoard p → p.trick ≡ [] → IsBounded p
-bounded p valid start =
-    let s : Side = side_of p.first in
-    let value : lead p ≡ won s p = lead-won p in
-    let both : won s p + won (other_side s) p ≡ left p = all s p valid in
-    let leader : leaders_tricks p ≤ won s p = leaders_tricks-taken p s valid start (own-side p.first) in
-    let partner : top_trumps p.strain p (seat_after p.first 2) ≤ won s p = top_trumps-taken p (seat_after p.first 2) s valid start (partners-side p.first) in
-    let next : top_trumps p.strain p (seat_after p.first 1) ≤ won (other_side s) p = top_trumps-taken p (seat_after p.first 1) (other_side s) valid start (opponents-side p.first).0 in
-    let last : top_trumps p.strain p (seat_after p.first 3) ≤ won (other_side s) p = top_trumps-taken p (seat_after p.first 3) (other_side s) valid start (opponents-side p.first).1 in
-    record {
-      leader = omega (arith, value, leader);
-      partner = omega (arith, value, partner);
-      next = omega (arith, value, both, next);
-      last = omega (arith, value, both, last);
+    lets : AllLetCash p.strain (is_winner p p.first) n p
+    lets i l k = record {
+      yields = λ u. (let y = can.yields u i l k in omega (arith, y));
+      follows = λ other. elim (can.follows i (opponent i l k other)) [
+        | inl none ↦ inl (trumps-count p.strain p (seat_after p.first i) ∙ none)
+        | inr each ↦ inr (λ u. (let y = each u in omega (arith, y)))
+      ];
+      throws = λ two. (
+          let all = trumps-plain p.strain (hand_on p i) in
+          let trumps = trumps-count p.strain p (seat_after p.first i) in
+          let same : trumps_at p.strain p (seat_after p.first i) ≡ trumps_at p.strain p (seat_after p.first 2) = ap (λ j. trumps_at p.strain p (seat_after p.first j)) two in
+          let many = can.throws in
+          let even = valid.even i k in
+          let none : length p.trick ≡ 0 = ap length start in
+          let flag : flag_of (nat_lt i (length p.trick)) ≡ 0 = ap flag_of (not-under i (length p.trick) none) in
+          omega (arith, all, trumps, same, many, even, flag));
     }
+      where
+        not-under : (a b : ℕ) → b ≡ 0 → nat_lt a b ≡ false
+        not-under a b h = grind (arith, nat_tests)
+
+        opponent : (i : ℕ) → 1 ≤ i → i < 4 → i ≢ 2 → IsOpposed i
+        opponent zero l k other = absurd (omega (arith, l))
+        opponent (suc zero) l k other = inl refl
+        opponent (suc (suc zero)) l k other = absurd (other refl)
+        opponent (suc (suc (suc zero))) l k other = inr refl
+        opponent (suc (suc (suc (suc i)))) l k other = absurd (omega (arith, k))

@@ -1,5 +1,5 @@
 -- Quick tricks: the tricks that a side is sure to take, counted without search.
-use Rattle.std.specs.Prelude.{◌≡◌, true, List, ℕ, ◌+◌, ◌-◌, Bool, ◌&&◌, ◌||◌, length, filter, min, max, nat_lt, if◌then◌else◌}
+use Rattle.std.specs.Prelude.{◌≡◌, ◌≤◌, ◌⊎◌, List, ℕ, ◌+◌, ◌-◌, Bool, ◌&&◌, ◌||◌, ◌==◌, length, filter, min, max, nat_le, nat_lt, if◌then◌else◌}
 use Rattle.std.specs.List.{list_any}
 use mathlib.Core.Bool.{not}
 use Rattle.dd_cards.specs.declared.seat.Seat.{Seat}
@@ -9,10 +9,10 @@ use Rattle.dd_cards.specs.declared.strain.Strain.{Strain}
 use Rattle.dd_cards.specs.declared.strain.Strain.TheVariants.{Trump, Notrump}
 use Rattle.dd_cards.specs.PlayingCard.{PlayingCard}
 use Rattle.dd_cards.specs.Seats.{seat_after}
-use Rattle.dd_cards.specs.Cards.{is_of, has_card}
-use Rattle.dd_play.specs.Reach.{reach}
+use Rattle.dd_cards.specs.Cards.{is_of, card_of}
 use Rattle.dd_play.specs.Board.{Board, cards_at, left}
 use Rattle.dd_play.specs.Tricks.{is_trump}
+use Rattle.dd_play.specs.Reach.{reach}
 
 -- does the seat hold a higher card of the suit?
 abbrev pub beats : Board → Seat → PlayingCard → Bool
@@ -30,42 +30,85 @@ run p seat suit = length (filter (λ c. is_of suit c && is_winner p seat c) (car
 abbrev pub length_at : Board → Seat → Suit → ℕ
 length_at p seat suit = length (filter (is_of suit) (cards_at p seat))
 
--- the least length of the suit in the hands that do not lead
-abbrev pub shortest : Board → Suit → ℕ
-shortest p suit = min (length_at p (seat_after p.first 1) suit) (min (length_at p (seat_after p.first 2) suit) (length_at p (seat_after p.first 3) suit))
+-- ---- side suits
 
--- What the leader cashes in a suit: the run, and with other trumps only as long as each other hand must follow suit.
-abbrev pub cashed_tricks : Strain → Board → Suit → ℕ
-cashed_tricks Notrump p suit = run p p.first suit
-cashed_tricks (Trump trump) p suit = (if is_trump (Trump trump) (record { suit = suit; rank = 0 }) then run p p.first suit else min (run p p.first suit) (shortest p suit))
+-- the greatest length of the suit in the hands that do not lead
+abbrev pub longest : Board → Suit → ℕ
+longest p suit = max (length_at p (seat_after p.first 1) suit) (max (length_at p (seat_after p.first 2) suit) (length_at p (seat_after p.first 3) suit))
 
--- the tricks that the leader can take at once
-abbrev pub leaders_tricks : Board → ℕ
-leaders_tricks p = cashed_tricks p.strain p Spades + cashed_tricks p.strain p Hearts + cashed_tricks p.strain p Diamonds + cashed_tricks p.strain p Clubs
+-- A long suit: the leader's run is as long as the suit in any other hand, so no other hand has a card of it after the run.
+abbrev pub is_long : Board → Suit → Bool
+is_long p suit = nat_le (longest p suit) (run p p.first suit)
 
--- the highest trumps of the seat: each takes a trick, whenever it is played
-abbrev pub top_trumps : Strain → Board → Seat → ℕ
-top_trumps Notrump p seat = 0
-top_trumps (Trump trump) p seat = run p seat trump
+-- the cards of the leader's that take a trick when the suit is led from the top and no hand ruffs
+abbrev pub suit_tricks : Board → Suit → ℕ
+suit_tricks p suit = (if is_long p suit then length_at p p.first suit else run p p.first suit)
+
+-- how many trumps the seat holds
+abbrev pub trumps_at : Strain → Board → Seat → ℕ
+trumps_at Notrump p seat = 0
+trumps_at (Trump trump) p seat = length_at p seat trump
+
+-- of n leads of the suit, those that the seat can't ruff: with trumps as many as it can follow
+abbrev pub unruffed : Strain → Board → Seat → Suit → ℕ → ℕ
+unruffed strain p seat suit n = (if trumps_at strain p seat == 0 then n else min n (length_at p seat suit))
+
+-- what the leader cashes in a side suit: its tricks that no opponent can ruff
+abbrev pub cashed : Strain → Board → Suit → ℕ
+cashed strain p suit = (if is_trump strain (card_of suit 0) then 0
+    else unruffed strain p (seat_after p.first 1) suit (unruffed strain p (seat_after p.first 3) suit (suit_tricks p suit)))
+
+-- what the leader cashes in all side suits: as long as its partner has cards to throw that are no trumps
+abbrev pub side_tricks : Board → ℕ
+side_tricks p = min (cashed p.strain p Spades + cashed p.strain p Hearts + cashed p.strain p Diamonds + cashed p.strain p Clubs) (left p - trumps_at p.strain p (seat_after p.first 2))
+
+-- on how many of the highest cards left of the suit the leader's tricks in it rest
+abbrev pub depth : Board → Suit → ℕ
+depth p suit = min (longest p suit) (run p p.first suit)
+
+-- ---- trumps
+
+-- is it higher than each card of its suit in the opponents' hands?
+abbrev pub is_unbeaten : Board → Seat → PlayingCard → Bool
+is_unbeaten p seat c = not (beats p (seat_after seat 1) c || beats p (seat_after seat 3) c)
+
+-- how many cards of the suit the seat holds that no opponent can beat
+abbrev pub unbeaten : Board → Seat → Suit → ℕ
+unbeaten p seat suit = length (filter (λ c. is_of suit c && is_unbeaten p seat c) (cards_at p seat))
+
+-- Joint trumps: the highest trumps left are the seat's and its partner's. They take a trick each, as long as one of the two
+-- hands has a trump for each.
+abbrev pub joint_trumps : Strain → Board → Seat → ℕ
+joint_trumps Notrump p seat = 0
+joint_trumps (Trump trump) p seat = min (unbeaten p seat trump + unbeaten p (seat_after seat 2) trump) (max (length_at p seat trump) (length_at p (seat_after seat 2) trump))
+
+-- ---- both
 
 -- the side of the leader takes at least this number
-abbrev pub quick_lo : Board → ℕ
-quick_lo p = max (leaders_tricks p) (top_trumps p.strain p (seat_after p.first 2))
+unfoldable pub quick_lo : Board → ℕ
+quick_lo p = side_tricks p + joint_trumps p.strain p p.first
 
 -- and no more than this
-abbrev pub quick_hi : Board → ℕ
-quick_hi p = left p - max (top_trumps p.strain p (seat_after p.first 1)) (top_trumps p.strain p (seat_after p.first 3))
+unfoldable pub quick_hi : Board → ℕ
+quick_hi p = left p - joint_trumps p.strain p (seat_after p.first 1)
 
--- sure tricks, and the winners on which they rest
-pub record SureTricks : Type 0 where
-  pub tricks : ℕ
-  pub cards : List PlayingCard
+-- the tricks that the leader cashes in a suit, and the number of cards on which they rest, if there are any
+abbrev pub IsCash : Board → Suit → ℕ → ℕ → Type 0
+IsCash p suit tricks cards = (tricks ≡ cashed p.strain p suit) × (1 ≤ tricks → cards ≡ depth p suit)
 
--- the seat's winners in the suit are reached by these cards
-abbrev pub AreReached : List PlayingCard → Board → Seat → Suit → Type 0
-AreReached cards p seat suit = (c : PlayingCard) → has_card (cards_at p seat) c ≡ true → is_of suit c ≡ true → is_winner p seat c ≡ true → reach cards c ≡ true
+-- ---- the cards on which a claim rests
 
--- and so are its highest trumps
-abbrev pub AreTrumpsReached : Strain → List PlayingCard → Board → Seat → Type 0
-AreTrumpsReached Notrump cards p seat = Unit {0}
-AreTrumpsReached (Trump trump) cards p seat = AreReached cards p seat trump
+-- so many of the leader's winners in the suit, as far as its run goes, are reached by these cards
+abbrev pub RestsOn : Board → Suit → List PlayingCard → ℕ → Type 0
+RestsOn p suit cards n = min n (run p p.first suit) ≤ length (filter (λ c. (is_of suit c && is_winner p p.first c) && reach cards c) (cards_at p p.first))
+
+-- how many of the seat's cards of the suit that no opponent can beat are reached by these cards
+abbrev pub unbeaten_reached : List PlayingCard → Board → Seat → Suit → ℕ
+unbeaten_reached cards p seat suit = length (filter (λ c. (is_of suit c && is_unbeaten p seat c) && reach cards c) (cards_at p seat))
+
+-- so many joint trumps of the seat and its partner, as far as there are, are reached by these cards, or no opponent has trumps
+abbrev pub RestsOnTrumps : Strain → Board → Seat → List PlayingCard → ℕ → Type 0
+RestsOnTrumps Notrump p seat cards n = Unit {0}
+RestsOnTrumps (Trump trump) p seat cards n =
+    (min n (unbeaten p seat trump + unbeaten p (seat_after seat 2) trump) ≤ unbeaten_reached cards p seat trump + unbeaten_reached cards p (seat_after seat 2) trump)
+    ⊎ ((length_at p (seat_after seat 1) trump ≡ 0) × (length_at p (seat_after seat 3) trump ≡ 0))

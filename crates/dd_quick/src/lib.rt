@@ -1,7 +1,10 @@
 //! Quick tricks: bounds of a position's value without search. It takes no memory.
 #![tactic(auto)]
 
+mod joint_trumps;
+mod long_suit;
 mod quick_tricks;
+mod winners;
 
 pub use quick_tricks::{against_leader, bounds, for_leader};
 

@@ -1,51 +1,42 @@
-use Rattle.std.proofs.Common.{◌+◌, ◌≤◌, ap, ◌∙◌, subst, arith}
-use Rattle.dd_play.specs.Board.{Board, left}
-use Rattle.dd_quick.specs.QuickTricks.{SureTricks}
-use Rattle.dd_quick.proofs.Covered.{IsSure, sure-within, sure-bounds}
+use Rattle.std.proofs.Common.{◌+◌, ap, ◌∙◌, refl, subst, arith}
 use Rattle.dd_cards.specs.Sides.{side_of, other_side}
+use Rattle.dd_play.specs.Board.{Board, left}
+use Rattle.dd_play.specs.Reach.{TakesBy, reach}
+use Rattle.dd_quick.proofs.Claims.{joint-left}
+use Rattle.dd_quick.proofs.Covered.{sure-within, sure-bounds}
 use Rattle.dd_quick.proofs.quick_tricks.bounds.Goals as goal
-use Rattle.dd_quick.proofs.quick_tricks.bounds.Goals.{After-tricks_left}
+use Rattle.dd_quick.proofs.quick_tricks.bounds.Goals.{After-reached}
 
--- what the two sides are sure of at the position that is asked
-record Both (c : After-tricks_left) : Type 0 where
-  ours : IsSure (side_of c.args.start.now.first) c.args.start.now c.leaders-ours.result
-  theirs : IsSure (other_side (side_of c.args.start.now.first)) c.args.start.now c.others-theirs.result
+-- what each side is sure of at the position that is asked
+record Both (c : After-reached) : Type 0 where
+  ours : TakesBy (reach c.leaders_cards.result) (side_of c.args.start.now.first) c.args.start.now (c.leaders-ours.result.side + c.leaders-ours.result.trumps)
+  theirs : TakesBy (reach c.others_cards.result) (other_side (side_of c.args.start.now.first)) c.args.start.now c.others-theirs.result
 
-both : (c : After-tricks_left) → Both c
+both : (c : After-reached) → Both c
 both c = record {
-  ours = subst (λ (p : Board). IsSure (side_of p.first) p c.leaders-ours.result) c.position-position.ensures.value c.leaders-ours.ensures.claim;
-  theirs = subst (λ (p : Board). IsSure (other_side (side_of p.first)) p c.others-theirs.result) c.position-position.ensures.value c.others-theirs.ensures.claim;
+  ours = subst (λ (p : Board). TakesBy (reach c.leaders_cards.result) (side_of p.first) p (c.leaders-ours.result.side + c.leaders-ours.result.trumps)) c.position-position.ensures.value c.leaders_cards.ensures;
+  theirs = subst (λ (p : Board). TakesBy (reach c.others_cards.result) (other_side (side_of p.first)) p c.others-theirs.result) c.position-position.ensures.value c.others_cards.ensures;
 }
-
-within : (c : After-tricks_left) → c.leaders-ours.result.tricks + c.others-theirs.result.tricks ≤ c.tricks_left.result
-within c =
-    let h = sure-within c.args.start.now c.leaders-ours.result c.others-theirs.result c.position-position.ensures.board (both c).ours (both c).theirs in
-    let e = c.tricks_left.ensures.tricks ∙ ap left c.position-position.ensures.value in
-    omega (arith, h, e)
 
 pub overflow_sub-interval : goal.overflow_sub-interval
 overflow_sub-interval c =
-    let h = within (goal.at.overflow_sub-interval c).After-tricks_left in
-    let e = ap (λ (s : SureTricks). s.tricks) c.theirs.view_is in
-    omega (arith, h, e)
+    let p = c.position-position.result.now in
+    let most = joint-left p.strain p c.tricks_left.ensures.board (ap (λ (q : Board). q.trick) c.position-position.ensures.value ∙ c.position-position.ensures.start) in
+    let theirs = c.others-theirs.ensures.tricks in
+    let tricks = c.tricks_left.ensures.tricks in
+    omega (arith, most, theirs, tricks)
 
 pub invariant_of-interval : goal.invariant_of-interval
-invariant_of-interval c = record {
-  ordered = (
-      let h = within (goal.at.invariant_of-interval c).After-tricks_left in
-      let e = ap (λ (s : SureTricks). s.tricks) c.theirs.view_is in
-      let f = ap (λ (s : SureTricks). s.tricks) c.ours.view_is in
-      omega (arith, h, e, f)
-      );
-}
+invariant_of-interval c =
+    let k = both (goal.at.invariant_of-interval c).After-reached in
+    let h = sure-within c.args.start.now c.leaders_cards.result c.others_cards.result (c.leaders-ours.result.side + c.leaders-ours.result.trumps) c.others-theirs.result c.position-position.ensures.board k.ours k.theirs in
+    let e = c.tricks_left.ensures.tricks ∙ ap left c.position-position.ensures.value in
+    record { ordered = omega (arith, h, e) }
 
 pub returns-clause-holds : goal.returns-clause-holds
 returns-clause-holds c =
-    let k = both (goal.at.returns-clause-holds c).After-tricks_left in
+    let k = both (goal.at.returns-clause-holds c).After-reached in
     let p = c.args.start.now in
     let left_is = c.tricks_left.ensures.tricks ∙ ap left c.position-position.ensures.value in
-    let lo = ap (λ (s : SureTricks). s.tricks) c.ours.view_is in
-    let hi = ap (λ (s : SureTricks). s.tricks) c.theirs.view_is in
-    sure-bounds p c.leaders-ours.result c.others-theirs.result c.union-cards.result _ c.ours.inside.tricks _ c.of_cards.ensures.real c.position-position.ensures.board
-    (rw (← ap (λ (s : SureTricks). s.cards) c.ours.view_is) c.union-cards.ensures.left) (rw (← ap (λ (s : SureTricks). s.cards) c.theirs.view_is) c.union-cards.ensures.right)
-    c.of_cards.ensures.depths lo (omega (arith, left_is, hi)) k.ours k.theirs
+    sure-bounds p c.leaders_cards.result c.others_cards.result c.union-cards.result (c.leaders-ours.result.side + c.leaders-ours.result.trumps) c.others-theirs.result _ _ _ c.of_cards.ensures.real c.position-position.ensures.board
+    c.union-cards.ensures.left c.union-cards.ensures.right c.of_cards.ensures.depths refl (omega (arith, left_is)) k.ours k.theirs

@@ -1,12 +1,13 @@
-use Rattle.std.proofs.Common.{ap, ◌∙◌}
+use Rattle.std.proofs.Common.{ap, arith, ◌∙◌}
 use Rattle.dd_cards.specs.Seats.{seat_after}
-use Rattle.dd_cards.specs.Sides.{side_of}
-use Rattle.dd_quick.proofs.Covered.{partner-sure, either-sure}
+use Rattle.dd_quick.specs.QuickTricks.{trumps_at}
+use Rattle.dd_quick.proofs.Claims.{trumps-left}
 use Rattle.dd_quick.proofs.quick_tricks.leaders.Goals as goal
 
-pub returns-clause-claim : goal.returns-clause-claim
-returns-clause-claim c =
+pub overflow_sub-tricks_left : goal.overflow_sub-tricks_left
+overflow_sub-tricks_left c =
     let p = c.args.position.now in
-    let partner = c.partner-partner.ensures ∙ ap (λ x. seat_after x 2) c.first.ensures in
-    either-sure (side_of p.first) p c.leaders_tricks.result c.top_trumps.result c.better.result c.better.ensures.either c.leaders_tricks.ensures.claim
-    (partner-sure p c.top_trumps.result c.partner-partner.result partner c.requires c.top_trumps.ensures.tricks c.top_trumps.ensures.winners)
+    let most = trumps-left p.strain p 2 c.tricks_left.ensures.board c.requires (omega arith) in
+    let trumps = c.trumps.ensures ∙ ap (trumps_at p.strain p) (c.partner.ensures ∙ ap (λ x. seat_after x 2) c.first-leader.ensures) in
+    let left = c.tricks_left.ensures.tricks in
+    omega (arith, most, trumps, left)

@@ -1,0 +1,211 @@
+-- from what the code counts, and the cards that it puts together, to the claims that rest on them
+use Rattle.std.proofs.Common.{◌≡◌, ℕ, zero, suc, ◌+◌, ◌-◌, ◌<◌, ◌≤◌, Bool, true, false, refl, sym, ap, ◌∙◌, subst, arith, List, [], length, inl, inr, min, zero-le}
+use Rattle.std.specs.Prelude.{max, nat_le, nat_lt, ◌&&◌, ◌==◌, ◌⊎◌, if◌then◌else◌}
+use mathlib.Core.Path.{ap₂}
+use Rattle.std.proofs.lemmas.Bool.{cases_lt, leb-true}
+use Rattle.std.proofs.lemmas.Bool.Decides.{eqb_tells, nat_tests}
+use Rattle.dd_cards.specs.declared.seat.Seat.{Seat}
+use Rattle.dd_cards.specs.declared.suit.Suit.{Suit}
+use Rattle.dd_cards.specs.declared.suit.Suit.TheVariants.{Spades, Hearts, Diamonds, Clubs}
+use Rattle.dd_cards.specs.declared.strain.Strain.{Strain}
+use Rattle.dd_cards.specs.declared.strain.Strain.TheVariants.{Trump, Notrump}
+use Rattle.dd_cards.specs.PlayingCard.{PlayingCard}
+use Rattle.dd_cards.specs.Cards.{is_of, card_of, has_card}
+use Rattle.dd_cards.specs.Seats.{seat_after}
+use Rattle.dd_cards.specs.Sides.{side_of}
+use Rattle.dd_cards.proofs.CallerLemmas.{and-left, and-right, length-filter-le}
+use Rattle.dd_play.specs.Board.{Board, IsBoard, cards_at, left}
+use Rattle.dd_play.specs.Tricks.{is_trump}
+use Rattle.dd_play.specs.Reach.{TakesBy, reach}
+use Rattle.dd_play.proofs.CallerLemmas.{count, flag_of, reach-within}
+use Rattle.dd_quick.specs.QuickTricks.{IsCash, RestsOn, RestsOnTrumps, cashed, is_long, is_winner, joint_trumps, length_at, longest, run, suit_tricks, trumps_at, unbeaten, unruffed}
+use Rattle.dd_quick.proofs.Hands.{IsOpposed}
+use Rattle.dd_quick.proofs.Plays.{count-where}
+use Rattle.dd_quick.proofs.Sound.{CanTake}
+use Rattle.dd_quick.proofs.Covered.{IsJoint, leader-by}
+
+-- joint trumps that the cards reach are top cards
+pub joint-rests : (strain : Strain) (p : Board) (i : ℕ) (cards : List PlayingCard) (m : ℕ) → m ≤ joint_trumps strain p (seat_after p.first i) → RestsOnTrumps strain p (seat_after p.first i) cards m → IsJoint strain (reach cards) p i m
+joint-rests Notrump p i cards m few rests = tt
+joint-rests (Trump t) p i cards m few rests = elim rests [ inl tops ↦ inl (omega (arith, few, tops)) | inr none ↦ inr none ]
+
+-- ---- no more than is left
+
+-- before a trick a hand has no more cards of a suit than tricks are left
+length-left : (p : Board) (i : ℕ) (u : Suit) → IsBoard p → p.trick ≡ [] → i < 4 → length_at p (seat_after p.first i) u ≤ left p
+length-left p i u valid start less =
+    let part = length-filter-le (is_of u) (cards_at p (seat_after p.first i)) in
+    let even = valid.even i less in
+    let none : length p.trick ≡ 0 = ap length start in
+    let flag : flag_of (nat_lt i (length p.trick)) ≡ 0 = ap flag_of (not-under i (length p.trick) none) in
+    omega (arith, part, even, flag)
+  where
+    not-under : (a b : ℕ) → b ≡ 0 → nat_lt a b ≡ false
+    not-under a b h = grind (arith, nat_tests)
+
+-- nor trumps
+pub trumps-left : (strain : Strain) (p : Board) (i : ℕ) → IsBoard p → p.trick ≡ [] → i < 4 → trumps_at strain p (seat_after p.first i) ≤ left p
+trumps-left Notrump p i valid start less = zero-le
+trumps-left (Trump t) p i valid start less = length-left p i t valid start less
+
+-- nor has the other side more joint trumps
+pub joint-left : (strain : Strain) (p : Board) → IsBoard p → p.trick ≡ [] → joint_trumps strain p (seat_after p.first 1) ≤ left p
+joint-left Notrump p valid start = zero-le
+joint-left (Trump t) p valid start =
+    let a = length-left p 1 t valid start (omega arith) in
+    let b = length-left p 3 t valid start (omega arith) in
+    omega (arith, a, b)
+
+-- what the code counts are the joint trumps
+pub joint-is : (strain : Strain) (p : Board) (seat : Seat) (t : Suit) (a b c d n : ℕ) → strain ≡ Trump t → a ≡ unbeaten p seat t → b ≡ unbeaten p (seat_after seat 2) t → c ≡ length_at p seat t → d ≡ length_at p (seat_after seat 2) t
+    → n ≡ min (a + b) (max c d) → n ≡ joint_trumps strain p seat
+joint-is strain p seat t a b c d n trump x y z w e = e ∙ rw (x, y, z, w) refl ∙ ap (λ s. joint_trumps s p seat) (sym trump)
+
+-- ---- what the leader cashes in a suit
+
+-- at most the tricks when no hand ruffs
+cashed-le : (strain : Strain) (p : Board) (u : Suit) → cashed strain p u ≤ suit_tricks p u
+cashed-le strain p u = elim (is_trump strain (card_of u 0)) as (λ b. (if b then 0 else unruffed strain p (seat_after p.first 1) u (unruffed strain p (seat_after p.first 3) u (suit_tricks p u))) ≤ suit_tricks p u) [
+  | true ↦ zero-le
+  | false ↦ (let a = unruffed-le p.first 1 (unruffed strain p (seat_after p.first 3) u (suit_tricks p u)) in let b = unruffed-le p.first 3 (suit_tricks p u) in omega (arith, a, b))
+]
+  where
+    unruffed-le : (f : Seat) (i n : ℕ) → unruffed strain p (seat_after f i) u n ≤ n
+    unruffed-le f i n = elim (trumps_at strain p (seat_after f i) == 0) as (λ b. (if b then n else min n (length_at p (seat_after f i) u)) ≤ n) [ true ↦ omega arith | false ↦ omega arith ]
+
+-- and at most the length of an opponent that has trumps
+cashed-follows : (strain : Strain) (p : Board) (u : Suit) (i : ℕ) → IsOpposed i → (trumps_at strain p (seat_after p.first i) == 0) ≡ false → cashed strain p u ≤ length_at p (seat_after p.first i) u
+cashed-follows strain p u i opposed some = elim (is_trump strain (card_of u 0)) as (λ b. (if b then 0 else unruffed strain p (seat_after p.first 1) u (unruffed strain p (seat_after p.first 3) u (suit_tricks p u))) ≤ length_at p (seat_after p.first i) u) [
+  | true ↦ zero-le
+  | false ↦ elim opposed [
+    | inl e ↦ subst (λ j. unruffed strain p (seat_after p.first 1) u inner ≤ length_at p (seat_after p.first j) u) (sym e) (with 1 inner (ap (λ j. trumps_at strain p (seat_after p.first j) == 0) (sym e) ∙ some))
+    | inr e ↦ subst (λ j. unruffed strain p (seat_after p.first 1) u inner ≤ length_at p (seat_after p.first j) u) (sym e)
+        (let a = with 3 (suit_tricks p u) (ap (λ j. trumps_at strain p (seat_after p.first j) == 0) (sym e) ∙ some) in let b = less 1 inner in omega (arith, a, b))
+  ]
+]
+  where
+    inner : ℕ
+    inner = unruffed strain p (seat_after p.first 3) u (suit_tricks p u)
+
+    less : (i n : ℕ) → unruffed strain p (seat_after p.first i) u n ≤ n
+    less i n = elim (trumps_at strain p (seat_after p.first i) == 0) as (λ b. (if b then n else min n (length_at p (seat_after p.first i) u)) ≤ n) [ true ↦ omega arith | false ↦ omega arith ]
+
+    with : (i n : ℕ) → (trumps_at strain p (seat_after p.first i) == 0) ≡ false → unruffed strain p (seat_after p.first i) u n ≤ length_at p (seat_after p.first i) u
+    with i n e = (let k : unruffed strain p (seat_after p.first i) u n ≡ min n (length_at p (seat_after p.first i) u) = ap (λ b. if b then n else min n (length_at p (seat_after p.first i) u)) e in omega (arith, k))
+
+-- none in trumps
+cashed-plain : (strain : Strain) (p : Board) (u : Suit) → 1 ≤ cashed strain p u → is_trump strain (card_of u 0) ≡ false
+cashed-plain strain p u some = go (is_trump strain (card_of u 0)) refl
+  where
+    go : (b : Bool) → is_trump strain (card_of u 0) ≡ b → is_trump strain (card_of u 0) ≡ false
+    go false e = e
+    go true e = absurd (let none : cashed strain p u ≡ 0 = ap (λ b. if b then 0 else unruffed strain p (seat_after p.first 1) u (unruffed strain p (seat_after p.first 3) u (suit_tricks p u))) e in omega (arith, none, some))
+
+-- a run is no longer than the suit
+run-length : (p : Board) (x : Seat) (u : Suit) → run p x u ≤ length_at p x u
+run-length p x u = count-where (λ c. is_of u c && is_winner p x c) (is_of u) (cards_at p x) (λ c has pass. and-left (is_of u c) (is_winner p x c) pass)
+
+-- the tricks of a suit are the run, or all cards, where the run is as long as any other hand's suit
+long-or-run : (p : Board) (u : Suit) → ((longest p u ≤ run p p.first u) × (suit_tricks p u ≡ length_at p p.first u)) ⊎ ((run p p.first u < longest p u) × (suit_tricks p u ≡ run p p.first u))
+long-or-run p u = go (is_long p u) refl
+  where
+    over : (a b : ℕ) → nat_le a b ≡ false → b < a
+    over a b h = grind (arith, nat_tests)
+
+    go : (b : Bool) → is_long p u ≡ b → ((longest p u ≤ run p p.first u) × (suit_tricks p u ≡ length_at p p.first u)) ⊎ ((run p p.first u < longest p u) × (suit_tricks p u ≡ run p p.first u))
+    go true e = inl (leb-true (longest p u) (run p p.first u) e, rw e refl)
+    go false e = inr (over (longest p u) (run p p.first u) e, rw e refl)
+
+-- a hand that does not lead has no longer suit than the longest
+in-longest : (p : Board) (u : Suit) (i : ℕ) → 1 ≤ i → i < 4 → length_at p (seat_after p.first i) u ≤ longest p u
+in-longest p u zero l k = absurd (omega (arith, l))
+in-longest p u (suc zero) l k = omega arith
+in-longest p u (suc (suc zero)) l k = omega arith
+in-longest p u (suc (suc (suc zero))) l k = omega arith
+in-longest p u (suc (suc (suc (suc i)))) l k = absurd (omega (arith, k))
+
+-- ---- the leader's side
+
+-- what is counted of a suit, its share and the cards on which that rests
+pub record IsShared (p : Board) (u : Suit) (cards : List PlayingCard) (n : ℕ) : Type 0 where
+  pub tricks : ℕ
+  pub cards_of : ℕ
+  pub cash : IsCash p u tricks cards_of
+  pub few : n ≤ tricks
+  pub rests : RestsOn p u cards (min n cards_of)
+
+-- with more cards it is so too
+shared-more : (p : Board) (u : Suit) (few many : List PlayingCard) (n : ℕ) → ((c : PlayingCard) → has_card few c ≡ true → has_card many c ≡ true) → IsShared p u few n → IsShared p u many n
+shared-more p u few many n within s = record {
+  tricks = s.tricks;
+  cards_of = s.cards_of;
+  cash = s.cash;
+  few = s.few;
+  rests =
+      let r = s.rests in
+      let m = count-where (λ c. (is_of u c && is_winner p p.first c) && reach few c) (λ c. (is_of u c && is_winner p p.first c) && reach many c) (cards_at p p.first) (λ c has pass.
+      ap₂ (λ a b. a && b) (and-left (is_of u c && is_winner p p.first c) (reach few c) pass) (reach-within few many within c (and-right (is_of u c && is_winner p p.first c) (reach few c) pass))) in
+      omega (arith, r, m);
+}
+
+-- so many winners are reached that the hand that is i places on yields the share
+shared-tops : (p : Board) (u : Suit) (cards : List PlayingCard) (n i : ℕ) → IsShared p u cards n → 1 ≤ i → i < 4 → min n (length_at p (seat_after p.first i) u) ≤ count (λ c. (is_of u c && is_winner p p.first c) && reach cards c) (cards_at p p.first)
+shared-tops p u cards n i s l k = elim (cases_lt 0 n) [
+  | inl some ↦ (
+      let few = s.few in
+      let counted = s.cash.0 in
+      let deep = s.cash.1 (omega (arith, few, some)) in
+      let rests = s.rests in
+      let most = cashed-le p.strain p u in
+      let his = in-longest p u i l k in
+      elim (long-or-run p u) [
+        | inl e ↦ (let a = e.0 in omega (arith, deep, rests, his, a))
+        | inr e ↦ (let a = e.0 in let b = e.1 in omega (arith, few, counted, deep, rests, most, a, b))
+      ])
+  | inr none ↦ omega (arith, none)
+]
+
+-- the shares of the four suits
+abbrev pub shares : ℕ → ℕ → ℕ → ℕ → Suit → ℕ
+shares s h d c Spades = s
+shares s h d c Hearts = h
+shares s h d c Diamonds = d
+shares s h d c Clubs = c
+
+-- Shares of the side suits and of the joint trumps are a claim by the cards on which they rest.
+pub leader-claim : (p : Board) (a b c d cards : List PlayingCard) (s h di cl m : ℕ) → p.trick ≡ [] → IsShared p Spades a s → IsShared p Hearts b h → IsShared p Diamonds c di → IsShared p Clubs d cl
+    → ((e : PlayingCard) → has_card a e ≡ true → has_card b e ≡ true) → ((e : PlayingCard) → has_card b e ≡ true → has_card c e ≡ true) → ((e : PlayingCard) → has_card c e ≡ true → has_card d e ≡ true) → ((e : PlayingCard) → has_card d e ≡ true → has_card cards e ≡ true)
+    → s + h + di + cl ≤ left p - trumps_at p.strain p (seat_after p.first 2) → m ≤ joint_trumps p.strain p p.first → RestsOnTrumps p.strain p p.first cards m
+    → TakesBy (reach cards) (side_of p.first) p (s + h + di + cl + m)
+leader-claim p a b c d cards s h di cl m start sp he dm cb ab bc cd de throws joint trumps = leader-by (reach cards) p n m start can (λ u i l k. shared-tops p u cards (n u) i (each u) l k) (joint-rests p.strain p 0 cards m joint trumps)
+  where
+    n : Suit → ℕ
+    n = shares s h di cl
+
+    each : (u : Suit) → IsShared p u cards (n u)
+    each Spades = shared-more p Spades a cards s (λ e k. de e (cd e (bc e (ab e k)))) sp
+    each Hearts = shared-more p Hearts b cards h (λ e k. de e (cd e (bc e k))) he
+    each Diamonds = shared-more p Diamonds c cards di (λ e k. de e (cd e k)) dm
+    each Clubs = shared-more p Clubs d cards cl de cb
+
+    -- of a suit no more than is cashed in it
+    less : (u : Suit) → n u ≤ cashed p.strain p u
+    less u = (let f = (each u).few in let e = (each u).cash.0 in omega (arith, f, e))
+
+    can : IsBoard p → CanTake p n m
+    can valid = record {
+      held = λ u. (
+          let f = less u in
+          let t = cashed-le p.strain p u in
+          let r = run-length p p.first u in
+          elim (long-or-run p u) [ inl e ↦ (let x = e.1 in omega (arith, f, t, x)) | inr e ↦ (let x = e.1 in omega (arith, f, t, x, r)) ]);
+      yields = λ u i l k. (
+          let f = less u in
+          let t = cashed-le p.strain p u in
+          let his = in-longest p u i l k in
+          elim (long-or-run p u) [ inl e ↦ (let x = e.0 in omega (arith, his, x)) | inr e ↦ (let x = e.1 in omega (arith, f, t, x)) ]);
+      plain = λ u some. cashed-plain p.strain p u (let f = less u in omega (arith, f, some));
+      follows = λ i opposed. elim (eqb_tells (trumps_at p.strain p (seat_after p.first i)) 0) [ inl e ↦ inl e.1 | inr e ↦ inr (λ u. let f = less u in let t = cashed-follows p.strain p u i opposed e.0 in omega (arith, f, t)) ];
+      throws = (let t = trumps-left p.strain p 2 valid start (omega arith) in omega (arith, throws, t));
+      joint = joint;
+    }

@@ -1,0 +1,189 @@
+//! Side suits. The leader cashes the cards that no other hand can beat. Where they are as many as any other hand has cards
+//! of the suit, nobody has one after them: then the leader's low cards of this long suit take tricks too, and all rest on
+//! no more than these winners. An opponent that has trumps must not ruff, so it has to follow suit to all; the partner has
+//! to have a card that is no trump for each lead. Cards of long suits are counted first, since fewer cards settle more.
+ghost use Rattle.std.specs.Prelude.{◌≡◌, ◌≤◌, ◌+◌, [], true, min, nat_lt, if◌then◌else◌};
+ghost use Rattle.dd_cards.specs.declared.strain.Strain.TheVariants.{Trump};
+ghost use Rattle.dd_cards.specs.declared.suit.Suit.TheVariants.{Spades, Hearts, Diamonds, Clubs};
+ghost use Rattle.dd_cards.specs.PlayingCard.{PlayingCard};
+ghost use Rattle.dd_cards.specs.Cards.{has_card};
+ghost use Rattle.dd_quick.specs.QuickTricks.{IsCash, RestsOn, depth, suit_tricks, unruffed};
+
+use crate::winners::{length, run, with_highest};
+use dd_cards::{Hand, Seat, Strain, Suit};
+use dd_play::Position;
+
+/// The tricks, 0 to 13, that the leader cashes in a suit, and the number of the suit's highest cards on which they rest.
+#[derive(Clone, Copy)]
+pub(crate) struct Cash {
+    pub(crate) tricks: u8,
+    pub(crate) depth: u8,
+}
+
+/// What the leader cashes in each suit.
+#[derive(Clone, Copy)]
+pub(crate) struct Cashes {
+    pub(crate) spades: Cash,
+    pub(crate) hearts: Cash,
+    pub(crate) diamonds: Cash,
+    pub(crate) clubs: Cash,
+}
+
+/// A number of tricks in each suit.
+#[derive(Clone, Copy)]
+pub(crate) struct Shares {
+    pub(crate) spades: u8,
+    pub(crate) hearts: u8,
+    pub(crate) diamonds: u8,
+    pub(crate) clubs: u8,
+}
+
+/// What the leader cashes in each suit.
+pub(crate) fn cashed(position: &Position) -> Cashes
+    requires { position.now.trick ≡ [] }
+    ensures spades { IsCash position.now Spades result.spades.tricks result.spades.depth }
+    ensures hearts { IsCash position.now Hearts result.hearts.tricks result.hearts.depth }
+    ensures diamonds { IsCash position.now Diamonds result.diamonds.tricks result.diamonds.depth }
+    ensures clubs { IsCash position.now Clubs result.clubs.tricks result.clubs.depth }
+    ensures bound { (result.spades.tricks ≤ 13) × (result.hearts.tricks ≤ 13) × (result.diamonds.tricks ≤ 13) × (result.clubs.tricks ≤ 13) }
+{
+    Cashes {
+        spades: cash_suit(position, Suit::Spades),
+        hearts: cash_suit(position, Suit::Hearts),
+        diamonds: cash_suit(position, Suit::Diamonds),
+        clubs: cash_suit(position, Suit::Clubs),
+    }
+}
+
+// What the leader cashes in this suit: in trumps none.
+fn cash_suit(position: &Position, suit: Suit) -> Cash
+    ensures cash { IsCash position.now suit result.tricks result.depth }
+    ensures bound { result.tricks ≤ 13 }
+{
+    match position.strain() {
+        Strain::Notrump => led_out(position, suit),
+        Strain::Trump(trump) if trump == suit => Cash {
+            tricks: 0,
+            depth: 0,
+        },
+        Strain::Trump(trump) => {
+            let leader = position.first();
+            let left = leader.left();
+            let right = leader.right();
+            let cash = led_out(position, suit);
+            let leads = unruffed(position, right, trump, suit, cash.tricks);
+            Cash {
+                tricks: unruffed(position, left, trump, suit, leads),
+                depth: cash.depth,
+            }
+        }
+    }
+}
+
+// The tricks that the leader takes where it leads the suit from the top and no hand ruffs.
+fn led_out(position: &Position, suit: Suit) -> Cash
+    ensures tricks { result.tricks ≡ suit_tricks position.now suit }
+    ensures depth { result.depth ≡ depth position.now suit }
+    ensures bound { result.tricks ≤ 13 }
+{
+    let leader = position.first();
+    let left = leader.left();
+    let partner = leader.partner();
+    let right = leader.right();
+    let run = run(position, leader, suit).len();
+    let longest = length(position, left, suit).max(length(position, partner, suit).max(length(
+        position, right, suit,
+    )));
+    let tricks = if longest <= run {
+        length(position, leader, suit)
+    } else {
+        run
+    };
+    Cash {
+        tricks,
+        depth: longest.min(run),
+    }
+}
+
+// Of so many leads of the suit, those that the seat can't ruff.
+fn unruffed(position: &Position, seat: Seat, trump: Suit, suit: Suit, leads: u8) -> u8
+    ensures leads { result ≡ unruffed (Trump trump) position.now seat suit leads }
+    ensures less { result ≤ leads }
+{
+    if length(position, seat, trump) == 0 {
+        leads
+    } else {
+        leads.min(length(position, seat, suit))
+    }
+}
+
+/// So many of these tricks, of long suits first.
+pub(crate) fn share_out(cashed: Cashes, need: u8) -> Shares
+    ensures spades { result.spades ≤ cashed.spades.tricks }
+    ensures hearts { result.hearts ≤ cashed.hearts.tricks }
+    ensures diamonds { result.diamonds ≤ cashed.diamonds.tricks }
+    ensures clubs { result.clubs ≤ cashed.clubs.tricks }
+    ensures sum { result.spades + result.hearts + result.diamonds + result.clubs
+        ≡ min need (cashed.spades.tricks + cashed.hearts.tricks + cashed.diamonds.tricks + cashed.clubs.tricks) }
+{
+    let a = long_share(cashed.spades, need);
+    let left = need - a;
+    let b = long_share(cashed.hearts, left);
+    let left = left - b;
+    let c = long_share(cashed.diamonds, left);
+    let left = left - c;
+    let d = long_share(cashed.clubs, left);
+    let left = left - d;
+    let e = other_share(cashed.spades, left);
+    let left = left - e;
+    let f = other_share(cashed.hearts, left);
+    let left = left - f;
+    let g = other_share(cashed.diamonds, left);
+    let left = left - g;
+    let h = other_share(cashed.clubs, left);
+    Shares {
+        spades: a + e,
+        hearts: b + f,
+        diamonds: c + g,
+        clubs: d + h,
+    }
+}
+
+// Of this suit, where it is a long one.
+#[inline]
+fn long_share(cash: Cash, need: u8) -> u8
+    ensures { result ≡ (if nat_lt cash.depth cash.tricks then min cash.tricks need else 0) }
+{
+    if cash.depth < cash.tricks {
+        cash.tricks.min(need)
+    } else {
+        0
+    }
+}
+
+// Of this suit, where it is none.
+#[inline]
+fn other_share(cash: Cash, need: u8) -> u8
+    ensures { result ≡ (if nat_lt cash.depth cash.tricks then 0 else min cash.tricks need) }
+{
+    if cash.depth < cash.tricks {
+        0
+    } else {
+        cash.tricks.min(need)
+    }
+}
+
+/// These cards and the winners on which so many tricks of the suit rest.
+pub(crate) fn with_winners(
+    position: &Position,
+    cards: Hand,
+    suit: Suit,
+    cash: Cash,
+    tricks: u8,
+) -> Hand
+    ensures more { (c : PlayingCard) → has_card cards c ≡ true → has_card result c ≡ true }
+    ensures winners { RestsOn position.now suit result (min tricks cash.depth) }
+{
+    let count = tricks.min(cash.depth);
+    with_highest(cards, suit, run(position, position.first(), suit), count)
+}
