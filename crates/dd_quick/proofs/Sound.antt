@@ -18,7 +18,7 @@ use Rattle.dd_cards.specs.declared.side.Side.{Side}
 use Rattle.dd_play.specs.Board.{Board, IsBoard, cards_at, left}
 use Rattle.dd_play.specs.Tricks.{is_trump}
 use Rattle.dd_play.specs.Won.{won}
-use Rattle.dd_play.proofs.CallerLemmas.{after-code, card-real, code-lt, count, filter-has, flag_of, filter-passes, has-first, in-rest, suit-of}
+use Rattle.dd_play.proofs.CallerLemmas.{after-code, card-real, code-lt, count, filter-has, filter-passes, flag_of, has-first, in-rest, suit-of}
 use Rattle.dd_quick.specs.QuickTricks.{is_winner, is_unbeaten, run, length_at, unbeaten, trumps_at, joint_trumps}
 use Rattle.dd_quick.proofs.Hands.{IsOpposed, no-higher, none-over}
 use Rattle.dd_quick.proofs.Plays.{count-where}
