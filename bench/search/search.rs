@@ -224,79 +224,141 @@ fn with(set: u64, suit: Suit, rank: u8) -> u64 {
 
 // ------------------------------------------------------------------ quick tricks
 
+// The cards of a holding above all of these others.
+fn above_all(own: u16, others: u16) -> u16 {
+    if others == 0 { own } else { above(own, highest(others)) }
+}
+
 // The seat's winners of a suit: the highest cards without a gap.
 fn winners(position: &Position, seat: Seat, suit: Suit) -> u16 {
-    let [left, partner, right] = others(seat);
-    let own = position.holding(seat, suit);
-    let others = position.holding(left, suit) | position.holding(partner, suit) | position.holding(right, suit);
-    if others == 0 { own } else { above(own, highest(others)) }
+    let [left, partner, right] = others(seat).map(|other| position.holding(other, suit));
+    above_all(position.holding(seat, suit), left | partner | right)
+}
+
+// The cards of the suit that the seat holds and no opponent can beat.
+fn unbeaten(position: &Position, seat: Seat, suit: Suit) -> u16 {
+    let [left, _, right] = others(seat).map(|other| position.holding(other, suit));
+    above_all(position.holding(seat, suit), left | right)
 }
 
 fn others(seat: Seat) -> [Seat; 3] {
     [seat.next(), seat.next().next(), seat.next().next().next()]
 }
 
-fn run(position: &Position, seat: Seat, suit: Suit) -> u8 {
-    winners(position, seat, suit).count_ones() as u8
+fn length(position: &Position, seat: Seat, suit: Suit) -> u8 {
+    position.holding(seat, suit).count_ones() as u8
 }
 
-fn with_winners(position: &Position, cards: u64, seat: Seat, suit: Suit) -> u64 {
-    match winners(position, seat, suit) {
-        0 => cards,
-        winners => with(cards, suit, lowest(winners)),
-    }
-}
-
-fn cashed(position: &Position, suit: Suit) -> u8 {
-    let run = run(position, position.first, suit);
+fn trumps(position: &Position, seat: Seat) -> u8 {
     match position.strain {
-        Strain::Trump(trump) if trump != suit => {
-            let lengths = others(position.first).map(|seat| position.holding(seat, suit).count_ones() as u8);
-            run.min(lengths[0]).min(lengths[1]).min(lengths[2])
-        }
-        _ => run,
-    }
-}
-
-fn leaders_tricks(position: &Position) -> u8 {
-    cashed(position, Suit::Spades)
-        + cashed(position, Suit::Hearts)
-        + cashed(position, Suit::Diamonds)
-        + cashed(position, Suit::Clubs)
-}
-
-fn top_trumps(position: &Position, seat: Seat) -> u8 {
-    match position.strain {
-        Strain::Trump(trump) => run(position, seat, trump),
+        Strain::Trump(trump) => length(position, seat, trump),
         Strain::Notrump => 0,
     }
 }
 
-fn bounds(position: &Position) -> Interval {
+// These cards and the highest ones of the suit, so many of these ranks.
+fn with_highest(cards: u64, suit: Suit, ranks: u16, count: u8) -> u64 {
+    let (mut cards, mut ranks) = (cards, ranks);
+    for _ in 0..count {
+        if ranks != 0 {
+            let rank = highest(ranks);
+            ranks = below(ranks, rank);
+            cards = with(cards, suit, rank);
+        }
+    }
+    cards
+}
+
+// The tricks that the leader cashes in a suit, and the number of the suit's highest cards on which they rest.
+#[derive(Clone, Copy)]
+struct Cash {
+    tricks: u8,
+    depth: u8,
+}
+
+impl Cash {
+    fn is_long(self) -> bool {
+        self.depth < self.tricks
+    }
+}
+
+fn cash(position: &Position, suit: Suit) -> Cash {
     let [left, partner, right] = others(position.first);
-    let ours = leaders_tricks(position).max(top_trumps(position, partner));
-    let theirs = top_trumps(position, left).max(top_trumps(position, right));
-    Interval { lo: ours, hi: position.tricks_left() - theirs }
+    let lengths = [left, partner, right].map(|seat| length(position, seat, suit));
+    let longest = lengths[0].max(lengths[1]).max(lengths[2]);
+    let run = winners(position, position.first, suit).count_ones() as u8;
+    let tricks = if longest <= run { length(position, position.first, suit) } else { run };
+    let depth = longest.min(run);
+    let unruffed = |seat, leads: u8| if trumps(position, seat) == 0 { leads } else { leads.min(length(position, seat, suit)) };
+    match position.strain {
+        Strain::Notrump => Cash { tricks, depth },
+        Strain::Trump(trump) if trump == suit => Cash { tricks: 0, depth: 0 },
+        Strain::Trump(_) => Cash { tricks: unruffed(left, unruffed(right, tricks)), depth },
+    }
+}
+
+// So many tricks, of long suits first.
+fn shares(cash: &[Cash; 4], need: u8) -> [u8; 4] {
+    let mut left = need;
+    let mut shares = [0; 4];
+    for long in [true, false] {
+        for (share, cash) in shares.iter_mut().zip(cash) {
+            if cash.is_long() == long {
+                *share = cash.tricks.min(left);
+                left -= *share;
+            }
+        }
+    }
+    shares
+}
+
+// The tricks of the joint trumps of the seat and its partner.
+fn joint_trumps(position: &Position, seat: Seat) -> u8 {
+    let Strain::Trump(trump) = position.strain else { return 0 };
+    let partner = seat.next().next();
+    let both = unbeaten(position, seat, trump).count_ones() + unbeaten(position, partner, trump).count_ones();
+    (both as u8).min(length(position, seat, trump).max(length(position, partner, trump)))
+}
+
+fn with_trumps(position: &Position, seat: Seat, cards: u64, tricks: u8) -> u64 {
+    let Strain::Trump(trump) = position.strain else { return cards };
+    let [left, partner, right] = others(seat);
+    if length(position, left, trump) == 0 && length(position, right, trump) == 0 {
+        return cards;
+    }
+    with_highest(cards, trump, unbeaten(position, seat, trump) | unbeaten(position, partner, trump), tricks)
+}
+
+// What the leader's side is sure of: in each side suit, in all, and its joint trumps.
+fn leaders(position: &Position) -> ([Cash; 4], u8, u8) {
+    let cash = SUITS.map(|suit| cash(position, suit));
+    let all: u8 = cash.iter().map(|cash| cash.tricks).sum();
+    let side = all.min(position.tricks_left() - trumps(position, position.first.next().next()));
+    (cash, side, joint_trumps(position, position.first))
+}
+
+fn bounds(position: &Position) -> Interval {
+    let (_, side, trumps) = leaders(position);
+    Interval { lo: side + trumps, hi: position.tricks_left() - joint_trumps(position, position.first.next()) }
 }
 
 fn for_leader(position: &Position, need: u8) -> Option<u64> {
-    let leader = position.first;
-    if leaders_tricks(position) >= need {
-        return Some(SUITS.iter().fold(0, |cards, &suit| with_winners(position, cards, leader, suit)));
+    let (cash, side, trumps) = leaders(position);
+    if need > side + trumps {
+        return None;
     }
-    trumps_of(position, leader.next().next(), need)
+    let side = need.min(side);
+    let shares = shares(&cash, side);
+    let mut cards = 0;
+    for ((suit, cash), share) in SUITS.into_iter().zip(cash).zip(shares) {
+        cards = with_highest(cards, suit, winners(position, position.first, suit), share.min(cash.depth));
+    }
+    Some(with_trumps(position, position.first, cards, need - side))
 }
 
 fn against_leader(position: &Position, need: u8) -> Option<u64> {
-    let [left, _, right] = others(position.first);
-    trumps_of(position, left, need).or_else(|| trumps_of(position, right, need))
-}
-
-fn trumps_of(position: &Position, seat: Seat, need: u8) -> Option<u64> {
-    match position.strain {
-        Strain::Trump(trump) if run(position, seat, trump) >= need => Some(with_winners(position, 0, seat, trump)),
-        _ => None,
-    }
+    let left = position.first.next();
+    if need <= joint_trumps(position, left) { Some(with_trumps(position, left, 0, need)) } else { None }
 }
 
 // ------------------------------------------------------------------ what answers rest on

@@ -45,7 +45,8 @@ pub(crate) fn cashed(position: &Position) -> Cashes
     ensures hearts { IsCash position.now Hearts result.hearts.tricks result.hearts.depth }
     ensures diamonds { IsCash position.now Diamonds result.diamonds.tricks result.diamonds.depth }
     ensures clubs { IsCash position.now Clubs result.clubs.tricks result.clubs.depth }
-    ensures bound { (result.spades.tricks ≤ 13) × (result.hearts.tricks ≤ 13) × (result.diamonds.tricks ≤ 13) × (result.clubs.tricks ≤ 13) }
+    ensures bound { (result.spades.tricks ≤ 13) × (result.hearts.tricks ≤ 13)
+        × (result.diamonds.tricks ≤ 13) × (result.clubs.tricks ≤ 13) }
 {
     Cashes {
         spades: cash_suit(position, Suit::Spades),
@@ -124,7 +125,8 @@ pub(crate) fn share_out(cashed: Cashes, need: u8) -> Shares
     ensures diamonds { result.diamonds ≤ cashed.diamonds.tricks }
     ensures clubs { result.clubs ≤ cashed.clubs.tricks }
     ensures sum { result.spades + result.hearts + result.diamonds + result.clubs
-        ≡ min need (cashed.spades.tricks + cashed.hearts.tricks + cashed.diamonds.tricks + cashed.clubs.tricks) }
+        ≡ min need (cashed.spades.tricks + cashed.hearts.tricks + cashed.diamonds.tricks
+        + cashed.clubs.tricks) }
 {
     let a = long_share(cashed.spades, need);
     let left = need - a;

@@ -84,12 +84,17 @@ struct Sure {
 // What the leader's side is sure of.
 fn leaders(position: &Position) -> Sure
     requires { position.now.trick ≡ [] }
-    ensures spades { IsCash position.now Spades result.cashed.spades.tricks result.cashed.spades.depth }
-    ensures hearts { IsCash position.now Hearts result.cashed.hearts.tricks result.cashed.hearts.depth }
-    ensures diamonds { IsCash position.now Diamonds result.cashed.diamonds.tricks result.cashed.diamonds.depth }
-    ensures clubs { IsCash position.now Clubs result.cashed.clubs.tricks result.cashed.clubs.depth }
+    ensures spades { IsCash position.now Spades
+        result.cashed.spades.tricks result.cashed.spades.depth }
+    ensures hearts { IsCash position.now Hearts
+        result.cashed.hearts.tricks result.cashed.hearts.depth }
+    ensures diamonds { IsCash position.now Diamonds
+        result.cashed.diamonds.tricks result.cashed.diamonds.depth }
+    ensures clubs { IsCash position.now Clubs
+        result.cashed.clubs.tricks result.cashed.clubs.depth }
     ensures side { result.side ≡ side_tricks position.now }
-    ensures trumps { result.trumps ≡ joint_trumps position.now.strain position.now position.now.first }
+    ensures trumps { result.trumps
+        ≡ joint_trumps position.now.strain position.now position.now.first }
     ensures bound { (result.side ≤ 13) × (result.trumps ≤ 13) }
 {
     let leader = position.first();
@@ -119,12 +124,17 @@ fn trumps(position: &Position, seat: Seat) -> u8
 // The winners on which so many tricks of the leader's side rest: those of side suits first.
 fn leaders_cards(position: &Position, ours: Sure, need: u8) -> Hand
     requires start { position.now.trick ≡ [] }
-    requires spades { IsCash position.now Spades ours.cashed.spades.tricks ours.cashed.spades.depth }
-    requires hearts { IsCash position.now Hearts ours.cashed.hearts.tricks ours.cashed.hearts.depth }
-    requires diamonds { IsCash position.now Diamonds ours.cashed.diamonds.tricks ours.cashed.diamonds.depth }
-    requires clubs { IsCash position.now Clubs ours.cashed.clubs.tricks ours.cashed.clubs.depth }
+    requires spades { IsCash position.now Spades
+        ours.cashed.spades.tricks ours.cashed.spades.depth }
+    requires hearts { IsCash position.now Hearts
+        ours.cashed.hearts.tricks ours.cashed.hearts.depth }
+    requires diamonds { IsCash position.now Diamonds
+        ours.cashed.diamonds.tricks ours.cashed.diamonds.depth }
+    requires clubs { IsCash position.now Clubs
+        ours.cashed.clubs.tricks ours.cashed.clubs.depth }
     requires side { ours.side ≡ side_tricks position.now }
-    requires few { need ≤ side_tricks position.now + joint_trumps position.now.strain position.now position.now.first }
+    requires few { need ≤ side_tricks position.now
+        + joint_trumps position.now.strain position.now position.now.first }
     ensures { TakesBy (reach result) (side_of position.now.first) position.now need }
 {
     let cashed = ours.cashed;
@@ -146,7 +156,8 @@ fn leaders_cards(position: &Position, ours: Sure, need: u8) -> Hand
 
 // What the other side is sure of: its joint trumps.
 fn others(position: &Position) -> u8
-    ensures tricks { result ≡ joint_trumps position.now.strain position.now (seat_after position.now.first 1) }
+    ensures tricks { result ≡ joint_trumps position.now.strain position.now
+        (seat_after position.now.first 1) }
     ensures bound { result ≤ 13 }
 {
     joint_trumps(position, position.first().left())
@@ -155,7 +166,8 @@ fn others(position: &Position) -> u8
 // The winners on which so many tricks of the other side rest.
 fn others_cards(position: &Position, need: u8) -> Hand
     requires start { position.now.trick ≡ [] }
-    requires few { need ≤ joint_trumps position.now.strain position.now (seat_after position.now.first 1) }
+    requires few { need ≤ joint_trumps position.now.strain position.now
+        (seat_after position.now.first 1) }
     ensures { TakesBy (reach result) (other_side (side_of position.now.first)) position.now need }
 {
     with_trumps(position, position.first().left(), Hand::new(), need)

@@ -1,16 +1,36 @@
-use crate::quick_tricks::bounds;
+use crate::quick_tricks::{against_leader, bounds, for_leader};
 use dd_cards::{Card, Hands, Seat, Strain, Suit};
 use dd_play::{Position, TrickStart};
 
-// A position before a trick: the cards by their codes, 16 times the suit's code (spades 0, hearts 1) plus the rank.
-fn start(cards: &[(Seat, u8)], strain: Strain, first: Seat) -> Option<TrickStart> {
+// A position before a trick: the hands of North, East, South and West, each with its spades, hearts, diamonds and clubs.
+fn start(texts: [&str; 4], strain: Strain, first: Seat) -> Option<TrickStart> {
     let mut hands = Hands::new();
-    for (seat, code) in cards {
-        let card = Card::from_code(*code)?;
-        hands.insert(*seat, card);
+    let seats = [Seat::North, Seat::East, Seat::South, Seat::West];
+    for (seat, text) in seats.into_iter().zip(texts) {
+        let mut suit = 0;
+        for letter in text.bytes() {
+            if letter == b'.' {
+                suit += 1;
+            } else {
+                let card = Card::from_code(16 * suit + rank_of(letter)?)?;
+                hands.insert(seat, card);
+            }
+        }
     }
     let position = Position::new(hands, strain, first, &[]).ok()?;
     TrickStart::of(&position)
+}
+
+fn rank_of(letter: u8) -> Option<u8> {
+    match letter {
+        b'A' => Some(14),
+        b'K' => Some(13),
+        b'Q' => Some(12),
+        b'J' => Some(11),
+        b'T' => Some(10),
+        b'2'..=b'9' => Some(letter - b'0'),
+        _ => None,
+    }
 }
 
 // The start of a trick after the first card of each hand, in the order of play.
@@ -31,98 +51,240 @@ fn first_played(position: &Position) -> Option<(Position, Option<Seat>)> {
     }
 }
 
+// Both bounds for the leader's side, and the depths: how many of each suit's highest cards they rest on.
+fn found(start: &TrickStart) -> ((u8, u8), [u8; 4]) {
+    let (interval, depths) = bounds(start);
+    let of = [
+        depths.of(Suit::Spades),
+        depths.of(Suit::Hearts),
+        depths.of(Suit::Diamonds),
+        depths.of(Suit::Clubs),
+    ];
+    ((interval.lo, interval.hi), of)
+}
+
 #[test]
-fn quick_tricks_of_both_sides_are_the_bounds(rt: HostRuntime) {
-    let one_each = [
-        (Seat::North, 14),
-        (Seat::East, 13),
-        (Seat::South, 12),
-        (Seat::West, 11),
-    ];
-    let tenace = [
-        (Seat::North, 3),
-        (Seat::North, 2),
-        (Seat::East, 13),
-        (Seat::East, 4),
-        (Seat::South, 14),
-        (Seat::South, 12),
-        (Seat::West, 6),
-        (Seat::West, 5),
-    ];
-    let short = [
-        (Seat::North, 14),
-        (Seat::North, 13),
-        (Seat::East, 2),
-        (Seat::East, 16 + 2),
-        (Seat::South, 4),
-        (Seat::South, 3),
-        (Seat::West, 6),
-        (Seat::West, 5),
-    ];
-    let trumps = [
-        (Seat::North, 3),
-        (Seat::North, 2),
-        (Seat::East, 5),
-        (Seat::East, 4),
-        (Seat::South, 16 + 14),
-        (Seat::South, 16 + 13),
-        (Seat::West, 7),
-        (Seat::West, 16 + 12),
-    ];
-    let hearts = Strain::Trump(Suit::Hearts);
+fn a_long_suit_counts_to_its_last_card(rt: HostRuntime) {
     let notrump = Strain::Notrump;
-    // The bounds, and the depths of spades and hearts: how many cards there are down to the lowest winner.
+    let hearts = Strain::Trump(Suit::Hearts);
     let table = [
-        (one_each.as_slice(), notrump, (1, 1), (1, 0), "the ace"),
         (
-            tenace.as_slice(),
+            ["AK32...", "QJ.32..", "T9.54..", "87.76.."],
             notrump,
-            (0, 2),
-            (0, 0),
-            "no winner leads",
+            (4, 4),
+            [2, 0, 0, 0],
+            "two rounds leave nobody a spade",
         ),
         (
-            short.as_slice(),
-            hearts,
-            (1, 1),
-            (2, 1),
-            "East ruffs the king",
+            ["AK32...", "QJ.32..", "T9.54..", "876.7.."],
+            notrump,
+            (2, 4),
+            [2, 0, 0, 0],
+            "West has a third spade",
         ),
         (
-            trumps.as_slice(),
+            ["AK32...", ".32.5.2", "54.54..", "76.76.."],
+            notrump,
+            (4, 4),
+            [2, 0, 0, 0],
+            "one hand has none",
+        ),
+        (
+            ["AKQ...", "2..23.", "3..45.", "4..67."],
+            notrump,
+            (3, 3),
+            [1, 0, 0, 0],
+            "one card is enough",
+        ),
+        (
+            ["AK3...", "QJ.3..", "8..65.", "T9.4.."],
             hearts,
             (2, 2),
-            (0, 2),
-            "the partner's trumps",
+            [2, 0, 0, 0],
+            "the third round is ruffed",
         ),
-        (trumps.as_slice(), notrump, (0, 2), (0, 0), "no trumps"),
+        (
+            ["AK32...", "QJ..32.", ".5432..", "T9...32"],
+            hearts,
+            (4, 4),
+            [0, 0, 0, 0],
+            "the partner has all trumps",
+        ),
     ];
-    for (cards, strain, (lo, hi), (spades, hearts), what) in table {
-        let start = start(cards, strain, Seat::North).expect(&rt, "even hands");
-        let (found, depths) = bounds(&start);
-        assert_eq!(rt; (found.lo, found.hi), (lo, hi), "{what}");
-        let of_spades = depths.of(Suit::Spades);
-        assert_eq!(rt;
-            (of_spades, depths.of(Suit::Hearts)),
-            (spades, hearts),
-            "{what}"
-        );
-        let minors = (depths.of(Suit::Diamonds), depths.of(Suit::Clubs));
-        assert_eq!(rt; minors, (0, 0), "{what}");
+    for (hands, strain, interval, depths, what) in table {
+        let start = start(hands, strain, Seat::North).expect(&rt, "even hands");
+        assert_eq!(rt; found(&start), (interval, depths), "{what}");
     }
 }
 
 #[test]
-fn without_cards_no_trick_is_taken(rt: HostRuntime) {
-    let cards = [
-        (Seat::North, 14),
-        (Seat::East, 13),
-        (Seat::South, 12),
-        (Seat::West, 11),
+fn side_suits_are_cashed_while_nobody_ruffs(rt: HostRuntime) {
+    let hearts = Strain::Trump(Suit::Hearts);
+    let table = [
+        (
+            ["AK...", ".32..", "43...", "65..."],
+            hearts,
+            (0, 0),
+            [0, 0, 0, 0],
+            "East has no spade",
+        ),
+        (
+            ["AK...", "2.2..", "43...", "65..."],
+            hearts,
+            (1, 1),
+            [1, 0, 0, 0],
+            "East ruffs the king",
+        ),
+        (
+            ["AK..2.", "54.3..", "..345.", "76..6."],
+            hearts,
+            (2, 2),
+            [2, 0, 0, 0],
+            "the partner throws diamonds",
+        ),
+        (
+            ["AK...", "5.9..", ".32..", "76..."],
+            hearts,
+            (0, 1),
+            [0, 1, 0, 0],
+            "the partner has only trumps",
+        ),
     ];
-    let start = start(&cards, Strain::Trump(Suit::Spades), Seat::North).expect(&rt, "even hands");
+    for (hands, strain, interval, depths, what) in table {
+        let start = start(hands, strain, Seat::North).expect(&rt, "even hands");
+        assert_eq!(rt; found(&start), (interval, depths), "{what}");
+    }
+}
+
+#[test]
+fn joint_trumps_take_a_trick_each(rt: HostRuntime) {
+    let notrump = Strain::Notrump;
+    let hearts = Strain::Trump(Suit::Hearts);
+    let table = [
+        (
+            [".A3..", ".QJ..", ".K2..", "32..."],
+            hearts,
+            (2, 2),
+            [0, 2, 0, 0],
+            "one in each hand",
+        ),
+        (
+            ["2.A..", "3.2..", ".K.2.", ".4.3."],
+            hearts,
+            (1, 2),
+            [0, 1, 0, 0],
+            "neither hand has two trumps",
+        ),
+        (
+            [".QJ..", ".A3..", "32...", ".K2.."],
+            hearts,
+            (0, 0),
+            [0, 2, 0, 0],
+            "the opponents have them",
+        ),
+        (
+            ["A.A3.2.", "32.Q..5", "4.K2..2", "5.J6..3"],
+            hearts,
+            (3, 4),
+            [1, 2, 0, 0],
+            "beside a spade",
+        ),
+        (
+            ["32...", "54...", ".AK..", "7.Q.."],
+            hearts,
+            (2, 2),
+            [0, 2, 0, 0],
+            "the partner's alone",
+        ),
+        (
+            ["32...", "54...", ".AK..", "7.Q.."],
+            notrump,
+            (0, 2),
+            [0, 0, 0, 0],
+            "no trumps",
+        ),
+    ];
+    for (hands, strain, interval, depths, what) in table {
+        let start = start(hands, strain, Seat::North).expect(&rt, "even hands");
+        assert_eq!(rt; found(&start), (interval, depths), "{what}");
+    }
+}
+
+// Positions on which bounds that claim more are wrong, with the tricks of the leader's side by exhaustive play.
+#[test]
+fn no_more_is_claimed_than_exhaustive_play_takes(rt: HostRuntime) {
+    let diamonds = Strain::Trump(Suit::Diamonds);
+    let clubs = Strain::Trump(Suit::Clubs);
+    let kept = [".T7.KT.", "Q6.J..9", "4..Q2.3", "92.5.7."];
+    let crossed = ["9.T5..", "4..J.3", "..Q.J4", "T6...8"];
+    let drawn = ["KJ..9.2", "86.6..7", "T.8.Q5.", "Q.4.73."];
+    let ruffed = ["7.7.A.7", "98.J..6", "AK..J.4", ".T62..J"];
+    let falling = ["JT.K.A.", "K.A.98.", "A.J.KQ.", "Q.Q.JT."];
+    let table = [
+        (kept, diamonds, Seat::West, (0, 2), 0),
+        (crossed, Strain::Notrump, Seat::North, (2, 3), 2),
+        (drawn, diamonds, Seat::North, (3, 4), 3),
+        (drawn, diamonds, Seat::East, (0, 2), 1),
+        (drawn, diamonds, Seat::South, (3, 4), 4),
+        (drawn, diamonds, Seat::West, (0, 2), 1),
+        (ruffed, clubs, Seat::North, (0, 3), 3),
+        (ruffed, clubs, Seat::East, (1, 4), 2),
+        (ruffed, clubs, Seat::South, (0, 3), 3),
+        (ruffed, clubs, Seat::West, (1, 4), 2),
+        (falling, Strain::Notrump, Seat::North, (1, 4), 3),
+    ];
+    for (hands, strain, first, interval, value) in table {
+        let start = start(hands, strain, first).expect(&rt, "even hands");
+        let (bounds, _) = found(&start);
+        assert_eq!(rt; bounds, interval);
+        assert!(rt; bounds.0 <= value && value <= bounds.1);
+    }
+}
+
+#[test]
+fn a_winner_counts_at_notrump(rt: HostRuntime) {
+    let table = [
+        (
+            ["A...", "K...", "Q...", "J..."],
+            (1, 1),
+            [1, 0, 0, 0],
+            "the ace",
+        ),
+        (
+            ["32...", "K4...", "AQ...", "65..."],
+            (0, 2),
+            [0, 0, 0, 0],
+            "no winner leads",
+        ),
+    ];
+    for (hands, interval, depths, what) in table {
+        let start = start(hands, Strain::Notrump, Seat::North).expect(&rt, "even hands");
+        assert_eq!(rt; found(&start), (interval, depths), "{what}");
+    }
+}
+
+// A claim of so many tricks rests on no more winners than it needs, and on those of long suits first.
+#[test]
+fn a_claim_rests_on_the_winners_that_it_needs(rt: HostRuntime) {
+    let hands = ["AK.AKQ..", "32.4..54", "54.5..32", "76.6..76"];
+    let start = start(hands, Strain::Notrump, Seat::North).expect(&rt, "even hands");
+    let table = [(1, 0, 1), (3, 0, 1), (4, 1, 1), (5, 2, 1)];
+    for (need, spades, hearts) in table {
+        let cards = for_leader(&start, need).expect(&rt, "five tricks are sure");
+        let of = (
+            cards.of_suit(Suit::Spades).len(),
+            cards.of_suit(Suit::Hearts).len(),
+        );
+        assert_eq!(rt; of, (spades, hearts));
+    }
+    assert!(rt; for_leader(&start, 6).is_none());
+    assert!(rt; against_leader(&start, 1).is_none());
+}
+
+#[test]
+fn without_cards_no_trick_is_taken(rt: HostRuntime) {
+    let hands = ["A...", "K...", "Q...", "J..."];
+    let start = start(hands, Strain::Trump(Suit::Spades), Seat::North).expect(&rt, "even hands");
     let end = after_a_trick(&start).expect(&rt, "each hand has a card");
-    let (found, depths) = bounds(&end);
-    assert_eq!(rt; (found.lo, found.hi), (0, 0));
-    assert_eq!(rt; depths.of(Suit::Spades), 0);
+    assert_eq!(rt; found(&end), ((0, 0), [0, 0, 0, 0]));
 }

@@ -11,7 +11,8 @@ use dd_play::Position;
 
 /// The highest remaining cards of the suit that the seat holds without a gap.
 pub(crate) fn run(position: &Position, seat: Seat, suit: Suit) -> Holding
-    ensures cards { map (card_of suit) result ≡ filter (λ c. is_of suit c && is_winner position.now seat c) (cards_at position.now seat) }
+    ensures cards { map (card_of suit) result ≡ filter
+        (λ c. is_of suit c && is_winner position.now seat c) (cards_at position.now seat) }
     ensures board { IsBoard position.now }
 {
     let left = seat.left();
@@ -28,7 +29,8 @@ pub(crate) fn run(position: &Position, seat: Seat, suit: Suit) -> Holding
 
 /// The cards of the suit that the seat holds and no opponent can beat.
 pub(crate) fn unbeaten(position: &Position, seat: Seat, suit: Suit) -> Holding
-    ensures cards { map (card_of suit) result ≡ filter (λ c. is_of suit c && is_unbeaten position.now seat c) (cards_at position.now seat) }
+    ensures cards { map (card_of suit) result ≡ filter
+        (λ c. is_of suit c && is_unbeaten position.now seat c) (cards_at position.now seat) }
     ensures board { IsBoard position.now }
 {
     let left = seat.left();
@@ -42,7 +44,8 @@ pub(crate) fn unbeaten(position: &Position, seat: Seat, suit: Suit) -> Holding
 // The ranks above all of these others.
 #[inline]
 fn above_all(own: Holding, others: Holding) -> Holding
-    ensures { MatchOption (slice_get others 0) (result ≡ own) (λ r. result ≡ filter (λ q. nat_lt r q) own) }
+    ensures { MatchOption (slice_get others 0) (result ≡ own)
+        (λ r. result ≡ filter (λ q. nat_lt r q) own) }
 {
     match others.highest() {
         Some(highest) => own.above(highest),
@@ -62,7 +65,8 @@ pub(crate) fn length(position: &Position, seat: Seat, suit: Suit) -> u8
 /// These cards and the highest ones of the suit, so many of these ranks.
 pub(crate) fn with_highest(cards: Hand, suit: Suit, ranks: Holding, count: u8) -> Hand
     ensures more { (c : PlayingCard) → has_card cards c ≡ true → has_card result c ≡ true }
-    ensures most { min count (length ranks) ≤ length (filter (λ q. has_card result (card_of suit q)) ranks) }
+    ensures most { min count (length ranks)
+        ≤ length (filter (λ q. has_card result (card_of suit q)) ranks) }
 {
     // The proof reads here that the cards are cards of the pack.
     let _ = cards.holding(suit);
