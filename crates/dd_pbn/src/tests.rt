@@ -2,6 +2,22 @@ use super::*;
 use dd_cards::{Hands, Seat, Suit};
 use std::test::*;
 
+fn is_line_feed(byte: &u8) -> bool {
+    *byte == b'\n'
+}
+
+fn is_bar(byte: &u8) -> bool {
+    *byte == b'|'
+}
+
+fn is_semicolon(byte: &u8) -> bool {
+    *byte == b';'
+}
+
+fn is_space(byte: &u8) -> bool {
+    *byte == b' '
+}
+
 // The number of this hexadecimal text.
 fn number(digits: &[u8]) -> u16 {
     let mut number: u16 = 0;
@@ -18,7 +34,7 @@ fn number(digits: &[u8]) -> u16 {
 
 // Has the seat these spades, hearts, diamonds and clubs? Bit r of a number stands for the rank r.
 fn holds(deal: &Hands, seat: Seat, masks: &[u8]) -> bool {
-    let mut masks = masks.split(|byte| *byte == b' ');
+    let mut masks = masks.split(is_space);
     for suit in [Suit::Spades, Suit::Hearts, Suit::Diamonds, Suit::Clubs] {
         if masks.next().map(number) != Some(deal.holding(seat, suit).mask()) {
             return false;
@@ -43,7 +59,7 @@ N:... ... ... ...|0 0 0 0|0 0 0 0|0 0 0 0|0 0 0 0";
 
 // Does the text of a row spell the hands after it?
 fn spells(row: &[u8]) -> bool {
-    let mut fields = row.split(|byte| *byte == b'|');
+    let mut fields = row.split(is_bar);
     let Ok(deal) = read_deal(fields.next().unwrap_or(&[])) else {
         return false;
     };
@@ -57,7 +73,7 @@ fn spells(row: &[u8]) -> bool {
 
 #[test]
 fn a_text_spells_the_hands_from_its_letter_clockwise(rt: HostRuntime) {
-    for row in SPELLED.split(|byte| *byte == b'\n') {
+    for row in SPELLED.split(is_line_feed) {
         assert!(rt; spells(row), "at {row:?}");
     }
 }
@@ -81,7 +97,7 @@ N:32... K4... AQ... 65...\t ";
 
 #[test]
 fn blanks_and_case_change_no_deal(rt: HostRuntime) -> Result<(), Fail> {
-    for text in SAME_DEALS.split(|byte| *byte == b'\n') {
+    for text in SAME_DEALS.split(is_line_feed) {
         let deal = read_deal(text).ok().ok_or("the text spells a deal")?;
         let written = write_deal(rt.alloc(), &deal)?;
         assert_eq!(rt; written.as_bytes(), b"N:32... K4... AQ... 65...".as_slice());
@@ -96,7 +112,7 @@ const TAGS: &[u8] = b"[Deal \"e:k4... aq... 65... 32...\"]\n\
 
 #[test]
 fn a_tag_holds_a_value(rt: HostRuntime) -> Result<(), Fail> {
-    for text in TAGS.split(|byte| *byte == b'\n') {
+    for text in TAGS.split(is_line_feed) {
         let deal = read_tag(text).ok().ok_or("the tag spells a deal")?;
         let written = write_deal(rt.alloc(), &deal)?;
         assert_eq!(rt; written.as_bytes(), b"N:32... K4... AQ... 65...".as_slice());
@@ -113,8 +129,8 @@ N:... ... ... ...|S:... ... ... ...";
 
 #[test]
 fn what_is_written_is_read_back(rt: HostRuntime) -> Result<(), Fail> {
-    for row in WRITTEN.split(|byte| *byte == b'\n') {
-        let mut fields = row.split(|byte| *byte == b'|');
+    for row in WRITTEN.split(is_line_feed) {
+        let mut fields = row.split(is_bar);
         let canon = fields.next().unwrap_or(&[]);
         for text in [fields.next().unwrap_or(&[]), canon] {
             let deal = read_deal(text).ok().ok_or("the text spells a deal")?;
@@ -127,7 +143,7 @@ fn what_is_written_is_read_back(rt: HostRuntime) -> Result<(), Fail> {
 
 // The fault that a row names, and its text.
 fn fault_and_text(row: &[u8]) -> (PbnFault, &[u8]) {
-    let mut fields = row.split(|byte| *byte == b'|');
+    let mut fields = row.split(is_bar);
     let name = fields.next().unwrap_or(&[]);
     let fault = if name == b"twice".as_slice() {
         PbnFault::Twice
@@ -182,7 +198,7 @@ grammar|[Deal \"N:A... K... Q... J...\"]";
 
 #[test]
 fn a_text_without_a_deal_has_its_first_fault(rt: HostRuntime) {
-    for row in NO_DEALS.split(|byte| *byte == b';') {
+    for row in NO_DEALS.split(is_semicolon) {
         let (fault, text) = fault_and_text(row);
         assert_eq!(rt; read_deal(text).err(), Some(fault), "at {text:?}");
     }
@@ -206,7 +222,7 @@ grammar|[[Deal \"N:A... K... Q... J...\"]";
 
 #[test]
 fn a_tag_without_a_deal_has_its_first_fault(rt: HostRuntime) {
-    for row in NO_TAGS.split(|byte| *byte == b';') {
+    for row in NO_TAGS.split(is_semicolon) {
         let (fault, text) = fault_and_text(row);
         assert_eq!(rt; read_tag(text).err(), Some(fault), "at {text:?}");
     }
