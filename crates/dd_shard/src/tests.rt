@@ -11,33 +11,32 @@ use std::alloc::AllocError;
 use std::process::Abort;
 use std::test::Fail;
 
-const HEARTS: Strain = Strain::Trump(Suit::Hearts);
-
-// A spade.
-fn spade(rank: u8) -> Option<Card> {
-    let rank = Rank::from_code(rank)?;
+// The spade of this letter.
+fn spade(letter: u8) -> Option<Card> {
+    let place = b"23456789TJQKA".iter().position(|other| *other == letter)?;
+    let rank = Rank::from_code(place as u8 + 2)?;
     let suit = Suit::Spades;
     Some(Card { suit, rank })
 }
 
-// The start of a trick with spades of these ranks, dealt to North, East, South, West and North again.
-fn start(ranks: &[u8], strain: Strain, first: Seat) -> Option<TrickStart>
+// The start of a trick with spades of these letters, dealt to North, East, South, West and North again.
+fn start(letters: &[u8], strain: Strain, first: Seat) -> Option<TrickStart>
     ensures { IfSome result (λ start. (start.strain ≡ strain) × (start.first ≡ first)) }
 {
     let mut hands = Hands::new();
-    for (place, rank) in ranks.iter().enumerate() {
+    for (place, letter) in letters.iter().enumerate() {
         let seat = Seat::from_code((place % 4) as u8)?;
-        hands.insert(seat, spade(*rank)?);
+        hands.insert(seat, spade(*letter)?);
     }
     let position = Position::new(hands, strain, first, &[]).ok()?;
     TrickStart::of(&position)
 }
 
 // .. at notrump, led by North
-fn deal_at(rt: &impl Abort, ranks: &[u8]) -> TrickStart
+fn deal_at(rt: &impl Abort, letters: &[u8]) -> TrickStart
     ensures { (result.strain ≡ Strain.Notrump) × (result.first ≡ Seat.North) }
 {
-    start(ranks, Strain::Notrump, Seat::North).expect(rt, "a position")
+    start(letters, Strain::Notrump, Seat::North).expect(rt, "a position")
 }
 
 // Are the cards the spades of these ranks, in this order?
@@ -74,7 +73,7 @@ fn caught_king(rt: &impl Abort) -> TrickStart
     ensures { lead result ≡ 2 }
 {
     worked_deals();
-    let start = deal_at(rt, &[3, 13, 14, 6, 2, 4, 12, 5]);
+    let start = deal_at(rt, b"3KA624Q5");
     assert!(rt; is_deal(&start, &[3, 2], &[13, 4], &[14, 12], &[6, 5]));
     start
 }
@@ -84,7 +83,7 @@ fn safe_king(rt: &impl Abort) -> TrickStart
     ensures { lead result ≡ 1 }
 {
     worked_deals();
-    let start = deal_at(rt, &[3, 6, 14, 13, 2, 5, 12, 4]);
+    let start = deal_at(rt, b"36AK25Q4");
     assert!(rt; is_deal(&start, &[3, 2], &[6, 5], &[14, 12], &[13, 4]));
     start
 }
@@ -94,7 +93,7 @@ fn ace(rt: &impl Abort) -> TrickStart
     ensures { lead result ≡ 1 }
 {
     worked_deals();
-    let start = deal_at(rt, &[14, 13, 12, 11]);
+    let start = deal_at(rt, b"AKQJ");
     assert!(rt; is_deal(&start, &[14], &[13], &[12], &[11]));
     start
 }
@@ -118,188 +117,275 @@ fn note_value(shard: &mut Shard, start: &TrickStart, bounds: Interval) -> Result
 }
 
 // Notes that the leader's side takes no more tricks than are left, at depths down to this spade, or at none.
-fn note_most(shard: &mut Shard, start: &TrickStart, rank: u8) -> Result<(), AllocError> {
+fn note_most(shard: &mut Shard, start: &TrickStart, letter: u8) -> Result<(), AllocError> {
     let left = start.position().tricks_left();
-    let cards = match spade(rank) {
+    let cards = match spade(letter) {
         Some(card) => Hand::new().with(card),
         None => Hand::new(),
     };
     shard.note(start, Depths::of_cards(start, cards), bounds(0, left))
 }
 
-// What is told of a position: the bounds, and the four depths.
-fn told(shard: &mut Shard, start: &TrickStart) -> Option<(u8, u8, [u8; 4])> {
-    let (bounds, depths) = shard.look(start)?;
-    let depths = [
-        depths.of(Suit::Spades),
-        depths.of(Suit::Hearts),
-        depths.of(Suit::Diamonds),
-        depths.of(Suit::Clubs),
-    ];
-    Some((bounds.lo, bounds.hi, depths))
+// Notes these bounds, if the value of the position lies within them.
+fn note_known(
+    shard: &mut Shard,
+    start: &TrickStart,
+    value: u8,
+    lo: u8,
+    hi: u8,
+) -> Result<bool, AllocError>
+    requires { lead start.now ≡ value }
+{
+    if value < lo || hi < value {
+        return Ok(false);
+    }
+    note_value(shard, start, bounds(lo, hi))?;
+    Ok(true)
 }
 
-// Of the newest pair at a place West's spades, the bounds and the depth of spades. The DDS manual writes 65 as 96, 54 as
-// 48, K4 as 8208 and the jack as 2048.
-fn listed(shard: &Shard, place: u32) -> Option<(u16, u8, u8, u8)> {
+// .. of the position of this name
+fn note_named(
+    rt: &impl Abort,
+    shard: &mut Shard,
+    name: &[u8],
+    lo: u8,
+    hi: u8,
+) -> Result<bool, AllocError> {
+    if name == b"caught_king".as_slice() {
+        note_known(shard, &caught_king(rt), 2, lo, hi)
+    } else if name == b"safe_king".as_slice() {
+        note_known(shard, &safe_king(rt), 1, lo, hi)
+    } else if name == b"ace".as_slice() {
+        note_known(shard, &ace(rt), 1, lo, hi)
+    } else {
+        Ok(false)
+    }
+}
+
+fn digit(number: u8) -> u8 {
+    number.wrapping_add(b'0')
+}
+
+// Is this told of a position: a digit each for the bounds and for the depths of four suits?
+fn tells(shard: &mut Shard, start: &TrickStart, want: &[u8]) -> bool {
+    let Some((bounds, depths)) = shard.look(start) else {
+        return want == b"nothing".as_slice();
+    };
+    let found = [
+        digit(bounds.lo),
+        digit(bounds.hi),
+        digit(depths.of(Suit::Spades)),
+        digit(depths.of(Suit::Hearts)),
+        digit(depths.of(Suit::Diamonds)),
+        digit(depths.of(Suit::Clubs)),
+    ];
+    found.as_slice() == want
+}
+
+// The number that these digits write.
+fn number(digits: &[u8]) -> u16 {
+    let mut number: u16 = 0;
+    for digit in digits {
+        number = number
+            .wrapping_mul(10)
+            .wrapping_add(digit.wrapping_sub(b'0') as u16);
+    }
+    number
+}
+
+// Has the newest pair at a place these spades of West, and a digit each for the bounds and the depth of spades? The DDS
+// manual writes 65 as 96, 54 as 48, K4 as 8208 and the jack as 2048.
+fn lists(shard: &Shard, place: u32, west: &[u8], want: &[u8]) -> bool {
     let Some((start, depths, bounds)) = shard.entry(place) else {
-        return None;
+        return want == b"nothing".as_slice();
     };
     let spades = start.position().hands().holding(Seat::West, Suit::Spades);
-    Some((spades.mask(), bounds.lo, bounds.hi, depths.of(Suit::Spades)))
+    let found = [
+        digit(bounds.lo),
+        digit(bounds.hi),
+        digit(depths.of(Suit::Spades)),
+    ];
+    spades.mask() == number(west) && found.as_slice() == want
+}
+
+// The position that a row names: its leader, a colon at notrump and a stroke at hearts, and the spades' letters.
+fn position(text: &[u8]) -> Option<TrickStart> {
+    let [leader, trumps, letters @ ..] = text else {
+        return None;
+    };
+    let first = if *leader == b'E' {
+        Seat::East
+    } else {
+        Seat::North
+    };
+    let strain = if *trumps == b':' {
+        Strain::Notrump
+    } else {
+        Strain::Trump(Suit::Hearts)
+    };
+    start(letters, strain, first)
+}
+
+// Notes or looks up a position, as a row asks.
+fn asks(
+    rt: &impl Abort,
+    shard: &mut Shard,
+    what: &[u8],
+    subject: &[u8],
+    want: &[u8],
+) -> Result<bool, AllocError> {
+    let first = want.first().copied().unwrap_or(0);
+    if what == b"value".as_slice() {
+        let last = want.last().copied().unwrap_or(0);
+        return note_named(
+            rt,
+            shard,
+            subject,
+            first.wrapping_sub(b'0'),
+            last.wrapping_sub(b'0'),
+        );
+    }
+    let Some(start) = position(subject) else {
+        return Ok(false);
+    };
+    if what == b"most".as_slice() {
+        note_most(shard, &start, first)?;
+        return Ok(true);
+    }
+    Ok(what == b"told".as_slice() && tells(shard, &start, want))
+}
+
+fn is_line_feed(byte: &u8) -> bool {
+    *byte == b'\n'
+}
+
+fn is_space(byte: &u8) -> bool {
+    *byte == b' '
+}
+
+// Does what a row says; false where the shard tells something else than the row. Notes are `most POSITION LETTER` and
+// `value NAME BOUNDS`, questions `told POSITION WANT`, `listed PLACE WANT WEST` and `shapes LEN LIMIT`; what follows says why.
+fn follows(rt: &impl Abort, shard: &mut Shard, row: &[u8]) -> Result<bool, AllocError> {
+    let mut words = row.split(is_space);
+    let what = words.next().unwrap_or(&[]);
+    let subject = words.next().unwrap_or(&[]);
+    let want = words.next().unwrap_or(&[]);
+    if what == b"shapes".as_slice() {
+        let (len, limit) = (number(subject), number(want));
+        return Ok(shard.len() == len as u32 && shard.limit() == limit as u32);
+    }
+    if what == b"listed".as_slice() {
+        let west = words.next().unwrap_or(&[]);
+        return Ok(lists(shard, number(subject) as u32, west, want));
+    }
+    asks(rt, shard, what, subject, want)
+}
+
+// Follows rows on a new shard. They are one text, so that the proof does not grow with them.
+fn follow(rt: &impl Abort, mut shard: Shard, rows: &[u8]) -> Result<(), AllocError> {
+    for row in rows.split(is_line_feed) {
+        assert!(rt; follows(rt, &mut shard, row)?, "at {row:?}");
+    }
+    Ok(())
 }
 
 #[test]
 fn a_pair_tells_of_each_position_with_the_same_high_cards(rt: HostRuntime) -> Result<(), Fail> {
-    let (a, b) = (caught_king(&rt), safe_king(&rt));
-    let mut shard = Shard::new(rt.alloc(), 1)?;
-    note_most(&mut shard, &a, 12)?;
-    let table = [
-        ("the position itself", [3, 13, 14, 6, 2, 4, 12, 5], true),
-        ("other low cards", [6, 13, 14, 5, 2, 3, 12, 4], true),
-        ("the queen is East's", [3, 13, 14, 6, 2, 12, 4, 5], false),
-        ("the king is West's", [3, 6, 14, 13, 2, 5, 12, 4], false),
-    ];
-    for (what, ranks, known) in table {
-        let want = if known {
-            Some((0, 2, [3, 0, 0, 0]))
-        } else {
-            None
-        };
-        assert_eq!(rt; told(&mut shard, &deal_at(&rt, &ranks)), want, "{what}");
-    }
-    let turned = start(&[5, 3, 4, 14, 6, 2, 13, 12], Strain::Notrump, Seat::East);
-    let turned = turned.expect(&rt, "a position");
-    assert_eq!(rt;
-        told(&mut shard, &turned),
-        Some((0, 2, [3, 0, 0, 0])),
-        "all seats turned"
-    );
-    note_value(&mut shard, &b, bounds(1, 1))?;
-    assert_eq!(rt; (shard.len(), shard.limit()), (1, 1), "one shape");
-    assert_eq!(rt;
-        told(&mut shard, &a),
-        Some((0, 2, [3, 0, 0, 0])),
-        "the older pair"
-    );
-    assert_eq!(rt;
-        told(&mut shard, &b),
-        Some((1, 1, [8, 0, 0, 0])),
-        "the newer pair"
-    );
-    assert_eq!(rt; listed(&shard, 0), Some((8208, 1, 1, 8)));
-    assert_eq!(rt; listed(&shard, 1), None);
+    let rows = b"most N:3KA624Q5 Q\n\
+        told N:3KA624Q5 023000 the position itself\n\
+        told N:6KA523Q4 023000 other low cards\n\
+        told N:3KA62Q45 nothing the queen is East's\n\
+        told N:36AK25Q4 nothing the king is West's\n\
+        told E:534A62KQ 023000 all seats turned\n\
+        value safe_king 11\n\
+        shapes 1 1 one shape\n\
+        told N:3KA624Q5 023000 the older pair\n\
+        told N:36AK25Q4 118000 the newer pair\n\
+        listed 0 118 8208\n\
+        listed 1 nothing";
+    follow(&rt, Shard::new(rt.alloc(), 1)?, rows)?;
     Ok(())
 }
 
 #[test]
 fn bounds_at_the_same_cover_meet(rt: HostRuntime) -> Result<(), Fail> {
-    let mut shard = Shard::new(rt.alloc(), 1)?;
-    let a = caught_king(&rt);
-    note_most(&mut shard, &a, 2)?;
-    assert_eq!(rt; told(&mut shard, &a), Some((0, 2, [8, 0, 0, 0])));
-    note_value(&mut shard, &a, bounds(1, 2))?;
-    assert_eq!(rt; told(&mut shard, &a), Some((1, 2, [8, 0, 0, 0])));
-    note_value(&mut shard, &a, bounds(2, 5))?;
-    assert_eq!(rt;
-        told(&mut shard, &a),
-        Some((2, 2, [8, 0, 0, 0])),
-        "2 to 2 alone is in all three"
-    );
-    note_most(&mut shard, &deal_at(&rt, &[6, 13, 14, 5, 2, 4, 12, 3]), 12)?;
-    assert_eq!(rt;
-        listed(&shard, 0),
-        Some((40, 0, 2, 3)),
-        "another cover is another pair"
-    );
-    assert_eq!(rt;
-        told(&mut shard, &a),
-        Some((0, 2, [3, 0, 0, 0])),
-        "the newest that covers"
-    );
-    note_most(&mut shard, &a, 12)?;
-    assert_eq!(rt;
-        listed(&shard, 0),
-        Some((96, 0, 2, 3)),
-        "the same cover of another position"
-    );
+    let rows = b"most N:3KA624Q5 2\n\
+        told N:3KA624Q5 028000\n\
+        value caught_king 12\n\
+        told N:3KA624Q5 128000\n\
+        value caught_king 25\n\
+        told N:3KA624Q5 228000 2 to 2 alone is in all three\n\
+        most N:6KA524Q3 Q\n\
+        listed 0 023 40 another cover is another pair\n\
+        told N:3KA624Q5 023000 the newest that covers\n\
+        most N:3KA624Q5 Q\n\
+        listed 0 023 96 the same cover of another position";
+    follow(&rt, Shard::new(rt.alloc(), 1)?, rows)?;
     Ok(())
 }
 
 #[test]
 fn a_ninth_pair_drops_the_oldest(rt: HostRuntime) -> Result<(), Fail> {
-    let mut shard = Shard::new(rt.alloc(), 1)?;
-    let a = caught_king(&rt);
-    let other = deal_at(&rt, &[14, 13, 3, 6, 2, 4, 12, 5]);
-    note_most(&mut shard, &a, 0)?;
-    for rank in [14, 13, 12, 6, 5, 4, 3] {
-        note_most(&mut shard, &a, rank)?;
-        assert_eq!(rt;
-            told(&mut shard, &other),
-            Some((0, 2, [0, 0, 0, 0])),
-            "down to {rank}"
-        );
-    }
-    note_most(&mut shard, &a, 2)?;
-    assert_eq!(rt; told(&mut shard, &other), None, "the first of nine");
-    assert_eq!(rt;
-        told(&mut shard, &deal_at(&rt, &[3, 12, 14, 6, 2, 4, 13, 5])),
-        Some((0, 2, [1, 0, 0, 0])),
-        "the second"
-    );
-    assert_eq!(rt; shard.len(), 1);
+    let rows = b"most N:3KA624Q5 -\n\
+        most N:3KA624Q5 A\n\
+        told N:AK3624Q5 020000\n\
+        most N:3KA624Q5 K\n\
+        told N:AK3624Q5 020000\n\
+        most N:3KA624Q5 Q\n\
+        told N:AK3624Q5 020000\n\
+        most N:3KA624Q5 6\n\
+        told N:AK3624Q5 020000\n\
+        most N:3KA624Q5 5\n\
+        told N:AK3624Q5 020000\n\
+        most N:3KA624Q5 4\n\
+        told N:AK3624Q5 020000\n\
+        most N:3KA624Q5 3\n\
+        told N:AK3624Q5 020000\n\
+        most N:3KA624Q5 2\n\
+        told N:AK3624Q5 nothing the first of nine\n\
+        told N:3QA624K5 021000 the second\n\
+        shapes 1 1";
+    follow(&rt, Shard::new(rt.alloc(), 1)?, rows)?;
     Ok(())
 }
 
 #[test]
 fn the_last_used_shape_stands_first_and_the_last_goes(rt: HostRuntime) -> Result<(), Fail> {
-    let (a, one) = (caught_king(&rt), ace(&rt));
-    let trumps = start(&[3, 13, 14, 6, 2, 4, 12, 5], HEARTS, Seat::North).expect(&rt, "a position");
-    let mut shard = Shard::new(rt.alloc(), 2)?;
-    assert_eq!(rt; (shard.len(), shard.limit()), (0, 2));
-    note_value(&mut shard, &a, bounds(2, 2))?;
-    note_value(&mut shard, &one, bounds(1, 1))?;
-    assert_eq!(rt; listed(&shard, 0), Some((2048, 1, 1, 4)));
-    assert_eq!(rt; listed(&shard, 1), Some((96, 2, 2, 8)));
-    assert_eq!(rt; told(&mut shard, &trumps), None, "another strain");
-    assert_eq!(rt;
-        told(&mut shard, &safe_king(&rt)),
-        None,
-        "a shape that is known, and no cover"
-    );
-    assert_eq!(rt; listed(&shard, 0), Some((96, 2, 2, 8)), "a look is a use");
-    note_most(&mut shard, &trumps, 14)?;
-    assert_eq!(rt; listed(&shard, 0), Some((96, 0, 2, 1)));
-    assert_eq!(rt;
-        told(&mut shard, &one),
-        None,
-        "it went where the list was full"
-    );
-    assert_eq!(rt; told(&mut shard, &a), Some((2, 2, [8, 0, 0, 0])));
-    assert_eq!(rt; shard.len(), 2);
+    let rows = b"shapes 0 2\n\
+        value caught_king 22\n\
+        value ace 11\n\
+        listed 0 114 2048\n\
+        listed 1 228 96\n\
+        told N/3KA624Q5 nothing another strain\n\
+        told N:36AK25Q4 nothing a shape that is known, and no cover\n\
+        listed 0 228 96 a look is a use\n\
+        most N/3KA624Q5 A\n\
+        listed 0 021 96\n\
+        told N:AKQJ nothing it went where the list was full\n\
+        told N:3KA624Q5 228000\n\
+        shapes 2 2";
+    follow(&rt, Shard::new(rt.alloc(), 2)?, rows)?;
     Ok(())
 }
 
 #[test]
 fn a_note_of_a_shape_that_is_there_succeeds(rt: HostRuntime) -> Result<(), Fail> {
-    let (a, one) = (caught_king(&rt), ace(&rt));
     let Ok(mut shard) = Shard::new(rt.alloc(), 2) else {
         return Ok(());
     };
-    if note_most(&mut shard, &a, 2).is_err() {
+    let a = caught_king(&rt);
+    if note_most(&mut shard, &a, b'2').is_err() {
         assert_eq!(rt; shard.len(), 0);
         return Ok(());
     }
-    let place = match note_value(&mut shard, &one, bounds(1, 1)) {
-        Ok(()) => 1,
+    let place = match note_known(&mut shard, &ace(&rt), 1, 1, 1) {
+        Ok(_) => 1,
         Err(_) => 0,
     };
     assert_eq!(rt; shard.len(), place + 1);
-    assert_eq!(rt; listed(&shard, place), Some((96, 0, 2, 8)));
-    assert!(rt;
-        note_value(&mut shard, &a, bounds(1, 2)).is_ok(),
-        "its shape is known"
-    );
-    assert_eq!(rt; listed(&shard, 0), Some((96, 1, 2, 8)));
+    assert!(rt; lists(&shard, place, b"96", b"028"));
+    let again = note_known(&mut shard, &a, 2, 1, 2);
+    assert_eq!(rt; again.ok(), Some(true), "its shape is known");
+    assert!(rt; lists(&shard, 0, b"96", b"128"));
     Ok(())
 }
