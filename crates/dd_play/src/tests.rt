@@ -36,85 +36,100 @@ fn ruffing_hands() -> Hands {
     hands
 }
 
-// Plays a card that has to be legal.
-fn played(rt: &impl Abort, position: &Position, card: Card) -> (Position, Option<Seat>) {
-    assert!(rt; position.is_legal(card));
-    position.play(card)
-}
-
-fn fault(hands: Hands, trick: &[Card]) -> Option<PlayFault> {
-    Position::new(hands, Strain::Notrump, Seat::North, trick).err()
+fn fault(hands: &Hands, trick: &[Card]) -> Option<PlayFault> {
+    Position::new(hands.copy(), Strain::Notrump, Seat::North, trick).err()
 }
 
 #[test]
 fn the_first_fault_is_named(rt: HostRuntime) {
     let ace = card(Suit::Spades, 14);
     let king = card(Suit::Spades, 13);
+    let none = Hands::new();
     let mut one = Hands::new();
     one.insert(Seat::North, ace);
-    let four = [ace, ace, king, king];
-    assert_eq!(rt;
-        fault(one.copy(), &four),
+    let faults = [
+        // Four cards, two of them twice.
+        fault(&one, &[ace, ace, king, king]),
+        // On the trick and in a hand.
+        fault(&one, &[king, ace]),
+        // Twice on the trick.
+        fault(&none, &[king, king]),
+        // One card in four hands.
+        fault(&one, &[]),
+        // The first hand cannot have one card fewer than none.
+        fault(&none, &[ace]),
+        fault(&none, &[]),
+        fault(&ruffing_hands(), &[]),
+    ];
+    let want = [
         Some(PlayFault::Played),
-        "four cards, two of them twice"
-    );
-    assert_eq!(rt;
-        fault(one.copy(), &[king, ace]),
         Some(PlayFault::Twice),
-        "on the trick and in a hand"
-    );
-    assert_eq!(rt;
-        fault(Hands::new(), &[king, king]),
         Some(PlayFault::Twice),
-        "twice on the trick"
-    );
-    assert_eq!(rt;
-        fault(one.copy(), &[]),
         Some(PlayFault::Uneven),
-        "one card in four hands"
-    );
-    assert_eq!(rt;
-        fault(Hands::new(), &[ace]),
         Some(PlayFault::Uneven),
-        "the first hand cannot have one card fewer than none"
-    );
-    assert_eq!(rt; fault(Hands::new(), &[]), Some(PlayFault::Empty));
-    assert_eq!(rt; fault(ruffing_hands(), &[]), None);
+        Some(PlayFault::Empty),
+        None,
+    ];
+    assert_eq!(rt; faults, want);
+}
+
+// The position after these cards of `ruffing_hands`, and the winner of a trick that the last one completes. Hearts are
+// trumps, and North leads.
+fn after(rt: &impl Abort, cards: &[Card]) -> (Position, Option<Seat>) {
+    let strain = Strain::Trump(Suit::Hearts);
+    let start = Position::new(ruffing_hands(), strain, Seat::North, &[]);
+    let mut position = start.ok().expect(rt, "even hands");
+    let mut winner = None;
+    for card in cards {
+        assert!(rt; position.is_legal(*card));
+        (position, winner) = position.play(*card);
+    }
+    (position, winner)
+}
+
+// The leader, the seat to play, and the tricks left.
+fn seen(position: &Position) -> (Seat, Seat, u8) {
+    (position.first(), position.mover(), position.tricks_left())
 }
 
 #[test]
 fn a_low_trump_takes_an_ace(rt: HostRuntime) {
     let ace = card(Suit::Spades, 14);
     let trump = card(Suit::Hearts, 2);
-    let strain = Strain::Trump(Suit::Hearts);
-    let start = Position::new(ruffing_hands(), strain, Seat::North, &[])
-        .ok()
-        .expect(&rt, "even hands");
-    assert_eq!(rt; start.tricks_left(), 2);
-    let (led, none) = played(&rt, &start, ace);
-    assert_eq!(rt; none, None);
+    let two = card(Suit::Spades, 2);
+    let three = card(Suit::Spades, 3);
+    let diamond = card(Suit::Diamonds, 2);
+    let (start, _) = after(&rt, &[]);
+    let (led, none) = after(&rt, &[ace]);
+    let (third, _) = after(&rt, &[ace, trump, two]);
+    let (next, seat) = after(&rt, &[ace, trump, two, three]);
+    assert_eq!(rt;
+        [seen(&start), seen(&led), seen(&next)],
+        [
+            (Seat::North, Seat::North, 2),
+            (Seat::North, Seat::East, 2),
+            (Seat::East, Seat::East, 1)
+        ]
+    );
+    assert_eq!(rt; (none, seat), (None, Some(Seat::East)));
     assert_eq!(rt; led.trick(), [ace].as_slice());
-    assert_eq!(rt; led.mover(), Seat::East);
     assert_eq!(rt;
         led.legal().as_slice(),
         [card(Suit::Hearts, 4), trump].as_slice(),
         "no spade to follow with"
     );
-    let (ruffed, _) = played(&rt, &led, trump);
-    let (third, _) = played(&rt, &ruffed, card(Suit::Spades, 2));
-    assert!(rt;
-        !third.is_legal(card(Suit::Diamonds, 2)),
-        "West has a spade"
-    );
-    assert!(rt; !third.is_legal(card(Suit::Spades, 4)), "South's card");
-    assert_eq!(rt; third.choices().pop_first(), Some(card(Suit::Spades, 3)));
-    let (next, seat) = played(&rt, &third, card(Suit::Spades, 3));
-    assert_eq!(rt; seat, Some(Seat::East));
-    assert_eq!(rt; next.first(), Seat::East);
-    assert_eq!(rt; next.strain(), strain);
-    assert_eq!(rt; next.tricks_left(), 1);
-    assert!(rt; next.hands().has(Seat::West, card(Suit::Diamonds, 2)));
-    assert!(rt; !next.hands().has(Seat::North, ace));
+    // West has a spade, and South's card is not West's.
+    let legal = [
+        third.is_legal(diamond),
+        third.is_legal(card(Suit::Spades, 4)),
+    ];
+    let held = [
+        next.hands().has(Seat::West, diamond),
+        next.hands().has(Seat::North, ace),
+    ];
+    assert_eq!(rt; (legal, held), ([false, false], [true, false]));
+    assert_eq!(rt; third.choices().pop_first(), Some(three));
+    assert_eq!(rt; next.strain(), Strain::Trump(Suit::Hearts));
 }
 
 #[test]
@@ -124,19 +139,13 @@ fn the_highest_trump_or_card_of_the_suit_led_wins(rt: HostRuntime) {
     let ace = card(Suit::Diamonds, 14);
     let two = card(Suit::Spades, 2);
     let trick = [five, ace, ten, two];
-    assert_eq!(rt; winner(&trick, Seat::West, Strain::Notrump), Seat::East);
-    assert_eq!(rt;
+    let winners = [
+        winner(&trick, Seat::West, Strain::Notrump),
         winner(&trick, Seat::West, Strain::Trump(Suit::Spades)),
-        Seat::South
-    );
-    assert_eq!(rt;
         winner(&trick, Seat::West, Strain::Trump(Suit::Diamonds)),
-        Seat::North
-    );
-    assert_eq!(rt;
         winner(&trick, Seat::West, Strain::Trump(Suit::Hearts)),
-        Seat::East
-    );
+    ];
+    assert_eq!(rt; winners, [Seat::East, Seat::South, Seat::North, Seat::East]);
 }
 
 #[test]
@@ -146,8 +155,7 @@ fn a_begun_trick_is_no_start(rt: HostRuntime) {
         .expect(&rt, "even hands");
     let start = TrickStart::of(&position).expect(&rt, "no card is on the trick");
     assert_eq!(rt; start.copy().position().copy().mover(), Seat::West);
-    let three = card(Suit::Spades, 3);
-    let (begun, _) = played(&rt, &position, three);
+    let (begun, _) = after(&rt, &[card(Suit::Spades, 14)]);
     assert!(rt; TrickStart::of(&begun).is_none());
 }
 
@@ -156,7 +164,6 @@ fn intervals_meet_where_they_share_a_number(rt: HostRuntime) {
     let low = Interval::new(2, 5).expect(&rt, "in order");
     let high = Interval::new(5, 9).expect(&rt, "in order");
     let above = Interval::new(6, 6).expect(&rt, "in order");
-    assert_eq!(rt; Interval::new(3, 2), None);
-    assert_eq!(rt; low.meet(high), Interval::new(5, 5));
-    assert_eq!(rt; low.meet(above), None);
+    let met = [Interval::new(3, 2), low.meet(high), low.meet(above)];
+    assert_eq!(rt; met, [None, Interval::new(5, 5), None]);
 }
