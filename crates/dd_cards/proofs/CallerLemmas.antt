@@ -47,11 +47,9 @@ pub use Rattle.dd_cards.proofs.General.{filter-true}
 pub use Rattle.dd_cards.proofs.General.{length-filter-le}
 -- what passes a test in a part of a list passes it in the list
 pub use Rattle.dd_cards.proofs.General.{any-filter}
-
 -- ---- what a mask's operations do to the list of its ranks
 -- each of the lowest ranks is one of them
 pub use Rattle.dd_cards.proofs.RankLists.{has_rank-lowest_ranks}
-
 -- ---- cards as suits and ranks, and the deck
 -- two suits with one code are one suit
 pub use Rattle.dd_cards.proofs.CardLists.{suit_code-injective}
@@ -65,7 +63,6 @@ pub use Rattle.dd_cards.proofs.CardLists.{has_card-deck}
 pub use Rattle.dd_cards.proofs.CardLists.{real_deck}
 -- what passes the test is a rank
 pub use Rattle.dd_cards.proofs.CardLists.{IsRank-from}
-
 -- ---- a hand's bits and its cards
 -- two seats with one code are one seat
 pub use Rattle.dd_cards.proofs.HandLists.{seat_code-injective}
@@ -73,7 +70,6 @@ pub use Rattle.dd_cards.proofs.HandLists.{seat_code-injective}
 pub use Rattle.dd_cards.proofs.HandLists.{seat_code-lt}
 -- what all pass, each of them passes
 pub use Rattle.dd_cards.proofs.HandLists.{passes}
-
 -- ---- a hand is a set
 -- one time more where the first card is the card
 pub use Rattle.dd_cards.proofs.Sets.{times-cons}
@@ -85,7 +81,6 @@ pub use Rattle.dd_cards.proofs.Sets.{times-set}
 pub use Rattle.dd_cards.proofs.Sets.{length-set_of_cards}
 -- of four tests no two of which hold together, one at most holds
 pub use Rattle.dd_cards.proofs.Sets.{at-most-one}
-
 -- ---- what holds of every set of cards, and of every four hands
 -- a card is the same as itself
 pub use Rattle.dd_cards.proofs.SetLaws.{same_card-self}
@@ -119,7 +114,6 @@ pub use Rattle.dd_cards.proofs.SetLaws.{ranks-from_cards}
 pub use Rattle.dd_cards.proofs.SetLaws.{has_rank-holding}
 -- a suit has at most thirteen cards in a set
 pub use Rattle.dd_cards.proofs.SetLaws.{length-suit}
-
 -- ---- what keeps four hands four hands
 -- the hand that is written, and the others
 pub use Rattle.dd_cards.proofs.HandsLaws.{hand_of-with_hand}
@@ -127,11 +121,9 @@ pub use Rattle.dd_cards.proofs.HandsLaws.{hand_of-with_hand}
 pub use Rattle.dd_cards.proofs.HandsLaws.{AreHands-new}
 -- a card put into a hand, that no hand has
 pub use Rattle.dd_cards.proofs.HandsLaws.{AreHands-with_card}
-
 -- ---- no two suits, seats, strains or cards have one code
 -- two strains with one code are one strain
 pub use Rattle.dd_cards.proofs.Codes.{strain_code-injective}
-
 -- ---- sides and the seats that play for them
 -- a side is itself
 pub use Rattle.dd_cards.proofs.SideLaws.{same-self}
@@ -147,7 +139,6 @@ pub use Rattle.dd_cards.proofs.SideLaws.{is-same}
 pub use Rattle.dd_cards.proofs.SideLaws.{is-other}
 -- the next seat plays for the other side
 pub use Rattle.dd_cards.proofs.SideLaws.{next-side}
-
 -- ---- which ranks the mask of some ranks has
 -- the mask of a set of ranks has these ranks
 pub use Rattle.dd_cards.proofs.MaskRanks.{in_mask-mask_of}

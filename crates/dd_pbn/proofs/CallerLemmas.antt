@@ -5,7 +5,6 @@
 pub use Rattle.dd_pbn.proofs.ValueTexts.{Reads-value}
 -- a tag and nothing else is read so
 pub use Rattle.dd_pbn.proofs.ValueTexts.{Reads-tag}
-
 -- ---- a text spells one deal, or it has one fault
 -- what is read of a text that spells a deal
 pub use Rattle.dd_pbn.proofs.Decided.{spelled-read}
@@ -15,7 +14,6 @@ pub use Rattle.dd_pbn.proofs.Decided.{failed-read}
 pub use Rattle.dd_pbn.proofs.Decided.{decided}
 -- a text spells some deal, or it has a fault
 pub use Rattle.dd_pbn.proofs.Decided.{deal-decided}
-
 -- ---- Deal texts, read.
 -- two suits
 pub use Rattle.dd_pbn.proofs.Examples.{spades-and-hearts}

@@ -7,7 +7,6 @@ pub use Rattle.dd_play.proofs.Values.{in-following}
 pub use Rattle.dd_play.proofs.Values.{times-has}
 -- a legal card leaves one card fewer
 pub use Rattle.dd_play.proofs.Values.{cards_left-after}
-
 -- ---- playing a legal card leads from one legal state of play to another
 -- a seat has one of four codes
 pub use Rattle.dd_play.proofs.Boards.{code-lt}
@@ -31,11 +30,9 @@ pub use Rattle.dd_play.proofs.Boards.{in-rest}
 pub use Rattle.dd_play.proofs.Boards.{gain-le}
 -- North and South take at most the tricks that are left
 pub use Rattle.dd_play.proofs.Boards.{ns-le}
-
 -- ---- the winner by the Laws is the place of the greatest strength
 -- The winner by the Laws stands at the place of the greatest strength.
 pub use Rattle.dd_play.proofs.Strengths.{winning-strongest}
-
 -- ---- how many cards: a hand by its suits, the hands by their seats, and no more than the deck has
 -- each trick that is left takes a card of each hand
 pub use Rattle.dd_play.proofs.Lengths.{cards-tricks}
@@ -43,11 +40,9 @@ pub use Rattle.dd_play.proofs.Lengths.{cards-tricks}
 pub use Rattle.dd_play.proofs.Lengths.{left-13}
 -- at most thirteen cards may be played
 pub use Rattle.dd_play.proofs.Lengths.{legal-13}
-
 -- ---- cards that are put into a hand one by one, and how often each stands then
 -- a card stands in four hands at most once
 pub use Rattle.dd_play.proofs.Twice.{times_in-once}
-
 -- ---- the four rules of one step of play, for either side
 -- what the side takes when c is played
 pub use Rattle.dd_play.proofs.Rules.{won_with}
@@ -61,7 +56,6 @@ pub use Rattle.dd_play.proofs.Rules.{can}
 pub use Rattle.dd_play.proofs.Rules.{least}
 -- with no legal card no trick is left
 pub use Rattle.dd_play.proofs.Rules.{no-legal}
-
 -- ---- counting cards
 -- how many cards pass a test
 pub use Rattle.dd_play.proofs.Counts.{count}
@@ -75,7 +69,6 @@ pub use Rattle.dd_play.proofs.Counts.{count-has}
 pub use Rattle.dd_play.proofs.Counts.{count-without}
 -- where a one-to-one map takes each card that passes to one that passes, there are at least as many of the latter
 pub use Rattle.dd_play.proofs.Counts.{inject}
-
 -- ---- what a legal card does to the hands, to the pairs that can meet, and which cards are legal
 -- turns of the table may be made in either order
 pub use Rattle.dd_play.proofs.Plays.{turn-turn}
@@ -119,7 +112,6 @@ pub use Rattle.dd_play.proofs.Plays.{filter-passes}
 pub use Rattle.dd_play.proofs.Plays.{legal-in}
 -- a legal card follows suit if the hand can
 pub use Rattle.dd_play.proofs.Plays.{legal-out}
-
 -- ---- the strongest card of a trick and of one that answers it place by place
 -- the place of the greatest is one of the list
 pub use Rattle.dd_play.proofs.Winners.{place-within}
@@ -127,7 +119,6 @@ pub use Rattle.dd_play.proofs.Winners.{place-within}
 pub use Rattle.dd_play.proofs.Winners.{strength_by}
 -- a list has the card at each of its places
 pub use Rattle.dd_play.proofs.Winners.{has-at}
-
 -- ---- one step of play keeps the relation
 -- where one position covers another, the mover of the one is the mover of the other, turned
 pub use Rattle.dd_play.proofs.Steps.{mover-turned}
@@ -137,11 +128,9 @@ pub use Rattle.dd_play.proofs.Steps.{reply'}
 pub use Rattle.dd_play.proofs.Steps.{legal-to}
 -- a legal card and its legal answer keep the relation, where the winner of a trick that they complete is settled
 pub use Rattle.dd_play.proofs.Steps.{stepped}
-
 -- ---- positions related with all cards as top cards have one value
 -- twins have one value
 pub use Rattle.dd_play.proofs.Twins.{twins-won}
-
 -- ---- the rules of claims: what a side takes, and how it follows from what it takes after one card more
 -- where the other side is to play, each of its cards has to leave the side as many
 pub use Rattle.dd_play.proofs.ClaimRules.{every-card}
@@ -155,7 +144,6 @@ pub use Rattle.dd_play.proofs.ClaimRules.{both}
 pub use Rattle.dd_play.proofs.ClaimRules.{exactly}
 -- the leader's tricks are those of its side
 pub use Rattle.dd_play.proofs.ClaimRules.{lead-won}
-
 -- ---- fewer top cards cover more positions, and play keeps the order within a hand
 -- two relations of cards that can meet on one trick hold together
 pub use Rattle.dd_play.proofs.Fewer.{met-both}
@@ -171,7 +159,6 @@ pub use Rattle.dd_play.proofs.Fewer.{met-back}
 pub use Rattle.dd_play.proofs.Fewer.{cover-fewer}
 -- the order of each hand is kept with fewer top cards
 pub use Rattle.dd_play.proofs.Fewer.{strict-fewer}
-
 -- ---- the rules of claims that rest on high cards: they hold at every position that is covered
 -- no trick may be claimed at any time
 pub use Rattle.dd_play.proofs.Worth.{by-nothing}

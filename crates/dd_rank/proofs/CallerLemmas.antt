@@ -3,23 +3,19 @@
 -- ---- a cover of a cover is a cover: what an entry's position covers at depths, the position asked covers too
 -- a cover of a cover is a cover, by the two turns together
 pub use Rattle.dd_rank.proofs.Chains.{covers-chain}
-
 -- ---- what a table tells, and what it is told, by cards that are reached
 -- bounds that hold of each position that p covers at depths are claims by cards of no smaller depths
 pub use Rattle.dd_rank.proofs.Told.{told}
 -- what both sides claim by cards holds of each position that p covers at no smaller depths
 pub use Rattle.dd_rank.proofs.Told.{noted}
-
 -- ---- the set of all cards left, and how many of them are reached
 -- the first rank is there
 pub use Rattle.dd_rank.proofs.Lowest.{first-there}
-
 -- ---- full depths, and a position's own
 -- a position covers itself
 pub use Rattle.dd_rank.proofs.Fulls.{itself}
 -- at full depths a position and one that it covers have one value
 pub use Rattle.dd_rank.proofs.Fulls.{full-lead}
-
 -- ---- Positions are alike exactly where their owner strings are the same: full depths cover exactly the alike positions.
 -- equal shapes are one shape
 pub use Rattle.dd_rank.proofs.Alikes.{shapes-tell}

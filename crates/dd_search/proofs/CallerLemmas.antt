@@ -3,7 +3,6 @@
 -- ---- putting moves in order loses none and doubles none
 -- the highest card of a class is legal
 pub use Rattle.dd_search.proofs.Orders.{top-legal}
-
 -- ---- the value of a position is the greatest score of its cards
 -- no card scores more than the value
 pub use Rattle.dd_search.proofs.Greatest.{score-most}
@@ -11,7 +10,6 @@ pub use Rattle.dd_search.proofs.Greatest.{score-most}
 pub use Rattle.dd_search.proofs.Greatest.{score-reached}
 -- at the start of a trick the value is the leader's
 pub use Rattle.dd_search.proofs.Greatest.{lead-value}
-
 -- ---- the classes of a position, one by one
 -- the highest card of a class may be played
 pub use Rattle.dd_search.proofs.Classes.{class-legal}
