@@ -1,24 +1,35 @@
 use crate::quick_tricks::{against_leader, bounds, for_leader};
-use dd_cards::{Card, Hands, Seat, Strain, Suit};
+use dd_cards::{Card, Hands, Rank, Seat, Strain, Suit};
 use dd_play::{Position, TrickStart};
 
 // A position before a trick: the hands of North, East, South and West, each with its spades, hearts, diamonds and clubs.
 fn start(texts: [&str; 4], strain: Strain, first: Seat) -> Option<TrickStart> {
+    let [north, east, south, west] = texts;
     let mut hands = Hands::new();
-    let seats = [Seat::North, Seat::East, Seat::South, Seat::West];
-    for (seat, text) in seats.into_iter().zip(texts) {
-        let mut suit = 0;
-        for letter in text.bytes() {
-            if letter == b'.' {
-                suit += 1;
-            } else {
-                let card = Card::from_code(16 * suit + rank_of(letter)?)?;
-                hands.insert(seat, card);
-            }
-        }
-    }
+    deal_hand(&mut hands, Seat::North, north)?;
+    deal_hand(&mut hands, Seat::East, east)?;
+    deal_hand(&mut hands, Seat::South, south)?;
+    deal_hand(&mut hands, Seat::West, west)?;
     let position = Position::new(hands, strain, first, &[]).ok()?;
     TrickStart::of(&position)
+}
+
+// Gives a seat the cards of its text. None at a letter that is no rank.
+fn deal_hand(hands: &mut Hands, seat: Seat, text: &str) -> Option<()> {
+    let mut suit = Suit::Spades;
+    for letter in text.bytes() {
+        if letter == b'.' {
+            suit = match suit {
+                Suit::Spades => Suit::Hearts,
+                Suit::Hearts => Suit::Diamonds,
+                _ => Suit::Clubs,
+            };
+        } else {
+            let rank = Rank::from_code(rank_of(letter)?)?;
+            hands.insert(seat, Card { suit, rank });
+        }
+    }
+    Some(())
 }
 
 fn rank_of(letter: u8) -> Option<u8> {
