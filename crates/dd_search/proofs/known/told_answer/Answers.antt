@@ -4,8 +4,8 @@ use Rattle.dd_play.specs.Board.{Board, left}
 use Rattle.dd_rank.specs.Depths.{depth_in}
 use Rattle.dd_rank.proofs.CallerLemmas.{told}
 use Rattle.dd_search.proofs.Relied.{told-answer}
-use Rattle.dd_search.proofs.known.known_answer.Goals as goal
-use Rattle.dd_search.proofs.known.known_answer.Goals.{then-leads, else-leads}
+use Rattle.dd_search.proofs.known.told_answer.Goals as goal
+use Rattle.dd_search.proofs.known.told_answer.Goals.{then-leads, else-leads}
 
 pub cards-requires : goal.cards-requires
 cards-requires g c = c.in-Some.ensures.within
