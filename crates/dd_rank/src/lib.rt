@@ -2,6 +2,7 @@
 //! the highest cards of each suit go.
 #![tactic(auto)]
 
+mod brief;
 mod cover;
 mod covering;
 mod depths;
@@ -12,6 +13,7 @@ mod owner_strings;
 mod rank_key;
 mod shape;
 
+pub use brief::{Brief, FirstBrief};
 pub use cover::Cover;
 pub use covering::covers;
 pub use depths::Depths;
