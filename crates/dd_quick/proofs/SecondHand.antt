@@ -1,7 +1,7 @@
 -- Second hand wins. A card of a suit is led whose highest card an opponent h of the leader holds, who has not played yet. What
 -- h could take with the lead in the position before, with that card as the first of its tricks, its side takes now: h wins
 -- the trick with that card whatever comes, and has the lead; the other hands have followed as they would have to its lead.
-use Rattle.std.proofs.Common.{◌≡◌, ◌≢◌, ℕ, zero, suc, ◌+◌, ◌-◌, ◌*◌, ◌<◌, ◌≤◌, Bool, true, false, cond, refl, sym, ap, ◌∙◌, subst, arith, List, [], ◌∷◌, ◌++◌, length, length-append, inl, inr}
+use Rattle.std.proofs.Common.{◌≡◌, ◌≢◌, ℕ, zero, suc, ◌+◌, ◌-◌, ◌*◌, ◌<◌, ◌≤◌, Bool, true, false, cond, refl, sym, ap, ◌∙◌, subst, arith, List, [], ◌∷◌, ◌++◌, length, length-append, get_or, inl, inr}
 use Rattle.std.specs.Prelude.{filter, nat_le, nat_lt, min, ◌&&◌, ◌==◌, ◌⊎◌}
 use Rattle.std.specs.List.{list_all, position_or_len}
 use mathlib.Core.Bool.{not}
@@ -14,26 +14,29 @@ use Rattle.dd_cards.specs.declared.suit.Suit.{Suit}
 use Rattle.dd_cards.specs.declared.strain.Strain.{Strain}
 use Rattle.dd_cards.specs.declared.strain.Strain.TheVariants.{Trump, Notrump}
 use Rattle.dd_cards.specs.PlayingCard.{PlayingCard}
-use Rattle.dd_cards.specs.Cards.{is_of, same_card, has_card, without}
+use Rattle.dd_cards.specs.Cards.{card_of, is_of, same_card, has_card, without}
 use Rattle.dd_cards.specs.Hands.{times}
 use Rattle.dd_cards.specs.Seats.{seat_code, seat_after}
-use Rattle.dd_cards.specs.Sides.{side_of, is_side}
+use Rattle.dd_cards.specs.Sides.{side_of, other_side, is_side}
 use Rattle.dd_cards.specs.declared.side.Side.{Side}
-use Rattle.dd_cards.proofs.CallerLemmas.{and-left, and-right, else-false, not-true, passes, same_card-eq}
+use Rattle.dd_cards.proofs.CallerLemmas.{and-left, and-right, else-false, is-same, not-true, passes, same_card-eq}
 use Rattle.dd_play.specs.Board.{Board, IsBoard, cards_at, left, mover}
 use Rattle.dd_play.specs.Tricks.{deciding, is_highest_of, is_trump, or_else, winner_of, winning_place}
 use Rattle.dd_play.specs.Play.{after, completes, following, trick_with}
 use Rattle.dd_play.specs.Simulations.{IsLegal}
 use Rattle.dd_play.specs.Covers.{count_of}
+use Rattle.dd_play.specs.Reach.{TakesBy, reach}
 use Rattle.dd_play.specs.Won.{point, won}
-use Rattle.dd_play.proofs.CallerLemmas.{Obeys, after-code, can, code-lt, count, count-has, count-some, count-without, filter-has, filter-passes, flag_of, hand-others, hand-own, has-first, in-push, in-rest, legal-in, legal-leads, legal-out, of-suit', once-in, own-card, strain-after, suit-of, times-has, trick-after, trick-closed, was-in, won_with}
+use Rattle.dd_play.proofs.CallerLemmas.{Obeys, after-code, can, code-lt, count, count-has, count-some, count-without, filter-has, filter-passes, flag_of, hand-others, hand-own, has-first, in-push, in-rest, legal-in, legal-leads, legal-out, of-suit', once-in, own-card, strain-after, suit-of, times-has, trick-after, trick-closed, turn-turn, was-in, won_with}
 use Rattle.dd_quick.specs.QuickTricks.{is_winner, length_at, run}
-use Rattle.dd_quick.specs.SecondHand.{unled}
-use Rattle.dd_quick.proofs.Cashing.{FollowsSuit, IsMaster, LetsCash, OnlyTrumps, hand_on, is_plain, no_cards, no-trump, none-higher, one_card, one-total, partner-too, played-on, same-trump, total}
+use Rattle.dd_quick.specs.SecondHand.{IsBeforeLead, Opposes, unled}
+use Rattle.dd_quick.proofs.Claims.{IsSure}
+use Rattle.dd_quick.proofs.Cashing.{AllLetCash, FollowsSuit, HasCards, IsLater, IsMaster, LetsCash, OnlyTrumps, cashed-all, hand_on, is_plain, less, lets-lead, no_cards, no-trump, none-higher, one_card, one-total, partner-too, played-on, same-trump, total, total-less}
 use Rattle.dd_quick.proofs.Hands.{IsOpposed, no-higher, places-on}
-use Rattle.dd_quick.proofs.LeadBack.{board-back, count-back, is-back, leaders-back, led-back, others-back, was-back}
+use Rattle.dd_quick.proofs.LeadBack.{answered, board-back, count-back, cover-back, is-back, leaders-back, led-back, others-back, was-back}
 use Rattle.dd_quick.proofs.Plays.{count-own, whoever}
-use Rattle.dd_quick.proofs.Sound.{own-side, partners-side}
+use Rattle.dd_quick.proofs.Sound.{CanTake, can-let, joint-on, own-side, partners-side}
+use Rattle.dd_quick.proofs.Covered.{IsJoint, RestsOnTops, can-covered}
 
 -- ---- the card that wins the trick
 
@@ -250,9 +253,11 @@ quiet-card strain m trick hand led some = subst (λ cards. (d : PlayingCard) × 
       let suit = suit-of m.suit d.0 d.2 in
       (d.0, legal-in (led.0 ∷ led.1) hand d.0 d.1 (λ e own suits. suit ∙ sym led.3), λ t. sym (same-trump strain d.0 m suit) ∙ t))
   | inr l ↦ (
-      let d = count-some (is_plain strain) hand some in
-      (d.0, legal-in (led.0 ∷ led.1) hand d.0 d.1 (λ e own suits. absurd (let k = count-has (is_of m.suit) hand e own (of-suit' m.suit e (suits ∙ led.3)) in omega (arith, k, l))),
-        λ t. absurd (let k = not-true (is_trump strain d.0) d.2 in cc)))
+      let d = count-some (is_plain strain) hand some in (
+        d.0,
+        legal-in (led.0 ∷ led.1) hand d.0 d.1 (λ e own suits. absurd (let k = count-has (is_of m.suit) hand e own (of-suit' m.suit e (suits ∙ led.3)) in omega (arith, k, l))),
+        λ t. absurd (let k = not-true (is_trump strain d.0) d.2 in cc),
+      ))
 ])
 
 -- where a card lies on the trick, one more is to come
@@ -592,3 +597,151 @@ module _ (p : Board) (c : PlayingCard) (h : Seat) (sure : PlayingCard → Bool) 
   -- either way its side takes the trick and what comes then
   pub trick-taken : (i : ℕ) → IsOpposed i → h ≡ seat_after p.first i → b + 1 ≤ won (side_of h) p
   trick-taken i opposed at = elim opposed [ inl e ↦ second-hand (at ∙ ap (seat_after p.first) e) | inr e ↦ fourth-hand (at ∙ ap (seat_after p.first) e) ]
+
+-- ---- what h could cash before the lead
+
+-- a hand without a card that it had
+count-lost : (test : PlayingCard → Bool) (p : Board) (x : Seat) (m : PlayingCard) → IsBoard p → has_card (cards_at p x) m ≡ true → count test (without (cards_at p x) m) + flag_of (test m) ≡ count test (cards_at p x)
+count-lost test p x m valid own =
+    let most = once-in p valid x m in
+    let some = times-has (cards_at p x) m own in
+    let one : times (cards_at p x) m ≡ 1 = omega (arith, most, some) in
+    let taken : count test (without (cards_at p x) m) + times (cards_at p x) m * flag_of (test m) ≡ count test (cards_at p x) = count-without test (cards_at p x) m in
+    let taken1 : count test (without (cards_at p x) m) + 1 * flag_of (test m) ≡ count test (cards_at p x) = subst (λ (k : ℕ). count test (without (cards_at p x) m) + k * flag_of (test m) ≡ count test (cards_at p x)) one taken in
+    omega (arith, taken1)
+
+-- the leader's place after an opponent
+leaders-place : (f h : Seat) (i : ℕ) → IsOpposed i → h ≡ seat_after f i → (j : ℕ) × (1 ≤ j) × (j < 4) × (f ≡ seat_after h j)
+leaders-place f h i opposed at = elim opposed [
+  | inl e ↦ (3, omega arith, omega arith, sym (three-one f) ∙ ap (λ x. seat_after x 3) (sym (at ∙ ap (seat_after f) e)))
+  | inr e ↦ (1, omega arith, omega arith, sym (one-three f) ∙ ap (λ x. seat_after x 1) (sym (at ∙ ap (seat_after f) e)))
+]
+
+-- What an opponent of the leader can take with the lead in the position before, in a side suit that was led among others, it
+-- takes after the lead.
+pub second-takes : (p : Board) (c : PlayingCard) (h : Seat) (i : ℕ) (n : Suit → ℕ) (k : ℕ) → IsBoard p → p.trick ≡ c ∷ [] → IsOpposed i → h ≡ seat_after p.first i → CanTake (unled p c h) n k → 1 ≤ n c.suit
+    → total n + k ≤ won (side_of h) p
+second-takes p c h i n k valid led opposed at can some =
+    let all = trick-taken p c h sure (less n m) m (total (less n m) + k) valid led own suit master start next i opposed at in
+    let fewer = total-less n m some_m in
+    omega (arith, all, fewer)
+  where
+    o : Board
+    o = unled p c h
+
+    valid_o : IsBoard o
+    valid_o = board-back p c valid led h
+
+    sure : PlayingCard → Bool
+    sure d = is_winner o h d
+
+    place : (j : ℕ) × (1 ≤ j) × (j < 4) × (p.first ≡ seat_after h j)
+    place = leaders-place p.first h i opposed at
+
+    -- h has a winner in the suit led
+    top : (d : PlayingCard) × (has_card (cards_at o h) d ≡ true) × ((is_of c.suit d && is_winner o h d) ≡ true)
+    top =
+        let his : has_card (cards_at o (seat_after h place.0)) c ≡ true = ap (λ x. has_card (cards_at o x) c) (sym place.3) ∙ led-back p c valid led h in
+        let long : 1 ≤ length_at o (seat_after h place.0) c.suit = count-has (is_of c.suit) (cards_at o (seat_after h place.0)) c his (of-suit' c.suit c refl) in
+        let yields = can.yields c.suit place.0 place.1 place.2 in
+        count-some (λ d. is_of c.suit d && is_winner o h d) (cards_at o h) (omega (arith, yields, long, some))
+
+    m : PlayingCard
+    m = top.0
+
+    own : has_card (cards_at o h) m ≡ true
+    own = top.1
+
+    suit : c.suit ≡ m.suit
+    suit = sym (suit-of c.suit m (and-left (is_of c.suit m) (is_winner o h m) top.2))
+
+    winner : is_winner o h m ≡ true
+    winner = and-right (is_of c.suit m) (is_winner o h m) top.2
+
+    masters : (d : PlayingCard) → has_card (cards_at o h) d ≡ true → sure d ≡ true → IsMaster o d
+    masters d mine wins x e away his suits = no-higher o valid_o h x d e away wins mine his suits
+
+    master : IsMaster o m
+    master = masters m own winner
+
+    some_m : 1 ≤ n m.suit
+    some_m = subst (λ u. 1 ≤ n u) suit some
+
+    plain_m : is_trump p.strain m ≡ false
+    plain_m = same-trump p.strain m (card_of c.suit 0) (sym suit) ∙ can.plain c.suit some
+
+    lost : (test : PlayingCard → Bool) → count test (without (cards_at o h) m) + flag_of (test m) ≡ count test (cards_at o h)
+    lost test = count-lost test o h m valid_o own
+
+    start : (j : ℕ) → 1 ≤ j → j < 4 → LetsCash p.strain sure (less n m) (one_card m) j (without (cards_at o h) m) (hand_on o j)
+    start j l b = lets-lead p.strain sure n j (cards_at o h) (without (cards_at o h) m) (hand_on o j) m (can-let o n k valid_o refl can j l b) some_m (λ u. lost (λ d. is_of u d && sure d)) (inl winner)
+
+    next : (q : Board) → IsMidway p.strain o sure (less n m) m (without (cards_at o h) m) (without (cards_at o h) m) nobody q → q.trick ≡ [] → q.first ≡ h → total (less n m) + k ≤ won (side_of h) q
+    next q now empty first = cashed-all (total (less n m)) k p.strain o sure (less n m) (side_of h) q (joint-on o n k valid_o can) masters refl empty later cards lets
+      where
+        hand : cards_at q q.first ≡ without (cards_at o h) m
+        hand = ap (cards_at q) first ∙ now.mine
+
+        later : IsLater p.strain o (side_of h) q
+        later = record {
+          valid = now.valid;
+          same = now.same;
+          ours = ap (is_side (side_of h)) first ∙ own-side h;
+          first = first;
+          part = now.part;
+          mine = λ test only. (let t = lost test in let z : flag_of (test m) ≡ 0 = ap flag_of (only m plain_m) in let e : count test (cards_at q q.first) ≡ count test (without (cards_at o h) m) = ap (count test) hand in omega (arith, t, z, e));
+          partners = λ test only. ap (λ x. count test (cards_at q (seat_after x 2))) first ∙ now.partners plain_m test only;
+        }
+
+        cards : HasCards p.strain (less n m) q
+        cards = record {
+          held = λ u. (let t = lost (is_of u) in let e : count_of u (cards_at q q.first) ≡ count_of u (without (cards_at o h) m) = ap (count_of u) hand in let b = can.held u in omega (arith, t, e, b));
+          plain = λ u d some e. same-trump p.strain d (card_of u 0) e ∙ can.plain u (omega (arith, some));
+        }
+
+        lets : AllLetCash p.strain sure (less n m) q
+        lets j l b = subst (λ x. LetsCash p.strain sure (less n m) no_cards j (cards_at q x) (cards_at q (seat_after x j))) (sym first)
+            (subst (λ own. LetsCash p.strain sure (less n m) no_cards j own (cards_at q (seat_after h j))) (sym now.mine) (now.lets j l b))
+
+-- so it is a claim by the cards on which that rests
+pub second-by : (top : PlayingCard → Bool) (p : Board) (c : PlayingCard) (h : Seat) (i : ℕ) (n : Suit → ℕ) (m : ℕ) → p.trick ≡ c ∷ [] → IsOpposed i → h ≡ seat_after p.first i → (IsBoard (unled p c h) → CanTake (unled p c h) n m) → 1 ≤ n c.suit
+    → RestsOnTops top (unled p c h) n → IsJoint p.strain top (unled p c h) 0 m → TakesBy top (side_of h) p (total n + m)
+second-by top p c h i n m led opposed at may some winners joint k to from t q r strict =
+    let answer = answered to from top p.trick q.trick c led r.trick in
+    let cover = cover-back top k to from (side_of h) p t q c answer.0 h led answer.1 answer.2 r in
+    let can = can-covered top k to from (side_of h) (unled p c h) t (unled q answer.0 (seat_after h k)) cover n m refl refl (may cover.valid_p) winners joint in
+    let seat : seat_after h k ≡ seat_after q.first i = ap (λ x. seat_after x k) at ∙ turn-turn p.first i k ∙ ap (λ x. seat_after x i) (sym r.first) in
+    let taken = second-takes q answer.0 (seat_after h k) i n m r.valid_q answer.1 opposed seat can (subst (λ u. 1 ≤ n u) (sym answer.2.suit) some) in
+    let side = is-same (side_of (seat_after h k)) t (r.sides h ∙ own-side h) in
+    subst (λ z. total n + m ≤ won z q) side taken
+
+-- so is what is counted in the position before the lead
+pub second-claim : (p : Board) (c : PlayingCard) (before : Board) (cards : List PlayingCard) (n : Suit → ℕ) (m : ℕ) → IsBeforeLead p c before → IsSure before cards n m → 1 ≤ n c.suit → TakesBy (reach cards) (side_of before.first) p (total n + m)
+second-claim p c before cards n m ready sure some = elim ready.seat [ inl at ↦ go 1 (inl refl) at | inr at ↦ go 3 (inr refl) at ]
+  where
+    go : (i : ℕ) → IsOpposed i → before.first ≡ seat_after p.first i → TakesBy (reach cards) (side_of before.first) p (total n + m)
+    go i opposed at =
+        second-by (reach cards) p c before.first i n m ready.led opposed at (λ valid. subst (λ o. CanTake o n m) ready.was (sure.can (subst IsBoard (sym ready.was) valid))) some
+        (subst (λ o. RestsOnTops (reach cards) o n) ready.was sure.tops) (subst (λ (o : Board). IsJoint o.strain (reach cards) o 0 m) ready.was sure.joint)
+
+-- an opponent's side is the other one
+pub others-side : (p : Board) (h : Seat) → Opposes p h → side_of h ≡ other_side (side_of p.first)
+others-side p h opposes = elim opposes [ inl at ↦ ap side_of at ∙ next p.first | inr at ↦ ap side_of at ∙ last p.first ]
+  where
+    next : (f : Seat) → side_of (seat_after f 1) ≡ other_side (side_of f)
+    next North = refl
+    next East = refl
+    next South = refl
+    next West = refl
+
+    last : (f : Seat) → side_of (seat_after f 3) ≡ other_side (side_of f)
+    last North = refl
+    last East = refl
+    last South = refl
+    last West = refl
+
+-- a list of one card
+pub alone : (cards : List PlayingCard) (c : PlayingCard) → 1 ≤ length cards → length cards < 2 → c ≡ get_or cards 0 c → cards ≡ c ∷ []
+alone [] c some few is = absurd (omega (arith, some))
+alone (d ∷ []) c some few is = ap (λ x. x ∷ []) (sym is)
+alone (d ∷ e ∷ cards) c some few is = absurd (omega (arith, few))

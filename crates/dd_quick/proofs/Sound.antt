@@ -191,7 +191,7 @@ tops-only : (strain : Strain) (floor : ℕ) → OnlyTrumps strain (is_top strain
 tops-only strain floor c e = ap (λ b. b && nat_le floor c.rank) e
 
 -- Joint trumps take their tricks, also later, where the two hands have lost none of their trumps.
-pub joint-later : (strain : Strain) (o q : Board) (a : Seat) (s : Side) (k : ℕ) → IsBoard o → IsBoard q → q.strain ≡ strain → q.trick ≡ [] → is_side s a ≡ true → is_side s (seat_after a 2) ≡ true → k ≤ joint_trumps strain o a
+joint-later : (strain : Strain) (o q : Board) (a : Seat) (s : Side) (k : ℕ) → IsBoard o → IsBoard q → q.strain ≡ strain → q.trick ≡ [] → is_side s a ≡ true → is_side s (seat_after a 2) ≡ true → k ≤ joint_trumps strain o a
     → ((x : Seat) (c : PlayingCard) → has_card (cards_at q x) c ≡ true → has_card (cards_at o x) c ≡ true)
     → ((test : PlayingCard → Bool) → OnlyTrumps strain test → count test (cards_at q a) ≡ count test (cards_at o a))
     → ((test : PlayingCard → Bool) → OnlyTrumps strain test → count test (cards_at q (seat_after a 2)) ≡ count test (cards_at o (seat_after a 2))) → k ≤ won s q
@@ -272,15 +272,16 @@ can-let p n k valid start can i l m = record {
     opponent (suc (suc (suc zero))) l k other = inr refl
     opponent (suc (suc (suc (suc i)))) l k other = absurd (omega (arith, k))
 
+-- later, where it has lost no trumps, its side still takes its joint trumps
+pub joint-on : (p : Board) (n : Suit → ℕ) (k : ℕ) → IsBoard p → CanTake p n k → (q : Board) → q.trick ≡ [] → IsLater p.strain p (side_of p.first) q → k ≤ won (side_of p.first) q
+joint-on p n k valid can q empty later =
+    joint-later p.strain p q p.first (side_of p.first) k valid later.valid later.same empty (own-side p.first) (partners-side p.first) can.joint later.part
+    (λ test only. ap (λ x. count test (cards_at q x)) (sym later.first) ∙ later.mine test only)
+    (λ test only. ap (λ x. count test (cards_at q (seat_after x 2))) (sym later.first) ∙ later.partners test only)
+
 -- then it takes so many tricks
 pub can-take : (p : Board) (n : Suit → ℕ) (k : ℕ) → IsBoard p → p.trick ≡ [] → CanTake p n k → total n + k ≤ won (side_of p.first) p
 can-take p n k valid start can =
-    cashed-all (total n) k p.strain p (is_winner p p.first) n (side_of p.first) p rest (λ c own winner x e away his suits. no-higher p valid p.first x c e away winner own his suits) refl start
+    cashed-all (total n) k p.strain p (is_winner p p.first) n (side_of p.first) p (joint-on p n k valid can) (λ c own winner x e away his suits. no-higher p valid p.first x c e away winner own his suits) refl start
     (record { valid = valid; same = refl; ours = own-side p.first; first = refl; part = λ x c h. h; mine = λ test only. refl; partners = λ test only. refl })
     (record { held = can.held; plain = λ u c some e. same-trump p.strain c (card_of u 0) e ∙ can.plain u some }) (can-let p n k valid start can)
-  where
-    rest : (q : Board) → q.trick ≡ [] → IsLater p.strain p (side_of p.first) q → k ≤ won (side_of p.first) q
-    rest q empty later =
-        joint-later p.strain p q p.first (side_of p.first) k valid later.valid later.same empty (own-side p.first) (partners-side p.first) can.joint later.part
-        (λ test only. ap (λ x. count test (cards_at q x)) (sym later.first) ∙ later.mine test only)
-        (λ test only. ap (λ x. count test (cards_at q (seat_after x 2))) (sym later.first) ∙ later.partners test only)
