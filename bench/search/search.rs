@@ -361,6 +361,51 @@ fn against_leader(position: &Position, need: u8) -> Option<u64> {
     if need <= joint_trumps(position, left) { Some(with_trumps(position, left, 0, need)) } else { None }
 }
 
+// The opponent of the leader with the highest card left of the suit led, where an opponent has it.
+fn heading(position: &Position, led: Card) -> Option<Seat> {
+    let [left, partner, right] = others(position.first);
+    let best = |seat| match position.holding(seat, led.suit) {
+        0 => 0,
+        holding => highest(holding),
+    };
+    let (second, fourth) = (best(left), best(right));
+    let others = best(position.first).max(best(partner)).max(led.rank);
+    if second > others.max(fourth) {
+        Some(left)
+    } else if fourth > others.max(second) {
+        Some(right)
+    } else {
+        None
+    }
+}
+
+// After the lead: the opponents' winners, that of the suit led the first of them, counted in the position before it.
+fn for_second_hand(position: &Position, need: u8) -> Option<u64> {
+    if position.played != 1 {
+        return None;
+    }
+    let led = position.trick[0];
+    let seat = heading(position, led)?;
+    let mut hands = position.hands;
+    hands[position.first as usize] |= 1 << led.place();
+    let before = Position { hands, strain: position.strain, first: seat, trick: position.trick, played: 0 };
+    let (mut cash, side, trumps) = leaders(&before);
+    let suit = led.suit as usize;
+    if need == 0 || cash[suit].tricks == 0 || side == 0 || need > side + trumps {
+        return None;
+    }
+    let side = need.min(side);
+    let depths = cash.map(|cash| cash.depth);
+    cash[suit].tricks -= 1;
+    let mut shares = shares(&cash, side - 1);
+    shares[suit] += 1;
+    let mut cards = 0;
+    for ((suit, depth), share) in SUITS.into_iter().zip(depths).zip(shares) {
+        cards = with_highest(cards, suit, winners(&before, seat, suit), share.min(depth));
+    }
+    Some(with_trumps(&before, seat, cards, need - side))
+}
+
 // ------------------------------------------------------------------ what answers rest on
 
 /// The cards left in the four hands.
@@ -521,6 +566,14 @@ fn quick(position: &Position, leaders: u8) -> Option<Answer> {
     Some(Answer { yes: !leads, cards })
 }
 
+// The answer after the lead by second hand's winners.
+fn seconds_answer(position: &Position, need: u8) -> Option<Answer> {
+    let leads = position.first.is_north_south();
+    let others = if leads { position.tricks_left() + 1 - need } else { need };
+    let cards = for_second_hand(position, others)?;
+    Some(Answer { yes: !leads, cards })
+}
+
 impl<B: Bounds> Search<B> {
     fn known(&mut self, position: &Position, need: u8) -> Option<Answer> {
         let leads = position.first.is_north_south();
@@ -546,6 +599,8 @@ impl<B: Bounds> Search<B> {
             if let Some(answer) = self.known(position, need) {
                 return answer;
             }
+        } else if let Some(answer) = seconds_answer(position, need) {
+            return answer;
         }
         let ours = position.mover().is_north_south();
         let mut list = [(Card { suit: Suit::Spades, rank: 2 }, 0); 13];

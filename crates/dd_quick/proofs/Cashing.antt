@@ -35,12 +35,12 @@ use Rattle.dd_quick.proofs.Hands.{places-on}
 -- ---- the card led wins
 
 -- no card of the list is a trump
-no-trump : (strain : Strain) (cards : List PlayingCard) → ((e : PlayingCard) → has_card cards e ≡ true → is_trump strain e ≡ false) → filter (is_trump strain) cards ≡ []
+pub no-trump : (strain : Strain) (cards : List PlayingCard) → ((e : PlayingCard) → has_card cards e ≡ true → is_trump strain e ≡ false) → filter (is_trump strain) cards ≡ []
 no-trump strain [] each = refl
 no-trump strain (c ∷ cards) each = rw (each c (has-first c cards)) (no-trump strain cards (λ e h. each e (in-rest c e cards h)))
 
 -- no card of the suit is higher
-none-higher : (m : PlayingCard) (cards : List PlayingCard) → ((e : PlayingCard) → has_card cards e ≡ true → e.suit ≡ m.suit → e.rank ≤ m.rank) → list_all (λ e. nat_le e.rank m.rank) (filter (is_of m.suit) cards) ≡ true
+pub none-higher : (m : PlayingCard) (cards : List PlayingCard) → ((e : PlayingCard) → has_card cards e ≡ true → e.suit ≡ m.suit → e.rank ≤ m.rank) → list_all (λ e. nat_le e.rank m.rank) (filter (is_of m.suit) cards) ≡ true
 none-higher m [] each = refl
 none-higher m (c ∷ cards) each = go (is_of m.suit c) refl (none-higher m cards (λ e h. each e (in-rest c e cards h)))
   where
@@ -154,7 +154,7 @@ same-trump (Trump t) c d e = ap (λ u. suit_code u == suit_code t) e
 same-trump Notrump c d e = refl
 
 -- a card is one of its own suit in all
-one-total : (m : PlayingCard) → total (one_card m) ≡ 1
+pub one-total : (m : PlayingCard) → total (one_card m) ≡ 1
 one-total m = go m.suit
   where
     go : (u : Suit) → flag_of (suit_code u == 0) + flag_of (suit_code u == 1) + flag_of (suit_code u == 2) + flag_of (suit_code u == 3) ≡ 1
@@ -164,13 +164,13 @@ one-total m = go m.suit
     go Clubs = refl
 
 -- a hand that has the card m's suit follows suit to it
-abbrev FollowsSuit : PlayingCard → List PlayingCard → PlayingCard → Type 0
+abbrev pub FollowsSuit : PlayingCard → List PlayingCard → PlayingCard → Type 0
 FollowsSuit m hand c = 1 ≤ count_of m.suit hand → c.suit ≡ m.suit
 
 -- a hand that plays a card c to such a lead lets the others be cashed
 module _ (strain : Strain) (sure : PlayingCard → Bool) (n : Suit → ℕ) (i : ℕ) (own his rest : List PlayingCard) (m c : PlayingCard)
     (lets : LetsCash strain sure n (one_card m) i own his) (taken : (test : PlayingCard → Bool) → count test rest + flag_of (test c) ≡ count test his)
-    (suits : FollowsSuit m his c) (throw : i ≡ 2 → is_trump strain c ≡ false) where
+    (suits : FollowsSuit m his c) where
   -- of the suit led it has one fewer, if it had any
   one-fewer : 1 ≤ count_of m.suit his → count_of m.suit rest + 1 ≡ count_of m.suit his
   one-fewer some = (let t = taken (is_of m.suit) in let one : flag_of (is_of m.suit c) ≡ 1 = ap flag_of (of-suit' m.suit c (suits some)) in omega (arith, t, one))
@@ -220,12 +220,16 @@ module _ (strain : Strain) (sure : PlayingCard → Bool) (n : Suit → ℕ) (i :
   throws-on two =
       let before = lets.throws two in
       let one = one-total m in
-      let plain : flag_of (is_plain strain c) ≡ 1 = ap (λ b. flag_of (not b)) (throw two) in
+      let most : flag_of (is_plain strain c) ≤ 1 = flag-one (is_plain strain c) in
       let t = taken (is_plain strain) in
-      omega (arith, before, one, plain, t)
+      omega (arith, before, one, most, t)
+    where
+      flag-one : (b : Bool) → flag_of b ≤ 1
+      flag-one true = omega arith
+      flag-one false = omega arith
 
   -- in one
-  played-on : LetsCash strain sure n no_cards i own rest
+  pub played-on : LetsCash strain sure n no_cards i own rest
   played-on = record { yields = yields-on; follows = follows-on; throws = throws-on }
 
 -- a card c that is no trump is played to such a trick
@@ -346,7 +350,7 @@ module _ (strain : Strain) (o : Board) (sure : PlayingCard → Bool) (n : Suit �
   done-after i l k = subst (λ cards. LetsCash strain sure n no_cards i cards (hand_on (after p c) i)) (sym leaders-hand) (elim (eqb_tells i (length p.trick)) [
     | inl r ↦ subst (λ j. LetsCash strain sure n no_cards j (cards_at p p.first) (hand_on (after p c) j)) (sym r.1)
         (subst (λ cards. LetsCash strain sure n no_cards (length p.trick) (cards_at p p.first) cards) (sym movers-hand)
-        (played-on strain sure n (length p.trick) (cards_at p p.first) (cards_at p (mover p)) (cards_at (after p c) (mover p)) m c mover-lets (λ test. count-own test p c from.valid has) suited (λ two. plain)))
+        (played-on strain sure n (length p.trick) (cards_at p p.first) (cards_at p (mover p)) (cards_at (after p c) (mover p)) m c mover-lets (λ test. count-own test p c from.valid has) suited))
     | inr r ↦ (let short = from.valid.short in subst (λ cards. LetsCash strain sure n no_cards i (cards_at p p.first) cards) (sym (other-hand i (omega (arith, k, short)) r.1)) (now.done i l (omega (arith, k, r.1))))
   ])
 
@@ -372,14 +376,14 @@ module _ (strain : Strain) (o : Board) (sure : PlayingCard → Bool) (n : Suit �
 -- ---- one trick
 
 -- the partner is of the same side
-partner-too : (s : Side) (h : Seat) → is_side s h ≡ true → is_side s (seat_after h 2) ≡ true
+pub partner-too : (s : Side) (h : Seat) → is_side s h ≡ true → is_side s (seat_after h 2) ≡ true
 partner-too s North e = e
 partner-too s East e = e
 partner-too s South e = e
 partner-too s West e = e
 
 -- a hand with a card that is no trump has such a card to play to a lead that is no trump
-plain-card : (strain : Strain) (m : PlayingCard) (rest hand : List PlayingCard) → is_trump strain m ≡ false → 1 ≤ count (is_plain strain) hand
+pub plain-card : (strain : Strain) (m : PlayingCard) (rest hand : List PlayingCard) → is_trump strain m ≡ false → 1 ≤ count (is_plain strain) hand
     → (c : PlayingCard) × (has_card (following (m ∷ rest) hand) c ≡ true) × (is_trump strain c ≡ false)
 plain-card strain m rest hand plain some = elim (cases_lt 0 (count_of m.suit hand)) [
   | inl l ↦ (
@@ -448,7 +452,7 @@ abbrev pub less : (Suit → ℕ) → PlayingCard → Suit → ℕ
 less n c u = n u - flag_of (is_of u c)
 
 -- one fewer in all
-total-less : (n : Suit → ℕ) (c : PlayingCard) → 1 ≤ n c.suit → total (less n c) + 1 ≡ total n
+pub total-less : (n : Suit → ℕ) (c : PlayingCard) → 1 ≤ n c.suit → total (less n c) + 1 ≡ total n
 total-less n c h = go c.suit h
   where
     go : (u : Suit) → 1 ≤ n u → (n Spades - flag_of (suit_code u == 0)) + (n Hearts - flag_of (suit_code u == 1)) + (n Diamonds - flag_of (suit_code u == 2)) + (n Clubs - flag_of (suit_code u == 3)) + 1 ≡ n Spades + n Hearts + n Diamonds + n Clubs
@@ -468,7 +472,7 @@ some-suit n h = elim (cases_lt 0 (n Spades)) [
 ]
 
 -- a hand lets the card m be led, where m is sure or the hand has none of its suit
-lets-lead : (strain : Strain) (sure : PlayingCard → Bool) (n : Suit → ℕ) (i : ℕ) (own rest his : List PlayingCard) (m : PlayingCard) → LetsCash strain sure n no_cards i own his → 1 ≤ n m.suit
+pub lets-lead : (strain : Strain) (sure : PlayingCard → Bool) (n : Suit → ℕ) (i : ℕ) (own rest his : List PlayingCard) (m : PlayingCard) → LetsCash strain sure n no_cards i own his → 1 ≤ n m.suit
     → ((u : Suit) → sure_of sure u rest + flag_of (is_of u m && sure m) ≡ sure_of sure u own) → (sure m ≡ true) ⊎ (count_of m.suit his ≡ 0) → LetsCash strain sure (less n m) (one_card m) i rest his
 lets-lead strain sure n i own rest his m lets some_m taken good = record {
   yields = λ u. yields u (is_of u m) refl;

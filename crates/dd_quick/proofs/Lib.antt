@@ -10,3 +10,5 @@ pub mod Claims
 pub mod Highest
 pub mod Reached
 pub mod Shares
+pub mod LeadBack
+pub mod SecondHand

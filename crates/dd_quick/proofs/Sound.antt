@@ -243,43 +243,45 @@ trumps-count Notrump p x = none (cards_at p x)
     none [] = refl
     none (c ∷ cards) = none cards
 
+-- so each hand that does not lead lets these cards be cashed
+pub can-let : (p : Board) (n : Suit → ℕ) (k : ℕ) → IsBoard p → p.trick ≡ [] → CanTake p n k → AllLetCash p.strain (is_winner p p.first) n p
+can-let p n k valid start can i l m = record {
+  yields = λ u. (let y = can.yields u i l m in omega (arith, y));
+  follows = λ other. elim (can.follows i (opponent i l m other)) [
+    | inl none ↦ inl (trumps-count p.strain p (seat_after p.first i) ∙ none)
+    | inr each ↦ inr (λ u. (let y = each u in omega (arith, y)))
+  ];
+  throws = λ two. (
+      let all = trumps-plain p.strain (hand_on p i) in
+      let trumps = trumps-count p.strain p (seat_after p.first i) in
+      let same : trumps_at p.strain p (seat_after p.first i) ≡ trumps_at p.strain p (seat_after p.first 2) = ap (λ j. trumps_at p.strain p (seat_after p.first j)) two in
+      let many = can.throws in
+      let even = valid.even i m in
+      let none : length p.trick ≡ 0 = ap length start in
+      let flag : flag_of (nat_lt i (length p.trick)) ≡ 0 = ap flag_of (not-under i (length p.trick) none) in
+      omega (arith, all, trumps, same, many, even, flag));
+}
+  where
+    not-under : (a b : ℕ) → b ≡ 0 → nat_lt a b ≡ false
+    not-under a b h = grind (arith, nat_tests)
+
+    opponent : (i : ℕ) → 1 ≤ i → i < 4 → i ≢ 2 → IsOpposed i
+    opponent zero l k other = absurd (omega (arith, l))
+    opponent (suc zero) l k other = inl refl
+    opponent (suc (suc zero)) l k other = absurd (other refl)
+    opponent (suc (suc (suc zero))) l k other = inr refl
+    opponent (suc (suc (suc (suc i)))) l k other = absurd (omega (arith, k))
+
+-- later, where it has lost no trumps, its side still takes its joint trumps
+pub joint-on : (p : Board) (n : Suit → ℕ) (k : ℕ) → IsBoard p → CanTake p n k → (q : Board) → q.trick ≡ [] → IsLater p.strain p (side_of p.first) q → k ≤ won (side_of p.first) q
+joint-on p n k valid can q empty later =
+    joint-later p.strain p q p.first (side_of p.first) k valid later.valid later.same empty (own-side p.first) (partners-side p.first) can.joint later.part
+    (λ test only. ap (λ x. count test (cards_at q x)) (sym later.first) ∙ later.mine test only)
+    (λ test only. ap (λ x. count test (cards_at q (seat_after x 2))) (sym later.first) ∙ later.partners test only)
+
 -- then it takes so many tricks
 pub can-take : (p : Board) (n : Suit → ℕ) (k : ℕ) → IsBoard p → p.trick ≡ [] → CanTake p n k → total n + k ≤ won (side_of p.first) p
 can-take p n k valid start can =
-    cashed-all (total n) k p.strain p (is_winner p p.first) n (side_of p.first) p rest (λ c own winner x e away his suits. no-higher p valid p.first x c e away winner own his suits) refl start
+    cashed-all (total n) k p.strain p (is_winner p p.first) n (side_of p.first) p (joint-on p n k valid can) (λ c own winner x e away his suits. no-higher p valid p.first x c e away winner own his suits) refl start
     (record { valid = valid; same = refl; ours = own-side p.first; first = refl; part = λ x c h. h; mine = λ test only. refl; partners = λ test only. refl })
-    (record { held = can.held; plain = λ u c some e. same-trump p.strain c (card_of u 0) e ∙ can.plain u some }) lets
-  where
-    rest : (q : Board) → q.trick ≡ [] → IsLater p.strain p (side_of p.first) q → k ≤ won (side_of p.first) q
-    rest q empty later =
-        joint-later p.strain p q p.first (side_of p.first) k valid later.valid later.same empty (own-side p.first) (partners-side p.first) can.joint later.part
-        (λ test only. ap (λ x. count test (cards_at q x)) (sym later.first) ∙ later.mine test only)
-        (λ test only. ap (λ x. count test (cards_at q (seat_after x 2))) (sym later.first) ∙ later.partners test only)
-
-    lets : AllLetCash p.strain (is_winner p p.first) n p
-    lets i l k = record {
-      yields = λ u. (let y = can.yields u i l k in omega (arith, y));
-      follows = λ other. elim (can.follows i (opponent i l k other)) [
-        | inl none ↦ inl (trumps-count p.strain p (seat_after p.first i) ∙ none)
-        | inr each ↦ inr (λ u. (let y = each u in omega (arith, y)))
-      ];
-      throws = λ two. (
-          let all = trumps-plain p.strain (hand_on p i) in
-          let trumps = trumps-count p.strain p (seat_after p.first i) in
-          let same : trumps_at p.strain p (seat_after p.first i) ≡ trumps_at p.strain p (seat_after p.first 2) = ap (λ j. trumps_at p.strain p (seat_after p.first j)) two in
-          let many = can.throws in
-          let even = valid.even i k in
-          let none : length p.trick ≡ 0 = ap length start in
-          let flag : flag_of (nat_lt i (length p.trick)) ≡ 0 = ap flag_of (not-under i (length p.trick) none) in
-          omega (arith, all, trumps, same, many, even, flag));
-    }
-      where
-        not-under : (a b : ℕ) → b ≡ 0 → nat_lt a b ≡ false
-        not-under a b h = grind (arith, nat_tests)
-
-        opponent : (i : ℕ) → 1 ≤ i → i < 4 → i ≢ 2 → IsOpposed i
-        opponent zero l k other = absurd (omega (arith, l))
-        opponent (suc zero) l k other = inl refl
-        opponent (suc (suc zero)) l k other = absurd (other refl)
-        opponent (suc (suc (suc zero))) l k other = inr refl
-        opponent (suc (suc (suc (suc i)))) l k other = absurd (omega (arith, k))
+    (record { held = can.held; plain = λ u c some e. same-trump p.strain c (card_of u 0) e ∙ can.plain u some }) (can-let p n k valid start can)

@@ -73,16 +73,16 @@ pub fn against_leader(start: &TrickStart, need: u8) -> Option<Hand>
     }
 }
 
-// What the leader's side is sure of: what the leader cashes in each side suit and in all, and the side's joint trumps.
+/// What the leader's side is sure of: what the leader cashes in each side suit and in all, and the side's joint trumps.
 #[derive(Clone, Copy)]
-struct Sure {
-    cashed: Cashes,
-    side: u8,
-    trumps: u8,
+pub(crate) struct Sure {
+    pub(crate) cashed: Cashes,
+    pub(crate) side: u8,
+    pub(crate) trumps: u8,
 }
 
-// What the leader's side is sure of.
-fn leaders(position: &Position) -> Sure
+/// What the leader's side is sure of.
+pub(crate) fn leaders(position: &Position) -> Sure
     requires { position.now.trick ≡ [] }
     ensures spades { IsCash position.now Spades
         result.cashed.spades.tricks result.cashed.spades.depth }

@@ -15,7 +15,7 @@ use crate::answer::Answer;
 use crate::claim::Claim;
 use crate::table::Bounds;
 use dd_play::{Interval, Position, TrickStart};
-use dd_quick::{against_leader, bounds as quick_bounds, for_leader};
+use dd_quick::{against_leader, bounds as quick_bounds, for_leader, for_second_hand};
 use dd_rank::Depths;
 
 /// Do North and South take at least `need` of the tricks left, where the quick bounds or, after them, a look settle it?
@@ -71,6 +71,20 @@ fn quick(start: &TrickStart, need: u8) -> Option<Answer>
         return Some(Answer { yes: leads, cards });
     }
     let cards = against_leader(start, against)?;
+    Some(Answer { yes: !leads, cards })
+}
+
+/// The same after the lead, where an opponent of the leader has the highest card of its suit and quick tricks from there.
+#[inline]
+pub(crate) fn second_hands_answer(position: &Position, need: u8) -> Option<Answer>
+    requires { need ≤ left position.now }
+    ensures answer { IfSome result (λ answer. IsAnswerBy position.now need answer.cards answer.yes) }
+    ensures board { IsBoard position.now }
+{
+    let leads = position.first().is_north_south();
+    let left = position.tricks_left();
+    let others = if leads { left + 1 - need } else { need };
+    let cards = for_second_hand(position, others)?;
     Some(Answer { yes: !leads, cards })
 }
 
