@@ -4,7 +4,7 @@ ghost use Rattle.clap.specs.Words.{app_of, fault_of, found_of, kind_of, rows_of,
 ghost use Rattle.dd_program.specs.CommandLine.{Asks, HasDefaults, IsInRange};
 ghost use Rattle.dd_program.specs.Program.{budget_rule, entries_rule, program_app, solve_app, number_of, HasNumbers, IsOption, IsSubcommand};
 
-use crate::help::REQUESTS;
+use crate::help::requests;
 use clap::error::ErrorKind;
 use clap::{Arg, ArgMatches, Command, Error, value_parser};
 use dd_shard::MOST_SHAPES;
@@ -126,7 +126,7 @@ fn solve_command<'a>(alloc: Global) -> Result<Command<'a>, AllocError>
         .about(
             "Answers each request line of the standard input with a reply line on the standard output",
         )
-        .after_help(REQUESTS)
+        .after_help(requests())
         .arg(budget_option(alloc))?
         .arg(entries_option(alloc))
 }

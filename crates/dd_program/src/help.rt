@@ -1,7 +1,10 @@
 //! What the help of `solve` says of requests and replies.
 
 /// Requests, replies, faults and the status of the end.
-pub const REQUESTS: &str = "\
+///
+/// A function and no constant: what mentions it is then proved without its letters.
+pub fn requests() -> &'static str {
+    "\
 A request is one line of JSON of at most 4096 bytes:
 
   {\"do\":\"solve\",\"deal\":\"N:32... K4... AQ... 65...\",\"trump\":4,\"first\":0,\"solutions\":3}
@@ -48,4 +51,5 @@ Of several the first in this order is told: 2, 1, 3, 4, 5, 6 (in the deal), 9, 1
 the trick), 7, 8.
 
 Exit status: 0 at the end of the input, 1 where a read or a write failed or memory ran out
-before any input was read, and 2 for a bad command line.";
+before any input was read, and 2 for a bad command line."
+}

@@ -44,9 +44,15 @@ fn bit_r_of_a_mask_stands_for_the_rank_r(rt: HostRuntime) {
 fn ace_queen_two_runs_down_from_the_ace(rt: HostRuntime) {
     let holding = holding_of(&[2, 14, 12]);
     let (ace, queen, two) = (Rank::of(14), Rank::of(12), Rank::of(2));
+    let same = holding == holding_of(&[14, 12, 2]);
     assert_eq!(rt;
-        (holding.len(), holding.has(queen), holding.has(Rank::of(13))),
-        (3, true, false)
+        (
+            holding.len(),
+            holding.has(queen),
+            holding.has(Rank::of(13)),
+            same
+        ),
+        (3, true, false, true)
     );
     let down = [
         holding.highest(),
