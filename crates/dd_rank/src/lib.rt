@@ -23,6 +23,3 @@ pub use likeness::are_alike;
 pub use owner_strings::OwnerStrings;
 pub use rank_key::RankKey;
 pub use shape::Shape;
-
-#[cfg(test)]
-mod tests;
