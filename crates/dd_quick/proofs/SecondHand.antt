@@ -1,12 +1,11 @@
 -- Second hand wins. A card of a suit is led whose highest card an opponent h of the leader holds, who has not played yet. What
 -- h could take with the lead in the position before, with that card as the first of its tricks, its side takes now.
-use Rattle.std.proofs.Common.{◌≡◌, ◌≢◌, ℕ, ◌+◌, ◌-◌, ◌*◌, ◌<◌, ◌≤◌, Bool, true, false, refl, sym, ap, ◌∙◌, subst, arith, List, [], ◌∷◌, length, get_or, inl, inr, zero-le}
+use Rattle.std.proofs.Common.{◌≡◌, ◌≢◌, ℕ, ◌+◌, ◌-◌, ◌*◌, ◌<◌, ◌≤◌, Bool, true, false, refl, sym, ap, ◌∙◌, subst, arith, List, [], ◌∷◌, inl, inr, zero-le}
 use Rattle.std.specs.Prelude.{nat_lt, min, ◌&&◌, ◌||◌}
 use mathlib.Core.Bool.{not}
 use mathlib.Core.Path.{ap₂}
 use Rattle.std.proofs.lemmas.Bool.{ltb-true, cases_lt}
 use Rattle.dd_cards.specs.declared.seat.Seat.{Seat}
-use Rattle.dd_cards.specs.declared.seat.Seat.TheVariants.{North, East, South, West}
 use Rattle.dd_cards.specs.declared.suit.Suit.{Suit}
 use Rattle.dd_cards.specs.declared.strain.Strain.{Strain}
 use Rattle.dd_cards.specs.declared.strain.Strain.TheVariants.{Trump, Notrump}
@@ -14,7 +13,7 @@ use Rattle.dd_cards.specs.PlayingCard.{PlayingCard}
 use Rattle.dd_cards.specs.Cards.{card_of, is_of, has_card, without}
 use Rattle.dd_cards.specs.Hands.{times}
 use Rattle.dd_cards.specs.Seats.{seat_code, seat_after}
-use Rattle.dd_cards.specs.Sides.{side_of, other_side, is_side}
+use Rattle.dd_cards.specs.Sides.{side_of, is_side}
 use Rattle.dd_cards.proofs.CallerLemmas.{and-left, and-right, else-false, is-same}
 use Rattle.dd_play.specs.Board.{Board, IsBoard, cards_at, left}
 use Rattle.dd_play.specs.Tricks.{is_trump}
@@ -23,7 +22,7 @@ use Rattle.dd_play.specs.Reach.{TakesBy, reach}
 use Rattle.dd_play.specs.Won.{won}
 use Rattle.dd_play.proofs.CallerLemmas.{after-code, code-lt, count, count-has, count-some, count-without, flag_of, of-suit', once-in, suit-of, times-has, turn-turn}
 use Rattle.dd_quick.specs.QuickTricks.{RestsOnTrumps, beats, is_unbeaten, is_winner, joint_trumps, length_at, run, trumps_at, unbeaten}
-use Rattle.dd_quick.specs.SecondHand.{IsBeforeLead, Opposes, unled}
+use Rattle.dd_quick.specs.SecondHand.{IsBeforeLead, unled}
 use Rattle.dd_quick.proofs.Claims.{IsSure}
 use Rattle.dd_quick.proofs.Cashing.{AllLetCash, HasCards, IsLater, IsMaster, LetsCash, cashed-all, hand_on, is_plain, less, lets-lead, no_cards, one_card, one-total, same-trump, sure_of, total, total-less}
 use Rattle.dd_quick.proofs.Hands.{IsOpposed, no-higher}
@@ -343,25 +342,3 @@ trump-claim p c before cards n m ready sure trump some tops spare = elim ready.s
 pub none-rest : (strain : Strain) (p : Board) (seat : Seat) (cards : List PlayingCard) → RestsOnTrumps strain p seat cards 0
 none-rest Notrump p seat cards = tt
 none-rest (Trump t) p seat cards = inl (omega arith)
-
--- an opponent's side is the other one
-pub others-side : (p : Board) (h : Seat) → Opposes p h → side_of h ≡ other_side (side_of p.first)
-others-side p h opposes = elim opposes [ inl at ↦ ap side_of at ∙ next p.first | inr at ↦ ap side_of at ∙ last p.first ]
-  where
-    next : (f : Seat) → side_of (seat_after f 1) ≡ other_side (side_of f)
-    next North = refl
-    next East = refl
-    next South = refl
-    next West = refl
-
-    last : (f : Seat) → side_of (seat_after f 3) ≡ other_side (side_of f)
-    last North = refl
-    last East = refl
-    last South = refl
-    last West = refl
-
--- a list of one card
-pub alone : (cards : List PlayingCard) (c : PlayingCard) → 1 ≤ length cards → length cards < 2 → c ≡ get_or cards 0 c → cards ≡ c ∷ []
-alone [] c some few is = absurd (omega (arith, some))
-alone (d ∷ []) c some few is = ap (λ x. x ∷ []) (sym is)
-alone (d ∷ e ∷ cards) c some few is = absurd (omega (arith, few))
