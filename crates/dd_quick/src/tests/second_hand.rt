@@ -154,7 +154,7 @@ fn the_highest_card_of_the_suit_led_wins_and_more_are_cashed(rt: HostRuntime) {
 fn the_highest_trump_wins_and_side_suits_are_cashed(rt: HostRuntime) {
     let table = [
         (
-            ["32...", "AK...", "54...", "76..."],
+            ["32...", "AK...", "54...", "7.2.."],
             2,
             Some([2, 0, 0, 0]),
             "the ace and the king",
@@ -172,13 +172,13 @@ fn the_highest_trump_wins_and_side_suits_are_cashed(rt: HostRuntime) {
             "the partner throws its last card",
         ),
         (
-            ["32...", "A4...", "65...", "K7..."],
+            ["32...", "A4...", "65...", "K.2.."],
             1,
             Some([1, 0, 0, 0]),
             "the ace",
         ),
         (
-            ["32...", "A4...", "65...", "K7..."],
+            ["32...", "A4...", "65...", "K.2.."],
             2,
             None,
             "the partner's king is not counted",
@@ -194,6 +194,12 @@ fn the_highest_trump_wins_and_side_suits_are_cashed(rt: HostRuntime) {
             1,
             None,
             "third hand has the ace",
+        ),
+        (
+            ["32...", "AK...", "54...", "76..."],
+            1,
+            None,
+            "the partner has only trumps: not counted",
         ),
     ];
     for (hands, need, want, what) in table {
