@@ -348,11 +348,7 @@ fn for_leader(position: &Position, need: u8) -> Option<u64> {
         return None;
     }
     let side = need.min(side);
-    let shares = shares(&cash, side);
-    let mut cards = 0;
-    for ((suit, cash), share) in SUITS.into_iter().zip(cash).zip(shares) {
-        cards = with_highest(cards, suit, winners(position, position.first, suit), share.min(cash.depth));
-    }
+    let cards = with_shares(position, 0, &cash, shares(&cash, side));
     Some(with_trumps(position, position.first, cards, need - side))
 }
 
@@ -389,21 +385,43 @@ fn for_second_hand(position: &Position, need: u8) -> Option<u64> {
     let mut hands = position.hands;
     hands[position.first as usize] |= 1 << led.place();
     let before = Position { hands, strain: position.strain, first: seat, trick: position.trick, played: 0 };
-    let (mut cash, side, trumps) = leaders(&before);
-    let suit = led.suit as usize;
-    if need == 0 || cash[suit].tricks == 0 || side == 0 || need > side + trumps {
+    match position.strain {
+        Strain::Trump(trump) if trump == led.suit => after_a_trump(&before, led.suit, need),
+        _ => after_a_side_suit(&before, led.suit, need),
+    }
+}
+
+fn after_a_side_suit(before: &Position, suit: Suit, need: u8) -> Option<u64> {
+    let (cash, side, trumps) = leaders(before);
+    if need == 0 || cash[suit as usize].tricks == 0 || side == 0 || need > side + trumps {
         return None;
     }
     let side = need.min(side);
-    let depths = cash.map(|cash| cash.depth);
-    cash[suit].tricks -= 1;
-    let mut shares = shares(&cash, side - 1);
-    shares[suit] += 1;
-    let mut cards = 0;
-    for ((suit, depth), share) in SUITS.into_iter().zip(depths).zip(shares) {
-        cards = with_highest(cards, suit, winners(&before, seat, suit), share.min(depth));
+    let mut fewer = cash;
+    fewer[suit as usize].tricks -= 1;
+    let mut shares = shares(&fewer, side - 1);
+    shares[suit as usize] += 1;
+    Some(with_trumps(before, before.first, with_shares(before, 0, &cash, shares), need - side))
+}
+
+fn after_a_trump(before: &Position, trump: Suit, need: u8) -> Option<u64> {
+    let (cash, sure, _) = leaders(before);
+    let run = winners(before, before.first, trump);
+    let tops = need.min(run.count_ones() as u8);
+    let side = need - tops;
+    let spare = before.tricks_left() - trumps(before, before.first.next().next());
+    if tops == 0 || side > sure || side >= spare {
+        return None;
     }
-    Some(with_trumps(&before, seat, cards, need - side))
+    Some(with_shares(before, with_highest(0, trump, run, tops), &cash, shares(&cash, side)))
+}
+
+fn with_shares(before: &Position, cards: u64, cash: &[Cash; 4], shares: [u8; 4]) -> u64 {
+    let mut cards = cards;
+    for ((suit, cash), share) in SUITS.into_iter().zip(cash).zip(shares) {
+        cards = with_highest(cards, suit, winners(before, before.first, suit), share.min(cash.depth));
+    }
+    cards
 }
 
 // ------------------------------------------------------------------ what answers rest on

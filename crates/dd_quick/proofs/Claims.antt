@@ -135,19 +135,16 @@ pub record IsShared (p : Board) (u : Suit) (cards : List PlayingCard) (n : ℕ) 
   pub few : n ≤ tricks
   pub rests : RestsOn p u cards (min n cards_of)
 
+-- winners that cards reach more cards reach
+pub rests-more : (p : Board) (u : Suit) (few many : List PlayingCard) (n : ℕ) → ((c : PlayingCard) → has_card few c ≡ true → has_card many c ≡ true) → RestsOn p u few n → RestsOn p u many n
+rests-more p u few many n within r =
+    let m = count-where (λ c. (is_of u c && is_winner p p.first c) && reach few c) (λ c. (is_of u c && is_winner p p.first c) && reach many c) (cards_at p p.first) (λ c has pass.
+    ap₂ (λ a b. a && b) (and-left (is_of u c && is_winner p p.first c) (reach few c) pass) (reach-within few many within c (and-right (is_of u c && is_winner p p.first c) (reach few c) pass))) in
+    omega (arith, r, m)
+
 -- with more cards it is so too
 shared-more : (p : Board) (u : Suit) (few many : List PlayingCard) (n : ℕ) → ((c : PlayingCard) → has_card few c ≡ true → has_card many c ≡ true) → IsShared p u few n → IsShared p u many n
-shared-more p u few many n within s = record {
-  tricks = s.tricks;
-  cards_of = s.cards_of;
-  cash = s.cash;
-  few = s.few;
-  rests =
-      let r = s.rests in
-      let m = count-where (λ c. (is_of u c && is_winner p p.first c) && reach few c) (λ c. (is_of u c && is_winner p p.first c) && reach many c) (cards_at p p.first) (λ c has pass.
-      ap₂ (λ a b. a && b) (and-left (is_of u c && is_winner p p.first c) (reach few c) pass) (reach-within few many within c (and-right (is_of u c && is_winner p p.first c) (reach few c) pass))) in
-      omega (arith, r, m);
-}
+shared-more p u few many n within s = record { tricks = s.tricks; cards_of = s.cards_of; cash = s.cash; few = s.few; rests = rests-more p u few many (min n s.cards_of) within s.rests }
 
 -- so many winners are reached that the hand that is i places on yields the share
 shared-tops : (p : Board) (u : Suit) (cards : List PlayingCard) (n i : ℕ) → IsShared p u cards n → 1 ≤ i → i < 4 → min n (length_at p (seat_after p.first i) u) ≤ count (λ c. (is_of u c && is_winner p p.first c) && reach cards c) (cards_at p p.first)

@@ -34,7 +34,7 @@ use Rattle.dd_quick.proofs.Plays.{count-where}
 use Rattle.dd_quick.proofs.Sound.{CanTake, can-take, joint-sure, opponents-side, round}
 
 -- a card of the list that passes
-some-card : (test : PlayingCard → Bool) (cards : List PlayingCard) → list_any test cards ≡ true → (d : PlayingCard) × (has_card cards d ≡ true) × (test d ≡ true)
+pub some-card : (test : PlayingCard → Bool) (cards : List PlayingCard) → list_any test cards ≡ true → (d : PlayingCard) × (has_card cards d ≡ true) × (test d ≡ true)
 some-card test [] h = absurd (cc)
 some-card test (c ∷ cards) h = go (test c) refl (some-card test cards)
   where
@@ -116,7 +116,7 @@ module _ (top : PlayingCard → Bool) (k : ℕ) (to from : PlayingCard → Playi
   both-pass h g = rw (h, g) refl
 
   -- so a run is no shorter than its part of top cards
-  run-covered : (x : Seat) (u : Suit) → count (λ c. (is_of u c && is_winner p x c) && top c) (cards_at p x) ≤ run q (seat_after x k) u
+  pub run-covered : (x : Seat) (u : Suit) → count (λ c. (is_of u c && is_winner p x c) && top c) (cards_at p x) ≤ run q (seat_after x k) u
   run-covered x u = count-image (λ c. is_of u c && is_winner p x c) (λ c. is_of u c && is_winner q (seat_after x k) c) x (λ c h pass tc.
       let of_u = and-left (is_of u c) (is_winner p x c) pass in
       both-pass (of-suit' u (to c) (r.to_suit c ∙ suit-of u c of_u)) (winner-image x c h (and-right (is_of u c) (is_winner p x c) pass) tc))
@@ -132,11 +132,11 @@ module _ (top : PlayingCard → Bool) (k : ℕ) (to from : PlayingCard → Playi
   seat-same i = ap (λ z. seat_after z i) r.first ∙ turn-turn p.first k i
 
   -- their suits are as long
-  length-same : (i : ℕ) (u : Suit) → length_at q (seat_after q.first i) u ≡ length_at p (seat_after p.first i) u
+  pub length-same : (i : ℕ) (u : Suit) → length_at q (seat_after q.first i) u ≡ length_at p (seat_after p.first i) u
   length-same i u = ap (λ y. length_at q y u) (seat-same i) ∙ r.lengths (seat_after p.first i) u
 
   -- and their trumps as many
-  trumps-same : (strain : Strain) (i : ℕ) → trumps_at strain q (seat_after q.first i) ≡ trumps_at strain p (seat_after p.first i)
+  pub trumps-same : (strain : Strain) (i : ℕ) → trumps_at strain q (seat_after q.first i) ≡ trumps_at strain p (seat_after p.first i)
   trumps-same Notrump i = refl
   trumps-same (Trump u) i = length-same i u
 
@@ -165,7 +165,7 @@ by-suits (c ∷ cards) =
     go Clubs = refl
 
 -- as many tricks are left before a trick, where the leaders' suits are as long
-left-same : (p q : Board) → p.trick ≡ [] → q.trick ≡ [] → ((u : Suit) → length_at q q.first u ≡ length_at p p.first u) → left q ≡ left p
+pub left-same : (p q : Board) → p.trick ≡ [] → q.trick ≡ [] → ((u : Suit) → length_at q q.first u ≡ length_at p p.first u) → left q ≡ left p
 left-same p q start empty each =
     let a = by-suits (cards_at p p.first) in
     let b = by-suits (cards_at q q.first) in

@@ -1,26 +1,25 @@
 -- The position before the lead: the card led is back in the leader's hand, and an opponent of the leader has the lead. It is
 -- a legal state of play, and where one position with one card on the trick covers another, so does the one before it.
-use Rattle.std.proofs.Common.{◌≡◌, ◌≢◌, ℕ, zero, suc, ◌+◌, ◌*◌, ◌<◌, ◌≤◌, Bool, true, false, cond, refl, sym, ap, ◌∙◌, subst, arith, List, [], ◌∷◌, length, inl, inr}
-use Rattle.std.specs.Prelude.{filter, nat_lt, ◌==◌, ◌&&◌, ◌||◌, ◌⊎◌}
+use Rattle.std.proofs.Common.{◌≡◌, ◌≢◌, ℕ, suc, ◌+◌, ◌*◌, ◌≤◌, Bool, true, false, cond, refl, sym, ap, ◌∙◌, subst, arith, List, [], ◌∷◌, length, inl, inr}
+use Rattle.std.specs.Prelude.{nat_lt, ◌==◌, ◌&&◌, ◌||◌, ◌⊎◌}
 use mathlib.Core.Bool.{not}
 use Rattle.std.proofs.lemmas.Bool.Decides.{nat_tests}
 use mathlib.Core.Path.{ap₂}
 use Rattle.dd_cards.specs.declared.seat.Seat.{Seat}
-use Rattle.dd_cards.specs.declared.seat.Seat.TheVariants.{North, East, South, West}
 use Rattle.dd_cards.specs.declared.suit.Suit.{Suit}
 use Rattle.dd_cards.specs.PlayingCard.{PlayingCard}
 use Rattle.dd_cards.specs.Ranks.{IsRank}
 use Rattle.dd_cards.specs.Cards.{deck, is_of, has_card, same_card, with_card, without}
-use Rattle.dd_cards.specs.Hands.{IsSet, hand_of, times, with_hand}
+use Rattle.dd_cards.specs.Hands.{IsSet, times}
 use Rattle.dd_cards.specs.Suits.{suit_code}
 use Rattle.dd_cards.specs.Seats.{seat_code, seat_after}
 use Rattle.dd_cards.specs.declared.side.Side.{Side}
 use Rattle.dd_cards.proofs.CallerLemmas.{IsSet-with_card, IsSet-without, and-left, else-false, filter-true, hand_of-with_hand, has_card-filter, has_card-with_card, has_card-without, or-right, same-members, seat_code-injective, same_card-eq, same_card-self, times-cons, times-has_card}
-use Rattle.dd_play.specs.Board.{Board, IsBoard, cards_at, left, mover, times_in}
+use Rattle.dd_play.specs.Board.{Board, IsBoard, cards_at, left, times_in}
 use Rattle.dd_play.specs.Covers.{AllAnswer, Answers, ForMet, IsCover, IsOver, Keeps, count_of}
-use Rattle.dd_play.proofs.CallerLemmas.{after-code, card-real, code-lt, count, count-without, flag_of, hand-other, has-first, of-suit', same-or, times-has, times-hand, times_in-with_hand, turn-apart, turn-turn}
+use Rattle.dd_play.proofs.CallerLemmas.{card-real, count, count-without, flag_of, hand-other, has-first, same-or, times-has, times-hand, times_in-with_hand, turn-apart}
 use Rattle.dd_quick.specs.SecondHand.{unled}
-use Rattle.dd_quick.proofs.Hands.{IsOpposed, places-on}
+use Rattle.dd_quick.proofs.Hands.{places-on}
 
 -- ---- a card put into a hand
 

@@ -11,4 +11,5 @@ pub mod Highest
 pub mod Reached
 pub mod Shares
 pub mod LeadBack
+pub mod TakenTrick
 pub mod SecondHand

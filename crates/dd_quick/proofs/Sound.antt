@@ -3,7 +3,6 @@ use Rattle.std.proofs.Common.{◌≡◌, ◌≢◌, ℕ, zero, suc, ◌+◌, ◌
 use Rattle.std.specs.Prelude.{filter, nat_le, nat_lt, ◌&&◌, ◌⊎◌}
 use mathlib.Core.Path.{ap₂}
 use Rattle.std.proofs.lemmas.Bool.{leb-true, le-leb, cases_lt}
-use Rattle.std.proofs.lemmas.Bool.Decides.{nat_tests}
 use Rattle.dd_cards.specs.declared.seat.Seat.{Seat}
 use Rattle.dd_cards.specs.declared.seat.Seat.TheVariants.{North, East, South, West}
 use Rattle.dd_cards.specs.declared.suit.Suit.{Suit}
@@ -24,7 +23,7 @@ use Rattle.dd_quick.proofs.Hands.{IsOpposed, no-higher, none-over}
 use Rattle.dd_quick.proofs.Plays.{count-where}
 use Rattle.dd_quick.proofs.JointPlans.{is_top, trumps-plain}
 use Rattle.dd_quick.proofs.JointTrumps.{joint-taken, place-of}
-use Rattle.dd_quick.proofs.Cashing.{AllLetCash, IsLater, OnlyTrumps, cashed-all, hand_on, same-trump, total}
+use Rattle.dd_quick.proofs.Cashing.{AllLetCash, IsLater, OnlyTrumps, cashed-all, hand_on, is_plain, no_cards, same-trump, total}
 
 -- ---- two lists
 
@@ -191,7 +190,7 @@ tops-only : (strain : Strain) (floor : ℕ) → OnlyTrumps strain (is_top strain
 tops-only strain floor c e = ap (λ b. b && nat_le floor c.rank) e
 
 -- Joint trumps take their tricks, also later, where the two hands have lost none of their trumps.
-joint-later : (strain : Strain) (o q : Board) (a : Seat) (s : Side) (k : ℕ) → IsBoard o → IsBoard q → q.strain ≡ strain → q.trick ≡ [] → is_side s a ≡ true → is_side s (seat_after a 2) ≡ true → k ≤ joint_trumps strain o a
+pub joint-later : (strain : Strain) (o q : Board) (a : Seat) (s : Side) (k : ℕ) → IsBoard o → IsBoard q → q.strain ≡ strain → q.trick ≡ [] → is_side s a ≡ true → is_side s (seat_after a 2) ≡ true → k ≤ joint_trumps strain o a
     → ((x : Seat) (c : PlayingCard) → has_card (cards_at q x) c ≡ true → has_card (cards_at o x) c ≡ true)
     → ((test : PlayingCard → Bool) → OnlyTrumps strain test → count test (cards_at q a) ≡ count test (cards_at o a))
     → ((test : PlayingCard → Bool) → OnlyTrumps strain test → count test (cards_at q (seat_after a 2)) ≡ count test (cards_at o (seat_after a 2))) → k ≤ won s q
@@ -243,6 +242,15 @@ trumps-count Notrump p x = none (cards_at p x)
     none [] = refl
     none (c ∷ cards) = none cards
 
+-- cards that the partner has beside its trumps are no trumps
+pub plain-left : (p : Board) (x : ℕ) → IsBoard p → p.trick ≡ [] → x + trumps_at p.strain p (seat_after p.first 2) ≤ left p → x ≤ count (is_plain p.strain) (hand_on p 2)
+plain-left p x valid start few =
+    let all = trumps-plain p.strain (hand_on p 2) in
+    let trumps = trumps-count p.strain p (seat_after p.first 2) in
+    let even = valid.even 2 (omega arith) in
+    let flag : flag_of (nat_lt 2 (length p.trick)) ≡ 0 = ap (λ trick. flag_of (nat_lt 2 (length trick))) start in
+    omega (arith, all, trumps, even, flag, few)
+
 -- so each hand that does not lead lets these cards be cashed
 pub can-let : (p : Board) (n : Suit → ℕ) (k : ℕ) → IsBoard p → p.trick ≡ [] → CanTake p n k → AllLetCash p.strain (is_winner p p.first) n p
 can-let p n k valid start can i l m = record {
@@ -251,20 +259,9 @@ can-let p n k valid start can i l m = record {
     | inl none ↦ inl (trumps-count p.strain p (seat_after p.first i) ∙ none)
     | inr each ↦ inr (λ u. (let y = each u in omega (arith, y)))
   ];
-  throws = λ two. (
-      let all = trumps-plain p.strain (hand_on p i) in
-      let trumps = trumps-count p.strain p (seat_after p.first i) in
-      let same : trumps_at p.strain p (seat_after p.first i) ≡ trumps_at p.strain p (seat_after p.first 2) = ap (λ j. trumps_at p.strain p (seat_after p.first j)) two in
-      let many = can.throws in
-      let even = valid.even i m in
-      let none : length p.trick ≡ 0 = ap length start in
-      let flag : flag_of (nat_lt i (length p.trick)) ≡ 0 = ap flag_of (not-under i (length p.trick) none) in
-      omega (arith, all, trumps, same, many, even, flag));
+  throws = λ two. subst (λ j. total no_cards + total n ≤ count (is_plain p.strain) (hand_on p j)) (sym two) (let k = plain-left p (total n) valid start can.throws in omega (arith, k));
 }
   where
-    not-under : (a b : ℕ) → b ≡ 0 → nat_lt a b ≡ false
-    not-under a b h = grind (arith, nat_tests)
-
     opponent : (i : ℕ) → 1 ≤ i → i < 4 → i ≢ 2 → IsOpposed i
     opponent zero l k other = absurd (omega (arith, l))
     opponent (suc zero) l k other = inl refl

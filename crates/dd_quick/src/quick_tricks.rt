@@ -111,8 +111,8 @@ pub(crate) fn leaders(position: &Position) -> Sure
     }
 }
 
-// How many trumps the seat holds.
-fn trumps(position: &Position, seat: Seat) -> u8
+/// How many trumps the seat holds.
+pub(crate) fn trumps(position: &Position, seat: Seat) -> u8
     ensures { result ≡ trumps_at position.now.strain position.now seat }
 {
     match position.strain() {

@@ -3,17 +3,21 @@
 //! it wins this trick with that card whatever comes, and the other hands have followed as they would have to its lead. Its
 //! partner has not played yet, so it can keep what the count rests on; where third hand is to play it has, and the same is
 //! not sound. An opponent that could ruff the first trick leaves nothing to cash in the suit.
-ghost use Rattle.std.specs.Prelude.{◌≡◌, ◌≤◌, ◌+◌, ◌⊎◌, ◌∷◌, [], min, IfSome};
+ghost use Rattle.std.specs.Prelude.{◌≡◌, ◌≤◌, ◌+◌, ◌∷◌, [], true, min, IfSome};
 ghost use Rattle.dd_cards.specs.declared.suit.Suit.TheVariants.{Spades, Hearts, Diamonds, Clubs};
+ghost use Rattle.dd_cards.specs.PlayingCard.{PlayingCard};
+ghost use Rattle.dd_cards.specs.Cards.{has_card};
 ghost use Rattle.dd_cards.specs.Sides.{side_of, other_side};
+ghost use Rattle.dd_play.specs.Tricks.{is_trump};
 ghost use Rattle.dd_play.specs.Reach.{reach, TakesBy};
-ghost use Rattle.dd_quick.specs.QuickTricks.{IsCash, side_tricks, joint_trumps};
+ghost use Rattle.dd_quick.specs.QuickTricks.{IsCash, RestsOn, side_tricks, joint_trumps};
 ghost use Rattle.dd_quick.specs.SecondHand.{IsBeforeLead, Opposes, shares, unled};
 
 use crate::joint_trumps::with_trumps;
 use crate::long_suit::{Cash, Cashes, Shares, share_out, with_winners};
-use crate::quick_tricks::{Sure, leaders};
-use dd_cards::{Card, Hand, Holding, Seat, Suit};
+use crate::quick_tricks::{Sure, leaders, trumps};
+use crate::winners::run;
+use dd_cards::{Card, Hand, Holding, Seat, Strain, Suit};
 use dd_play::Position;
 
 /// Where one card is on the trick, and an opponent of its leader has the highest card left of its suit: the winners on which it
@@ -28,12 +32,50 @@ pub fn for_second_hand(position: &Position, need: u8) -> Option<Hand>
     let led = *led;
     let seat = heading(position, led)?;
     let before = before_lead(position, led, seat)?;
-    let sure = leaders(&before);
+    match position.strain() {
+        Strain::Trump(trump) if trump == led.suit => after_a_trump(position, &before, led, need),
+        _ => after_a_side_suit(position, &before, led, need),
+    }
+}
+
+// The same by what is sure before the lead, where a side suit was led.
+fn after_a_side_suit(position: &Position, before: &Position, led: Card, need: u8) -> Option<Hand>
+    requires { IsBeforeLead position.now led before.now }
+    ensures { IfSome result (λ cards. TakesBy (reach cards) (side_of before.now.first) position.now need) }
+{
+    let sure = leaders(before);
     let first = tricks_in(sure.cashed, led.suit);
     if need == 0 || first == 0 || sure.side == 0 || need > sure.side + sure.trumps {
         return None;
     }
-    Some(winners_of(position, &before, led, sure, need))
+    Some(winners_of(position, before, led, sure, need))
+}
+
+// The same where a trump was led: the seat's trumps that no other hand can beat, and what is cashed in side suits while the
+// partner has one card more to throw, to this trick. Joint trumps are not counted, since two of them may fall on it.
+fn after_a_trump(position: &Position, before: &Position, led: Card, need: u8) -> Option<Hand>
+    requires before { IsBeforeLead position.now led before.now }
+    requires trump { is_trump position.now.strain led ≡ true }
+    ensures { IfSome result (λ cards. TakesBy (reach cards) (side_of before.now.first) position.now need) }
+{
+    let sure = leaders(before);
+    let seat = before.first();
+    let run = run(before, seat, led.suit).len();
+    let tops = need.min(run);
+    let side = need - tops;
+    let spare = before
+        .tricks_left()
+        .saturating_sub(trumps(before, seat.partner()));
+    if tops == 0 || side > sure.side || side >= spare {
+        return None;
+    }
+    let shares = share_out(sure.cashed, side);
+    let cash = Cash {
+        tricks: tops,
+        depth: tops,
+    };
+    let cards = with_winners(before, Hand::new(), led.suit, cash, tops);
+    Some(with_shares(before, cards, sure.cashed, shares))
 }
 
 // The opponent of the leader with the highest card left of the suit led, where an opponent has it.
@@ -142,7 +184,18 @@ fn winners_of(position: &Position, before: &Position, led: Card, sure: Sure, nee
     let cashed = sure.cashed;
     let side = need.min(sure.side);
     let shares = share_out_from(led.suit, cashed, side);
-    let cards = Hand::new();
+    let cards = with_shares(before, Hand::new(), cashed, shares);
+    with_trumps(before, before.first(), cards, need - side)
+}
+
+// These cards and the winners on which these shares rest.
+fn with_shares(before: &Position, cards: Hand, cashed: Cashes, shares: Shares) -> Hand
+    ensures more { (c : PlayingCard) → has_card cards c ≡ true → has_card result c ≡ true }
+    ensures spades { RestsOn before.now Spades result (min shares.spades cashed.spades.depth) }
+    ensures hearts { RestsOn before.now Hearts result (min shares.hearts cashed.hearts.depth) }
+    ensures diamonds { RestsOn before.now Diamonds result (min shares.diamonds cashed.diamonds.depth) }
+    ensures clubs { RestsOn before.now Clubs result (min shares.clubs cashed.clubs.depth) }
+{
     let cards = with_winners(before, cards, Suit::Spades, cashed.spades, shares.spades);
     let cards = with_winners(before, cards, Suit::Hearts, cashed.hearts, shares.hearts);
     let cards = with_winners(
@@ -152,6 +205,5 @@ fn winners_of(position: &Position, before: &Position, led: Card, sure: Sure, nee
         cashed.diamonds,
         shares.diamonds,
     );
-    let cards = with_winners(before, cards, Suit::Clubs, cashed.clubs, shares.clubs);
-    with_trumps(before, before.first(), cards, need - side)
+    with_winners(before, cards, Suit::Clubs, cashed.clubs, shares.clubs)
 }

@@ -149,6 +149,69 @@ fn the_highest_card_of_the_suit_led_wins_and_more_are_cashed(rt: HostRuntime) {
     }
 }
 
+// The same where spades are trumps.
+#[test]
+fn the_highest_trump_wins_and_side_suits_are_cashed(rt: HostRuntime) {
+    let table = [
+        (
+            ["32...", "AK...", "54...", "7.2.."],
+            2,
+            Some([2, 0, 0, 0]),
+            "the ace and the king",
+        ),
+        (
+            ["2.3..", "A.K..", ".54..", ".76.."],
+            2,
+            Some([1, 1, 0, 0]),
+            "a heart after the ace",
+        ),
+        (
+            ["2...", "A...", "..3.", "..4."],
+            1,
+            Some([1, 0, 0, 0]),
+            "the partner throws its last card",
+        ),
+        (
+            ["32...", "A4...", "65...", "K.2.."],
+            1,
+            Some([1, 0, 0, 0]),
+            "the ace",
+        ),
+        (
+            ["32...", "A4...", "65...", "K.2.."],
+            2,
+            None,
+            "the partner's king is not counted",
+        ),
+        (
+            ["42...", "A.K..", "3.5..", "5.6.."],
+            2,
+            None,
+            "North ruffs the heart",
+        ),
+        (
+            ["32...", "K6...", "A4...", "Q7..."],
+            1,
+            None,
+            "third hand has the ace",
+        ),
+        (
+            ["32...", "AK...", "54...", "76..."],
+            1,
+            None,
+            "the partner has only trumps: not counted",
+        ),
+    ];
+    for (hands, need, want, what) in table {
+        let position = after_a_spade(hands, Strain::Trump(Suit::Spades), 2).expect(
+            &rt,
+            "even hands",
+        );
+        let found = for_second_hand(&position, need).map(by_suit);
+        assert_eq!(rt; found, want, "{what}");
+    }
+}
+
 #[test]
 fn the_lead_itself_may_be_the_highest(rt: HostRuntime) {
     let hands = ["A2...", "KQ...", "54...", "76..."];

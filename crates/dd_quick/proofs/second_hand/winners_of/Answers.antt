@@ -1,4 +1,4 @@
-use Rattle.std.proofs.Common.{arith, ap, ◌≡◌, ◌≤◌, ◌-◌, ◌∙◌, subst, sym}
+use Rattle.std.proofs.Common.{arith, ap, ◌≤◌, ◌-◌, subst}
 use Rattle.dd_cards.specs.PlayingCard.{PlayingCard}
 use Rattle.dd_cards.specs.Sides.{side_of}
 use Rattle.dd_play.specs.Board.{Board}
@@ -16,6 +16,7 @@ returns c =
     let of = c.args.sure.cashed in
     let n = c.share_out_from-shares.result in
     let m = c.args.need - c.min-side.result in
+    let cards = c.with_shares-cards.result in
     let trumps = subst (λ x. RestsOnTrumps o.strain o x c.with_trumps.result m) c.first.ensures c.with_trumps.ensures.trumps in
     let sum = c.share_out_from-shares.ensures.sum in
     let need = c.min-side.ensures in
@@ -26,12 +27,12 @@ returns c =
     let d = c.requires.diamonds.0 in
     let k = c.requires.clubs.0 in
     let start = ap (λ (q : Board). q.trick) c.requires.before.was in
-    let sure = leader-sure o c.with_winners-cards.result c.with_winners-cards-2.result c.with_winners-cards-3.result c.with_winners-cards-4.result c.with_trumps.result n.spades n.hearts n.diamonds n.clubs m start
-    (record { tricks = of.spades.tricks; cards_of = of.spades.depth; cash = c.requires.spades; few = c.share_out_from-shares.ensures.spades; rests = c.with_winners-cards.ensures.winners })
-    (record { tricks = of.hearts.tricks; cards_of = of.hearts.depth; cash = c.requires.hearts; few = c.share_out_from-shares.ensures.hearts; rests = c.with_winners-cards-2.ensures.winners })
-    (record { tricks = of.diamonds.tricks; cards_of = of.diamonds.depth; cash = c.requires.diamonds; few = c.share_out_from-shares.ensures.diamonds; rests = c.with_winners-cards-3.ensures.winners })
-    (record { tricks = of.clubs.tricks; cards_of = of.clubs.depth; cash = c.requires.clubs; few = c.share_out_from-shares.ensures.clubs; rests = c.with_winners-cards-4.ensures.winners })
-    c.with_winners-cards-2.ensures.more c.with_winners-cards-3.ensures.more c.with_winners-cards-4.ensures.more c.with_trumps.ensures.more
+    let sure = leader-sure o cards cards cards cards c.with_trumps.result n.spades n.hearts n.diamonds n.clubs m start
+    (record { tricks = of.spades.tricks; cards_of = of.spades.depth; cash = c.requires.spades; few = c.share_out_from-shares.ensures.spades; rests = c.with_shares-cards.ensures.spades })
+    (record { tricks = of.hearts.tricks; cards_of = of.hearts.depth; cash = c.requires.hearts; few = c.share_out_from-shares.ensures.hearts; rests = c.with_shares-cards.ensures.hearts })
+    (record { tricks = of.diamonds.tricks; cards_of = of.diamonds.depth; cash = c.requires.diamonds; few = c.share_out_from-shares.ensures.diamonds; rests = c.with_shares-cards.ensures.diamonds })
+    (record { tricks = of.clubs.tricks; cards_of = of.clubs.depth; cash = c.requires.clubs; few = c.share_out_from-shares.ensures.clubs; rests = c.with_shares-cards.ensures.clubs })
+    (λ e has. has) (λ e has. has) (λ e has. has) c.with_trumps.ensures.more
     (omega (arith, sum, need, side)) (omega (arith, need, side, few)) trumps in
     let first = subst (λ (x : PlayingCard). 1 ≤ shares n.spades n.hearts n.diamonds n.clubs x.suit) c.led.view_is c.share_out_from-shares.ensures.first in
     let claim = second-claim p c.args.led o c.with_trumps.result (shares n.spades n.hearts n.diamonds n.clubs) m c.requires.before sure first in
