@@ -31,20 +31,21 @@ use Rattle.dd_play.proofs.CallerLemmas.{times_in-once}
 use Rattle.dd_pbn.specs.Values.{begins_tag}
 use Rattle.dd_reply.specs.declared.fault.Fault.{Fault}
 use Rattle.dd_reply.specs.declared.fault.Fault.TheVariants.{LineTooLong, NotAnObject, WrongField, CardTwice, WrongTrump, WrongFirst, WrongPlayed, WrongSolutions, UnevenHands, NoCard, OutOfMemory}
-use Rattle.dd_reply.specs.Requests.{SolveFields, Asked, Means, MeansFields, MeansHands, MeansBoard, IsAskedOf, SpellsDeal, SpellsNone, deal_fault, are_cards, pair_of_card, longest_line, object_of, solve_fields}
+use Rattle.dd_reply.specs.Questions.{Question}
+use Rattle.dd_reply.specs.Requests.{SolveFields, Means, MeansFields, MeansHands, MeansBoard, IsAskedOf, SpellsDeal, SpellsNone, deal_fault, are_cards, pair_of_card, longest_line, object_of, solve_fields}
 use Rattle.dd_reply.proofs.Pairs.{is_card}
 use Rattle.dd_reply.proofs.Starts.{means-twice, means-uneven, means-empty, means-some}
 
 -- ---- from the fields to the line
 -- a line that is not too long means what the fields of its object mean
-pub means-fields : (line : List ℕ) (object : Members) (fields : SolveFields) (meaning : Result Asked Fault)
+pub means-fields : (line : List ℕ) (object : Members) (fields : SolveFields) (meaning : Result Question Fault)
     → length line ≤ longest_line → object_of line ≡ Some object → solve_fields object ≡ Some fields → MeansFields fields meaning → Means line meaning
 means-fields line object fields meaning short is has means =
     let test : nat_lt longest_line (length line) ≡ false = le-ltb longest_line (length line) short in
     rw (test, is, has) means
 
 -- with a strain, a leader, cards played and solutions in range the cards together decide
-pub means-cards : (fields : SolveFields) (hands : FourHands) (strain : Strain) (first : Seat) (trick : List PlayingCard) (meaning : Result Asked Fault)
+pub means-cards : (fields : SolveFields) (hands : FourHands) (strain : Strain) (first : Seat) (trick : List PlayingCard) (meaning : Result Question Fault)
     → strain_code strain ≡ fields.trump → fields.trump ≤ 4 → seat_code first ≡ fields.first → fields.first < 4 → map pair_of_card trick ≡ fields.played → are_cards fields.played ≡ true
     → 1 ≤ fields.solutions → fields.solutions ≤ 3 → MeansBoard (board_of hands strain first trick) fields.solutions meaning → MeansHands fields hands meaning
 means-cards fields hands strain first trick meaning trump low leader below played cards least most means =
@@ -66,14 +67,14 @@ at-err (Err e) P holds = holds
 
 -- ---- every line has a meaning
 -- some meaning is such
-abbrev SomeMeaning : (Result Asked Fault → Type 0) → Type 0
-SomeMeaning Is = (meaning : Result Asked Fault) × Is meaning
+abbrev SomeMeaning : (Result Question Fault → Type 0) → Type 0
+SomeMeaning Is = (meaning : Result Question Fault) × Is meaning
 
-by-test : (b : Bool) (P Q : Result Asked Fault → Type 0) → (b ≡ true → SomeMeaning P) → (b ≡ false → SomeMeaning Q) → SomeMeaning (λ m. MatchBool b (P m) (Q m))
+by-test : (b : Bool) (P Q : Result Question Fault → Type 0) → (b ≡ true → SomeMeaning P) → (b ≡ false → SomeMeaning Q) → SomeMeaning (λ m. MatchBool b (P m) (Q m))
 by-test true P Q held failed = held refl
 by-test false P Q held failed = failed refl
 
-by-option : {A : Type 0} (o : Option A) (P : Result Asked Fault → Type 0) (Q : A → Result Asked Fault → Type 0)
+by-option : {A : Type 0} (o : Option A) (P : Result Question Fault → Type 0) (Q : A → Result Question Fault → Type 0)
     → SomeMeaning P → ((x : A) → o ≡ Some x → SomeMeaning (Q x)) → SomeMeaning (λ m. MatchOption o (P m) (λ x. Q x m))
 by-option None P Q none some = none
 by-option (Some x) P Q none some = some x refl
@@ -220,7 +221,7 @@ some-fields fields =
     ]
 
 -- every line has a meaning
-pub some-meaning : (line : List ℕ) → (meaning : Result Asked Fault) × Means line meaning
+pub some-meaning : (line : List ℕ) → (meaning : Result Question Fault) × Means line meaning
 some-meaning line =
     by-test (nat_lt longest_line (length line)) _ _ (λ _. (Err LineTooLong, refl)) (λ _.
     by-option (object_of line) _ _ (Err NotAnObject, refl) (λ members _.
@@ -249,7 +250,7 @@ hands-memory fields hands =
     (by-bool (nat_le 1 fields.solutions && nat_le fields.solutions 3) _ _ (λ asked. board-memory asked.0 fields.solutions asked.2) (λ no. cc))
     (λ no. cc)))
 
-deal-memory : (fault : PbnFault) (meaning : Result Asked Fault) → meaning ≡ Err OutOfMemory → meaning ≡ Err (deal_fault fault) → ⊥
+deal-memory : (fault : PbnFault) (meaning : Result Question Fault) → meaning ≡ Err OutOfMemory → meaning ≡ Err (deal_fault fault) → ⊥
 deal-memory Grammar meaning is e = cc
 deal-memory Absent meaning is e = cc
 deal-memory Twice meaning is e = cc

@@ -19,11 +19,12 @@ use Rattle.dd_pbn.proofs.CallerLemmas.{Reads-tag, Reads-value, failed-read, spel
 use Rattle.dd_play.specs.Board.{Board, board_of, left}
 use Rattle.dd_pbn.specs.Values.{begins_tag}
 use Rattle.dd_reply.specs.declared.fault.Fault.{Fault}
-use Rattle.dd_reply.specs.Requests.{SolveFields, Asked, Means, MeansFields, MeansHands, MeansBoard, IsAskedOf, deal_fault, are_cards, pair_of_card, longest_line, object_of, solve_fields}
+use Rattle.dd_reply.specs.Questions.{Question}
+use Rattle.dd_reply.specs.Requests.{SolveFields, Means, MeansFields, MeansHands, MeansBoard, IsAskedOf, deal_fault, are_cards, pair_of_card, longest_line, object_of, solve_fields}
 use Rattle.dd_reply.proofs.Meanings.{none-twice-decided, even-decided}
 
 abbrev Meaning : Type 0
-Meaning = Result Asked Fault
+Meaning = Result Question Fault
 
 -- two meanings that are one value are one
 both : (value a b : Meaning) → a ≡ value → b ≡ value → a ≡ b
@@ -140,7 +141,7 @@ one-fields fields a b (inr (f, none_f, is_f)) (inr (g, none_g, is_g)) =
     is_f ∙ ap (λ fault. Err (deal_fault fault)) same ∙ sym is_g
 
 -- ---- the line
-pub one-meaning : (line : List ℕ) (a b : Result Asked Fault) → Means line a → Means line b → a ≡ b
+pub one-meaning : (line : List ℕ) (a b : Result Question Fault) → Means line a → Means line b → a ≡ b
 one-meaning line =
     one-by-test (nat_lt longest_line (length line)) _ _ (both _)
     (one-by-option (object_of line) _ _ (both _) (λ members.

@@ -5,7 +5,8 @@ use Rattle.dd_cards.specs.Suits.{suit_code}
 use Rattle.dd_reply.specs.declared.fault.Fault.{Fault}
 use Rattle.dd_reply.specs.declared.fault.Fault.TheVariants.{OutOfMemory}
 use Rattle.dd_reply.specs.Faults.{fault_number}
-use Rattle.dd_reply.specs.Requests.{Asked, Means, longest_line}
+use Rattle.dd_reply.specs.Questions.{Question}
+use Rattle.dd_reply.specs.Requests.{Means, longest_line}
 use Rattle.dd_reply.specs.ScoredClasses.{ScoredClass, answer}
 
 -- {"equals":e,"rank":r,"score":n,"suit":s}
@@ -27,11 +28,11 @@ abbrev pub spent_text : List ℕ
 spent_text = codes "{\"state\":\"spent\"}"
 
 -- the text of the answer to what is asked
-abbrev pub asked_text : Asked → List ℕ
+abbrev pub asked_text : Question → List ℕ
 asked_text asked = answer_text (answer asked.board asked.solutions)
 
 -- the reply to a line of this meaning
-abbrev pub reply_text : Result Asked Fault → List ℕ
+abbrev pub reply_text : Result Question Fault → List ℕ
 reply_text (Ok asked) = asked_text asked
 reply_text (Err fault) = fault_text fault
 
@@ -39,6 +40,6 @@ reply_text (Err fault) = fault_text fault
 -- budget, that this was spent in a search for the answer.
 abbrev pub IsReply : Option ℕ → List ℕ → List ℕ → Type 0
 IsReply budget line text =
-    ((meaning : Result Asked Fault) × Means line meaning × (text ≡ reply_text meaning))
+    ((meaning : Result Question Fault) × Means line meaning × (text ≡ reply_text meaning))
     ⊎ ((0 < length line) × (length line ≤ longest_line) × (text ≡ fault_text OutOfMemory))
-    ⊎ ((asked : Asked) × Means line (Ok asked) × IsSome budget × (text ≡ spent_text))
+    ⊎ ((asked : Question) × Means line (Ok asked) × IsSome budget × (text ≡ spent_text))

@@ -1,5 +1,5 @@
 -- What a request line means: the position and the number of cards that it asks for, or its first fault.
-use Rattle.std.specs.Prelude.{◌≡◌, ℕ, ◌<◌, ◌⊎◌, ◌&&◌, ◌==◌, Bool, false, List, [], ◌∷◌, map, nat_lt, nat_le, length, codes, Option, None, Some, option_and_then, Result, Ok, Err, MatchOption, if◌then◌else◌}
+use Rattle.std.specs.Prelude.{◌≡◌, ℕ, ◌<◌, ◌⊎◌, ◌&&◌, Bool, List, [], ◌∷◌, map, nat_lt, nat_le, length, codes, Option, None, Some, option_and_then, Result, Ok, Err, MatchOption, if◌then◌else◌}
 use Rattle.std.specs.Bool.{MatchBool}
 use Rattle.std.specs.List.{list_any, list_all}
 use Rattle.std.specs.Str.{is_utf8, bytes_eq}
@@ -18,6 +18,7 @@ use Rattle.dd_pbn.specs.Reading.{◌>>=◌}
 use Rattle.dd_pbn.specs.Values.{begins_tag}
 use Rattle.dd_pbn.specs.Deals as deals
 use Rattle.dd_play.specs.Board.{Board, NoneTwice, IsEven, left}
+use Rattle.dd_reply.specs.Questions.{Question}
 use Rattle.dd_reply.specs.declared.fault.Fault.{Fault}
 use Rattle.dd_reply.specs.declared.request_reader.TheConstants.{LONGEST_LINE}
 use Rattle.dd_reply.specs.declared.fault.Fault.TheVariants.{LineTooLong, NotAnObject, WrongField, DealText, HandLeftOut, CardTwice, WrongTrump, WrongFirst, WrongPlayed, WrongSolutions, UnevenHands, NoCard}
@@ -32,11 +33,6 @@ pub record SolveFields : Type 0 where
   pub trump : ℕ
   pub first : ℕ
   pub played : List (ℕ × ℕ)
-  pub solutions : ℕ
-
--- what a request asks: the cards of this position; all of them (3), those of the greatest score (2), or one of these (1)
-pub record Asked : Type 0 where
-  pub board : Board
   pub solutions : ℕ
 
 -- ---- JSON
@@ -143,14 +139,14 @@ pub record IsAskedOf (cards : FourHands) (fields : SolveFields) (board : Board) 
   pub trick : map pair_of_card board.trick ≡ fields.played
 
 -- the cards decide: one that stands twice, uneven hands, none to play, or a position
-pub record MeansBoard (board : Board) (solutions : ℕ) (meaning : Result Asked Fault) : Type 0 where
+pub record MeansBoard (board : Board) (solutions : ℕ) (meaning : Result Question Fault) : Type 0 where
   pub twice : (NoneTwice board → ⊥) → meaning ≡ Err CardTwice
   pub uneven : NoneTwice board → (IsEven board → ⊥) → meaning ≡ Err UnevenHands
   pub none : NoneTwice board → IsEven board → left board ≡ 0 → meaning ≡ Err NoCard
   pub some : NoneTwice board → IsEven board → 0 < left board → meaning ≡ Ok (record { board = board; solutions = solutions })
 
 -- the trump, then the leader, then the cards played, then the solutions, then the cards together
-abbrev pub MeansHands : SolveFields → FourHands → Result Asked Fault → Type 0
+abbrev pub MeansHands : SolveFields → FourHands → Result Question Fault → Type 0
 MeansHands fields hands meaning =
     MatchBool (nat_lt 4 fields.trump) (meaning ≡ Err WrongTrump)
     (MatchBool (nat_lt 3 fields.first) (meaning ≡ Err WrongFirst)
@@ -161,13 +157,13 @@ MeansHands fields hands meaning =
     (meaning ≡ Err WrongPlayed)))
 
 -- the deal first
-abbrev pub MeansFields : SolveFields → Result Asked Fault → Type 0
+abbrev pub MeansFields : SolveFields → Result Question Fault → Type 0
 MeansFields fields meaning =
     ((hands : FourHands) × AreHands hands × SpellsDeal fields.deal hands × MeansHands fields hands meaning)
     ⊎ ((fault : PbnFault) × SpellsNone fields.deal fault × (meaning ≡ Err (deal_fault fault)))
 
 -- what a line means: its length is looked at first, then that it is a JSON object, then its fields
-abbrev pub Means : List ℕ → Result Asked Fault → Type 0
+abbrev pub Means : List ℕ → Result Question Fault → Type 0
 Means line meaning =
     MatchBool (nat_lt longest_line (length line)) (meaning ≡ Err LineTooLong)
     (MatchOption (object_of line) (meaning ≡ Err NotAnObject) (λ members.

@@ -4,14 +4,15 @@ ghost use Rattle.dd_cards.specs.declared.strain.Strain.TheVariants.{Trump, Notru
 ghost use Rattle.dd_cards.specs.declared.suit.Suit.TheVariants.{Spades};
 ghost use Rattle.dd_pbn.specs.Examples.{eight_spades, two_suits};
 ghost use Rattle.dd_play.specs.Board.{board_of};
-ghost use Rattle.dd_reply.specs.Requests.{Asked, Means};
+ghost use Rattle.dd_reply.specs.Questions.{Question};
+ghost use Rattle.dd_reply.specs.Requests.{Means};
 
 use crate::fault::Fault;
 
 /// A line has a meaning, and only one.
 pub fn one_meaning()
-    ensures some { (line : List ℕ) → (meaning : Result Asked Fault) × Means line meaning }
-    ensures only { (line : List ℕ) (a b : Result Asked Fault) → Means line a → Means line b →
+    ensures some { (line : List ℕ) → (meaning : Result Question Fault) × Means line meaning }
+    ensures only { (line : List ℕ) (a b : Result Question Fault) → Means line a → Means line b →
         a ≡ b }
 {}
 
