@@ -1,6 +1,6 @@
 -- The text of a reply: JSON without spaces, keys in the order of their bytes.
-use Rattle.std.specs.Prelude.{◌≡◌, ℕ, ◌<◌, ◌≤◌, ◌⊎◌, List, ◌++◌, map, length, codes, decimal, Option, IsSome, Result, Ok, Err}
-use Rattle.std.specs.List.{join_with_byte}
+use Rattle.std.specs.Prelude.{◌≡◌, ℕ, ◌+◌, ◌*◌, ◌<◌, ◌≤◌, ◌⊎◌, List, ◌++◌, map, length, codes, decimal, Option, IsSome, Result, Ok, Err}
+use Rattle.std.specs.List.{join_with_byte, range_with_len, slice_range}
 use Rattle.dd_cards.specs.Suits.{suit_code}
 use Rattle.dd_reply.specs.declared.fault.Fault.{Fault}
 use Rattle.dd_reply.specs.declared.fault.Fault.TheVariants.{OutOfMemory}
@@ -18,6 +18,18 @@ class_text class =
 -- {"cards":[C,C,..]}
 abbrev pub answer_text : List ScoredClass → List ℕ
 answer_text classes = codes "{\"cards\":[" ++ join_with_byte 44 (map class_text classes) ++ codes "]}"
+
+-- [a,b,..]
+abbrev pub list_text : List ℕ → List ℕ
+list_text numbers = codes "[" ++ join_with_byte 44 (map decimal numbers) ++ codes "]"
+
+-- of twenty results those of a strain, by its code
+abbrev pub of_strain : List ℕ → ℕ → List ℕ
+of_strain results strain = slice_range results (4 * strain) (4 * strain + 4)
+
+-- {"table":[[a,b,c,d],..]}, a list for each strain
+abbrev pub table_text : List ℕ → List ℕ
+table_text results = codes "{\"table\":[" ++ join_with_byte 44 (map (λ strain. list_text (of_strain results strain)) (range_with_len 0 5)) ++ codes "]}"
 
 -- {"fault":n}
 abbrev pub fault_text : Fault → List ℕ

@@ -19,7 +19,7 @@ pub use asked::Asked;
 pub use fault::Fault;
 pub use laws::{one_meaning, worked_lines};
 pub use line_reply::reply_to_line;
-pub use reply::{LONGEST_REPLY, Reply, write_answer, write_fault, write_spent};
+pub use reply::{LONGEST_REPLY, Reply, write_answer, write_fault, write_spent, write_table};
 pub use request::Request;
 pub use request_reader::{LONGEST_LINE, read_request};
 pub use solved_table::{RESULTS, Results, SolvedTable};
