@@ -8,7 +8,7 @@ use Rattle.std.specs.Prelude.{nat_lt}
 use Rattle.std.proofs.lemmas.Bool.{lt-ltb}
 use Rattle.std.proofs.lemmas.Bool.Decides.{leb_tells}
 use Rattle.std.proofs.lemmas.List.{take_all}
-use Rattle.dd_reply.specs.Questions.{Question}
+use Rattle.dd_reply.specs.declared.asked.Asked.{Asked}
 use Rattle.dd_reply.specs.Requests.{Means, longest_line}
 use Rattle.dd_reply.specs.Replies.{IsReply, reply_text}
 use Rattle.dd_lines.specs.Lines.{line_feed, lines, AreReplies, AnswersEachLine}
@@ -17,7 +17,7 @@ use Rattle.dd_reply.proofs.CallerLemmas.{some-meaning}
 use Rattle.dd_lines.proofs.Cuts.{lines-cut}
 
 -- what a line's meaning is answered with is its reply, with any budget
-pub reply-means : (budget : Option ℕ) (line : List ℕ) (meaning : Result Question Fault) → Means line meaning → IsReply budget line (reply_text meaning)
+pub reply-means : (budget : Option ℕ) (line : List ℕ) (meaning : Result Asked Fault) → Means line meaning → IsReply budget line (reply_text meaning)
 reply-means budget line meaning means = inl (meaning, means, refl)
 
 -- every line has a reply
@@ -108,11 +108,11 @@ WroteBeginning-after budget old mid new first second a b =
     }
 
 -- a line that is longer than one that is read means that, and nothing else
-means-too_long : (line : List ℕ) (meaning : Result Question Fault) → longest_line < length line → Means line meaning → meaning ≡ Err LineTooLong
+means-too_long : (line : List ℕ) (meaning : Result Asked Fault) → longest_line < length line → Means line meaning → meaning ≡ Err LineTooLong
 means-too_long line meaning long means = let over : nat_lt longest_line (length line) ≡ true = lt-ltb longest_line (length line) long in rw over at means
 
 -- and where it does, this is its meaning
-too_long-means : (line : List ℕ) (meaning : Result Question Fault) → longest_line < length line → meaning ≡ Err LineTooLong → Means line meaning
+too_long-means : (line : List ℕ) (meaning : Result Asked Fault) → longest_line < length line → meaning ≡ Err LineTooLong → Means line meaning
 too_long-means line meaning long is = let over : nat_lt longest_line (length line) ≡ true = lt-ltb longest_line (length line) long in rw over is
 
 -- what replies to the bytes that are kept of a line replies to the line

@@ -5,7 +5,9 @@ use Rattle.dd_cards.specs.Suits.{suit_code}
 use Rattle.dd_reply.specs.declared.fault.Fault.{Fault}
 use Rattle.dd_reply.specs.declared.fault.Fault.TheVariants.{OutOfMemory}
 use Rattle.dd_reply.specs.Faults.{fault_number}
-use Rattle.dd_reply.specs.Questions.{Question}
+use Rattle.dd_reply.specs.Results.{results}
+use Rattle.dd_reply.specs.declared.asked.Asked.{Asked}
+use Rattle.dd_reply.specs.declared.asked.Asked.TheVariants.{Solve, Table}
 use Rattle.dd_reply.specs.Requests.{Means, longest_line}
 use Rattle.dd_reply.specs.ScoredClasses.{ScoredClass, answer}
 
@@ -40,18 +42,19 @@ abbrev pub spent_text : List ℕ
 spent_text = codes "{\"state\":\"spent\"}"
 
 -- the text of the answer to what is asked
-abbrev pub asked_text : Question → List ℕ
-asked_text asked = answer_text (answer asked.board asked.solutions)
+abbrev pub asked_text : Asked → List ℕ
+asked_text (Solve question) = answer_text (answer question.board question.solutions)
+asked_text (Table hands) = table_text (results hands)
 
 -- the reply to a line of this meaning
-abbrev pub reply_text : Result Question Fault → List ℕ
+abbrev pub reply_text : Result Asked Fault → List ℕ
 reply_text (Ok asked) = asked_text asked
 reply_text (Err fault) = fault_text fault
 
 -- The text is the reply to the line: what its meaning is answered with; that memory ran out while it was read; or, with a
--- budget, that this was spent in a search for the answer.
+-- budget, that this was spent in a search for the answer, or for one of the twenty results of a table.
 abbrev pub IsReply : Option ℕ → List ℕ → List ℕ → Type 0
 IsReply budget line text =
-    ((meaning : Result Question Fault) × Means line meaning × (text ≡ reply_text meaning))
+    ((meaning : Result Asked Fault) × Means line meaning × (text ≡ reply_text meaning))
     ⊎ ((0 < length line) × (length line ≤ longest_line) × (text ≡ fault_text OutOfMemory))
-    ⊎ ((asked : Question) × Means line (Ok asked) × IsSome budget × (text ≡ spent_text))
+    ⊎ ((asked : Asked) × Means line (Ok asked) × IsSome budget × (text ≡ spent_text))

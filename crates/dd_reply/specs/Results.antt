@@ -52,6 +52,10 @@ tricks_of hands contract = left (opening hands contract) - lead (opening hands c
 unfoldable pub results : FourHands → List ℕ
 results hands = map (tricks_of hands) contracts
 
+-- the first of them, those of so many parts
+abbrev pub first_results : FourHands → ℕ → List ℕ
+first_results hands many = map (λ part. tricks_of hands (contract_of part)) (range_with_len 0 many)
+
 -- ---- results with what they are results of
 
 -- the result of a part of a deal's table

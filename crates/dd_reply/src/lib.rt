@@ -13,6 +13,7 @@ mod solved_table;
 mod solving;
 mod table_part;
 mod table_request;
+mod table_solving;
 
 pub use answer::{Answer, Scored};
 pub use asked::Asked;

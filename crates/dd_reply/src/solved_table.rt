@@ -12,11 +12,14 @@ use std::marker::Model;
 /// The number of results.
 pub const RESULTS: usize = 20;
 
+/// The results of a table that is being made.
+pub(crate) type TricksList = ArrayVec<u8, RESULTS>;
+
 /// Twenty results: the tricks of each declarer, by strain (spades, hearts, diamonds, clubs, notrump), then by declarer
 /// (North, East, South, West).
 #[derive(Drop)]
 pub struct Results {
-    tricks: ArrayVec<u8, RESULTS>,
+    tricks: TricksList,
 }
 
 impl Model for Results {
@@ -30,6 +33,14 @@ impl Model for Results {
 }
 
 impl Results {
+    /// Results of these numbers.
+    pub(crate) fn of(tricks: TricksList) -> Results
+        requires { length tricks.items ≡ RESULTS }
+        ensures { result ≡ tricks.items }
+    {
+        Results { tricks }
+    }
+
     /// The twenty numbers, in their order.
     pub fn as_slice(&self) -> &[u8]
         ensures tricks { result.now ≡ self.now }
@@ -142,5 +153,5 @@ fn results_of(parts: &[SolvedPart]) -> Results
     for part in parts {
         tricks.push(part.tricks());
     }
-    Results { tricks }
+    Results::of(tricks)
 }
