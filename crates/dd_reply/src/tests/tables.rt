@@ -1,4 +1,6 @@
 //! Tables whose results can be counted by hand, and the parts that make one.
+ghost use Rattle.std.specs.Prelude.{◌≤◌};
+
 use super::{after_bar, before_bar};
 use crate::line_reply::reply_to_line;
 use crate::solved_table::SolvedTable;
