@@ -1,8 +1,8 @@
 #!/usr/bin/env bash
 # Runs the built program over recorded positions, and compares its replies with those of DDS 2.9: `written` are deals of up
 # to four cards a hand in the written form, `small` 600 positions of up to five, 0 to 3 cards on the trick, solutions 1 to
-# 3, `full` 40 opening leads of full deals, 8 of each strain. Exhaustive play (`play.rs`) answers all but the full deals
-# too.
+# 3, `full` 40 opening leads of full deals, 8 of each strain, `tables` the twenty results of 20 full deals. Exhaustive play
+# (`play.rs`) answers all but the full deals too.
 set -eu
 here=$(cd -- "$(dirname -- "$0")" && pwd)
 for tool in cmp rustc; do
@@ -10,7 +10,7 @@ for tool in cmp rustc; do
 done
 work=$(mktemp -d)
 trap 'rm -rf "$work"' EXIT
-for name in written small full; do
+for name in written small full tables; do
     "$here/../ddserve" solve < "$here/$name.jsonl" > "$work/replies"
     cmp "$work/replies" "$here/$name.expected"
     echo "$name: $(wc -l < "$here/$name.jsonl") replies agree with DDS"

@@ -1,5 +1,6 @@
 // The same lines by DDS: reads request lines in the written form, with no card played, and prints the reply lines of
-// `ddserve solve`, each at once. SolveBoard with target -1, mode 1, one thread. It takes good input for granted.
+// `ddserve solve`, each at once. SolveBoard with target -1, mode 1, or CalcDDtable for a table, one thread. It takes good
+// input for granted.
 #include <dds/dll.h>
 
 #include <algorithm>
@@ -17,12 +18,9 @@ static std::string field(const std::string &line, const std::string &name) {
     return line.substr(from, line.find_first_of(",}", from) - from);
 }
 
-static void deal_of(const std::string &line, deal &d) {
+static void cards_of(const std::string &line, unsigned cards[DDS_HANDS][DDS_SUITS]) {
     const std::string ranks = "..23456789TJQKA";
     std::string text = field(line, "deal");
-    d = deal{};
-    d.trump = atoi(field(line, "trump").c_str());
-    d.first = atoi(field(line, "first").c_str());
     int hand = 0, suit = 0;
     for (size_t i = 2; i < text.size(); i++) {
         if (text[i] == ' ') {
@@ -31,40 +29,65 @@ static void deal_of(const std::string &line, deal &d) {
         } else if (text[i] == '.') {
             suit++;
         } else {
-            d.remainCards[hand][suit] |= 1u << ranks.find(text[i], 2);
+            cards[hand][suit] |= 1u << ranks.find(text[i], 2);
         }
     }
+}
+
+static void answer_table(const std::string &line) {
+    ddTableDeal d = ddTableDeal{};
+    cards_of(line, d.cards);
+    ddTableResults found;
+    int status = CalcDDtable(d, &found);
+    if (status != RETURN_NO_FAULT) {
+        std::printf("DDS: %d\n", status);
+        return;
+    }
+    std::printf("{\"table\":[");
+    for (int strain = 0; strain < DDS_STRAINS; strain++) {
+        const int *tricks = found.resTable[strain];
+        std::printf("%s[%d,%d,%d,%d]", strain ? "," : "", tricks[0], tricks[1], tricks[2], tricks[3]);
+    }
+    std::printf("]}\n");
 }
 
 struct Scored {
     int equals, rank, score, suit;
 };
 
+static void answer_solve(const std::string &line) {
+    deal d = deal{};
+    d.trump = atoi(field(line, "trump").c_str());
+    d.first = atoi(field(line, "first").c_str());
+    cards_of(line, d.remainCards);
+    futureTricks found;
+    int status = SolveBoard(d, -1, atoi(field(line, "solutions").c_str()), 1, &found, 0);
+    if (status != RETURN_NO_FAULT) {
+        std::printf("DDS: %d\n", status);
+        return;
+    }
+    std::vector<Scored> cards;
+    for (int i = 0; i < found.cards; i++)
+        cards.push_back({found.equals[i], found.rank[i], found.score[i], found.suit[i]});
+    std::stable_sort(cards.begin(), cards.end(), [](const Scored &a, const Scored &b) {
+        if (a.score != b.score)
+            return a.score > b.score;
+        return a.suit != b.suit ? a.suit < b.suit : a.rank > b.rank;
+    });
+    std::printf("{\"cards\":[");
+    for (size_t i = 0; i < cards.size(); i++)
+        std::printf("%s{\"equals\":%d,\"rank\":%d,\"score\":%d,\"suit\":%d}", i ? "," : "", cards[i].equals, cards[i].rank, cards[i].score, cards[i].suit);
+    std::printf("]}\n");
+}
+
 int main() {
     SetMaxThreads(1);
     std::string line;
     while (std::getline(std::cin, line)) {
-        deal d;
-        deal_of(line, d);
-        futureTricks found;
-        int status = SolveBoard(d, -1, atoi(field(line, "solutions").c_str()), 1, &found, 0);
-        if (status != RETURN_NO_FAULT) {
-            std::printf("DDS: %d\n", status);
-            std::fflush(stdout);
-            continue;
-        }
-        std::vector<Scored> cards;
-        for (int i = 0; i < found.cards; i++)
-            cards.push_back({found.equals[i], found.rank[i], found.score[i], found.suit[i]});
-        std::stable_sort(cards.begin(), cards.end(), [](const Scored &a, const Scored &b) {
-            if (a.score != b.score)
-                return a.score > b.score;
-            return a.suit != b.suit ? a.suit < b.suit : a.rank > b.rank;
-        });
-        std::printf("{\"cards\":[");
-        for (size_t i = 0; i < cards.size(); i++)
-            std::printf("%s{\"equals\":%d,\"rank\":%d,\"score\":%d,\"suit\":%d}", i ? "," : "", cards[i].equals, cards[i].rank, cards[i].score, cards[i].suit);
-        std::printf("]}\n");
+        if (field(line, "do") == "table")
+            answer_table(line);
+        else
+            answer_solve(line);
         std::fflush(stdout);
     }
 }

@@ -3,7 +3,8 @@
 # with the scores of all leads. First deals of 6, 8 and 9 cards a hand: the least time of several runs of each over all
 # lines, taken in turns, and their ratio. Then full deals, 8 of each strain, line by line through a pipe to each program in
 # one run, over a table of 65,536 entries: the time of each reply, and of these the mean, the geometric mean and the
-# slowest. Deals are from fixed seeds; it says whether the replies agree, and ends with status 1 where some don't.
+# slowest. Then in the same way the twenty results of full deals, beside DDS's CalcDDtable. Deals are from fixed seeds; it
+# says whether the replies agree, and ends with status 1 where some don't.
 # Words: the number of runs (5), of full deals (40), and the seed of the full deals (1013).
 set -eu
 here=$(cd -- "$(dirname -- "$0")" && pwd)
@@ -25,6 +26,7 @@ for cards in 6 8 9; do
     python3 "$top/bench/deals.py" "$cards" 40 --seed $((1000 + cards)) --requests > "$work/$cards.jsonl"
 done
 python3 "$top/bench/deals.py" 13 "$full" --seed "$seed" --requests > "$work/13.jsonl"
+sed 's/"do":"solve"/"do":"table"/; s/,"trump".*}$/}/' "$work/13.jsonl" > "$work/tables.jsonl"
 
 python3 - "$runs" "$top/crates/ddserve/out/ddserve" "$work" <<'PY'
 import math
@@ -74,33 +76,38 @@ def geometric_mean(numbers):
     return math.exp(sum(map(math.log, numbers)) / len(numbers))
 
 
-programs = {name: subprocess.Popen(command, stdin=subprocess.PIPE, stdout=subprocess.PIPE, text=True) for name, command in commands.items()}
-with open(f"{work}/13.jsonl") as file:
-    lines = file.readlines()
-# One card a hand first, so that no deal waits for a program to start.
-for program in programs.values():
-    answer(program, '{"do":"solve","deal":"N:A... K... Q... J...","trump":4,"first":0,"solutions":3}\n')
-times, agreed = {name: [] for name in commands}, 0
-print(f"\n{len(lines)} full deals, one by one, milliseconds")
-print("deal  strain  ddserve ms    DDS ms  ratio  replies")
-for number, line in enumerate(lines):
-    replies = {}
-    for name, program in programs.items():
-        taken, replies[name] = answer(program, line)
-        times[name].append(1000 * taken)
-    a, b = times["ddserve"][-1], times["DDS"][-1]
-    agreed += replies["ddserve"] == replies["DDS"]
-    print(f"{number + 1:>4}  {'SHDCN'[number % 5]:>6}  {a:10.1f}  {b:8.1f}  {a / b:5.2f}  {both(replies)}", flush=True)
-for program in programs.values():
-    program.stdin.close()
-    if program.wait() != 0:
-        sys.exit(f"bench/dds: {program.args[0]} ended with status {program.returncode}")
+def one_by_one(title, lines, strains):
+    programs = {name: subprocess.Popen(command, stdin=subprocess.PIPE, stdout=subprocess.PIPE, text=True) for name, command in commands.items()}
+    # One card a hand first, so that no deal waits for a program to start.
+    for program in programs.values():
+        answer(program, '{"do":"solve","deal":"N:A... K... Q... J...","trump":4,"first":0,"solutions":3}\n')
+    times, agreed = {name: [] for name in commands}, 0
+    print(f"\n{title}: {len(lines)} full deals, one by one, milliseconds")
+    print("deal  strain  ddserve ms    DDS ms  ratio  replies")
+    for number, line in enumerate(lines):
+        replies = {}
+        for name, program in programs.items():
+            taken, replies[name] = answer(program, line)
+            times[name].append(1000 * taken)
+        a, b = times["ddserve"][-1], times["DDS"][-1]
+        agreed += replies["ddserve"] == replies["DDS"]
+        print(f"{number + 1:>4}  {strains[number % len(strains)]:>6}  {a:10.1f}  {b:8.1f}  {a / b:5.2f}  {both(replies)}", flush=True)
+    for program in programs.values():
+        program.stdin.close()
+        if program.wait() != 0:
+            sys.exit(f"bench/dds: {program.args[0]} ended with status {program.returncode}")
 
-ratios = [a / b for a, b in zip(times["ddserve"], times["DDS"])]
-print(f"\n{'':15}  {'mean':>8}  {'geom. mean':>10}  {'slowest':>8}")
-for name, list_of in [("ddserve ms", times["ddserve"]), ("DDS ms", times["DDS"]), ("ratio of a deal", ratios)]:
-    print(f"{name:15}  {sum(list_of) / len(list_of):8.2f}  {geometric_mean(list_of):10.2f}  {max(list_of):8.2f}")
-a, b = times["ddserve"], times["DDS"]
-print(f"sums {sum(a) / sum(b):.2f}, slowest over slowest {max(a) / max(b):.2f}; {agreed} of {len(lines)} replies agree")
+    ratios = [a / b for a, b in zip(times["ddserve"], times["DDS"])]
+    print(f"\n{'':15}  {'mean':>8}  {'geom. mean':>10}  {'slowest':>8}")
+    for name, list_of in [("ddserve ms", times["ddserve"]), ("DDS ms", times["DDS"]), ("ratio of a deal", ratios)]:
+        print(f"{name:15}  {sum(list_of) / len(list_of):8.2f}  {geometric_mean(list_of):10.2f}  {max(list_of):8.2f}")
+    a, b = times["ddserve"], times["DDS"]
+    print(f"sums {sum(a) / sum(b):.2f}, slowest over slowest {max(a) / max(b):.2f}; {agreed} of {len(lines)} replies agree")
+
+
+with open(f"{work}/13.jsonl") as file:
+    one_by_one("all leads", file.readlines(), "SHDCN")
+with open(f"{work}/tables.jsonl") as file:
+    one_by_one("twenty results", file.readlines(), ["all"])
 sys.exit(1 if differing else 0)
 PY

@@ -8,7 +8,8 @@ use Rattle.std.specs.Prelude.{nat_lt}
 use Rattle.std.proofs.lemmas.Bool.{lt-ltb}
 use Rattle.std.proofs.lemmas.Bool.Decides.{leb_tells}
 use Rattle.std.proofs.lemmas.List.{take_all}
-use Rattle.dd_reply.specs.Requests.{Asked, Means, longest_line}
+use Rattle.dd_reply.specs.declared.asked.Asked.{Asked}
+use Rattle.dd_reply.specs.Requests.{Means, longest_line}
 use Rattle.dd_reply.specs.Replies.{IsReply, reply_text}
 use Rattle.dd_lines.specs.Lines.{line_feed, lines, AreReplies, AnswersEachLine}
 use Rattle.dd_lines.specs.Served.{ended_lines, begun_line, last_line, BeginsReplies, WroteText, WroteReplies, WroteBeginning}

@@ -30,6 +30,19 @@ here on, the current one included:
 
   {\"cards\":[{\"equals\":4,\"rank\":3,\"score\":2,\"suit\":0}]}
 
+A request may also ask for the twenty results of a deal, the tricks of each declarer in each strain:
+
+  {\"do\":\"table\",\"deal\":\"N:J6.72.AQ7643.AJ7 Q9842.Q854.T.K42 AT75.AT9.KJ8.T83 K3.KJ63.952.Q965\"}
+
+  do         \"table\"
+  deal       as above; the hands have equally many cards, 1 to 13
+
+Its reply has a list for each strain, spades, hearts, diamonds, clubs, notrump, and in it the tricks
+of each declarer, North, East, South, West, where the hand to declarer's left leads. A budget is for
+each of the twenty:
+
+  {\"table\":[[7,6,7,6],[6,7,6,7],[10,3,10,3],[7,6,7,6],[9,3,9,3]]}
+
 A line whose budget was spent has the reply {\"state\":\"spent\"}. A line that can't be answered has
 the reply {\"fault\":F}:
 

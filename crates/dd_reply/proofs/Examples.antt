@@ -12,8 +12,10 @@ use Rattle.dd_cards.specs.Hands.{dealt}
 use Rattle.dd_cards.specs.Cards.{card_of}
 use Rattle.dd_play.specs.Board.{Board}
 use Rattle.dd_play.specs.Value.{ns_within}
+use Rattle.dd_reply.specs.declared.asked.Asked.TheVariants.{Solve, Table}
 use Rattle.dd_reply.specs.declared.fault.Fault.TheVariants.{NoCard}
 use Rattle.dd_reply.specs.ScoredClasses.{ScoredClass, answer, all_scores}
+use Rattle.dd_reply.specs.Results.{results, contracts, tricks_of}
 use Rattle.dd_reply.specs.Replies.{class_text, reply_text}
 
 -- four hands, from North clockwise, the strain, the seat that leads, and the trick
@@ -91,6 +93,17 @@ unfolding digits
 fault-spelled = refl
 
 -- the text of an answer
-answer-spelled : reply_text (Ok (record { board = board (spade 14 ∷ []) (spade 13 ∷ []) (spade 12 ∷ []) (spade 11 ∷ []) Notrump North []; solutions = 3 })) ≡ codes "{\"cards\":[{\"equals\":0,\"rank\":14,\"score\":1,\"suit\":0}]}"
+answer-spelled : reply_text (Ok (Solve record { board = board (spade 14 ∷ []) (spade 13 ∷ []) (spade 12 ∷ []) (spade 11 ∷ []) Notrump North []; solutions = 3 })) ≡ codes "{\"cards\":[{\"equals\":0,\"rank\":14,\"score\":1,\"suit\":0}]}"
 unfolding ns_within all_scores digits
 answer-spelled = refl
+
+-- the twenty results: North and South have the ace, whatever is trump
+table-spelled : reply_text (Ok (Table (dealt (spade 14 ∷ []) (spade 13 ∷ []) (spade 12 ∷ []) (spade 11 ∷ [])))) ≡ codes "{\"table\":[[1,0,1,0],[1,0,1,0],[1,0,1,0],[1,0,1,0],[1,0,1,0]]}"
+unfolding ns_within digits results contracts tricks_of
+table-spelled = refl
+
+-- each side has one suit: it takes the trick where that is trump, and else the leader's side does, which is the defenders'
+suit-each : results (dealt (spade 14 ∷ []) (heart 2 ∷ []) (spade 13 ∷ []) (heart 3 ∷ []))
+    ≡ 1 ∷ 0 ∷ 1 ∷ 0 ∷ 0 ∷ 1 ∷ 0 ∷ 1 ∷ 0 ∷ 0 ∷ 0 ∷ 0 ∷ 0 ∷ 0 ∷ 0 ∷ 0 ∷ 0 ∷ 0 ∷ 0 ∷ 0 ∷ []
+unfolding ns_within results contracts tricks_of
+suit-each = refl

@@ -7,7 +7,9 @@ pub mod Keys
 pub mod Meanings
 pub mod Objects
 pub mod OneMeaning
+pub mod Openings
 pub mod Pairs
+pub mod Parts
 pub mod RequestExamples
 pub mod Starts
 pub mod Texts

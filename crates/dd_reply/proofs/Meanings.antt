@@ -1,5 +1,5 @@
 -- Every line has a meaning.
-use Rattle.std.proofs.Common.{◌≡◌, ℕ, zero, suc, ◌+◌, ◌<◌, ◌≤◌, ◌⊎◌, inl, inr, Bool, true, false, refl, sym, ap, ◌∙◌, arith, [], ◌∷◌, List, length}
+use Rattle.std.proofs.Common.{◌≡◌, ℕ, zero, suc, ◌+◌, ◌<◌, ◌≤◌, ◌⊎◌, inl, inr, Bool, true, false, refl, sym, ap, subst, ◌∙◌, arith, [], ◌∷◌, List, length}
 use Rattle.std.specs.Prelude.{◌&&◌, Option, None, Some, Result, Ok, Err, MatchOption, map, nat_lt, nat_le, if◌then◌else◌}
 use Rattle.std.specs.Bool.{MatchBool}
 use Rattle.std.specs.List.{list_all}
@@ -31,20 +31,24 @@ use Rattle.dd_play.proofs.CallerLemmas.{times_in-once}
 use Rattle.dd_pbn.specs.Values.{begins_tag}
 use Rattle.dd_reply.specs.declared.fault.Fault.{Fault}
 use Rattle.dd_reply.specs.declared.fault.Fault.TheVariants.{LineTooLong, NotAnObject, WrongField, CardTwice, WrongTrump, WrongFirst, WrongPlayed, WrongSolutions, UnevenHands, NoCard, OutOfMemory}
-use Rattle.dd_reply.specs.Requests.{SolveFields, Asked, Means, MeansFields, MeansHands, MeansBoard, IsAskedOf, SpellsDeal, SpellsNone, deal_fault, are_cards, pair_of_card, longest_line, object_of, solve_fields}
+use Rattle.dd_reply.specs.Questions.{Question}
+use Rattle.dd_reply.specs.Requests.{SolveFields, Means, MeansObject, MeansDeal, MeansTable, MeansFields, MeansHands, MeansBoard, IsAskedOf, SpellsDeal, SpellsNone, asked_as, deal_fault, are_cards, pair_of_card, longest_line, object_of, solve_fields, table_deal}
+use Rattle.dd_reply.specs.declared.asked.Asked.{Asked}
+use Rattle.dd_reply.specs.declared.asked.Asked.TheVariants.{Solve, Table}
+use Rattle.dd_reply.specs.Results.{AreEven}
 use Rattle.dd_reply.proofs.Pairs.{is_card}
 use Rattle.dd_reply.proofs.Starts.{means-twice, means-uneven, means-empty, means-some}
 
 -- ---- from the fields to the line
--- a line that is not too long means what the fields of its object mean
-pub means-fields : (line : List ℕ) (object : Members) (fields : SolveFields) (meaning : Result Asked Fault)
-    → length line ≤ longest_line → object_of line ≡ Some object → solve_fields object ≡ Some fields → MeansFields fields meaning → Means line meaning
-means-fields line object fields meaning short is has means =
+-- a line that is not too long means what the members of its object mean
+pub means-object : (line : List ℕ) (object : Members) (meaning : Result Asked Fault)
+    → length line ≤ longest_line → object_of line ≡ Some object → MeansObject object meaning → Means line meaning
+means-object line object meaning short is means =
     let test : nat_lt longest_line (length line) ≡ false = le-ltb longest_line (length line) short in
-    rw (test, is, has) means
+    rw (test, is) means
 
 -- with a strain, a leader, cards played and solutions in range the cards together decide
-pub means-cards : (fields : SolveFields) (hands : FourHands) (strain : Strain) (first : Seat) (trick : List PlayingCard) (meaning : Result Asked Fault)
+pub means-cards : (fields : SolveFields) (hands : FourHands) (strain : Strain) (first : Seat) (trick : List PlayingCard) (meaning : Result Question Fault)
     → strain_code strain ≡ fields.trump → fields.trump ≤ 4 → seat_code first ≡ fields.first → fields.first < 4 → map pair_of_card trick ≡ fields.played → are_cards fields.played ≡ true
     → 1 ≤ fields.solutions → fields.solutions ≤ 3 → MeansBoard (board_of hands strain first trick) fields.solutions meaning → MeansHands fields hands meaning
 means-cards fields hands strain first trick meaning trump low leader below played cards least most means =
@@ -66,14 +70,14 @@ at-err (Err e) P holds = holds
 
 -- ---- every line has a meaning
 -- some meaning is such
-abbrev SomeMeaning : (Result Asked Fault → Type 0) → Type 0
-SomeMeaning Is = (meaning : Result Asked Fault) × Is meaning
+abbrev SomeMeaning : {A : Type 0} → (Result A Fault → Type 0) → Type 0
+SomeMeaning {A} Is = (meaning : Result A Fault) × Is meaning
 
-by-test : (b : Bool) (P Q : Result Asked Fault → Type 0) → (b ≡ true → SomeMeaning P) → (b ≡ false → SomeMeaning Q) → SomeMeaning (λ m. MatchBool b (P m) (Q m))
+by-test : {A : Type 0} (b : Bool) (P Q : Result A Fault → Type 0) → (b ≡ true → SomeMeaning P) → (b ≡ false → SomeMeaning Q) → SomeMeaning (λ m. MatchBool b (P m) (Q m))
 by-test true P Q held failed = held refl
 by-test false P Q held failed = failed refl
 
-by-option : {A : Type 0} (o : Option A) (P : Result Asked Fault → Type 0) (Q : A → Result Asked Fault → Type 0)
+by-option : {A B : Type 0} (o : Option A) (P : Result B Fault → Type 0) (Q : A → Result B Fault → Type 0)
     → SomeMeaning P → ((x : A) → o ≡ Some x → SomeMeaning (Q x)) → SomeMeaning (λ m. MatchOption o (P m) (λ x. Q x m))
 by-option None P Q none some = none
 by-option (Some x) P Q none some = some x refl
@@ -212,19 +216,62 @@ spelled-decided text = go (begins_tag text)
     go true = decided (IsTag text) (tag_of text) (Reads-tag text)
     go false = deal-decided text
 
-some-fields : (fields : SolveFields) → SomeMeaning (MeansFields fields)
-some-fields fields =
-    elim (spelled-decided fields.deal) [
-      | inl deal ↦ let means = some-hands fields deal.0 deal.1 in (means.0, inl (deal.0, deal.1, deal.2, means.1))
+-- what is asked of a deal, where it is known of all hands
+some-deal : {A : Type 0} (text : List ℕ) (Of : FourHands → Result A Fault → Type 0) → ((hands : FourHands) → AreHands hands → SomeMeaning (Of hands)) → SomeMeaning (MeansDeal text Of)
+some-deal text Of of =
+    elim (spelled-decided text) [
+      | inl deal ↦ let means = of deal.0 deal.1 in (means.0, inl (deal.0, deal.1, deal.2, means.1))
       | inr none ↦ (Err (deal_fault none.0), inr (none.0, none.1, refl))
     ]
+
+-- hands are even or not
+pub hands-decided : (hands : FourHands) → AreEven hands ⊎ (AreEven hands → ⊥)
+hands-decided hands = elim (eqb_tells (length hands.east) (length hands.north)) [
+  | inr odd ↦ inr (λ even. (let ne = odd.1 in ne even.0))
+  | inl east ↦ elim (eqb_tells (length hands.south) (length hands.north)) [
+    | inr odd ↦ inr (λ even. (let ne = odd.1 in ne even.1))
+    | inl south ↦ elim (eqb_tells (length hands.west) (length hands.north)) [
+      | inr odd ↦ inr (λ even. (let ne = odd.1 in ne even.2))
+      | inl west ↦ inl (east.1, south.1, west.1)
+    ]
+  ]
+]
+
+-- hands of some cards each have a table, and others a fault
+pub means-table : (hands : FourHands) → AreEven hands → 0 < length hands.north → MeansTable hands (Ok hands)
+means-table hands even some = record { uneven = λ odd. absurd (odd even); none = λ _ empty. absurd (omega arith); some = λ _ _. refl }
+
+pub means-no-cards : (hands : FourHands) → AreEven hands → length hands.north ≡ 0 → MeansTable hands (Err NoCard)
+means-no-cards hands even empty = record { uneven = λ odd. absurd (odd even); none = λ _ _. refl; some = λ _ some. absurd (omega arith) }
+
+pub means-odd : (hands : FourHands) → (AreEven hands → ⊥) → MeansTable hands (Err UnevenHands)
+means-odd hands odd = record { uneven = λ _. refl; none = λ even _. absurd (odd even); some = λ even _. absurd (odd even) }
+
+some-table : (hands : FourHands) → SomeMeaning (MeansTable hands)
+some-table hands = elim (hands-decided hands) [
+  | inr odd ↦ (Err UnevenHands, means-odd hands odd)
+  | inl even ↦ elim (eqb_tells (length hands.north) 0) [
+    | inl none ↦ (Err NoCard, means-no-cards hands even none.1)
+    | inr some ↦ (Ok hands, means-table hands even (let ne = some.1 in omega arith))
+  ]
+]
+
+-- what is asked in some way
+some-way : {A : Type 0} (way : A → Asked) (Is : Result A Fault → Type 0) → SomeMeaning Is → SomeMeaning (λ m. (asked : Result A Fault) × Is asked × (m ≡ asked_as way asked))
+some-way way Is asked = (asked_as way asked.0, (asked.0, asked.1, refl))
+
+-- the members of an object ask something, or have a fault
+some-object : (members : Members) → SomeMeaning (MeansObject members)
+some-object members =
+    by-option (table_deal members) _ _
+    (by-option (solve_fields members) _ _ (Err WrongField, refl) (λ fields _. some-way Solve (MeansFields fields) (some-deal fields.deal (MeansHands fields) (some-hands fields))))
+    (λ deal _. some-way Table (MeansDeal deal MeansTable) (some-deal deal MeansTable (λ hands _. some-table hands)))
 
 -- every line has a meaning
 pub some-meaning : (line : List ℕ) → (meaning : Result Asked Fault) × Means line meaning
 some-meaning line =
     by-test (nat_lt longest_line (length line)) _ _ (λ _. (Err LineTooLong, refl)) (λ _.
-    by-option (object_of line) _ _ (Err NotAnObject, refl) (λ members _.
-    by-option (solve_fields members) _ _ (Err WrongField, refl) (λ fields _. some-fields fields)))
+    by-option (object_of line) _ _ (Err NotAnObject, refl) (λ members _. some-object members))
 
 -- ---- no meaning is that memory ran out
 board-memory : (board : Board) (solutions : ℕ) → MeansBoard board solutions (Err OutOfMemory) → ⊥
@@ -249,14 +296,37 @@ hands-memory fields hands =
     (by-bool (nat_le 1 fields.solutions && nat_le fields.solutions 3) _ _ (λ asked. board-memory asked.0 fields.solutions asked.2) (λ no. cc))
     (λ no. cc)))
 
-deal-memory : (fault : PbnFault) (meaning : Result Asked Fault) → meaning ≡ Err OutOfMemory → meaning ≡ Err (deal_fault fault) → ⊥
-deal-memory Grammar meaning is e = cc
-deal-memory Absent meaning is e = cc
-deal-memory Twice meaning is e = cc
+fault-memory : {A : Type 0} (fault : PbnFault) (meaning : Result A Fault) → meaning ≡ Err OutOfMemory → meaning ≡ Err (deal_fault fault) → ⊥
+fault-memory Grammar meaning is e = cc
+fault-memory Absent meaning is e = cc
+fault-memory Twice meaning is e = cc
 
-pub fields-memory : (fields : SolveFields) → MeansFields fields (Err OutOfMemory) → ⊥
-fields-memory fields means =
+deal-memory : {A : Type 0} (text : List ℕ) (Of : FourHands → Result A Fault → Type 0) → ((hands : FourHands) → Of hands (Err OutOfMemory) → ⊥) → MeansDeal text Of (Err OutOfMemory) → ⊥
+deal-memory text Of none means =
     elim means [
-      | inl spelled ↦ hands-memory fields spelled.0 spelled.3
-      | inr none ↦ deal-memory none.0 _ refl none.2
+      | inl spelled ↦ none spelled.0 spelled.3
+      | inr fault ↦ fault-memory fault.0 _ refl fault.2
     ]
+
+table-memory : (hands : FourHands) → MeansTable hands (Err OutOfMemory) → ⊥
+table-memory hands means = elim (hands-decided hands) [
+  | inr odd ↦ (let no = means.uneven odd in cc)
+  | inl even ↦ elim (eqb_tells (length hands.north) 0) [
+    | inl none ↦ (let no = means.none even none.1 in cc)
+    | inr some ↦ (let no = means.some even (let ne = some.1 in omega arith) in cc)
+  ]
+]
+
+by-fields : {A : Type 0} (o : Option A) (P : Type 0) (Q : A → Type 0) → (P → ⊥) → ((x : A) → Q x → ⊥) → MatchOption o P Q → ⊥
+by-fields None P Q p q held = p held
+by-fields (Some x) P Q p q held = q x held
+
+way-memory : {A : Type 0} (way : A → Asked) (Is : Result A Fault → Type 0) → (Is (Err OutOfMemory) → ⊥) → (asked : Result A Fault) → Is asked → Err OutOfMemory ≡ asked_as way asked → ⊥
+way-memory way Is none (Ok x) is e = cc
+way-memory way Is none (Err fault) is e = none (subst (λ (f : Fault). Is (Err f)) (let same : fault ≡ OutOfMemory = cc in same) is)
+
+pub object-memory : (members : Members) → MeansObject members (Err OutOfMemory) → ⊥
+object-memory members =
+    by-fields (table_deal members) _ _
+    (by-fields (solve_fields members) _ _ (λ no. cc) (λ fields means. way-memory Solve (MeansFields fields) (deal-memory fields.deal (MeansHands fields) (hands-memory fields)) means.0 means.1 means.2))
+    (λ deal means. way-memory Table (MeansDeal deal MeansTable) (deal-memory deal MeansTable table-memory) means.0 means.1 means.2)

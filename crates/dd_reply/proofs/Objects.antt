@@ -1,7 +1,6 @@
 -- What a line is as a JSON object.
 use Rattle.std.proofs.Common.{◌≡◌, Bool, true, false, cond, refl, ap, ◌∙◌, List, ℕ}
-use Rattle.std.specs.Prelude.{Option, None, Some, option_and_then, Result, Ok, Err, MatchResult, IfOk, IfErr}
-use Rattle.std.specs.Option.{ok_or}
+use Rattle.std.specs.Prelude.{None, Some, option_and_then, Result, Ok, Err, MatchResult, IfOk, IfErr}
 use Rattle.std.specs.Result.{IsErrAnd}
 use Rattle.std.specs.Str.{IsUtf8, is_utf8}
 use Rattle.std.proofs.lemmas.Str.{IsUtf8-from_is_utf8, is_utf8-from_IsUtf8}

@@ -19,25 +19,25 @@ use Rattle.dd_pbn.proofs.CallerLemmas.{Reads-tag, Reads-value, failed-read, spel
 use Rattle.dd_play.specs.Board.{Board, board_of, left}
 use Rattle.dd_pbn.specs.Values.{begins_tag}
 use Rattle.dd_reply.specs.declared.fault.Fault.{Fault}
-use Rattle.dd_reply.specs.Requests.{SolveFields, Asked, Means, MeansFields, MeansHands, MeansBoard, IsAskedOf, deal_fault, are_cards, pair_of_card, longest_line, object_of, solve_fields}
-use Rattle.dd_reply.proofs.Meanings.{none-twice-decided, even-decided}
-
-abbrev Meaning : Type 0
-Meaning = Result Asked Fault
+use Rattle.serde_json.specs.Data.{Members}
+use Rattle.dd_reply.specs.declared.asked.Asked.{Asked}
+use Rattle.dd_reply.specs.declared.asked.Asked.TheVariants.{Solve, Table}
+use Rattle.dd_reply.specs.Requests.{SolveFields, Means, MeansObject, MeansDeal, MeansTable, MeansFields, MeansHands, MeansBoard, IsAskedOf, asked_as, table_deal, deal_fault, are_cards, pair_of_card, longest_line, object_of, solve_fields}
+use Rattle.dd_reply.proofs.Meanings.{none-twice-decided, even-decided, hands-decided}
 
 -- two meanings that are one value are one
-both : (value a b : Meaning) → a ≡ value → b ≡ value → a ≡ b
+both : {A : Type 0} (value a b : Result A Fault) → a ≡ value → b ≡ value → a ≡ b
 both value a b is_a is_b = is_a ∙ sym is_b
 
 -- at most one meaning is such
-abbrev AtMostOne : (Meaning → Type 0) → Type 0
-AtMostOne Is = (a b : Meaning) → Is a → Is b → a ≡ b
+abbrev AtMostOne : {A : Type 0} → (Result A Fault → Type 0) → Type 0
+AtMostOne {A} Is = (a b : Result A Fault) → Is a → Is b → a ≡ b
 
-one-by-test : (t : Bool) (P Q : Meaning → Type 0) → AtMostOne P → AtMostOne Q → AtMostOne (λ m. MatchBool t (P m) (Q m))
+one-by-test : {A : Type 0} (t : Bool) (P Q : Result A Fault → Type 0) → AtMostOne P → AtMostOne Q → AtMostOne (λ m. MatchBool t (P m) (Q m))
 one-by-test true P Q one_p one_q = one_p
 one-by-test false P Q one_p one_q = one_q
 
-one-by-option : {A : Type 0} (o : Option A) (P : Meaning → Type 0) (Q : A → Meaning → Type 0) → AtMostOne P → ((x : A) → AtMostOne (Q x)) → AtMostOne (λ m. MatchOption o (P m) (λ x. Q x m))
+one-by-option : {A B : Type 0} (o : Option A) (P : Result B Fault → Type 0) (Q : A → Result B Fault → Type 0) → AtMostOne P → ((x : A) → AtMostOne (Q x)) → AtMostOne (λ m. MatchOption o (P m) (λ x. Q x m))
 one-by-option None P Q one_p one_q = one_p
 one-by-option (Some x) P Q one_p one_q = one_q x
 
@@ -123,25 +123,45 @@ err-same result x y is_x is_y = cc
 ok-or-err : {A E : Type 0} (result : Result A E) (x : A) (y : E) → result ≡ Ok x → result ≡ Err y → ⊥
 ok-or-err result x y is_x is_y = cc
 
-one-fields : (fields : SolveFields) → AtMostOne (MeansFields fields)
-one-fields fields a b (inl (h, are_h, spelled_h, means_h)) (inl (k, are_k, spelled_k, means_k)) =
-    let tag = begins_tag fields.deal in
-    let same : k ≡ h = ok-same (reading_of tag fields.deal) k h (spelled-told tag fields.deal k are_k spelled_k) (spelled-told tag fields.deal h are_h spelled_h) in
-    one-hands fields h are_h a b means_h (subst (λ (hands : FourHands). MeansHands fields hands b) same means_k)
-one-fields fields a b (inl (h, are, spelled, means)) (inr (fault, none, is)) =
-    let tag = begins_tag fields.deal in
-    absurd (ok-or-err (reading_of tag fields.deal) h fault (spelled-told tag fields.deal h are spelled) (none-told tag fields.deal fault none))
-one-fields fields a b (inr (fault, none, is)) (inl (h, are, spelled, means)) =
-    let tag = begins_tag fields.deal in
-    absurd (ok-or-err (reading_of tag fields.deal) h fault (spelled-told tag fields.deal h are spelled) (none-told tag fields.deal fault none))
-one-fields fields a b (inr (f, none_f, is_f)) (inr (g, none_g, is_g)) =
-    let tag = begins_tag fields.deal in
-    let same : f ≡ g = err-same (reading_of tag fields.deal) f g (none-told tag fields.deal f none_f) (none-told tag fields.deal g none_g) in
+one-deal : {A : Type 0} (text : List ℕ) (Of : FourHands → Result A Fault → Type 0) → ((hands : FourHands) → AreHands hands → AtMostOne (Of hands)) → AtMostOne (MeansDeal text Of)
+one-deal text Of one a b (inl (h, are_h, spelled_h, means_h)) (inl (k, are_k, spelled_k, means_k)) =
+    let tag = begins_tag text in
+    let same : k ≡ h = ok-same (reading_of tag text) k h (spelled-told tag text k are_k spelled_k) (spelled-told tag text h are_h spelled_h) in
+    one h are_h a b means_h (subst (λ (hands : FourHands). Of hands b) same means_k)
+one-deal text Of one a b (inl (h, are, spelled, means)) (inr (fault, none, is)) =
+    let tag = begins_tag text in
+    absurd (ok-or-err (reading_of tag text) h fault (spelled-told tag text h are spelled) (none-told tag text fault none))
+one-deal text Of one a b (inr (fault, none, is)) (inl (h, are, spelled, means)) =
+    let tag = begins_tag text in
+    absurd (ok-or-err (reading_of tag text) h fault (spelled-told tag text h are spelled) (none-told tag text fault none))
+one-deal text Of one a b (inr (f, none_f, is_f)) (inr (g, none_g, is_g)) =
+    let tag = begins_tag text in
+    let same : f ≡ g = err-same (reading_of tag text) f g (none-told tag text f none_f) (none-told tag text g none_g) in
     is_f ∙ ap (λ fault. Err (deal_fault fault)) same ∙ sym is_g
 
+-- ---- the table
+one-table : (hands : FourHands) → AtMostOne (MeansTable hands)
+one-table hands a b means_a means_b =
+    elim (hands-decided hands) [
+      | inr odd ↦ both _ a b (means_a.uneven odd) (means_b.uneven odd)
+      | inl even ↦ elim (eqb_tells (length hands.north) 0) [
+        | inl none ↦ both _ a b (means_a.none even none.1) (means_b.none even none.1)
+        | inr some ↦ (let more : 0 < length hands.north = (let ne = some.1 in omega arith) in both _ a b (means_a.some even more) (means_b.some even more))
+      ]
+    ]
+
 -- ---- the line
+-- what is asked in one way
+one-way : {A : Type 0} (way : A → Asked) (Is : Result A Fault → Type 0) → AtMostOne Is → AtMostOne (λ m. (asked : Result A Fault) × Is asked × (m ≡ asked_as way asked))
+one-way way Is one a b (x, is_x, e) (y, is_y, f) = e ∙ ap (asked_as way) (one x y is_x is_y) ∙ sym f
+
+one-object : (members : Members) → AtMostOne (MeansObject members)
+one-object members =
+    one-by-option (table_deal members) _ _
+    (one-by-option (solve_fields members) _ _ (both _) (λ fields. one-way Solve (MeansFields fields) (one-deal fields.deal (MeansHands fields) (one-hands fields))))
+    (λ deal. one-way Table (MeansDeal deal MeansTable) (one-deal deal MeansTable (λ hands _. one-table hands)))
+
 pub one-meaning : (line : List ℕ) (a b : Result Asked Fault) → Means line a → Means line b → a ≡ b
 one-meaning line =
     one-by-test (nat_lt longest_line (length line)) _ _ (both _)
-    (one-by-option (object_of line) _ _ (both _) (λ members.
-    one-by-option (solve_fields members) _ _ (both _) one-fields))
+    (one-by-option (object_of line) _ _ (both _) one-object)

@@ -8,7 +8,6 @@ use Rattle.dd_cards.specs.declared.seat.Seat.TheVariants.{North, East}
 use Rattle.dd_cards.specs.declared.strain.Strain.{Strain}
 use Rattle.dd_cards.specs.declared.strain.Strain.TheVariants.{Trump, Notrump}
 use Rattle.dd_cards.specs.declared.suit.Suit.TheVariants.{Spades}
-use Rattle.dd_cards.specs.PlayingCard.{PlayingCard}
 use Rattle.dd_cards.specs.Cards.{card_of}
 use Rattle.dd_cards.specs.Hands.{FourHands, AreHands}
 use Rattle.dd_pbn.specs.Examples.{eight_spades, two_suits}

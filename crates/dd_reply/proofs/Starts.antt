@@ -2,7 +2,7 @@
 use Rattle.std.proofs.Common.{◌≡◌, ℕ, ◌<◌, ◌≤◌, refl, arith, length}
 use Rattle.std.specs.Prelude.{Ok, Err}
 use Rattle.dd_play.specs.Board.{Board, NoneTwice, IsEven, left}
-use Rattle.dd_play.specs.Positions.{CanPlay, IsFirstFault}
+use Rattle.dd_play.specs.Positions.{IsFirstFault}
 use Rattle.dd_play.specs.declared.play_fault.PlayFault.{PlayFault}
 use Rattle.dd_play.specs.declared.play_fault.PlayFault.TheVariants.{Played, Twice, Uneven, Empty}
 use Rattle.dd_reply.specs.declared.fault.Fault.TheVariants.{CardTwice, UnevenHands, NoCard}

@@ -1,4 +1,6 @@
 pub mod Faults
+pub mod Questions
+pub mod Results
 pub mod Requests
 pub mod Reading
 pub mod ScoredClasses

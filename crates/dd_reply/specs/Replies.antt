@@ -1,11 +1,14 @@
 -- The text of a reply: JSON without spaces, keys in the order of their bytes.
-use Rattle.std.specs.Prelude.{◌≡◌, ℕ, ◌<◌, ◌≤◌, ◌⊎◌, List, ◌++◌, map, length, codes, decimal, Option, IsSome, Result, Ok, Err}
-use Rattle.std.specs.List.{join_with_byte}
+use Rattle.std.specs.Prelude.{◌≡◌, ℕ, ◌+◌, ◌*◌, ◌<◌, ◌≤◌, ◌⊎◌, List, ◌++◌, map, length, codes, decimal, Option, IsSome, Result, Ok, Err}
+use Rattle.std.specs.List.{join_with_byte, range_with_len, slice_range}
 use Rattle.dd_cards.specs.Suits.{suit_code}
 use Rattle.dd_reply.specs.declared.fault.Fault.{Fault}
 use Rattle.dd_reply.specs.declared.fault.Fault.TheVariants.{OutOfMemory}
 use Rattle.dd_reply.specs.Faults.{fault_number}
-use Rattle.dd_reply.specs.Requests.{Asked, Means, longest_line}
+use Rattle.dd_reply.specs.Results.{results}
+use Rattle.dd_reply.specs.declared.asked.Asked.{Asked}
+use Rattle.dd_reply.specs.declared.asked.Asked.TheVariants.{Solve, Table}
+use Rattle.dd_reply.specs.Requests.{Means, longest_line}
 use Rattle.dd_reply.specs.ScoredClasses.{ScoredClass, answer}
 
 -- {"equals":e,"rank":r,"score":n,"suit":s}
@@ -18,6 +21,18 @@ class_text class =
 abbrev pub answer_text : List ScoredClass → List ℕ
 answer_text classes = codes "{\"cards\":[" ++ join_with_byte 44 (map class_text classes) ++ codes "]}"
 
+-- [a,b,..]
+abbrev pub list_text : List ℕ → List ℕ
+list_text numbers = codes "[" ++ join_with_byte 44 (map decimal numbers) ++ codes "]"
+
+-- of twenty results those of a strain, by its code
+abbrev pub of_strain : List ℕ → ℕ → List ℕ
+of_strain results strain = slice_range results (4 * strain) (4 * strain + 4)
+
+-- {"table":[[a,b,c,d],..]}, a list for each strain
+abbrev pub table_text : List ℕ → List ℕ
+table_text results = codes "{\"table\":[" ++ join_with_byte 44 (map (λ strain. list_text (of_strain results strain)) (range_with_len 0 5)) ++ codes "]}"
+
 -- {"fault":n}
 abbrev pub fault_text : Fault → List ℕ
 fault_text fault = codes "{\"fault\":" ++ decimal (fault_number fault) ++ codes "}"
@@ -28,7 +43,8 @@ spent_text = codes "{\"state\":\"spent\"}"
 
 -- the text of the answer to what is asked
 abbrev pub asked_text : Asked → List ℕ
-asked_text asked = answer_text (answer asked.board asked.solutions)
+asked_text (Solve question) = answer_text (answer question.board question.solutions)
+asked_text (Table hands) = table_text (results hands)
 
 -- the reply to a line of this meaning
 abbrev pub reply_text : Result Asked Fault → List ℕ
@@ -36,7 +52,7 @@ reply_text (Ok asked) = asked_text asked
 reply_text (Err fault) = fault_text fault
 
 -- The text is the reply to the line: what its meaning is answered with; that memory ran out while it was read; or, with a
--- budget, that this was spent in a search for the answer.
+-- budget, that this was spent in a search for the answer, or for one of the twenty results of a table.
 abbrev pub IsReply : Option ℕ → List ℕ → List ℕ → Type 0
 IsReply budget line text =
     ((meaning : Result Asked Fault) × Means line meaning × (text ≡ reply_text meaning))

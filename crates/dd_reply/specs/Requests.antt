@@ -1,5 +1,5 @@
 -- What a request line means: the position and the number of cards that it asks for, or its first fault.
-use Rattle.std.specs.Prelude.{◌≡◌, ℕ, ◌<◌, ◌⊎◌, ◌&&◌, ◌==◌, Bool, false, List, [], ◌∷◌, map, nat_lt, nat_le, length, codes, Option, None, Some, option_and_then, Result, Ok, Err, MatchOption, if◌then◌else◌}
+use Rattle.std.specs.Prelude.{◌≡◌, ℕ, ◌<◌, ◌⊎◌, ◌&&◌, Bool, List, [], ◌∷◌, map, nat_lt, nat_le, length, codes, Option, None, Some, option_and_then, Result, Ok, Err, MatchOption, if◌then◌else◌}
 use Rattle.std.specs.Bool.{MatchBool}
 use Rattle.std.specs.List.{list_any, list_all}
 use Rattle.std.specs.Str.{is_utf8, bytes_eq}
@@ -18,6 +18,10 @@ use Rattle.dd_pbn.specs.Reading.{◌>>=◌}
 use Rattle.dd_pbn.specs.Values.{begins_tag}
 use Rattle.dd_pbn.specs.Deals as deals
 use Rattle.dd_play.specs.Board.{Board, NoneTwice, IsEven, left}
+use Rattle.dd_reply.specs.Questions.{Question}
+use Rattle.dd_reply.specs.Results.{AreEven}
+use Rattle.dd_reply.specs.declared.asked.Asked.{Asked}
+use Rattle.dd_reply.specs.declared.asked.Asked.TheVariants.{Solve, Table}
 use Rattle.dd_reply.specs.declared.fault.Fault.{Fault}
 use Rattle.dd_reply.specs.declared.request_reader.TheConstants.{LONGEST_LINE}
 use Rattle.dd_reply.specs.declared.fault.Fault.TheVariants.{LineTooLong, NotAnObject, WrongField, DealText, HandLeftOut, CardTwice, WrongTrump, WrongFirst, WrongPlayed, WrongSolutions, UnevenHands, NoCard}
@@ -32,11 +36,6 @@ pub record SolveFields : Type 0 where
   pub trump : ℕ
   pub first : ℕ
   pub played : List (ℕ × ℕ)
-  pub solutions : ℕ
-
--- what a request asks: the cards of this position; all of them (3), those of the greatest score (2), or one of these (1)
-pub record Asked : Type 0 where
-  pub board : Board
   pub solutions : ℕ
 
 -- ---- JSON
@@ -93,13 +92,17 @@ pairs_at members key = elim (get_member key members) [
 abbrev pub solve_keys : List (List ℕ)
 solve_keys = codes "deal" ∷ codes "do" ∷ codes "first" ∷ codes "played" ∷ codes "solutions" ∷ codes "trump" ∷ []
 
--- is each of these keys one of the fields of a request to solve?
-abbrev pub are_known : List (List ℕ) → Bool
-are_known keys = list_all (λ key. list_any (bytes_eq key) solve_keys) keys
+-- and of a request for a table
+abbrev pub table_keys : List (List ℕ)
+table_keys = codes "deal" ∷ codes "do" ∷ []
+
+-- is each of these keys one of the known?
+abbrev pub are_among : List (List ℕ) → List (List ℕ) → Bool
+are_among known keys = list_all (λ key. list_any (bytes_eq key) known) keys
 
 -- the fields, where all of them are there, each of its kind, and no other is
 abbrev pub solve_fields : Members → Option SolveFields
-solve_fields members = if are_known (keys_of members) then (do
+solve_fields members = if are_among solve_keys (keys_of members) then (do
   task ← text_at members (codes "do")
   if bytes_eq task (codes "solve") then (do
     deal ← text_at members (codes "deal")
@@ -108,6 +111,12 @@ solve_fields members = if are_known (keys_of members) then (do
     played ← pairs_at members (codes "played")
     solutions ← whole_number_at members (codes "solutions")
     Some (record { deal = deal; trump = trump; first = first; played = played; solutions = solutions })) else None) else None
+
+-- the text of the deal whose table is asked for, where it is there and no other field is
+abbrev pub table_deal : Members → Option (List ℕ)
+table_deal members = if are_among table_keys (keys_of members) then (do
+  task ← text_at members (codes "do")
+  if bytes_eq task (codes "table") then text_at members (codes "deal") else None) else None
 
 -- ---- the deal
 
@@ -143,14 +152,14 @@ pub record IsAskedOf (cards : FourHands) (fields : SolveFields) (board : Board) 
   pub trick : map pair_of_card board.trick ≡ fields.played
 
 -- the cards decide: one that stands twice, uneven hands, none to play, or a position
-pub record MeansBoard (board : Board) (solutions : ℕ) (meaning : Result Asked Fault) : Type 0 where
+pub record MeansBoard (board : Board) (solutions : ℕ) (meaning : Result Question Fault) : Type 0 where
   pub twice : (NoneTwice board → ⊥) → meaning ≡ Err CardTwice
   pub uneven : NoneTwice board → (IsEven board → ⊥) → meaning ≡ Err UnevenHands
   pub none : NoneTwice board → IsEven board → left board ≡ 0 → meaning ≡ Err NoCard
   pub some : NoneTwice board → IsEven board → 0 < left board → meaning ≡ Ok (record { board = board; solutions = solutions })
 
 -- the trump, then the leader, then the cards played, then the solutions, then the cards together
-abbrev pub MeansHands : SolveFields → FourHands → Result Asked Fault → Type 0
+abbrev pub MeansHands : SolveFields → FourHands → Result Question Fault → Type 0
 MeansHands fields hands meaning =
     MatchBool (nat_lt 4 fields.trump) (meaning ≡ Err WrongTrump)
     (MatchBool (nat_lt 3 fields.first) (meaning ≡ Err WrongFirst)
@@ -161,15 +170,39 @@ MeansHands fields hands meaning =
     (meaning ≡ Err WrongPlayed)))
 
 -- the deal first
-abbrev pub MeansFields : SolveFields → Result Asked Fault → Type 0
-MeansFields fields meaning =
-    ((hands : FourHands) × AreHands hands × SpellsDeal fields.deal hands × MeansHands fields hands meaning)
-    ⊎ ((fault : PbnFault) × SpellsNone fields.deal fault × (meaning ≡ Err (deal_fault fault)))
+abbrev pub MeansDeal : {A : Type 0} → List ℕ → (FourHands → Result A Fault → Type 0) → Result A Fault → Type 0
+MeansDeal text Of meaning =
+    ((hands : FourHands) × AreHands hands × SpellsDeal text hands × Of hands meaning)
+    ⊎ ((fault : PbnFault) × SpellsNone text fault × (meaning ≡ Err (deal_fault fault)))
 
--- what a line means: its length is looked at first, then that it is a JSON object, then its fields
+abbrev pub MeansFields : SolveFields → Result Question Fault → Type 0
+MeansFields fields = MeansDeal fields.deal (MeansHands fields)
+
+-- ---- the table
+
+-- the numbers of cards decide: uneven hands, none to play, or hands with a table
+pub record MeansTable (hands : FourHands) (meaning : Result FourHands Fault) : Type 0 where
+  pub uneven : (AreEven hands → ⊥) → meaning ≡ Err UnevenHands
+  pub none : AreEven hands → length hands.north ≡ 0 → meaning ≡ Err NoCard
+  pub some : AreEven hands → 0 < length hands.north → meaning ≡ Ok hands
+
+-- ---- the line
+
+-- what is asked in this way, or the fault
+abbrev pub asked_as : {A : Type 0} → (A → Asked) → Result A Fault → Result Asked Fault
+asked_as way (Ok asked) = Ok (way asked)
+asked_as way (Err fault) = Err fault
+
+-- what the members of an object ask: a table, or else the cards of a position
+abbrev pub MeansObject : Members → Result Asked Fault → Type 0
+MeansObject members meaning =
+    MatchOption (table_deal members)
+    (MatchOption (solve_fields members) (meaning ≡ Err WrongField) (λ fields.
+    (asked : Result Question Fault) × MeansFields fields asked × (meaning ≡ asked_as Solve asked)))
+    (λ deal. (asked : Result FourHands Fault) × MeansDeal deal MeansTable asked × (meaning ≡ asked_as Table asked))
+
+-- what a line means: its length is looked at first, then that it is a JSON object, then its members
 abbrev pub Means : List ℕ → Result Asked Fault → Type 0
 Means line meaning =
     MatchBool (nat_lt longest_line (length line)) (meaning ≡ Err LineTooLong)
-    (MatchOption (object_of line) (meaning ≡ Err NotAnObject) (λ members.
-    MatchOption (solve_fields members) (meaning ≡ Err WrongField) (λ fields.
-    MeansFields fields meaning)))
+    (MatchOption (object_of line) (meaning ≡ Err NotAnObject) (λ members. MeansObject members meaning))

@@ -4,8 +4,9 @@ ghost use Rattle.dd_cards.specs.declared.strain.Strain.TheVariants.{Trump, Notru
 ghost use Rattle.dd_cards.specs.declared.suit.Suit.TheVariants.{Spades};
 ghost use Rattle.dd_pbn.specs.Examples.{eight_spades, two_suits};
 ghost use Rattle.dd_play.specs.Board.{board_of};
-ghost use Rattle.dd_reply.specs.Requests.{Asked, Means};
+ghost use Rattle.dd_reply.specs.Requests.{Means};
 
+use crate::asked::Asked;
 use crate::fault::Fault;
 
 /// A line has a meaning, and only one.
@@ -18,9 +19,9 @@ pub fn one_meaning()
 /// Lines worked by hand.
 pub fn worked_lines()
     ensures best_cards { Means (codes "{\"do\":\"solve\",\"deal\":\"N:A.2.. K.A.. Q.K.. J.Q..\",\"trump\":4,\"first\":1,\"solutions\":2}")
-        (Ok (record { board = board_of two_suits Notrump East []; solutions = 2 })) }
+        (Ok (Asked.Solve record { board = board_of two_suits Notrump East []; solutions = 2 })) }
     ensures every_card { Means (codes "{\"deal\":\"[Deal \\\"e:k4... aq... 65... 32...\\\"]\",\"played\":[],\"trump\":0,\"first\":0,\"solutions\":3,\"do\":\"solve\"}")
-        (Ok (record { board = board_of eight_spades (Trump Spades) North []; solutions = 3 })) }
+        (Ok (Asked.Solve record { board = board_of eight_spades (Trump Spades) North []; solutions = 3 })) }
     ensures no_object { Means (codes "[]") (Err Fault.NotAnObject) }
     ensures three_numbers { Means (codes "{\"do\":\"solve\",\"deal\":\"N:A.2.. K.A.. Q.K.. J.Q..\",\"trump\":4,\"first\":0,\"solutions\":3,\"played\":[[0,14,1]]}")
         (Err Fault.WrongField) }

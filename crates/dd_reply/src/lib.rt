@@ -2,19 +2,28 @@
 #![tactic(auto)]
 
 mod answer;
+mod asked;
 mod fault;
 mod laws;
 mod line_reply;
 mod reply;
 mod request;
 mod request_reader;
+mod solved_table;
 mod solving;
+mod table_part;
+mod table_request;
+mod table_solving;
 
 pub use answer::{Answer, Scored};
+pub use asked::Asked;
 pub use fault::Fault;
 pub use laws::{one_meaning, worked_lines};
 pub use line_reply::reply_to_line;
-pub use reply::{LONGEST_REPLY, Reply, write_answer, write_fault, write_spent};
+pub use reply::{LONGEST_REPLY, Reply, write_answer, write_fault, write_spent, write_table};
 pub use request::Request;
 pub use request_reader::{LONGEST_LINE, read_request};
+pub use solved_table::{RESULTS, Results, SolvedTable};
 pub use solving::{Solved, solve};
+pub use table_part::{SolvedPart, solve_part};
+pub use table_request::{PARTS, TableRequest};

@@ -1,19 +1,22 @@
 //! The reply to a line.
-ghost use Rattle.std.specs.Prelude.{◌≡◌, ◌≤◌, ◌⊎◌};
+ghost use Rattle.std.specs.Prelude.{◌≡◌, ◌≤◌, ◌⊎◌, IsSome};
 ghost use Rattle.arrayvec.specs.ArrayString.{array_string_len};
 ghost use Rattle.dd_reply.specs.Replies.{IsReply, asked_text, spent_text};
 
-use crate::reply::{LONGEST_REPLY, Reply, write_answer, write_fault, write_spent};
+use crate::asked::Asked;
+use crate::reply::{LONGEST_REPLY, Reply, write_answer, write_fault, write_spent, write_table};
 use crate::request::Request;
 use crate::request_reader::read_request;
 use crate::solving::solve;
+use crate::table_request::TableRequest;
+use crate::table_solving::solve_table;
 use dd_search::{Bounds, Budget, Endless};
 use std::alloc::Global;
 
 /// The reply to a line of any length, without a line feed at its end.
 ///
-/// The budget is the most positions that the search for the answer comes to, and `None` lets it go on to its end: a line
-/// whose search spends it is told so in place of an answer.
+/// The budget is the most positions that the search for the answer comes to, and for a table the search for each of its
+/// twenty results; `None` lets it go on to its end. A line whose search spends it is told so in place of an answer.
 pub fn reply_to_line<B: Bounds>(
     alloc: Global,
     line: &[u8],
@@ -24,15 +27,16 @@ pub fn reply_to_line<B: Bounds>(
     ensures bound { array_string_len result ≤ LONGEST_REPLY }
 {
     match (read_request(alloc, line), budget) {
-        (Ok(request), Some(limit)) => reply_within(request, bounds, limit),
-        (Ok(request), None) => reply_in_the_end(request, bounds),
+        (Ok(Asked::Solve(request)), Some(limit)) => reply_within(request, bounds, limit),
+        (Ok(Asked::Solve(request)), None) => reply_in_the_end(request, bounds),
+        (Ok(Asked::Table(request)), _) => table_reply(&request, bounds, budget),
         (Err(fault), _) => write_fault(fault),
     }
 }
 
 /// The answer to a request, or that the budget is spent.
 fn reply_within<B: Bounds>(request: Request, bounds: &mut B, limit: u64) -> Reply
-    ensures text { (result.bytes ≡ asked_text request) ⊎ (result.bytes ≡ spent_text) }
+    ensures text { (result.bytes ≡ asked_text (Asked.Solve request)) ⊎ (result.bytes ≡ spent_text) }
     ensures bound { array_string_len result ≤ LONGEST_REPLY }
 {
     match solve(request, bounds, &mut Budget::new(limit)) {
@@ -43,11 +47,23 @@ fn reply_within<B: Bounds>(request: Request, bounds: &mut B, limit: u64) -> Repl
 
 /// The answer to a request, however long it takes.
 fn reply_in_the_end<B: Bounds>(request: Request, bounds: &mut B) -> Reply
-    ensures text { result.bytes ≡ asked_text request }
+    ensures text { result.bytes ≡ asked_text (Asked.Solve request) }
     ensures bound { array_string_len result ≤ LONGEST_REPLY }
 {
     match solve(request, bounds, &mut Endless) {
         Ok(solved) => write_answer(solved.answer()),
         Err(_) => unreachable!(),
+    }
+}
+
+/// The results of a table, or that the search for one of them spent the budget.
+fn table_reply<B: Bounds>(request: &TableRequest, bounds: &mut B, budget: Option<u64>) -> Reply
+    ensures text { (result.bytes ≡ asked_text (Asked.Table request.now)) ⊎
+        (IsSome budget × (result.bytes ≡ spent_text)) }
+    ensures bound { array_string_len result ≤ LONGEST_REPLY }
+{
+    match solve_table(request, bounds, budget) {
+        Some(results) => write_table(&results),
+        None => write_spent(),
     }
 }

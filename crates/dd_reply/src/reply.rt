@@ -1,10 +1,11 @@
 //! The texts of replies: JSON without spaces, keys in the order of their bytes.
-ghost use Rattle.std.specs.Prelude.{◌≡◌, ◌+◌, ◌≤◌, ◌++◌, decimal};
+ghost use Rattle.std.specs.Prelude.{◌≡◌, ◌+◌, ◌≤◌, ◌++◌, decimal, length};
 ghost use Rattle.arrayvec.specs.ArrayString.{array_string_len};
-ghost use Rattle.dd_reply.specs.Replies.{class_text, answer_text, fault_text, spent_text};
+ghost use Rattle.dd_reply.specs.Replies.{class_text, answer_text, list_text, table_text, fault_text, spent_text};
 
 use crate::answer::{Answer, Scored};
 use crate::fault::Fault;
+use crate::solved_table::Results;
 use arrayvec::ArrayString;
 use itoa::Buffer;
 
@@ -13,6 +14,11 @@ pub const LONGEST_REPLY: usize = 1_024;
 
 /// The most bytes of a reply with its line feed.
 const LONGEST_REPLY_LINE: usize = LONGEST_REPLY + 1;
+
+// The strains, and the seats that may declare.
+const STRAINS: usize = 5;
+
+const SEATS: usize = 4;
 
 /// The text of a reply, with room for its line feed.
 pub type Reply = ArrayString<LONGEST_REPLY_LINE>;
@@ -55,6 +61,42 @@ pub fn write_answer(answer: &Answer) -> Reply
     }
     text.push_str("]}");
     text
+}
+
+/// The reply to a request for a table that has its results: `{"table":[[a,b,c,d],..]}`, a list of four numbers for each
+/// strain (spades, hearts, diamonds, clubs, notrump), by declarer (North, East, South, West).
+pub fn write_table(results: &Results) -> Reply
+    ensures text { result.bytes ≡ table_text results.now }
+    ensures bound { array_string_len result ≤ LONGEST_REPLY }
+{
+    let mut text = ArrayString::new();
+    text.push_str("{\"table\":[");
+    for strain in 0..STRAINS {
+        if strain > 0 {
+            text.push_str(",");
+        }
+        let tricks = results.as_slice();
+        push_list(&mut text, &tricks[SEATS * strain..SEATS * strain + SEATS]);
+    }
+    text.push_str("]}");
+    text
+}
+
+// Appends a list of four numbers.
+fn push_list(text: &mut Reply, numbers: &[u8])
+    requires room { array_string_len text.old + 26 ≤ LONGEST_REPLY }
+    requires four { length numbers.now ≡ SEATS }
+    ensures bytes { text.new.bytes ≡ text.old.bytes ++ list_text numbers.now }
+    ensures bound { array_string_len text.new ≤ array_string_len text.old + 26 }
+{
+    text.push_str("[");
+    for (place, number) in numbers.iter().enumerate() {
+        if place > 0 {
+            text.push_str(",");
+        }
+        push_number(text, *number as u16);
+    }
+    text.push_str("]");
 }
 
 // Appends the text of a class.

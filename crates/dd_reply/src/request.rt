@@ -15,9 +15,9 @@ pub struct Request {
 impl Model for Request {
     ghost use Rattle.std.specs.Prelude.{◌≤◌};
     ghost use Rattle.dd_play.specs.Positions.{CanPlay};
-    ghost use Rattle.dd_reply.specs.Requests.{Asked};
+    ghost use Rattle.dd_reply.specs.Questions.{Question};
 
-    ghost Value = { Asked };
+    ghost Value = { Question };
 
     ghost view = { λ r. record { board = r.position; solutions = r.solutions } };
 

@@ -1,4 +1,4 @@
-ghost use Rattle.std.specs.Prelude.{◌≡◌, ◌≢◌, ◌<◌, ◌≤◌, ◌⊎◌, ◌↔◌, ℕ, List, [], ◌∷◌, ◌++◌, codes, option_map, length, None, Some, Ok, Err, IsSome, IfSome, IfOk, IfErr, MatchOption};
+ghost use Rattle.std.specs.Prelude.{◌≡◌, ◌≢◌, ◌<◌, ◌≤◌, ◌⊎◌, ◌↔◌, ℕ, List, Result, [], ◌∷◌, ◌++◌, codes, option_map, length, None, Some, Ok, Err, IsSome, IfSome, IfOk, IfErr, MatchOption};
 ghost use Rattle.std.specs.List.{list_any};
 ghost use Rattle.std.specs.Str.{bytes_eq};
 ghost use Rattle.serde_json.specs.Errors.{IsMemory};
@@ -7,14 +7,17 @@ ghost use Rattle.serde_json.specs.View.{view, items_view, members_view};
 ghost use Rattle.dd_cards.specs.Ranks.{IsRank};
 ghost use Rattle.dd_cards.specs.Seats.{seat_code};
 ghost use Rattle.dd_cards.specs.Strains.{strain_code};
-ghost use Rattle.dd_cards.specs.Hands.{AreHands};
+ghost use Rattle.dd_cards.specs.Hands.{AreHands, FourHands};
 ghost use Rattle.dd_pbn.specs.declared.fault.PbnFault.{PbnFault};
 ghost use Rattle.dd_play.specs.Board.{board_of};
-ghost use Rattle.dd_reply.specs.Requests.{Means, MeansFields, MeansHands, MeansBoard, SpellsDeal, SpellsNone, deal_fault, pair_of_card, longest_line, object_of, solve_keys, are_known, keys_of, solve_fields, text_at, whole_number_at, pairs_at, pairs_of};
+ghost use Rattle.dd_reply.specs.Questions.{Question};
+ghost use Rattle.dd_reply.specs.Requests.{Means, MeansObject, MeansDeal, MeansTable, MeansFields, MeansHands, MeansBoard, SpellsDeal, SpellsNone, asked_as, deal_fault, pair_of_card, longest_line, object_of, solve_keys, table_keys, are_among, keys_of, solve_fields, table_deal, text_at, whole_number_at, pairs_at, pairs_of};
 ghost use Rattle.dd_reply.specs.Reading.{IsUnread, ArePlayed, ReadsPlayed, ReadsFields, pair_in, cards_in, played_in, fields_of, play_fault};
 
+use crate::asked::Asked;
 use crate::fault::Fault;
 use crate::request::Request;
+use crate::table_request::TableRequest;
 use arrayvec::ArrayVec;
 use dd_cards::{Card, Hands, Rank, Seat, Strain, Suit};
 use dd_pbn::{PbnFault, begins_tag, read_deal, read_tag};
@@ -30,7 +33,7 @@ const MOST_PLAYED: usize = 3;
 
 /// What a request line asks, or the line's first fault; `OutOfMemory` where memory ran out while the line was read as
 /// JSON. The line comes without its line end.
-pub fn read_request(alloc: Global, line: &[u8]) -> Result<Request, Fault>
+pub fn read_request(alloc: Global, line: &[u8]) -> Result<Asked, Fault>
     ensures ok { IfOk result (λ asked. Means line.now (Ok asked)) }
     ensures err { IfErr result (λ fault. (fault ≢ Fault.OutOfMemory → Means line.now (Err fault))) }
     ensures memory { result ≡ Err Fault.OutOfMemory →
@@ -40,8 +43,17 @@ pub fn read_request(alloc: Global, line: &[u8]) -> Result<Request, Fault>
         return Err(Fault::LineTooLong);
     }
     let object = read_object(alloc, line)?;
-    let fields = solve_fields(&object).ok_or(Fault::WrongField)?;
-    request_of(&fields)
+    asked_by(&object)
+}
+
+// What the members of an object ask, or their first fault.
+fn asked_by(object: &Map<String, Value>) -> Result<Asked, Fault>
+    ensures { MeansObject (members_view object.now.entries) result }
+{
+    match table_deal(object) {
+        Some(deal) => table_asked(deal),
+        None => solve_asked(object),
+    }
 }
 
 // ---- The line as JSON.
@@ -93,6 +105,29 @@ struct SolveFields<'a> {
     solutions: u64,
 }
 
+// The text of the deal whose table is asked for, where it is there and no other field is.
+fn table_deal(object: &Map<String, Value>) -> Option<&str>
+    ensures { option_map (λ text. text.now) result ≡ table_deal (members_view object.now.entries) }
+{
+    if !has_table_keys_alone(object) || text_at(object, "do")? != "table" {
+        return None;
+    }
+    text_at(object, "deal")
+}
+
+// Is each key the name of a field of a request for a table?
+fn has_table_keys_alone(object: &Map<String, Value>) -> bool
+    ensures { result ≡ are_among table_keys (keys_of (members_view object.now.entries)) }
+{
+    object.keys().all(|key| is_table_key(key))
+}
+
+fn is_table_key(key: &str) -> bool
+    ensures { result ≡ list_any (bytes_eq key.now) table_keys }
+{
+    matches!(key, "deal" | "do")
+}
+
 // The fields, where all of them are there, each of its kind, and no other is.
 fn solve_fields(object: &Map<String, Value>) -> Option<SolveFields<'_>>
     ensures { let read = solve_fields (members_view object.now.entries) in
@@ -112,7 +147,7 @@ fn solve_fields(object: &Map<String, Value>) -> Option<SolveFields<'_>>
 
 // Is each key the name of a field of a request to solve?
 fn has_solve_keys_alone(object: &Map<String, Value>) -> bool
-    ensures { result ≡ are_known (keys_of (members_view object.now.entries)) }
+    ensures { result ≡ are_among solve_keys (keys_of (members_view object.now.entries)) }
 {
     object.keys().all(|key| is_solve_key(key))
 }
@@ -196,6 +231,33 @@ fn member_at<'a>(object: &'a Map<String, Value>, key: &str) -> Option<&'a Value>
 }
 
 // ---- What the fields ask.
+
+// What is asked of the deal of this text, whose table is asked for, or the first fault.
+fn table_asked(deal: &str) -> Result<Asked, Fault>
+    ensures { (asked : Result FourHands Fault) × MeansDeal deal.now MeansTable asked ×
+        (result ≡ asked_as Asked.Table asked) }
+{
+    let hands = hands_of(deal.as_bytes())?;
+    let request = table_request(hands)?;
+    Ok(Asked::Table(request))
+}
+
+// What is asked of these hands, whose table is asked for, or their fault.
+fn table_request(hands: Hands) -> Result<TableRequest, Fault>
+    ensures { MeansTable hands result }
+{
+    TableRequest::new(hands).map_err(play_fault)
+}
+
+// What is asked of a position, or the first fault of the fields.
+fn solve_asked(object: &Map<String, Value>) -> Result<Asked, Fault>
+    ensures { MatchOption (solve_fields (members_view object.now.entries)) (result ≡ Err Fault.WrongField)
+        (λ fields. (asked : Result Question Fault) × MeansFields fields asked × (result ≡ asked_as Asked.Solve asked)) }
+{
+    let fields = solve_fields(object).ok_or(Fault::WrongField)?;
+    let request = request_of(&fields)?;
+    Ok(Asked::Solve(request))
+}
 
 // What the fields ask, or their first fault.
 fn request_of(fields: &SolveFields<'_>) -> Result<Request, Fault>

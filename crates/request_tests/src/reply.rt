@@ -4,6 +4,7 @@ mod meanings;
 mod recorded;
 mod solving;
 mod spelled;
+mod tables;
 mod worked;
 
 /// The part of a row before its first bar.

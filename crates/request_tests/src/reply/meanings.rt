@@ -5,10 +5,14 @@ use std::alloc::{AllocError, Global};
 use std::test::Fail;
 
 // What a line means, as numbers: the strain, the first seat, the tricks left, the cards on the trick and the solutions
-// of what it asks, or the number of its fault.
+// of what it asks, the cards of North where it asks for a table, or the number of its fault.
 fn meaning(alloc: Global, line: &[u8]) -> Result<String, AllocError> {
     match read_request(alloc, line) {
-        Ok(request) => {
+        Ok(Asked::Table(request)) => {
+            let cards = request.hands().len(Seat::North);
+            format!(in alloc; "table {cards}")
+        }
+        Ok(Asked::Solve(request)) => {
             let position = request.position();
             let strain = position.strain().code();
             let first = position.first().code();
@@ -21,6 +25,14 @@ fn meaning(alloc: Global, line: &[u8]) -> Result<String, AllocError> {
             let number = fault.number();
             format!(in alloc; "{number}")
         }
+    }
+}
+
+// The position to solve that a line asks about.
+fn solve_request(alloc: Global, line: &[u8]) -> Option<Request> {
+    match read_request(alloc, line) {
+        Ok(Asked::Solve(request)) => Some(request),
+        _ => None,
     }
 }
 
@@ -306,7 +318,9 @@ const FIRST_HANDS: &[u8] = br#"16384 8192 4096 2048|"deal":"N:A... K... Q... J..
 fn the_first_hand_is_that_of_the_letter(rt: HostRuntime) -> Result<(), Fail> {
     for row in FIRST_HANDS.split(|byte| *byte == b'\n') {
         let line = changed(rt.alloc(), after_bar(row))?;
-        let request = read_request(rt.alloc(), &line)?.copy();
+        let request = solve_request(rt.alloc(), &line)
+            .expect(&rt, "a request")
+            .copy();
         let spades = spades(rt.alloc(), &request)?;
         assert_eq!(rt; spades.as_bytes(), before_bar(row), "at {row:?}");
     }
@@ -317,7 +331,7 @@ fn the_first_hand_is_that_of_the_letter(rt: HostRuntime) -> Result<(), Fail> {
 fn the_trick_is_as_it_was_played(rt: HostRuntime) -> Result<(), Fail> {
     let members = r#""deal":"N:... ... ... J...","played":[[3,14],[0,2],[2,10]]"#;
     let line = changed(rt.alloc(), members.as_bytes())?;
-    let request = read_request(rt.alloc(), &line)?;
+    let request = solve_request(rt.alloc(), &line).expect(&rt, "a request");
     let trick = [
         Card {
             suit: Suit::Clubs,

@@ -14,11 +14,11 @@ use Rattle.dd_reply.proofs.laws.worked_lines.Goals as goal
 
 pub returns-clause-best_cards : goal.returns-clause-best_cards
 unfolding is_utf8 chars serde_json_on_literals
-returns-clause-best_cards c = inl (two_suits, spades-and-hearts.0, spades-and-hearts.1, (board_of two_suits Notrump East [], record { hands = refl; strain = refl; first = refl; trick = refl }, asks-best))
+returns-clause-best_cards c = (_, inl (two_suits, spades-and-hearts.0, spades-and-hearts.1, (board_of two_suits Notrump East [], record { hands = refl; strain = refl; first = refl; trick = refl }, asks-best)), refl)
 
 pub returns-clause-every_card : goal.returns-clause-every_card
 unfolding is_utf8 chars serde_json_on_literals
-returns-clause-every_card c = inl (eight_spades, tag-from-east.0, tag-from-east.1, (board_of eight_spades (Trump Spades) North [], record { hands = refl; strain = refl; first = refl; trick = refl }, asks-all))
+returns-clause-every_card c = (_, inl (eight_spades, tag-from-east.0, tag-from-east.1, (board_of eight_spades (Trump Spades) North [], record { hands = refl; strain = refl; first = refl; trick = refl }, asks-all)), refl)
 
 pub returns-clause-no_object : goal.returns-clause-no_object
 unfolding is_utf8 chars serde_json_on_literals
@@ -30,28 +30,28 @@ returns-clause-three_numbers c = refl
 
 pub returns-clause-left_out : goal.returns-clause-left_out
 unfolding is_utf8 chars serde_json_on_literals
-returns-clause-left_out c = inr (Absent, left-out, refl)
+returns-clause-left_out c = (_, inr (Absent, left-out, refl), refl)
 
 pub returns-clause-two_aces : goal.returns-clause-two_aces
 unfolding is_utf8 chars serde_json_on_literals
-returns-clause-two_aces c = inr (Twice, two-aces, refl)
+returns-clause-two_aces c = (_, inr (Twice, two-aces, refl), refl)
 
 pub returns-clause-no_trump : goal.returns-clause-no_trump
 unfolding is_utf8 chars serde_json_on_literals
-returns-clause-no_trump c = inl (two_suits, spades-and-hearts.0, spades-and-hearts.1, refl)
+returns-clause-no_trump c = (_, inl (two_suits, spades-and-hearts.0, spades-and-hearts.1, refl), refl)
 
 pub returns-clause-no_seat : goal.returns-clause-no_seat
 unfolding is_utf8 chars serde_json_on_literals
-returns-clause-no_seat c = inl (two_suits, spades-and-hearts.0, spades-and-hearts.1, refl)
+returns-clause-no_seat c = (_, inl (two_suits, spades-and-hearts.0, spades-and-hearts.1, refl), refl)
 
 pub returns-clause-no_card : goal.returns-clause-no_card
 unfolding is_utf8 chars serde_json_on_literals
-returns-clause-no_card c = inl (two_suits, spades-and-hearts.0, spades-and-hearts.1, refl)
+returns-clause-no_card c = (_, inl (two_suits, spades-and-hearts.0, spades-and-hearts.1, refl), refl)
 
 pub returns-clause-no_solutions : goal.returns-clause-no_solutions
 unfolding is_utf8 chars serde_json_on_literals
-returns-clause-no_solutions c = inl (two_suits, spades-and-hearts.0, spades-and-hearts.1, refl)
+returns-clause-no_solutions c = (_, inl (two_suits, spades-and-hearts.0, spades-and-hearts.1, refl), refl)
 
 pub returns-clause-ace_led : goal.returns-clause-ace_led
 unfolding is_utf8 chars serde_json_on_literals
-returns-clause-ace_led c = inl (two_suits, spades-and-hearts.0, spades-and-hearts.1, (board_of two_suits Notrump North (card_of Spades 14 ∷ []), record { hands = refl; strain = refl; first = refl; trick = refl }, ace-led))
+returns-clause-ace_led c = (_, inl (two_suits, spades-and-hearts.0, spades-and-hearts.1, (board_of two_suits Notrump North (card_of Spades 14 ∷ []), record { hands = refl; strain = refl; first = refl; trick = refl }, ace-led)), refl)

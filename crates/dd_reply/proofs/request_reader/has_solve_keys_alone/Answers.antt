@@ -6,10 +6,10 @@ use Rattle.std.specs.Str.{bytes_eq}
 use Rattle.std.proofs.lemmas.Iterator.Consumers.{YieldsList-from_rest}
 use Rattle.std.proofs.lemmas.Iterator.Search.{all_from_yields_List}
 use Rattle.dd_reply.specs.Requests.{solve_keys}
-use Rattle.dd_reply.proofs.Keys.{are_known-keys}
+use Rattle.dd_reply.proofs.Keys.{are_among-keys}
 use Rattle.dd_reply.proofs.request_reader.has_solve_keys_alone.Goals as goal
 
 pub returns : goal.returns
 returns c =
     all_from_yields_List (λ key. list_any (bytes_eq (string_bytes key)) solve_keys) _ _ _ c.all.ensures.ran (YieldsList-from_rest (keys c.args.object.now) c.keys.ensures.rest) (λ x b q k. search (rules, tests))
-    ∙ are_known-keys c.args.object.now.entries
+    ∙ are_among-keys solve_keys c.args.object.now.entries
