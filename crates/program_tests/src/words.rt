@@ -69,12 +69,19 @@ fn a_bad_line_ends_with_status_2(rt: HostRuntime) {
         ("ddserve", ErrorKind::MissingSubcommand),
         ("ddserve resolve", ErrorKind::InvalidSubcommand),
         (
-            "ddserve --budget 5 solve\nddserve solve 5\nddserve solve --limit 5\nddserve solve --budget -1",
+            "ddserve --budget 5 solve\n\
+            ddserve solve 5\n\
+            ddserve solve --limit 5\n\
+            ddserve solve --budget -1",
             ErrorKind::UnknownArgument,
         ),
         ("ddserve solve --budget", ErrorKind::InvalidValue),
         (
-            "ddserve solve --budget x\nddserve solve --budget 1000000000001\nddserve solve --entries 0\nddserve solve --entries 65537\nddserve solve --entries 4294967297",
+            "ddserve solve --budget x\n\
+            ddserve solve --budget 1000000000001\n\
+            ddserve solve --entries 0\n\
+            ddserve solve --entries 65537\n\
+            ddserve solve --entries 4294967297",
             ErrorKind::ValueValidation,
         ),
         (
@@ -90,8 +97,12 @@ fn a_bad_line_ends_with_status_2(rt: HostRuntime) {
 
 #[test]
 fn help_ends_with_status_0(rt: HostRuntime) {
-    let lines =
-        "ddserve --help\nddserve -h\nddserve help\nddserve help solve\nddserve solve -h\nddserve solve --budget 5 --help";
+    let lines = "ddserve --help\n\
+        ddserve -h\n\
+        ddserve help\n\
+        ddserve help solve\n\
+        ddserve solve -h\n\
+        ddserve solve --budget 5 --help";
     assert!(rt; end_with(rt.alloc(), lines, ErrorKind::DisplayHelp, 0));
 }
 
