@@ -22,6 +22,10 @@ pub fn worked_lines()
         (Ok (Asked.Solve record { board = board_of two_suits Notrump East []; solutions = 2 })) }
     ensures every_card { Means (codes "{\"deal\":\"[Deal \\\"e:k4... aq... 65... 32...\\\"]\",\"played\":[],\"trump\":0,\"first\":0,\"solutions\":3,\"do\":\"solve\"}")
         (Ok (Asked.Solve record { board = board_of eight_spades (Trump Spades) North []; solutions = 3 })) }
+    ensures table { Means (codes "{\"do\":\"table\",\"deal\":\"N:A.2.. K.A.. Q.K.. J.Q..\"}")
+        (Ok (Asked.Table two_suits)) }
+    ensures trump_of_a_table { Means (codes "{\"do\":\"table\",\"deal\":\"N:A.2.. K.A.. Q.K.. J.Q..\",\"trump\":4}")
+        (Err Fault.WrongField) }
     ensures no_object { Means (codes "[]") (Err Fault.NotAnObject) }
     ensures three_numbers { Means (codes "{\"do\":\"solve\",\"deal\":\"N:A.2.. K.A.. Q.K.. J.Q..\",\"trump\":4,\"first\":0,\"solutions\":3,\"played\":[[0,14,1]]}")
         (Err Fault.WrongField) }

@@ -94,12 +94,11 @@ fn twenty_parts_make_a_table_and_nineteen_do_not(rt: HostRuntime) -> Result<(), 
     let tricks = [2, 1, 2, 0, 2, 1, 2, 0, 2, 1, 2, 0, 2, 1, 2, 0, 2, 1, 2, 0];
     assert_eq!(rt; table.copy().results().copy().as_slice(), tricks.as_slice());
     assert!(rt; table.request().is_same(&request));
-    assert!(rt; SolvedTable::of(&parts[..19]).is_none());
-    assert!(rt; SolvedTable::of(&parts[1..]).is_none());
     assert!(rt; SolvedTable::of(&[]).is_none());
     let other = request_of("N:32... K5... AQ... 64...").expect(&rt, "a request");
     assert!(rt; !other.is_same(&request));
     let _last = parts.pop();
+    assert!(rt; SolvedTable::of(parts.as_slice()).is_none());
     let last = solve_part(&other, 19, &mut NoTable, &mut Endless).expect(&rt, "a part");
     parts.push(last.copy())?;
     assert!(rt; SolvedTable::of(parts.as_slice()).is_none());

@@ -1,4 +1,4 @@
-use Rattle.std.proofs.Common.{refl, inl, inr, [], ◌∷◌}
+use Rattle.std.proofs.Common.{refl, arith, inl, inr, [], ◌∷◌}
 use Rattle.std.specs.Str.{is_utf8, chars}
 use Rattle.serde_json.proofs.OnLiterals.{serde_json_on_literals}
 use Rattle.dd_cards.specs.declared.seat.Seat.TheVariants.{North, East}
@@ -9,6 +9,7 @@ use Rattle.dd_pbn.specs.declared.fault.PbnFault.TheVariants.{Absent, Twice}
 use Rattle.dd_pbn.specs.Examples.{eight_spades, two_suits}
 use Rattle.dd_pbn.proofs.CallerLemmas.{left-out, spades-and-hearts, tag-from-east, two-aces}
 use Rattle.dd_play.specs.Board.{board_of}
+use Rattle.dd_reply.proofs.Meanings.{means-table}
 use Rattle.dd_reply.proofs.RequestExamples.{asks-best, asks-all, ace-led}
 use Rattle.dd_reply.proofs.laws.worked_lines.Goals as goal
 
@@ -19,6 +20,14 @@ returns-clause-best_cards c = (_, inl (two_suits, spades-and-hearts.0, spades-an
 pub returns-clause-every_card : goal.returns-clause-every_card
 unfolding is_utf8 chars serde_json_on_literals
 returns-clause-every_card c = (_, inl (eight_spades, tag-from-east.0, tag-from-east.1, (board_of eight_spades (Trump Spades) North [], record { hands = refl; strain = refl; first = refl; trick = refl }, asks-all)), refl)
+
+pub returns-clause-table : goal.returns-clause-table
+unfolding is_utf8 chars serde_json_on_literals
+returns-clause-table c = (_, inl (two_suits, spades-and-hearts.0, spades-and-hearts.1, means-table two_suits (refl, refl, refl) (omega arith)), refl)
+
+pub returns-clause-trump_of_a_table : goal.returns-clause-trump_of_a_table
+unfolding is_utf8 chars serde_json_on_literals
+returns-clause-trump_of_a_table c = refl
 
 pub returns-clause-no_object : goal.returns-clause-no_object
 unfolding is_utf8 chars serde_json_on_literals
