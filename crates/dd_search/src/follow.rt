@@ -140,7 +140,7 @@ impl Following {
 
     /// How good the card looks.
     #[inline]
-    pub(crate) fn weight(&self, position: &Position, card: Card) -> u16 {
+    pub(crate) fn weight_of(&self, position: &Position, card: Card) -> u16 {
         let rank = card.rank.code();
         if card.suit == self.led {
             return match self.hand {

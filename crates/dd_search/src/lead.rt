@@ -117,7 +117,7 @@ impl Leading {
 
     /// How good the highest card of a class looks.
     #[inline]
-    pub(crate) fn weight(&self, class: Class) -> u16 {
+    pub(crate) fn weight_of(&self, class: Class) -> u16 {
         let card = class.top;
         let rank = card.rank.code();
         let view = match card.suit {
