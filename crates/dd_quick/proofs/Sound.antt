@@ -1,6 +1,7 @@
 -- the quick tricks of a side are no more than the tricks that it takes
 use Rattle.std.proofs.Common.{◌≡◌, ◌≢◌, ℕ, zero, suc, ◌+◌, ◌<◌, ◌≤◌, Bool, true, false, refl, sym, ap, ◌∙◌, subst, arith, List, [], ◌∷◌, ◌++◌, length, length-append, inl, inr, min}
 use Rattle.std.specs.Prelude.{filter, nat_le, nat_lt, ◌&&◌, ◌⊎◌}
+use mathlib.Core.Bool.{not}
 use mathlib.Core.Path.{ap₂}
 use Rattle.std.proofs.lemmas.Bool.{leb-true, le-leb, cases_lt}
 use Rattle.std.proofs.lemmas.Bool.Decides.{nat_tests}
@@ -17,6 +18,7 @@ use Rattle.dd_cards.specs.Sides.{side_of, other_side, is_side}
 use Rattle.dd_cards.specs.declared.side.Side.{Side}
 use Rattle.dd_play.specs.Board.{Board, IsBoard, cards_at, left}
 use Rattle.dd_play.specs.Tricks.{is_trump}
+use Rattle.dd_play.specs.Covers.{count_of}
 use Rattle.dd_play.specs.Won.{won}
 use Rattle.dd_play.proofs.CallerLemmas.{after-code, card-real, code-lt, count, filter-has, filter-passes, flag_of, has-first, in-rest, suit-of}
 use Rattle.dd_quick.specs.QuickTricks.{is_winner, is_unbeaten, run, length_at, unbeaten, trumps_at, joint_trumps}
@@ -24,7 +26,7 @@ use Rattle.dd_quick.proofs.Hands.{IsOpposed, no-higher, none-over}
 use Rattle.dd_quick.proofs.Plays.{count-where}
 use Rattle.dd_quick.proofs.JointPlans.{is_top, trumps-plain}
 use Rattle.dd_quick.proofs.JointTrumps.{joint-taken, place-of}
-use Rattle.dd_quick.proofs.Cashing.{AllLetCash, IsLater, OnlyTrumps, cashed-all, hand_on, same-trump, total}
+use Rattle.dd_quick.proofs.Cashing.{Aims, AllLetCash, HasCards, IsLater, OnlyTrumps, cashed-all, hand_on, no_cards, same-trump, sure_of, total}
 
 -- ---- two lists
 
@@ -246,22 +248,33 @@ trumps-count Notrump p x = none (cards_at p x)
 -- then it takes so many tricks
 pub can-take : (p : Board) (n : Suit → ℕ) (k : ℕ) → IsBoard p → p.trick ≡ [] → CanTake p n k → total n + k ≤ won (side_of p.first) p
 can-take p n k valid start can =
-    cashed-all (total n) k p.strain p (is_winner p p.first) n (side_of p.first) p rest (λ c own winner x e away his suits. no-higher p valid p.first x c e away winner own his suits) refl start
-    (record { valid = valid; same = refl; ours = own-side p.first; first = refl; part = λ x c h. h; mine = λ test only. refl; partners = λ test only. refl })
-    (record { held = can.held; plain = λ u c some e. same-trump p.strain c (card_of u 0) e ∙ can.plain u some }) lets
+    cashed-all (total n) k p.strain p aims n (side_of p.first) p rest (λ c own winner x e away his suits. no-higher p valid p.first x c e away winner own his suits) refl start
+    (record { valid = valid; same = refl; ours = own-side p.first; first = refl; part = λ x c h. h; mine = λ test only. refl; partners = λ test only. refl; trumps = λ c e. e })
+    (record { held = λ u. (let h = can.held u in omega (arith, h)); tops = λ u. omega arith; plain = λ u c some e. same-trump p.strain c (card_of u 0) e ∙ can.plain u some }) lets
   where
-    rest : (q : Board) → q.trick ≡ [] → IsLater p.strain p (side_of p.first) q → k ≤ won (side_of p.first) q
-    rest q empty later =
+    -- the partner keeps its trumps
+    aims : Aims
+    aims = record { sure = is_winner p p.first; kept = is_trump p.strain; low = no_cards; over = λ u. sure_of (is_winner p p.first) u (cards_at p p.first) }
+
+    rest : (q : Board) (r : Suit → ℕ) → q.trick ≡ [] → IsLater p.strain aims p (side_of p.first) q → HasCards p.strain aims r q → total r ≡ 0 → k ≤ won (side_of p.first) q
+    rest q r empty later cards none =
         joint-later p.strain p q p.first (side_of p.first) k valid later.valid later.same empty (own-side p.first) (partners-side p.first) can.joint later.part
         (λ test only. ap (λ x. count test (cards_at q x)) (sym later.first) ∙ later.mine test only)
         (λ test only. ap (λ x. count test (cards_at q (seat_after x 2))) (sym later.first) ∙ later.partners test only)
 
-    lets : AllLetCash p.strain (is_winner p p.first) n p
+    lets : AllLetCash p.strain aims n p
     lets i l k = record {
       yields = λ u. (let y = can.yields u i l k in omega (arith, y));
       follows = λ other. elim (can.follows i (opponent i l k other)) [
         | inl none ↦ inl (trumps-count p.strain p (seat_after p.first i) ∙ none)
         | inr each ↦ inr (λ u. (let y = each u in omega (arith, y)))
+      ];
+      spares = λ two u. elim (cases_lt 0 (n u)) [
+        | inl some ↦ (
+            let all : count_of u (hand_on p i) ≤ count (λ c. is_of u c && not (is_trump p.strain c)) (hand_on p i) = count-where (is_of u) (λ c. is_of u c && not (is_trump p.strain c)) (hand_on p i)
+            (λ c has of_u. ap₂ (λ a b. a && not b) of_u (same-trump p.strain c (card_of u 0) (suit-of u c of_u) ∙ can.plain u some)) in
+            omega (arith, all))
+        | inr none ↦ omega (arith, none)
       ];
       throws = λ two. (
           let all = trumps-plain p.strain (hand_on p i) in
