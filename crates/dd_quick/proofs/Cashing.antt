@@ -40,7 +40,7 @@ no-trump strain [] each = refl
 no-trump strain (c ∷ cards) each = rw (each c (has-first c cards)) (no-trump strain cards (λ e h. each e (in-rest c e cards h)))
 
 -- no card of the suit is higher
-none-higher : (m : PlayingCard) (cards : List PlayingCard) → ((e : PlayingCard) → has_card cards e ≡ true → e.suit ≡ m.suit → e.rank ≤ m.rank) → list_all (λ e. nat_le e.rank m.rank) (filter (is_of m.suit) cards) ≡ true
+pub none-higher : (m : PlayingCard) (cards : List PlayingCard) → ((e : PlayingCard) → has_card cards e ≡ true → e.suit ≡ m.suit → e.rank ≤ m.rank) → list_all (λ e. nat_le e.rank m.rank) (filter (is_of m.suit) cards) ≡ true
 none-higher m [] each = refl
 none-higher m (c ∷ cards) each = go (is_of m.suit c) refl (none-higher m cards (λ e h. each e (in-rest c e cards h)))
   where
@@ -437,14 +437,14 @@ module _ (strain : Strain) (o : Board) (aims : Aims) (n : Suit → ℕ) (s : Sid
 -- ---- one trick
 
 -- the partner is of the same side
-partner-too : (s : Side) (h : Seat) → is_side s h ≡ true → is_side s (seat_after h 2) ≡ true
+pub partner-too : (s : Side) (h : Seat) → is_side s h ≡ true → is_side s (seat_after h 2) ≡ true
 partner-too s North e = e
 partner-too s East e = e
 partner-too s South e = e
 partner-too s West e = e
 
 -- of a hand's cards that pass a test, each is of one suit
-by-suits : (test : PlayingCard → Bool) (cards : List PlayingCard) → total (λ u. count (λ c. is_of u c && test c) cards) ≡ count test cards
+pub by-suits : (test : PlayingCard → Bool) (cards : List PlayingCard) → total (λ u. count (λ c. is_of u c && test c) cards) ≡ count test cards
 by-suits test [] = refl
 by-suits test (c ∷ cards) =
     let ih = by-suits test cards in
@@ -555,7 +555,7 @@ abbrev pub less : (Suit → ℕ) → PlayingCard → Suit → ℕ
 less n c u = n u - flag_of (is_of u c)
 
 -- one fewer in all
-total-less : (n : Suit → ℕ) (c : PlayingCard) → 1 ≤ n c.suit → total (less n c) + 1 ≡ total n
+pub total-less : (n : Suit → ℕ) (c : PlayingCard) → 1 ≤ n c.suit → total (less n c) + 1 ≡ total n
 total-less n c h = go c.suit h
   where
     go : (u : Suit) → 1 ≤ n u → (n Spades - flag_of (suit_code u == 0)) + (n Hearts - flag_of (suit_code u == 1)) + (n Diamonds - flag_of (suit_code u == 2)) + (n Clubs - flag_of (suit_code u == 3)) + 1 ≡ n Spades + n Hearts + n Diamonds + n Clubs

@@ -6,6 +6,8 @@ pub mod Cashing
 pub mod Sound
 pub mod Runs
 pub mod Covered
+pub mod Chosen
+pub mod Crossing
 pub mod Claims
 pub mod Highest
 pub mod Reached
