@@ -8,6 +8,7 @@ pub mod Runs
 pub mod Covered
 pub mod Chosen
 pub mod Crossing
+pub mod Across
 pub mod Claims
 pub mod Highest
 pub mod Reached

@@ -237,7 +237,7 @@ pub record CanTake (p : Board) (n : Suit → ℕ) (k : ℕ) : Type 0 where
   pub joint : k ≤ joint_trumps p.strain p p.first
 
 -- a seat's trumps by the test of a trump
-trumps-count : (strain : Strain) (p : Board) (x : Seat) → count (is_trump strain) (cards_at p x) ≡ trumps_at strain p x
+pub trumps-count : (strain : Strain) (p : Board) (x : Seat) → count (is_trump strain) (cards_at p x) ≡ trumps_at strain p x
 trumps-count (Trump t) p x = refl
 trumps-count Notrump p x = none (cards_at p x)
   where
