@@ -145,9 +145,9 @@ module _ (top : PlayingCard → Bool) (k : ℕ) (to from : PlayingCard → Playi
   tops : (u : Suit) → sure_of sure u (cards_at q q.first) ≤ n u
   tops u =
       let most : sure_of sure u (cards_at q q.first) ≤ run p p.first u = inject from to (λ c. is_of u c && sure c) (λ c. is_of u c && is_winner p p.first c) (cards_at q q.first) (cards_at p p.first) (once-in q r.valid_q q.first) (λ d h pass.
-          let sure_d = and-right (is_of u d) (sure d) pass in
-          let b = came-from 0 d h (and-right (is_winner p p.first (from d)) (top (from d)) sure_d) in
-          (b.0, both-pass (of-suit' u (from d) (r.from_suit d ∙ suit-of u d (and-left (is_of u d) (sure d) pass))) (and-left (is_winner p p.first (from d)) (top (from d)) sure_d), b.1)) in
+      let sure_d = and-right (is_of u d) (sure d) pass in
+      let b = came-from 0 d h (and-right (is_winner p p.first (from d)) (top (from d)) sure_d) in
+      (b.0, both-pass (of-suit' u (from d) (r.from_suit d ∙ suit-of u d (and-left (is_of u d) (sure d) pass))) (and-left (is_winner p p.first (from d)) (top (from d)) sure_d), b.1)) in
       let all = rests.tops u in
       omega (arith, most, all)
 

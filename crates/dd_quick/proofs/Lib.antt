@@ -13,3 +13,4 @@ pub mod Claims
 pub mod Highest
 pub mod Reached
 pub mod Shares
+pub mod Next

@@ -94,7 +94,7 @@ parts-pass f g h xs = rw (filter-filter f (λ q. g q || h q) xs, filter-filter f
         omega (arith, ih, a, b, c, here)
 
 -- the ranks of a hand's cards of a suit that pass are those of all ranks
-ranks-part : (p : Board) (x : Seat) (suit : Suit) (test : PlayingCard → Bool) (ranks : List ℕ) → IsBoard p → map (card_of suit) ranks ≡ filter (λ c. is_of suit c && test c) (cards_at p x)
+pub ranks-part : (p : Board) (x : Seat) (suit : Suit) (test : PlayingCard → Bool) (ranks : List ℕ) → IsBoard p → map (card_of suit) ranks ≡ filter (λ c. is_of suit c && test c) (cards_at p x)
     → ranks ≡ filter (λ q. has_card (cards_at p x) (card_of suit q) && test (card_of suit q)) all_ranks
 ranks-part p x suit test ranks valid same = ranks-from_cards suit ranks (filter (λ q. has_card (cards_at p x) (card_of suit q) && test (card_of suit q)) all_ranks) (same
     ∙ sym (filter-filter test (is_of suit) (cards_at p x)) ∙ ap (filter test) (suit-ranks suit (cards_at p x) (valid.sets x)) ∙ filter-map test (card_of suit) (filter (λ q. has_card (cards_at p x) (card_of suit q)) all_ranks)

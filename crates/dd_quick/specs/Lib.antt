@@ -1,1 +1,2 @@
 pub mod QuickTricks
+pub mod Sharing

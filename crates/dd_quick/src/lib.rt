@@ -4,6 +4,7 @@
 mod joint_trumps;
 mod long_suit;
 mod quick_tricks;
+mod sharing;
 mod winners;
 
 pub use quick_tricks::{against_leader, bounds, for_leader};

@@ -15,7 +15,8 @@ ghost use Rattle.dd_quick.specs.QuickTricks.{IsCash, quick_lo, quick_hi, side_tr
 ghost use Rattle.dd_rank.specs.Depths.{all_cards, depth_in, Covers};
 
 use crate::joint_trumps::{joint_trumps, with_trumps};
-use crate::long_suit::{Cashes, cashed, share_out, with_winners};
+use crate::long_suit::{Cashes, cashed, offers, with_winners};
+use crate::sharing::share_out;
 use crate::winners::length;
 use dd_cards::{Hand, Seat, Strain, Suit};
 use dd_play::{Interval, Position, TrickStart};
@@ -139,7 +140,7 @@ fn leaders_cards(position: &Position, ours: Sure, need: u8) -> Hand
 {
     let cashed = ours.cashed;
     let side = need.min(ours.side);
-    let shares = share_out(cashed, side);
+    let shares = share_out(offers(cashed), side);
     let cards = Hand::new();
     let cards = with_winners(position, cards, Suit::Spades, cashed.spades, shares.spades);
     let cards = with_winners(position, cards, Suit::Hearts, cashed.hearts, shares.hearts);
