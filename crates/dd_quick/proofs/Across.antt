@@ -25,7 +25,7 @@ use Rattle.dd_quick.proofs.Cashing.{IsMaster, hand_on, sure_of, total}
 use Rattle.dd_quick.proofs.JointTrumps.{place-of}
 use Rattle.dd_quick.proofs.Sound.{own-side, round, trumps-count}
 use Rattle.dd_quick.proofs.Covered.{RestsOnTops, count-image, left-same, length-same, no-trick, seat-same, trumps-same, unbeaten-image, winner-image}
-use Rattle.dd_quick.proofs.Crossing.{CanCross, NoTrumps, crossed-all}
+use Rattle.dd_quick.proofs.Crossings.{CanCross, NoTrumps, crossed-all}
 
 -- What crossing rests on: no hand has a trump; the leader has n cards of each suit to cash, its whole run, on top cards; its
 -- partner has y winners next below, top cards too, and beside them a card for each lead; a suit to cross in.

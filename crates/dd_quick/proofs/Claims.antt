@@ -64,7 +64,7 @@ joint-is strain p seat t a b c d n trump x y z w e = e ∙ rw (x, y, z, w) refl 
 -- ---- what the leader cashes in a suit
 
 -- at most the tricks when no hand ruffs
-cashed-le : (strain : Strain) (p : Board) (u : Suit) → cashed strain p u ≤ suit_tricks p u
+pub cashed-le : (strain : Strain) (p : Board) (u : Suit) → cashed strain p u ≤ suit_tricks p u
 cashed-le strain p u = elim (is_trump strain (card_of u 0)) as (λ b. (if b then 0 else unruffed strain p (seat_after p.first 1) u (unruffed strain p (seat_after p.first 3) u (suit_tricks p u))) ≤ suit_tricks p u) [
   | true ↦ zero-le
   | false ↦ (let a = unruffed-le p.first 1 (unruffed strain p (seat_after p.first 3) u (suit_tricks p u)) in let b = unruffed-le p.first 3 (suit_tricks p u) in omega (arith, a, b))
@@ -102,11 +102,11 @@ cashed-plain strain p u some = go (is_trump strain (card_of u 0)) refl
     go true e = absurd (let none : cashed strain p u ≡ 0 = ap (λ b. if b then 0 else unruffed strain p (seat_after p.first 1) u (unruffed strain p (seat_after p.first 3) u (suit_tricks p u))) e in omega (arith, none, some))
 
 -- a run is no longer than the suit
-run-length : (p : Board) (x : Seat) (u : Suit) → run p x u ≤ length_at p x u
+pub run-length : (p : Board) (x : Seat) (u : Suit) → run p x u ≤ length_at p x u
 run-length p x u = count-where (λ c. is_of u c && is_winner p x c) (is_of u) (cards_at p x) (λ c has pass. and-left (is_of u c) (is_winner p x c) pass)
 
 -- the tricks of a suit are the run, or all cards, where the run is as long as any other hand's suit
-long-or-run : (p : Board) (u : Suit) → ((longest p u ≤ run p p.first u) × (suit_tricks p u ≡ length_at p p.first u)) ⊎ ((run p p.first u < longest p u) × (suit_tricks p u ≡ run p p.first u))
+pub long-or-run : (p : Board) (u : Suit) → ((longest p u ≤ run p p.first u) × (suit_tricks p u ≡ length_at p p.first u)) ⊎ ((run p p.first u < longest p u) × (suit_tricks p u ≡ run p p.first u))
 long-or-run p u = go (is_long p u) refl
   where
     over : (a b : ℕ) → nat_le a b ≡ false → b < a
@@ -117,7 +117,7 @@ long-or-run p u = go (is_long p u) refl
     go false e = inr (over (longest p u) (run p p.first u) e, rw e refl)
 
 -- a hand that does not lead has no longer suit than the longest
-in-longest : (p : Board) (u : Suit) (i : ℕ) → 1 ≤ i → i < 4 → length_at p (seat_after p.first i) u ≤ longest p u
+pub in-longest : (p : Board) (u : Suit) (i : ℕ) → 1 ≤ i → i < 4 → length_at p (seat_after p.first i) u ≤ longest p u
 in-longest p u zero l k = absurd (omega (arith, l))
 in-longest p u (suc zero) l k = omega arith
 in-longest p u (suc (suc zero)) l k = omega arith
@@ -135,7 +135,7 @@ pub record IsShared (p : Board) (u : Suit) (cards : List PlayingCard) (n : ℕ) 
   pub rests : RestsOn p u cards (min n cards_of)
 
 -- with more cards it is so too
-shared-more : (p : Board) (u : Suit) (few many : List PlayingCard) (n : ℕ) → ((c : PlayingCard) → has_card few c ≡ true → has_card many c ≡ true) → IsShared p u few n → IsShared p u many n
+pub shared-more : (p : Board) (u : Suit) (few many : List PlayingCard) (n : ℕ) → ((c : PlayingCard) → has_card few c ≡ true → has_card many c ≡ true) → IsShared p u few n → IsShared p u many n
 shared-more p u few many n within s = record {
   tricks = s.tricks;
   cards_of = s.cards_of;
@@ -149,7 +149,7 @@ shared-more p u few many n within s = record {
 }
 
 -- so many winners are reached that the hand that is i places on yields the share
-shared-tops : (p : Board) (u : Suit) (cards : List PlayingCard) (n i : ℕ) → IsShared p u cards n → 1 ≤ i → i < 4 → min n (length_at p (seat_after p.first i) u) ≤ count (λ c. (is_of u c && is_winner p p.first c) && reach cards c) (cards_at p p.first)
+pub shared-tops : (p : Board) (u : Suit) (cards : List PlayingCard) (n i : ℕ) → IsShared p u cards n → 1 ≤ i → i < 4 → min n (length_at p (seat_after p.first i) u) ≤ count (λ c. (is_of u c && is_winner p p.first c) && reach cards c) (cards_at p p.first)
 shared-tops p u cards n i s l k = elim (cases_lt 0 n) [
   | inl some ↦ (
       let few = s.few in

@@ -7,8 +7,9 @@ pub mod Sound
 pub mod Runs
 pub mod Covered
 pub mod Chosen
-pub mod Crossing
+pub mod Crossings
 pub mod Across
+pub mod AcrossClaims
 pub mod Claims
 pub mod Highest
 pub mod Reached

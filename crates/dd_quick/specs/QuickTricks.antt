@@ -131,11 +131,19 @@ quick_hi p = left p - joint_trumps p.strain p (seat_after p.first 1)
 abbrev pub IsCash : Board → Suit → ℕ → ℕ → Type 0
 IsCash p suit tricks cards = (tricks ≡ cashed p.strain p suit) × (1 ≤ tricks → cards ≡ depth p suit)
 
+-- the tricks that the partner takes in a suit once the leader has crossed, and whether the leader can cross there
+abbrev pub IsNext : Board → Suit → ℕ → Bool → Type 0
+IsNext p suit tricks entry = (tricks ≡ partners_tricks p suit) × (entry ≡ is_entry p suit)
+
 -- ---- the cards on which a claim rests
 
 -- so many of the leader's winners in the suit, as far as its run goes, are reached by these cards
 abbrev pub RestsOn : Board → Suit → List PlayingCard → ℕ → Type 0
 RestsOn p suit cards n = min n (run p p.first suit) ≤ length (filter (λ c. (is_of suit c && is_winner p p.first c) && reach cards c) (cards_at p p.first))
+
+-- so many of the partner's cards next below the leader's run, as far as there are, are reached by these cards
+abbrev pub RestsOnNext : Board → Suit → List PlayingCard → ℕ → Type 0
+RestsOnNext p suit cards n = min n (next_run p suit) ≤ length (filter (λ c. (is_of suit c && is_next p c) && reach cards c) (cards_at p (seat_after p.first 2)))
 
 -- how many of the seat's cards of the suit that no opponent can beat are reached by these cards
 abbrev pub unbeaten_reached : List PlayingCard → Board → Seat → Suit → ℕ

@@ -1,6 +1,7 @@
 //! Quick tricks: bounds of a position's value without search. It takes no memory.
 #![tactic(auto)]
 
+mod crossing;
 mod joint_trumps;
 mod long_suit;
 mod quick_tricks;

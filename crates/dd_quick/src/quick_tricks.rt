@@ -11,14 +11,14 @@ ghost use Rattle.dd_play.specs.Covers.{count_of};
 ghost use Rattle.dd_play.specs.Intervals.{Holds};
 ghost use Rattle.dd_play.specs.Reach.{reach, TakesBy};
 ghost use Rattle.dd_play.specs.Value.{lead};
-ghost use Rattle.dd_quick.specs.QuickTricks.{IsCash, quick_lo, quick_hi, side_tricks, joint_trumps, trumps_at};
+ghost use Rattle.dd_quick.specs.QuickTricks.{IsCash, quick_lo, quick_hi, side_tricks, joint_trumps};
 ghost use Rattle.dd_rank.specs.Depths.{all_cards, depth_in, Covers};
 
 use crate::joint_trumps::{joint_trumps, with_trumps};
 use crate::long_suit::{Cashes, cashed, offers, with_winners};
 use crate::sharing::share_out;
-use crate::winners::length;
-use dd_cards::{Hand, Seat, Strain, Suit};
+use crate::winners::trumps;
+use dd_cards::{Hand, Suit};
 use dd_play::{Interval, Position, TrickStart};
 use dd_rank::Depths;
 
@@ -109,16 +109,6 @@ fn leaders(position: &Position) -> Sure
         cashed,
         side,
         trumps: joint_trumps(position, leader),
-    }
-}
-
-// How many trumps the seat holds.
-fn trumps(position: &Position, seat: Seat) -> u8
-    ensures { result ≡ trumps_at position.now.strain position.now seat }
-{
-    match position.strain() {
-        Strain::Trump(trump) => length(position, seat, trump),
-        Strain::Notrump => 0,
     }
 }
 

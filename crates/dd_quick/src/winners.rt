@@ -6,9 +6,9 @@ ghost use Rattle.dd_cards.specs.Cards.{is_of, card_of, has_card};
 ghost use Rattle.dd_cards.specs.Ranks.{all_ranks, has_rank};
 ghost use Rattle.dd_play.specs.Board.{IsBoard, cards_at};
 ghost use Rattle.dd_cards.specs.Seats.{seat_after};
-ghost use Rattle.dd_quick.specs.QuickTricks.{is_winner, is_unbeaten, is_next, length_at};
+ghost use Rattle.dd_quick.specs.QuickTricks.{is_winner, is_unbeaten, is_next, length_at, trumps_at};
 
-use dd_cards::{Card, Hand, Holding, Seat, Suit};
+use dd_cards::{Card, Hand, Holding, Seat, Strain, Suit};
 use dd_play::Position;
 
 /// The highest remaining cards of the suit that the seat holds without a gap.
@@ -105,6 +105,17 @@ pub(crate) fn length(position: &Position, seat: Seat, suit: Suit) -> u8
     ensures bound { result ≤ 13 }
 {
     position.hands().holding(seat, suit).len()
+}
+
+/// How many trumps the seat holds.
+pub(crate) fn trumps(position: &Position, seat: Seat) -> u8
+    ensures trumps { result ≡ trumps_at position.now.strain position.now seat }
+    ensures bound { result ≤ 13 }
+{
+    match position.strain() {
+        Strain::Trump(trump) => length(position, seat, trump),
+        Strain::Notrump => 0,
+    }
 }
 
 /// These cards and the highest ones of the suit, so many of these ranks.
