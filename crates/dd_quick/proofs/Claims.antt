@@ -134,19 +134,16 @@ pub record IsShared (p : Board) (u : Suit) (cards : List PlayingCard) (n : ℕ) 
   pub few : n ≤ tricks
   pub rests : RestsOn p u cards (min n cards_of)
 
--- with more cards it is so too
+-- with more cards as many winners are reached
+pub rests-more : (p : Board) (u : Suit) (few many : List PlayingCard) (n : ℕ) → ((c : PlayingCard) → has_card few c ≡ true → has_card many c ≡ true) → RestsOn p u few n → RestsOn p u many n
+rests-more p u few many n within r =
+    let m = count-where (λ c. (is_of u c && is_winner p p.first c) && reach few c) (λ c. (is_of u c && is_winner p p.first c) && reach many c) (cards_at p p.first) (λ c has pass.
+    ap₂ (λ a b. a && b) (and-left (is_of u c && is_winner p p.first c) (reach few c) pass) (reach-within few many within c (and-right (is_of u c && is_winner p p.first c) (reach few c) pass))) in
+    omega (arith, r, m)
+
+-- so a share rests on more cards too
 pub shared-more : (p : Board) (u : Suit) (few many : List PlayingCard) (n : ℕ) → ((c : PlayingCard) → has_card few c ≡ true → has_card many c ≡ true) → IsShared p u few n → IsShared p u many n
-shared-more p u few many n within s = record {
-  tricks = s.tricks;
-  cards_of = s.cards_of;
-  cash = s.cash;
-  few = s.few;
-  rests =
-      let r = s.rests in
-      let m = count-where (λ c. (is_of u c && is_winner p p.first c) && reach few c) (λ c. (is_of u c && is_winner p p.first c) && reach many c) (cards_at p p.first) (λ c has pass.
-      ap₂ (λ a b. a && b) (and-left (is_of u c && is_winner p p.first c) (reach few c) pass) (reach-within few many within c (and-right (is_of u c && is_winner p p.first c) (reach few c) pass))) in
-      omega (arith, r, m);
-}
+shared-more p u few many n within s = record { tricks = s.tricks; cards_of = s.cards_of; cash = s.cash; few = s.few; rests = rests-more p u few many (min n s.cards_of) within s.rests }
 
 -- so many winners are reached that the hand that is i places on yields the share
 pub shared-tops : (p : Board) (u : Suit) (cards : List PlayingCard) (n i : ℕ) → IsShared p u cards n → 1 ≤ i → i < 4 → min n (length_at p (seat_after p.first i) u) ≤ count (λ c. (is_of u c && is_winner p p.first c) && reach cards c) (cards_at p p.first)
@@ -173,20 +170,20 @@ shares s h d c Diamonds = d
 shares s h d c Clubs = c
 
 -- Shares of the side suits and of the joint trumps are a claim by the cards on which they rest.
-pub leader-claim : (p : Board) (a b c d cards : List PlayingCard) (s h di cl m : ℕ) → p.trick ≡ [] → IsShared p Spades a s → IsShared p Hearts b h → IsShared p Diamonds c di → IsShared p Clubs d cl
-    → ((e : PlayingCard) → has_card a e ≡ true → has_card b e ≡ true) → ((e : PlayingCard) → has_card b e ≡ true → has_card c e ≡ true) → ((e : PlayingCard) → has_card c e ≡ true → has_card d e ≡ true) → ((e : PlayingCard) → has_card d e ≡ true → has_card cards e ≡ true)
+pub leader-claim : (p : Board) (few cards : List PlayingCard) (s h di cl m : ℕ) → p.trick ≡ [] → IsShared p Spades few s → IsShared p Hearts few h → IsShared p Diamonds few di → IsShared p Clubs few cl
+    → ((e : PlayingCard) → has_card few e ≡ true → has_card cards e ≡ true)
     → s + h + di + cl ≤ left p - trumps_at p.strain p (seat_after p.first 2) → m ≤ joint_trumps p.strain p p.first → RestsOnTrumps p.strain p p.first cards m
     → TakesBy (reach cards) (side_of p.first) p (s + h + di + cl + m)
-leader-claim p a b c d cards s h di cl m start sp he dm cb ab bc cd de throws joint trumps = leader-by (reach cards) p n m start can (λ u i l k. shared-tops p u cards (n u) i (each u) l k) (joint-rests p.strain p 0 cards m joint trumps)
+leader-claim p few cards s h di cl m start sp he dm cb more throws joint trumps = leader-by (reach cards) p n m start can (λ u i l k. shared-tops p u cards (n u) i (each u) l k) (joint-rests p.strain p 0 cards m joint trumps)
   where
     n : Suit → ℕ
     n = shares s h di cl
 
     each : (u : Suit) → IsShared p u cards (n u)
-    each Spades = shared-more p Spades a cards s (λ e k. de e (cd e (bc e (ab e k)))) sp
-    each Hearts = shared-more p Hearts b cards h (λ e k. de e (cd e (bc e k))) he
-    each Diamonds = shared-more p Diamonds c cards di (λ e k. de e (cd e k)) dm
-    each Clubs = shared-more p Clubs d cards cl de cb
+    each Spades = shared-more p Spades few cards s more sp
+    each Hearts = shared-more p Hearts few cards h more he
+    each Diamonds = shared-more p Diamonds few cards di more dm
+    each Clubs = shared-more p Clubs few cards cl more cb
 
     -- of a suit no more than is cashed in it
     less : (u : Suit) → n u ≤ cashed p.strain p u

@@ -11,7 +11,7 @@ ghost use Rattle.dd_cards.specs.Cards.{has_card};
 ghost use Rattle.dd_cards.specs.Seats.{seat_after};
 ghost use Rattle.dd_quick.specs.QuickTricks.{IsNext, RestsOnNext, crossed, no_trumps, side_tricks, trumps_at};
 
-use crate::sharing::{Offer, Offers};
+use crate::sharing::{Offer, Offers, Shares};
 use crate::winners::{length, next_run, run, trumps, with_highest};
 use dd_cards::{Hand, Suit};
 use dd_play::Position;
@@ -110,8 +110,22 @@ fn next(position: &Position, suit: Suit) -> Offer
     }
 }
 
-/// These cards and the partner's on which so many tricks of the suit rest.
-pub(crate) fn with_next(position: &Position, cards: Hand, suit: Suit, tricks: u8) -> Hand
+/// These cards and the partner's on which so many tricks of each suit rest.
+pub(crate) fn with_partners(position: &Position, cards: Hand, shares: Shares) -> Hand
+    ensures more { (c : PlayingCard) → has_card cards c ≡ true → has_card result c ≡ true }
+    ensures spades { RestsOnNext position.now Spades result shares.spades }
+    ensures hearts { RestsOnNext position.now Hearts result shares.hearts }
+    ensures diamonds { RestsOnNext position.now Diamonds result shares.diamonds }
+    ensures clubs { RestsOnNext position.now Clubs result shares.clubs }
+{
+    let cards = with_next(position, cards, Suit::Spades, shares.spades);
+    let cards = with_next(position, cards, Suit::Hearts, shares.hearts);
+    let cards = with_next(position, cards, Suit::Diamonds, shares.diamonds);
+    with_next(position, cards, Suit::Clubs, shares.clubs)
+}
+
+// These cards and the partner's on which so many tricks of the suit rest.
+fn with_next(position: &Position, cards: Hand, suit: Suit, tricks: u8) -> Hand
     ensures more { (c : PlayingCard) → has_card cards c ≡ true → has_card result c ≡ true }
     ensures next { RestsOnNext position.now suit result tricks }
 {

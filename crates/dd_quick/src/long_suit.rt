@@ -9,7 +9,7 @@ ghost use Rattle.dd_cards.specs.PlayingCard.{PlayingCard};
 ghost use Rattle.dd_cards.specs.Cards.{has_card};
 ghost use Rattle.dd_quick.specs.QuickTricks.{IsCash, RestsOn, depth, suit_tricks, unruffed};
 
-use crate::sharing::{Offer, Offers};
+use crate::sharing::{Offer, Offers, Shares};
 use crate::winners::{length, run, with_highest};
 use dd_cards::{Hand, Seat, Strain, Suit};
 use dd_play::Position;
@@ -136,14 +136,32 @@ fn offer(cash: Cash) -> Offer
     }
 }
 
-/// These cards and the winners on which so many tricks of the suit rest.
-pub(crate) fn with_winners(
-    position: &Position,
-    cards: Hand,
-    suit: Suit,
-    cash: Cash,
-    tricks: u8,
-) -> Hand
+/// The winners on which so many tricks of each suit rest.
+pub(crate) fn winners_of(position: &Position, cashed: Cashes, shares: Shares) -> Hand
+    ensures spades { RestsOn position.now Spades result
+        (min shares.spades cashed.spades.depth) }
+    ensures hearts { RestsOn position.now Hearts result
+        (min shares.hearts cashed.hearts.depth) }
+    ensures diamonds { RestsOn position.now Diamonds result
+        (min shares.diamonds cashed.diamonds.depth) }
+    ensures clubs { RestsOn position.now Clubs result
+        (min shares.clubs cashed.clubs.depth) }
+{
+    let cards = Hand::new();
+    let cards = with_winners(position, cards, Suit::Spades, cashed.spades, shares.spades);
+    let cards = with_winners(position, cards, Suit::Hearts, cashed.hearts, shares.hearts);
+    let cards = with_winners(
+        position,
+        cards,
+        Suit::Diamonds,
+        cashed.diamonds,
+        shares.diamonds,
+    );
+    with_winners(position, cards, Suit::Clubs, cashed.clubs, shares.clubs)
+}
+
+// These cards and the winners on which so many tricks of the suit rest.
+fn with_winners(position: &Position, cards: Hand, suit: Suit, cash: Cash, tricks: u8) -> Hand
     ensures more { (c : PlayingCard) → has_card cards c ≡ true → has_card result c ≡ true }
     ensures winners { RestsOn position.now suit result (min tricks cash.depth) }
 {
