@@ -211,7 +211,8 @@ fn sure_cards(position: &Position, ours: Sure, partners: Partners, need: u8) -> 
         + joint_trumps position.now.strain position.now position.now.first + crossed position.now }
     ensures { TakesBy (reach result) (side_of position.now.first) position.now need }
 {
-    if need <= ours.side + ours.trumps {
+    let own = ours.side + ours.trumps;
+    if need <= own {
         leaders_cards(position, ours, need)
     } else {
         crossing_cards(position, ours, partners, need)
