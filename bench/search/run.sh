@@ -28,9 +28,6 @@ copy() {
 build() {
     mkdir -p "$1/crates/$2/src"
     cp "$here/$2.txt" "$1/crates/$2/src/main.rt"
-    if [ "$2" = table ]; then
-        cp "$1/crates/ddserve/src/one_shard.rt" "$1/crates/table/src/"
-    fi
     echo "$2: $3" >> "$1/crates.txt"
     # With no word the program ends at once, with status 1.
     (cd "$1/crates/$2" && rt run < /dev/null > "$1/$2.log" 2>&1) || true
@@ -44,11 +41,7 @@ build() {
 below='dd_cards dd_play dd_pbn'
 copy "$work/weighed"
 case $parts in *a*) build "$work/weighed" ticks "$below dd_equal dd_search" ;; esac
-case $parts in *b*)
-    program=$(sed -n 's/^ddserve: //p' "$top/crates.txt")
-    build "$work/weighed" table "$(printf '%s\n' $below $program | grep '^dd_' | sort -u | paste -sd ' ')"
-    ;;
-esac
+case $parts in *b*) build "$work/weighed" table "$below dd_program dd_reply dd_search" ;; esac
 rustc -C opt-level=3 -C target-cpu=x86-64-v2 --edition 2021 -o "$work/search" "$here/search.rs"
 
 python3 - "$runs" "$full" "$parts" "$work" "$top/bench/deals.py" <<'PY'

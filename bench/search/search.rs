@@ -384,18 +384,22 @@ fn for_leader(position: &Position, need: u8) -> Option<u64> {
         return crossing_cards(position, cash, side, trumps, need);
     }
     let side = need.min(side);
-    let offers = cash.map(|cash| Offer { tricks: cash.tricks, first: cash.is_long() });
-    let cards = winners_of(position, cash, shares(offers, side));
+    let cards = with_shares(position, 0, &cash, shares(long_first(&cash), side));
     Some(with_trumps(position, position.first, cards, need - side))
 }
 
-// The winners on which so many tricks of each suit rest.
-fn winners_of(position: &Position, cash: [Cash; 4], shares: [u8; 4]) -> u64 {
-    let mut cards = 0;
+// These cards and the winners on which so many tricks of each suit rest.
+fn with_shares(position: &Position, cards: u64, cash: &[Cash; 4], shares: [u8; 4]) -> u64 {
+    let mut cards = cards;
     for ((suit, cash), share) in SUITS.into_iter().zip(cash).zip(shares) {
         cards = with_highest(cards, suit, winners(position, position.first, suit), share.min(cash.depth));
     }
     cards
+}
+
+// The tricks of each suit, those of long suits first.
+fn long_first(cash: &[Cash; 4]) -> [Offer; 4] {
+    cash.map(|cash| Offer { tricks: cash.tricks, first: cash.is_long() })
 }
 
 // The cards on which so many tricks rest where the leader crosses to its partner.
@@ -404,7 +408,7 @@ fn crossing_cards(position: &Position, cash: [Cash; 4], side: u8, trumps: u8, ne
     if need > side + trumps + crossed {
         return None;
     }
-    let mut cards = winners_of(position, cash, cash.map(|cash| cash.tricks));
+    let mut cards = with_shares(position, 0, &cash, cash.map(|cash| cash.tricks));
     for (suit, share) in SUITS.into_iter().zip(shares(next, need - side)) {
         cards = with_highest(cards, suit, next_run(position, suit), share);
     }
@@ -414,6 +418,65 @@ fn crossing_cards(position: &Position, cash: [Cash; 4], side: u8, trumps: u8, ne
 fn against_leader(position: &Position, need: u8) -> Option<u64> {
     let left = position.first.next();
     if need <= joint_trumps(position, left) { Some(with_trumps(position, left, 0, need)) } else { None }
+}
+
+// The opponent of the leader with the highest card left of the suit led, where an opponent has it.
+fn heading(position: &Position, led: Card) -> Option<Seat> {
+    let [left, partner, right] = others(position.first);
+    let best = |seat| match position.holding(seat, led.suit) {
+        0 => 0,
+        holding => highest(holding),
+    };
+    let (second, fourth) = (best(left), best(right));
+    let others = best(position.first).max(best(partner)).max(led.rank);
+    if second > others.max(fourth) {
+        Some(left)
+    } else if fourth > others.max(second) {
+        Some(right)
+    } else {
+        None
+    }
+}
+
+// After the lead: the opponents' winners, that of the suit led the first of them, counted in the position before it.
+fn for_second_hand(position: &Position, need: u8) -> Option<u64> {
+    if position.played != 1 {
+        return None;
+    }
+    let led = position.trick[0];
+    let seat = heading(position, led)?;
+    let mut hands = position.hands;
+    hands[position.first as usize] |= 1 << led.place();
+    let before = Position { hands, strain: position.strain, first: seat, trick: position.trick, played: 0 };
+    match position.strain {
+        Strain::Trump(trump) if trump == led.suit => after_a_trump(&before, led.suit, need),
+        _ => after_a_side_suit(&before, led.suit, need),
+    }
+}
+
+fn after_a_side_suit(before: &Position, suit: Suit, need: u8) -> Option<u64> {
+    let (cash, side, trumps) = leaders(before);
+    if need == 0 || cash[suit as usize].tricks == 0 || side == 0 || need > side + trumps {
+        return None;
+    }
+    let side = need.min(side);
+    let mut fewer = cash;
+    fewer[suit as usize].tricks -= 1;
+    let mut shares = shares(long_first(&fewer), side - 1);
+    shares[suit as usize] += 1;
+    Some(with_trumps(before, before.first, with_shares(before, 0, &cash, shares), need - side))
+}
+
+fn after_a_trump(before: &Position, trump: Suit, need: u8) -> Option<u64> {
+    let (cash, sure, _) = leaders(before);
+    let run = winners(before, before.first, trump);
+    let tops = need.min(run.count_ones() as u8);
+    let side = need - tops;
+    let spare = before.tricks_left() - trumps(before, before.first.next().next());
+    if tops == 0 || side > sure || side >= spare {
+        return None;
+    }
+    Some(with_shares(before, with_highest(0, trump, run, tops), &cash, shares(long_first(&cash), side)))
 }
 
 // ------------------------------------------------------------------ what answers rest on
@@ -576,14 +639,23 @@ fn quick(position: &Position, leaders: u8) -> Option<Answer> {
     Some(Answer { yes: !leads, cards })
 }
 
+// The answer after the lead by second hand's winners.
+fn seconds_answer(position: &Position, need: u8) -> Option<Answer> {
+    let leads = position.first.is_north_south();
+    let others = if leads { position.tricks_left() + 1 - need } else { need };
+    let cards = for_second_hand(position, others)?;
+    Some(Answer { yes: !leads, cards })
+}
+
 impl<B: Bounds> Search<B> {
     fn known(&mut self, position: &Position, need: u8) -> Option<Answer> {
         let leads = position.first.is_north_south();
         let leaders = leaders_need(position, need);
-        if let Some((interval, depths)) = self.bounds.settle(position, leaders) {
-            return Some(Answer { yes: (leaders <= interval.lo) == leads, cards: cards_of(position, depths) });
+        if let Some(answer) = quick(position, leaders) {
+            return Some(answer);
         }
-        quick(position, leaders)
+        let (interval, depths) = self.bounds.settle(position, leaders)?;
+        Some(Answer { yes: (leaders <= interval.lo) == leads, cards: cards_of(position, depths) })
     }
 
     fn teach(&mut self, position: &Position, need: u8, answer: Answer) {
@@ -601,6 +673,8 @@ impl<B: Bounds> Search<B> {
             if let Some(answer) = self.known(position, need) {
                 return answer;
             }
+        } else if let Some(answer) = seconds_answer(position, need) {
+            return answer;
         }
         let ours = position.mover().is_north_south();
         let mut list = [(Card { suit: Suit::Spades, rank: 2 }, 0); 13];

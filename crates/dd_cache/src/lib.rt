@@ -6,6 +6,3 @@ mod page;
 mod told;
 
 pub use cache::Cache;
-
-#[cfg(test)]
-mod tests;

@@ -5,7 +5,7 @@ ghost use Rattle.dd_cache.specs.Told.{IsSound};
 
 use crate::told::Told;
 use arrayvec::ArrayVec;
-use dd_rank::{OwnerStrings, Shape};
+use dd_rank::{FirstBrief, OwnerStrings, Shape};
 use std::marker::Model;
 
 /// The bounds that stand together.
@@ -16,6 +16,9 @@ pub(crate) const BOUNDS_OF_A_PAGE: usize = 8;
 pub(crate) struct Page {
     shape: Shape,
     before: u32,
+    // What is seen at once of the bounds, by their places: they stand together, so that most of what doesn't hold of a
+    // position is passed over without a look at it.
+    briefs: [FirstBrief; BOUNDS_OF_A_PAGE],
     told: ArrayVec<Told, BOUNDS_OF_A_PAGE>,
 }
 
@@ -34,11 +37,14 @@ impl Page {
     pub(crate) fn new(shape: Shape, before: u32, first: Told) -> Page
         requires { IsSound shape first }
     {
+        let mut briefs = [FirstBrief::default(); BOUNDS_OF_A_PAGE];
+        briefs[0] = first.firsts.brief();
         let mut told = ArrayVec::new();
         told.push(first);
         Page {
             shape,
             before,
+            briefs,
             told,
         }
     }
@@ -64,8 +70,11 @@ impl Page {
         ensures firsts { IfSome result (λ told. AreFirst told.now.firsts strings.now) }
         ensures settles { IfSome result (λ told. (need ≤ told.now.interval.lo) ⊎ (told.now.interval.hi < need)) }
     {
-        for told in self.told.as_slice() {
-            if told.answers(strings, need) {
+        let brief = strings.brief();
+        for (place, told) in self.told.as_slice().iter().enumerate() {
+            if self.briefs[place % BOUNDS_OF_A_PAGE].may_be_in(brief)
+                && told.answers(strings, need)
+            {
                 return Some(told);
             }
         }
@@ -79,13 +88,16 @@ impl Page {
         ensures shape { self.new.shape ≡ self.old.shape }
         ensures back { IfSome result (λ told. told ≡ new) }
     {
+        let brief = new.firsts.brief();
         if let Some(place) = needless(self.told.as_slice(), &new) {
+            self.briefs[place % BOUNDS_OF_A_PAGE] = brief;
             self.told.as_mut_slice()[place] = new;
             return None;
         }
         if self.told.is_full() {
             return Some(new);
         }
+        self.briefs[self.told.len() % BOUNDS_OF_A_PAGE] = brief;
         self.told.push(new);
         None
     }

@@ -10,6 +10,7 @@ pub mod Counts
 pub mod HandsLaws
 pub mod Codes
 pub mod Unions
+pub mod Lowest
 pub mod SideLaws
 pub mod MaskRanks
 pub mod General

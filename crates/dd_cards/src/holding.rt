@@ -1,4 +1,4 @@
-ghost use Rattle.std.specs.Prelude.{◌≡◌, true, MatchOption, ℕ, ◌<◌, ◌≤◌, ◌↔◌, ◌==◌, ◌||◌, [], ◌∷◌, List, length, filter, find, IsTrue, nat_lt, slice_get};
+ghost use Rattle.std.specs.Prelude.{◌≡◌, true, MatchOption, ℕ, ◌<◌, ◌≤◌, ◌↔◌, ◌==◌, ◌||◌, [], ◌∷◌, ◌++◌, List, length, filter, find, IsTrue, nat_lt, slice_get};
 ghost use mathlib.Core.Bool.{not};
 ghost use Rattle.dd_cards.specs.Ranks.{all_ranks, has_rank, with_rank};
 ghost use Rattle.dd_cards.specs.Masks.{mask_of};
@@ -95,6 +95,19 @@ impl Holding {
         let highest = self.highest()?;
         *self = self.below(highest);
         Some(highest)
+    }
+
+    /// Takes the lowest rank out. None where no rank is left.
+    #[inline]
+    pub fn pop_lowest(&mut self) -> Option<Rank>
+        ensures { MatchOption result ((self.old ≡ []) × (self.new ≡ [])) (λ rank. self.old ≡ self.new ++ rank ∷ []) }
+    {
+        if self.mask == 0 {
+            return None;
+        }
+        let lowest = Rank::of(self.mask.trailing_zeros() as u8);
+        self.mask &= self.mask - 1;
+        Some(lowest)
     }
 
     /// The highest rank below this one; None where there is none.

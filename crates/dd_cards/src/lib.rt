@@ -22,6 +22,3 @@ pub use seat::Seat;
 pub use side::Side;
 pub use strain::Strain;
 pub use suit::Suit;
-
-#[cfg(test)]
-mod tests;

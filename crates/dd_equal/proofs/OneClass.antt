@@ -1,6 +1,6 @@
 -- each legal card is in one class
 use Rattle.std.proofs.Common.{◌≡◌, ◌≢◌, ℕ, zero, suc, ◌+◌, ◌<◌, ◌≤◌, Bool, true, false, refl, sym, ap, ◌∙◌, subst, arith, List, [], ◌∷◌, length, eq-eqb, inl, inr, ◌⊎◌}
-use Rattle.std.specs.Prelude.{filter, map, nat_lt, ◌&&◌, ◌||◌}
+use Rattle.std.specs.Prelude.{filter, nat_lt, ◌&&◌, ◌||◌}
 use Rattle.std.specs.List.{list_any}
 use Rattle.std.proofs.lemmas.Bool.{lt-ltb, ltb-true}
 use Rattle.std.proofs.lemmas.Bool.Decides.{nat_tests}
@@ -11,14 +11,13 @@ use Rattle.dd_cards.specs.declared.suit.Suit.{Suit}
 use Rattle.dd_cards.specs.Suits.{suit_code}
 use Rattle.dd_cards.specs.PlayingCard.{PlayingCard}
 use Rattle.dd_cards.specs.Ranks.{IsRank, all_ranks, has_rank}
-use Rattle.dd_cards.specs.Masks.{in_mask, mask_of}
+use Rattle.dd_cards.specs.Masks.{in_mask}
 use Rattle.dd_cards.specs.Cards.{is_of, card_of, same_card, has_card}
-use Rattle.dd_cards.specs.Hands.{times}
 use Rattle.dd_cards.proofs.CallerLemmas.{IsSet-filter, and-both, and-left, and-right, and-true, any-filter, both-ways, else-false, false-not, filter-filter, filter-map, has_rank-holding, in_mask-mask_of, not-true, or-right, or-split, real-set, same_card-eq, same_card-self, suit-ranks, times-has_card}
-use Rattle.dd_play.specs.Board.{Board, IsBoard, cards_at, mover}
+use Rattle.dd_play.specs.Board.{Board, IsBoard, mover}
 use Rattle.dd_play.specs.Play.{legal}
 use Rattle.dd_play.specs.Simulations.{IsLegal}
-use Rattle.dd_play.proofs.CallerLemmas.{card-real, count, count-some, filter-has, filter-passes, of-suit', own-card, suit-of}
+use Rattle.dd_play.proofs.CallerLemmas.{card-real, count-some, filter-has, filter-passes, of-suit', own-card, suit-of}
 use Rattle.dd_equal.specs.EqualCards.{EqualCards, other_cards, is_between, are_equal, is_top, tops, equals_of, class_of, classes_of, class_has}
 use Rattle.dd_equal.specs.SuitClasses.{is_separated, equal_ranks}
 use Rattle.dd_equal.proofs.EqualCards.{set-legal}

@@ -1,13 +1,12 @@
 -- one suit of a position: its legal ranks, the others' ranks, and the classes that these make
-use Rattle.std.proofs.Common.{◌≡◌, ◌≢◌, ℕ, ◌+◌, ◌<◌, ◌≤◌, Bool, true, false, cond, refl, sym, ap, ◌∙◌, arith, List, [], ◌∷◌, ◌++◌, length, take, get_or, inl, inr, eq-eqb, nat_lt, Option, None, Some, length-append}
+use Rattle.std.proofs.Common.{◌≡◌, ℕ, ◌+◌, ◌<◌, ◌≤◌, Bool, true, false, cond, refl, sym, ap, ◌∙◌, arith, List, [], ◌∷◌, ◌++◌, length, take, get_or, inl, inr, eq-eqb, nat_lt, length-append}
 use Rattle.std.proofs.lemmas.List.{take_more, map-append}
 use Rattle.std.proofs.lemmas.List.Elements.{filter-append}
 use Rattle.dd_cards.specs.declared.suit.Suit.TheVariants.{Spades, Hearts, Diamonds, Clubs}
 use Rattle.dd_cards.specs.Ranks.{with_rank}
-use Rattle.dd_play.specs.Tricks.{or_else}
 use Rattle.dd_cards.proofs.CallerLemmas.{and-left, and-right, both-ways, filter-filter, filter-map, filter-same, has_rank-holding, has_rank-lowest_ranks, or-right, ranks-from_cards, real-set, same_card-eq, set-by-suits, suit-ranks}
 use Rattle.dd_equal.proofs.Walks.{filter-members}
-use Rattle.std.specs.Prelude.{filter, map, slice_get, ◌==◌, ◌&&◌, ◌||◌}
+use Rattle.std.specs.Prelude.{filter, map, ◌==◌, ◌&&◌, ◌||◌}
 use Rattle.std.specs.List.{list_any}
 use mathlib.Core.Bool.{not}
 use Rattle.std.proofs.lemmas.Bool.Decides.{eqb_tells}
@@ -22,7 +21,7 @@ use Rattle.dd_cards.specs.Masks.{mask_of}
 use Rattle.dd_cards.specs.Cards.{is_of, card_of, same_card, has_card}
 use Rattle.dd_cards.specs.Hands.{hand_of, times}
 use Rattle.dd_play.specs.Board.{Board, IsBoard, cards_at, mover}
-use Rattle.dd_play.specs.Play.{legal, following}
+use Rattle.dd_play.specs.Play.{legal}
 use Rattle.dd_play.proofs.CallerLemmas.{in-following, times-has}
 use Rattle.dd_equal.specs.EqualCards.{EqualCards, other_cards, is_between, are_equal, is_top, class_of, classes_of}
 use Rattle.dd_equal.specs.SuitClasses.{is_separated, is_top_rank, equal_ranks, class_of_rank, descends, AreApart}
@@ -283,67 +282,6 @@ length-suits p valid =
     let b = length-append (filter (is_of Spades) (legal p) ++ filter (is_of Hearts) (legal p)) (filter (is_of Diamonds) (legal p)) in
     let c = length-append (filter (is_of Spades) (legal p)) (filter (is_of Hearts) (legal p)) in
     omega (arith, whole, a, b, c)
-
--- ---- the suit led
--- where a card was led, its suit is followed
-led-legal : (trick hand : List PlayingCard) (led : PlayingCard) → Some led ≡ slice_get trick 0 → following trick hand ≡ or_else (filter (is_of led.suit) hand) hand
-led-legal [] hand led e = absurd (cc)
-led-legal (c ∷ trick) hand led e = ap (λ (d : PlayingCard). or_else (filter (is_of d.suit) hand) hand) (sym (ap (λ (o : Option PlayingCard). elim o [ None ↦ led | Some y ↦ y ]) e))
-
--- no card of another suit may be played where the suit led is held
-pub held-elsewhere : (p : Board) (s t : Suit) (led : PlayingCard) (ranks : List ℕ) → Some led ≡ slice_get p.trick 0 → t ≡ led.suit → map (card_of t) ranks ≡ filter (is_of t) (cards_at p (mover p))
-    → ranks ≢ [] → suit_code t ≢ suit_code s → filter (is_of s) (legal p) ≡ []
-held-elsewhere p s t led ranks e is held some differ =
-    ap (filter (is_of s)) (led-legal p.trick hand led e ∙ ap (λ x. or_else (filter (is_of x) hand) hand) (sym is) ∙ ap (λ xs. or_else xs hand) (sym held) ∙ first ranks some) ∙ none ranks
-  where
-    hand : List PlayingCard
-    hand = cards_at p (mover p)
-
-    first : (qs : List ℕ) → qs ≢ [] → or_else (map (card_of t) qs) (cards_at p (mover p)) ≡ map (card_of t) qs
-    first [] h = absurd (h refl)
-    first (q ∷ qs) h = refl
-
-    other : (suit_code t == suit_code s) ≡ false
-    other = elim (eqb_tells (suit_code t) (suit_code s)) [ inl same ↦ absurd (differ same.1) | inr apart ↦ apart.0 ]
-
-    none : (qs : List ℕ) → filter (is_of s) (map (card_of t) qs) ≡ []
-    none [] = refl
-    none (q ∷ qs) = rw other (none qs)
-
--- where the suit led is not held, each card may be played
-pub not-held : (p : Board) (s t : Suit) (led : PlayingCard) (ranks : List ℕ) → Some led ≡ slice_get p.trick 0 → t ≡ led.suit → map (card_of t) ranks ≡ filter (is_of t) (cards_at p (mover p))
-    → ranks ≡ [] → filter (is_of s) (legal p) ≡ filter (is_of s) (cards_at p (mover p))
-not-held p s t led ranks e is held none =
-    ap (filter (is_of s)) (led-legal p.trick hand led e ∙ ap (λ x. or_else (filter (is_of x) hand) hand) (sym is) ∙ ap (λ xs. or_else xs hand) (sym held ∙ ap (map (card_of t)) none))
-  where
-    hand : List PlayingCard
-    hand = cards_at p (mover p)
-
--- each card of the suit led may be played
-pub held-there : (p : Board) (s t : Suit) (led : PlayingCard) → Some led ≡ slice_get p.trick 0 → t ≡ led.suit → suit_code t ≡ suit_code s → filter (is_of s) (legal p) ≡ filter (is_of s) (cards_at p (mover p))
-held-there p s t led e is same =
-    ap (filter (is_of s)) (led-legal p.trick hand led e ∙ ap (λ x. or_else (filter (is_of x) hand) hand) (sym is)) ∙ go (filter (is_of t) hand) refl
-  where
-    hand : List PlayingCard
-    hand = cards_at p (mover p)
-
-    both : (b : Bool) → (b && b) ≡ b
-    both true = refl
-    both false = refl
-
-    go : (part : List PlayingCard) → part ≡ filter (is_of t) (cards_at p (mover p)) → filter (is_of s) (or_else part (cards_at p (mover p))) ≡ filter (is_of s) (cards_at p (mover p))
-    go [] h = refl
-    go (c ∷ part) h =
-        ap (filter (is_of s)) h ∙ filter-filter (is_of s) (is_of t) (cards_at p (mover p))
-        ∙ filter-same (λ x. is_of t x && is_of s x) (is_of s) (λ x. ap (λ n. (suit_code x.suit == n) && (suit_code x.suit == suit_code s)) same ∙ both (is_of s x)) (cards_at p (mover p))
-
--- where no card was led, each may be played
-pub none-led : (p : Board) (s : Suit) → None ≡ slice_get p.trick 0 → filter (is_of s) (legal p) ≡ filter (is_of s) (cards_at p (mover p))
-none-led p s e = ap (filter (is_of s)) (go p.trick e)
-  where
-    go : (trick : List PlayingCard) → None ≡ slice_get trick 0 → following trick (cards_at p (mover p)) ≡ cards_at p (mover p)
-    go [] h = refl
-    go (c ∷ trick) h = absurd (cc)
 
 -- ---- the ranks of the other cards
 -- a set of ranks, by its members

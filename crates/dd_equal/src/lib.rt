@@ -13,6 +13,3 @@ pub use laws::{
 };
 pub use partition::{classes, list_classes};
 pub use whole_classes::whole;
-
-#[cfg(test)]
-mod tests;

@@ -27,26 +27,41 @@ pub fn list_classes(position: &Position, classes: &mut ArrayVec<Class, 13>)
     requires { classes.old.items ≡ [] }
     ensures { classes.new.items ≡ classes_of position.now }
 {
-    // The proof reads here that the cards are at most thirteen.
-    let _ = position.choices();
-    push_suit(classes, position, Suit::Spades);
-    push_suit(classes, position, Suit::Hearts);
-    push_suit(classes, position, Suit::Diamonds);
-    push_suit(classes, position, Suit::Clubs);
+    let choices = position.choices();
+    push_suit(
+        classes,
+        position,
+        choices.holding(Suit::Spades),
+        Suit::Spades,
+    );
+    push_suit(
+        classes,
+        position,
+        choices.holding(Suit::Hearts),
+        Suit::Hearts,
+    );
+    push_suit(
+        classes,
+        position,
+        choices.holding(Suit::Diamonds),
+        Suit::Diamonds,
+    );
+    push_suit(classes, position, choices.holding(Suit::Clubs), Suit::Clubs);
 }
 
-// Adds the classes of the suit.
-fn push_suit(classes: &mut ArrayVec<Class, 13>, position: &Position, suit: Suit)
-    requires { array_vec_len classes.old + length (filter (is_of suit) (legal position.now)) ≤ 13 }
+// Adds the classes of the suit, of which these ranks may be played: mostly none, where a hand follows suit.
+#[inline]
+fn push_suit(classes: &mut ArrayVec<Class, 13>, position: &Position, own: Holding, suit: Suit)
+    requires own { map (card_of suit) own ≡ filter (is_of suit) (legal position.now) }
+    requires board { IsBoard position.now }
+    requires room { array_vec_len classes.old + length (filter (is_of suit) (legal position.now)) ≤ 13 }
     ensures items { classes.new.items ≡ classes.old.items ++ map (class_of position.now) (filter (is_top position.now) (filter (is_of suit) (legal position.now))) }
     ensures len { array_vec_len classes.new ≤ array_vec_len classes.old + length (filter (is_of suit) (legal position.now)) }
 {
-    let own = legal_ranks(position, suit);
     if own.is_empty() {
         return;
     }
-    let others = other_ranks(position, suit);
-    push_classes(classes, suit, own, others);
+    push_classes(classes, suit, own, other_ranks(position, suit));
 }
 
 // Walks from the mover's highest rank down. A class ends at the next lower rank of another hand or the trick, its floor.
@@ -76,22 +91,6 @@ pub(crate) fn ranks_around(ranks: Holding, floor: Option<Rank>) -> (Holding, Hol
         Some(floor) => (ranks.above(floor), ranks.below(floor)),
         None => (ranks, Holding::new()),
     }
-}
-
-// The ranks of the cards of this suit that may be played.
-pub(crate) fn legal_ranks(position: &Position, suit: Suit) -> Holding
-    ensures ranks { map (card_of suit) result ≡ filter (is_of suit) (legal position.now) }
-    ensures board { IsBoard position.now }
-{
-    let hands = position.hands();
-    let mover = position.mover();
-    if let Some(led) = position.trick().first() {
-        let led = led.suit;
-        if led.code() != suit.code() && !hands.holding(mover, led).is_empty() {
-            return Holding::new();
-        }
-    }
-    hands.holding(mover, suit)
 }
 
 // The ranks of the cards of this suit in the other hands and on the trick.

@@ -1,13 +1,15 @@
 //! Whole classes of equal cards among the cards that a claim rests on.
-ghost use Rattle.std.specs.Prelude.{◌≡◌, ◌≢◌, ◌∷◌, [], ◌<◌, ◌≤◌, ℕ, true};
+ghost use Rattle.std.specs.Prelude.{◌≡◌, ◌≢◌, ◌∷◌, [], ◌<◌, ◌≤◌, ℕ, true, map, filter};
 ghost use Rattle.dd_cards.specs.PlayingCard.{PlayingCard};
-ghost use Rattle.dd_cards.specs.Cards.{has_card, card_of};
+ghost use Rattle.dd_cards.specs.Cards.{has_card, card_of, is_of};
+ghost use Rattle.dd_play.specs.Board.{IsBoard};
+ghost use Rattle.dd_play.specs.Play.{legal};
 ghost use Rattle.dd_play.specs.Simulations.{IsLegal};
 ghost use Rattle.dd_play.specs.Reach.{reach};
 ghost use Rattle.dd_equal.specs.EqualCards.{are_equal, IsWhole};
 
-use crate::partition::{legal_ranks, other_ranks, ranks_around};
-use dd_cards::{Card, Hand, Rank, Suit};
+use crate::partition::{other_ranks, ranks_around};
+use dd_cards::{Card, Hand, Holding, Rank, Suit};
 use dd_play::Position;
 
 /// These cards, and the lowest card of each class that they reach in part: what a claim rests on where each class of the
@@ -16,14 +18,34 @@ pub fn whole(position: &Position, reached: Hand) -> Hand
     ensures more { (c : PlayingCard) → has_card reached c ≡ true → has_card result c ≡ true }
     ensures whole { IsWhole (reach result) position.now }
 {
-    let reached = whole_suit(position, reached, Suit::Spades);
-    let reached = whole_suit(position, reached, Suit::Hearts);
-    let reached = whole_suit(position, reached, Suit::Diamonds);
-    whole_suit(position, reached, Suit::Clubs)
+    let choices = position.choices();
+    let reached = whole_suit(
+        position,
+        reached,
+        choices.holding(Suit::Spades),
+        Suit::Spades,
+    );
+    let reached = whole_suit(
+        position,
+        reached,
+        choices.holding(Suit::Hearts),
+        Suit::Hearts,
+    );
+    let reached = whole_suit(
+        position,
+        reached,
+        choices.holding(Suit::Diamonds),
+        Suit::Diamonds,
+    );
+    whole_suit(position, reached, choices.holding(Suit::Clubs), Suit::Clubs)
 }
 
-// The same of one suit. Only the class that has cards on both sides of the lowest card reached can be cut.
-fn whole_suit(position: &Position, reached: Hand, suit: Suit) -> Hand
+// The same of one suit, of which the mover may play these ranks. Only the class that has cards on both sides of the lowest
+// card reached can be cut.
+#[inline]
+fn whole_suit(position: &Position, reached: Hand, own: Holding, suit: Suit) -> Hand
+    requires own { map (card_of suit) own ≡ filter (is_of suit) (legal position.now) }
+    requires board { IsBoard position.now }
     ensures more { (c : PlayingCard) → has_card reached c ≡ true → has_card result c ≡ true }
     ensures others { (c : PlayingCard) → c.suit ≢ suit → reach result c ≡ reach reached c }
     ensures whole { (r q : ℕ) → IsLegal position.now (card_of suit r) → IsLegal position.now (card_of suit q)
@@ -32,7 +54,6 @@ fn whole_suit(position: &Position, reached: Hand, suit: Suit) -> Hand
     let Some(floor) = reached.holding(suit).next_from(Rank::of(2)) else {
         return reached;
     };
-    let own = legal_ranks(position, suit);
     let below = own.below(floor);
     if below.is_empty() {
         return reached;

@@ -8,6 +8,3 @@ mod line;
 pub use counted_device::CountedDevice;
 pub use engine::{LineFault, solve_lines, write_whole};
 pub use line::Line;
-
-#[cfg(test)]
-mod tests;

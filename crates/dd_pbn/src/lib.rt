@@ -12,6 +12,3 @@ pub use fault::PbnFault;
 pub use laws::{one_deal, one_deal_of_a_tag, worked_texts, written_is_read};
 pub use reading::{begins_tag, read_deal, read_tag};
 pub use writing::write_deal;
-
-#[cfg(test)]
-mod tests;

@@ -18,6 +18,3 @@ pub use play_fault::PlayFault;
 pub use position::Position;
 pub use trick_start::TrickStart;
 pub use trick_winner::winner;
-
-#[cfg(test)]
-mod tests;

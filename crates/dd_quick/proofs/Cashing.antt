@@ -35,7 +35,7 @@ use Rattle.dd_quick.proofs.Hands.{places-on}
 -- ---- the card led wins
 
 -- no card of the list is a trump
-no-trump : (strain : Strain) (cards : List PlayingCard) → ((e : PlayingCard) → has_card cards e ≡ true → is_trump strain e ≡ false) → filter (is_trump strain) cards ≡ []
+pub no-trump : (strain : Strain) (cards : List PlayingCard) → ((e : PlayingCard) → has_card cards e ≡ true → is_trump strain e ≡ false) → filter (is_trump strain) cards ≡ []
 no-trump strain [] each = refl
 no-trump strain (c ∷ cards) each = rw (each c (has-first c cards)) (no-trump strain cards (λ e h. each e (in-rest c e cards h)))
 
@@ -175,7 +175,7 @@ same-trump (Trump t) c d e = ap (λ u. suit_code u == suit_code t) e
 same-trump Notrump c d e = refl
 
 -- a card is one of its own suit in all
-one-total : (m : PlayingCard) → total (one_card m) ≡ 1
+pub one-total : (m : PlayingCard) → total (one_card m) ≡ 1
 one-total m = go m.suit
   where
     go : (u : Suit) → flag_of (suit_code u == 0) + flag_of (suit_code u == 1) + flag_of (suit_code u == 2) + flag_of (suit_code u == 3) ≡ 1
@@ -185,29 +185,28 @@ one-total m = go m.suit
     go Clubs = refl
 
 -- a hand that has the card m's suit follows suit to it
-abbrev FollowsSuit : PlayingCard → List PlayingCard → PlayingCard → Type 0
+abbrev pub FollowsSuit : PlayingCard → List PlayingCard → PlayingCard → Type 0
 FollowsSuit m hand c = 1 ≤ count_of m.suit hand → c.suit ≡ m.suit
 
 -- the partner spares the card: it follows suit, or has more of the suit to spare than are to be cashed
 abbrev Throws : Aims → (Suit → ℕ) → PlayingCard → List PlayingCard → PlayingCard → Type 0
 Throws aims n m his c = (aims.kept c ≡ false) × ((c.suit ≡ m.suit) ⊎ (n c.suit + 1 ≤ spare_of aims.kept c.suit his))
 
--- a hand that plays a card c to such a lead lets the others be cashed
-module _ (strain : Strain) (aims : Aims) (n : Suit → ℕ) (i : ℕ) (own his rest : List PlayingCard) (m c : PlayingCard)
-    (lets : LetsCash strain aims n (one_card m) i own his) (taken : (test : PlayingCard → Bool) → count test rest + flag_of (test c) ≡ count test his)
-    (suits : FollowsSuit m his c) (throw : i ≡ 2 → Throws aims n m his c) where
+-- a hand plays a card c to the lead of m
+module _ (strain : Strain) (sure : PlayingCard → Bool) (n : Suit → ℕ) (i : ℕ) (own his rest : List PlayingCard) (m c : PlayingCard)
+    (taken : (test : PlayingCard → Bool) → count test rest + flag_of (test c) ≡ count test his) (suits : FollowsSuit m his c) where
   -- of the suit led it has one fewer, if it had any
   one-fewer : 1 ≤ count_of m.suit his → count_of m.suit rest + 1 ≡ count_of m.suit his
   one-fewer some = (let t = taken (is_of m.suit) in let one : flag_of (is_of m.suit c) ≡ 1 = ap flag_of (of-suit' m.suit c (suits some)) in omega (arith, t, one))
 
   -- it still has no more of a suit than the leader has sure cards, where these are too few
-  yields-on : (u : Suit) → min (no_cards u + n u) (count_of u rest) ≤ no_cards u + sure_of aims.sure u own
-  yields-on u = go (is_of u m) refl
+  pub yields-on : ((u : Suit) → min (one_card m u + n u) (count_of u his) ≤ one_card m u + sure_of sure u own) → (u : Suit) → min (no_cards u + n u) (count_of u rest) ≤ no_cards u + sure_of sure u own
+  yields-on yields u = go (is_of u m) refl
     where
-      go : (b : Bool) → is_of u m ≡ b → min (no_cards u + n u) (count_of u rest) ≤ no_cards u + sure_of aims.sure u own
+      go : (b : Bool) → is_of u m ≡ b → min (no_cards u + n u) (count_of u rest) ≤ no_cards u + sure_of sure u own
       go true e =
           let one : one_card m u ≡ 1 = ap flag_of e in
-          let before = lets.yields u in
+          let before = yields u in
           elim (cases_lt 0 (count_of u his)) [
             | inl l ↦ (
                 let same = suit-of u m e in
@@ -215,11 +214,11 @@ module _ (strain : Strain) (aims : Aims) (n : Suit → ℕ) (i : ℕ) (own his r
                 omega (arith, one, before, fewer))
             | inr l ↦ (let t = taken (is_of u) in omega (arith, t, l))
           ]
-      go false e = (let none : one_card m u ≡ 0 = ap flag_of e in let before = lets.yields u in let t = taken (is_of u) in omega (arith, none, before, t))
+      go false e = (let none : one_card m u ≡ 0 = ap flag_of e in let before = yields u in let t = taken (is_of u) in omega (arith, none, before, t))
 
   -- an opponent still can't ruff
-  follows-on : i ≢ 2 → (count (is_trump strain) rest ≡ 0) ⊎ ((u : Suit) → no_cards u + n u ≤ count_of u rest)
-  follows-on apart = elim (lets.follows apart) [
+  pub follows-on : (i ≢ 2 → (count (is_trump strain) his ≡ 0) ⊎ ((u : Suit) → one_card m u + n u ≤ count_of u his)) → i ≢ 2 → (count (is_trump strain) rest ≡ 0) ⊎ ((u : Suit) → no_cards u + n u ≤ count_of u rest)
+  follows-on follows apart = elim (follows apart) [
     | inl none ↦ inl (let t = taken (is_trump strain) in omega (arith, t, none))
     | inr each ↦ inr (λ u. go each u (is_of u m) refl)
   ]
@@ -240,6 +239,10 @@ module _ (strain : Strain) (aims : Aims) (n : Suit → ℕ) (i : ℕ) (own his r
           let t = taken (is_of u) in
           omega (arith, before, t, other)
 
+-- such a hand lets the others be cashed
+module _ (strain : Strain) (aims : Aims) (n : Suit → ℕ) (i : ℕ) (own his rest : List PlayingCard) (m c : PlayingCard)
+    (lets : LetsCash strain aims n (one_card m) i own his) (taken : (test : PlayingCard → Bool) → count test rest + flag_of (test c) ≡ count test his)
+    (suits : FollowsSuit m his c) (throw : i ≡ 2 → Throws aims n m his c) where
   -- the partner still has cards to spare of each suit that it has to follow
   spares-on : i ≡ 2 → (u : Suit) → min (no_cards u + n u) (count_of u rest) ≤ spare_of aims.kept u rest
   spares-on two u = go (is_of u m) (is_of u c) refl refl
@@ -286,7 +289,12 @@ module _ (strain : Strain) (aims : Aims) (n : Suit → ℕ) (i : ℕ) (own his r
 
   -- in one
   played-on : LetsCash strain aims n no_cards i own rest
-  played-on = record { yields = yields-on; follows = follows-on; spares = spares-on; throws = throws-on }
+  played-on = record {
+    yields = yields-on strain aims.sure n i own his rest m c taken suits lets.yields;
+    follows = follows-on strain aims.sure n i own his rest m c taken suits lets.follows;
+    spares = spares-on;
+    throws = throws-on;
+  }
 
 -- a card c is played to such a trick, the partner's one that it spares
 module _ (strain : Strain) (o : Board) (aims : Aims) (n : Suit → ℕ) (s : Side) (p : Board) (m : PlayingCard) (rest : List PlayingCard) (c : PlayingCard)
@@ -575,7 +583,7 @@ some-suit n h = elim (cases_lt 0 (n Spades)) [
 ]
 
 -- a hand lets the card m be led, where m is sure or the hand has none of its suit
-lets-lead : (strain : Strain) (aims : Aims) (n : Suit → ℕ) (i : ℕ) (own rest his : List PlayingCard) (m : PlayingCard) → LetsCash strain aims n no_cards i own his → 1 ≤ n m.suit
+pub lets-lead : (strain : Strain) (aims : Aims) (n : Suit → ℕ) (i : ℕ) (own rest his : List PlayingCard) (m : PlayingCard) → LetsCash strain aims n no_cards i own his → 1 ≤ n m.suit
     → ((u : Suit) → sure_of aims.sure u rest + flag_of (is_of u m && aims.sure m) ≡ sure_of aims.sure u own) → (aims.sure m ≡ true) ⊎ (count_of m.suit his ≡ 0) → LetsCash strain aims (less n m) (one_card m) i rest his
 lets-lead strain aims n i own rest his m lets some_m taken good = record {
   yields = λ u. yields u (is_of u m) refl;

@@ -19,10 +19,11 @@ use Rattle.dd_play.specs.Tricks.{is_trump}
 use Rattle.dd_play.specs.Reach.{TakesBy, reach}
 use Rattle.dd_play.proofs.CallerLemmas.{count, flag_of, reach-within}
 use Rattle.dd_quick.specs.QuickTricks.{IsCash, RestsOn, RestsOnTrumps, cashed, is_long, is_winner, joint_trumps, length_at, longest, run, suit_tricks, trumps_at, unbeaten, unruffed}
+use Rattle.dd_quick.specs.Sharing.{shares}
 use Rattle.dd_quick.proofs.Hands.{IsOpposed}
 use Rattle.dd_quick.proofs.Plays.{count-where}
 use Rattle.dd_quick.proofs.Sound.{CanTake}
-use Rattle.dd_quick.proofs.Covered.{IsJoint, leader-by}
+use Rattle.dd_quick.proofs.Covered.{IsJoint, RestsOnTops, leader-by}
 
 -- joint trumps that the cards reach are top cards
 pub joint-rests : (strain : Strain) (p : Board) (i : ℕ) (cards : List PlayingCard) (m : ℕ) → m ≤ joint_trumps strain p (seat_after p.first i) → RestsOnTrumps strain p (seat_after p.first i) cards m → IsJoint strain (reach cards) p i m
@@ -162,19 +163,22 @@ shared-tops p u cards n i s l k = elim (cases_lt 0 n) [
   | inr none ↦ omega (arith, none)
 ]
 
--- the shares of the four suits
-abbrev pub shares : ℕ → ℕ → ℕ → ℕ → Suit → ℕ
-shares s h d c Spades = s
-shares s h d c Hearts = h
-shares s h d c Diamonds = d
-shares s h d c Clubs = c
+-- what is counted at the start of a trick, and the cards on which it rests
+pub record IsSure (p : Board) (cards : List PlayingCard) (n : Suit → ℕ) (m : ℕ) : Type 0 where
+  pub can : IsBoard p → CanTake p n m
+  pub tops : RestsOnTops (reach cards) p n
+  pub joint : IsJoint p.strain (reach cards) p 0 m
 
--- Shares of the side suits and of the joint trumps are a claim by the cards on which they rest.
-pub leader-claim : (p : Board) (few cards : List PlayingCard) (s h di cl m : ℕ) → p.trick ≡ [] → IsShared p Spades few s → IsShared p Hearts few h → IsShared p Diamonds few di → IsShared p Clubs few cl
+-- Shares of the side suits and of the joint trumps are so counted.
+pub leader-sure : (p : Board) (few cards : List PlayingCard) (s h di cl m : ℕ) → p.trick ≡ [] → IsShared p Spades few s → IsShared p Hearts few h → IsShared p Diamonds few di → IsShared p Clubs few cl
     → ((e : PlayingCard) → has_card few e ≡ true → has_card cards e ≡ true)
     → s + h + di + cl ≤ left p - trumps_at p.strain p (seat_after p.first 2) → m ≤ joint_trumps p.strain p p.first → RestsOnTrumps p.strain p p.first cards m
-    → TakesBy (reach cards) (side_of p.first) p (s + h + di + cl + m)
-leader-claim p few cards s h di cl m start sp he dm cb more throws joint trumps = leader-by (reach cards) p n m start can (λ u i l k. shared-tops p u cards (n u) i (each u) l k) (joint-rests p.strain p 0 cards m joint trumps)
+    → IsSure p cards (shares s h di cl) m
+leader-sure p few cards s h di cl m start sp he dm cb more throws joint trumps = record {
+  can = can;
+  tops = λ u i l k. shared-tops p u cards (n u) i (each u) l k;
+  joint = joint-rests p.strain p 0 cards m joint trumps;
+}
   where
     n : Suit → ℕ
     n = shares s h di cl
@@ -206,3 +210,12 @@ leader-claim p few cards s h di cl m start sp he dm cb more throws joint trumps 
       throws = (let t = trumps-left p.strain p 2 valid start (omega arith) in omega (arith, throws, t));
       joint = joint;
     }
+
+-- They are a claim by the cards on which they rest.
+pub leader-claim : (p : Board) (few cards : List PlayingCard) (s h di cl m : ℕ) → p.trick ≡ [] → IsShared p Spades few s → IsShared p Hearts few h → IsShared p Diamonds few di → IsShared p Clubs few cl
+    → ((e : PlayingCard) → has_card few e ≡ true → has_card cards e ≡ true)
+    → s + h + di + cl ≤ left p - trumps_at p.strain p (seat_after p.first 2) → m ≤ joint_trumps p.strain p p.first → RestsOnTrumps p.strain p p.first cards m
+    → TakesBy (reach cards) (side_of p.first) p (s + h + di + cl + m)
+leader-claim p few cards s h di cl m start sp he dm cb more throws joint trumps =
+    let sure = leader-sure p few cards s h di cl m start sp he dm cb more throws joint trumps in
+    leader-by (reach cards) p (shares s h di cl) m start sure.can sure.tops sure.joint

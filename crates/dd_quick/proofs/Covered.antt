@@ -34,7 +34,7 @@ use Rattle.dd_quick.proofs.Plays.{count-where}
 use Rattle.dd_quick.proofs.Sound.{CanTake, can-take, joint-sure, opponents-side, round}
 
 -- a card of the list that passes
-some-card : (test : PlayingCard → Bool) (cards : List PlayingCard) → list_any test cards ≡ true → (d : PlayingCard) × (has_card cards d ≡ true) × (test d ≡ true)
+pub some-card : (test : PlayingCard → Bool) (cards : List PlayingCard) → list_any test cards ≡ true → (d : PlayingCard) × (has_card cards d ≡ true) × (test d ≡ true)
 some-card test [] h = absurd (cc)
 some-card test (c ∷ cards) h = go (test c) refl (some-card test cards)
   where
@@ -116,7 +116,7 @@ module _ (top : PlayingCard → Bool) (k : ℕ) (to from : PlayingCard → Playi
   both-pass h g = rw (h, g) refl
 
   -- so a run is no shorter than its part of top cards
-  run-covered : (x : Seat) (u : Suit) → count (λ c. (is_of u c && is_winner p x c) && top c) (cards_at p x) ≤ run q (seat_after x k) u
+  pub run-covered : (x : Seat) (u : Suit) → count (λ c. (is_of u c && is_winner p x c) && top c) (cards_at p x) ≤ run q (seat_after x k) u
   run-covered x u = count-image (λ c. is_of u c && is_winner p x c) (λ c. is_of u c && is_winner q (seat_after x k) c) x (λ c h pass tc.
       let of_u = and-left (is_of u c) (is_winner p x c) pass in
       both-pass (of-suit' u (to c) (r.to_suit c ∙ suit-of u c of_u)) (winner-image x c h (and-right (is_of u c) (is_winner p x c) pass) tc))
@@ -242,27 +242,32 @@ joint-covered top k to from s p t q r (Trump u) i m rests few = subst (λ y. m �
 abbrev pub RestsOnTops : (PlayingCard → Bool) → Board → (Suit → ℕ) → Type 0
 RestsOnTops top p n = (u : Suit) (i : ℕ) → 1 ≤ i → i < 4 → min (n u) (length_at p (seat_after p.first i) u) ≤ count (λ c. (is_of u c && is_winner p p.first c) && top c) (cards_at p p.first)
 
--- what the leader's side can take is a claim by these cards
-pub leader-by : (top : PlayingCard → Bool) (p : Board) (n : Suit → ℕ) (m : ℕ) → p.trick ≡ [] → (IsBoard p → CanTake p n m) → RestsOnTops top p n → IsJoint p.strain top p 0 m → TakesBy top (side_of p.first) p (total n + m)
-leader-by top p n m start may winners joint k to from t q r strict =
-    let can = may r.valid_p in
-    let same = λ (i : ℕ) (u : Suit). length-same top k to from (side_of p.first) p t q r i u in
-    let trumps : (i : ℕ) → trumps_at q.strain q (seat_after q.first i) ≡ trumps_at p.strain p (seat_after p.first i) = λ i. ap (λ z. trumps_at z q (seat_after q.first i)) r.strain ∙ trumps-same top k to from (side_of p.first) p t q r p.strain i in
-    let empty = no-trick to from top p.trick q.trick start r.trick in
+-- what the leader's side can take it can take at each position that is covered with these cards
+pub can-covered : (top : PlayingCard → Bool) (k : ℕ) (to from : PlayingCard → PlayingCard) (s : Side) (p : Board) (t : Side) (q : Board) → IsCover top k to from s p t q
+    → (n : Suit → ℕ) (m : ℕ) → p.trick ≡ [] → q.trick ≡ [] → CanTake p n m → RestsOnTops top p n → IsJoint p.strain top p 0 m → CanTake q n m
+can-covered top k to from s p t q r n m start empty can winners joint =
+    let same = λ (i : ℕ) (u : Suit). length-same top k to from s p t q r i u in
+    let trumps : (i : ℕ) → trumps_at q.strain q (seat_after q.first i) ≡ trumps_at p.strain p (seat_after p.first i) = λ i. ap (λ z. trumps_at z q (seat_after q.first i)) r.strain ∙ trumps-same top k to from s p t q r p.strain i in
     let lefts = left-same p q start empty (λ u. same 0 u) in
-    let taken = can-take q n m r.valid_q empty (record {
+    record {
       held = λ u. (let h = can.held u in let e = same 0 u in omega (arith, h, e));
       yields = λ u i l h. (
           let e = same i u in
           let w = winners u i l h in
-          let c = run-covered top k to from (side_of p.first) p t q r p.first u in
+          let c = run-covered top k to from s p t q r p.first u in
           let f : run q q.first u ≡ run q (seat_after p.first k) u = ap (λ y. run q y u) r.first in
           omega (arith, e, w, c, f));
       plain = λ u some. ap (λ z. is_trump z (card_of u 0)) r.strain ∙ can.plain u some;
       follows = λ i opposed. elim (can.follows i opposed) [ inl none ↦ inl (trumps i ∙ none) | inr each ↦ inr (λ u. let h = each u in let e = same i u in omega (arith, h, e)) ];
       throws = (let h = can.throws in let e = trumps 2 in omega (arith, h, e, lefts));
-      joint = subst (λ z. m ≤ joint_trumps z q q.first) (sym r.strain) (joint-covered top k to from (side_of p.first) p t q r p.strain 0 m joint can.joint);
-    }) in
+      joint = subst (λ z. m ≤ joint_trumps z q q.first) (sym r.strain) (joint-covered top k to from s p t q r p.strain 0 m joint can.joint);
+    }
+
+-- what the leader's side can take is a claim by these cards
+pub leader-by : (top : PlayingCard → Bool) (p : Board) (n : Suit → ℕ) (m : ℕ) → p.trick ≡ [] → (IsBoard p → CanTake p n m) → RestsOnTops top p n → IsJoint p.strain top p 0 m → TakesBy top (side_of p.first) p (total n + m)
+leader-by top p n m start may winners joint k to from t q r strict =
+    let empty = no-trick to from top p.trick q.trick start r.trick in
+    let taken = can-take q n m r.valid_q empty (can-covered top k to from (side_of p.first) p t q r n m start empty (may r.valid_p) winners joint) in
     let side = is-same (side_of q.first) t (ap (is_side t) r.first ∙ r.sides p.first ∙ same-self (side_of p.first)) in
     subst (λ z. total n + m ≤ won z q) side taken
 

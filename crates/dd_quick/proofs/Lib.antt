@@ -15,3 +15,6 @@ pub mod Highest
 pub mod Reached
 pub mod Shares
 pub mod Next
+pub mod LeadBack
+pub mod TakenTrick
+pub mod SecondHand

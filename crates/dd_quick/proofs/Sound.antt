@@ -4,7 +4,6 @@ use Rattle.std.specs.Prelude.{filter, nat_le, nat_lt, ◌&&◌, ◌⊎◌}
 use mathlib.Core.Bool.{not}
 use mathlib.Core.Path.{ap₂}
 use Rattle.std.proofs.lemmas.Bool.{leb-true, le-leb, cases_lt}
-use Rattle.std.proofs.lemmas.Bool.Decides.{nat_tests}
 use Rattle.dd_cards.specs.declared.seat.Seat.{Seat}
 use Rattle.dd_cards.specs.declared.seat.Seat.TheVariants.{North, East, South, West}
 use Rattle.dd_cards.specs.declared.suit.Suit.{Suit}
@@ -26,7 +25,7 @@ use Rattle.dd_quick.proofs.Hands.{IsOpposed, no-higher, none-over}
 use Rattle.dd_quick.proofs.Plays.{count-where}
 use Rattle.dd_quick.proofs.JointPlans.{is_top, trumps-plain}
 use Rattle.dd_quick.proofs.JointTrumps.{joint-taken, place-of}
-use Rattle.dd_quick.proofs.Cashing.{Aims, AllLetCash, HasCards, IsLater, OnlyTrumps, cashed-all, hand_on, no_cards, same-trump, sure_of, total}
+use Rattle.dd_quick.proofs.Cashing.{Aims, AllLetCash, IsLater, OnlyTrumps, cashed-all, hand_on, is_plain, no_cards, same-trump, spare_of, sure_of, total}
 
 -- ---- two lists
 
@@ -193,7 +192,7 @@ tops-only : (strain : Strain) (floor : ℕ) → OnlyTrumps strain (is_top strain
 tops-only strain floor c e = ap (λ b. b && nat_le floor c.rank) e
 
 -- Joint trumps take their tricks, also later, where the two hands have lost none of their trumps.
-joint-later : (strain : Strain) (o q : Board) (a : Seat) (s : Side) (k : ℕ) → IsBoard o → IsBoard q → q.strain ≡ strain → q.trick ≡ [] → is_side s a ≡ true → is_side s (seat_after a 2) ≡ true → k ≤ joint_trumps strain o a
+pub joint-later : (strain : Strain) (o q : Board) (a : Seat) (s : Side) (k : ℕ) → IsBoard o → IsBoard q → q.strain ≡ strain → q.trick ≡ [] → is_side s a ≡ true → is_side s (seat_after a 2) ≡ true → k ≤ joint_trumps strain o a
     → ((x : Seat) (c : PlayingCard) → has_card (cards_at q x) c ≡ true → has_card (cards_at o x) c ≡ true)
     → ((test : PlayingCard → Bool) → OnlyTrumps strain test → count test (cards_at q a) ≡ count test (cards_at o a))
     → ((test : PlayingCard → Bool) → OnlyTrumps strain test → count test (cards_at q (seat_after a 2)) ≡ count test (cards_at o (seat_after a 2))) → k ≤ won s q
@@ -245,54 +244,62 @@ trumps-count Notrump p x = none (cards_at p x)
     none [] = refl
     none (c ∷ cards) = none cards
 
+-- cards that the partner has beside its trumps are no trumps
+pub plain-left : (p : Board) (x : ℕ) → IsBoard p → p.trick ≡ [] → x + trumps_at p.strain p (seat_after p.first 2) ≤ left p → x ≤ count (is_plain p.strain) (hand_on p 2)
+plain-left p x valid start few =
+    let all = trumps-plain p.strain (hand_on p 2) in
+    let trumps = trumps-count p.strain p (seat_after p.first 2) in
+    let even = valid.even 2 (omega arith) in
+    let flag : flag_of (nat_lt 2 (length p.trick)) ≡ 0 = ap (λ trick. flag_of (nat_lt 2 (length trick))) start in
+    omega (arith, all, trumps, even, flag, few)
+
+-- these cards of the leader's are sure, and the partner keeps its trumps
+abbrev pub keeping_trumps : Strain → (PlayingCard → Bool) → List PlayingCard → Aims
+keeping_trumps strain sure own = record { sure = sure; kept = is_trump strain; low = no_cards; over = λ u. sure_of sure u own }
+
+-- so the winners of the leader at this position
+abbrev pub leaders_aims : Board → Aims
+leaders_aims p = keeping_trumps p.strain (is_winner p p.first) (cards_at p p.first)
+
+-- of side suits a hand may spare all cards where it keeps its trumps
+pub side-spared : (strain : Strain) (n : Suit → ℕ) (hand : List PlayingCard) → ((u : Suit) → 1 ≤ n u → is_trump strain (card_of u 0) ≡ false) → (u : Suit) → min (no_cards u + n u) (count_of u hand) ≤ spare_of (is_trump strain) u hand
+side-spared strain n hand plain u = elim (cases_lt 0 (n u)) [
+  | inl some ↦ (
+      let all : count_of u hand ≤ spare_of (is_trump strain) u hand = count-where (is_of u) (λ c. is_of u c && not (is_trump strain c)) hand
+      (λ c has of_u. ap₂ (λ a b. a && not b) of_u (same-trump strain c (card_of u 0) (suit-of u c of_u) ∙ plain u some)) in
+      omega (arith, all))
+  | inr none ↦ omega (arith, none)
+]
+
+-- so each hand that does not lead lets these cards be cashed
+pub can-let : (p : Board) (n : Suit → ℕ) (k : ℕ) → IsBoard p → p.trick ≡ [] → CanTake p n k → AllLetCash p.strain (leaders_aims p) n p
+can-let p n k valid start can i l m = record {
+  yields = λ u. (let y = can.yields u i l m in omega (arith, y));
+  follows = λ other. elim (can.follows i (opponent i l m other)) [
+    | inl none ↦ inl (trumps-count p.strain p (seat_after p.first i) ∙ none)
+    | inr each ↦ inr (λ u. (let y = each u in omega (arith, y)))
+  ];
+  spares = λ two. side-spared p.strain n (hand_on p i) can.plain;
+  throws = λ two. subst (λ j. total no_cards + total n ≤ count (is_plain p.strain) (hand_on p j)) (sym two) (let k = plain-left p (total n) valid start can.throws in omega (arith, k));
+}
+  where
+    opponent : (i : ℕ) → 1 ≤ i → i < 4 → i ≢ 2 → IsOpposed i
+    opponent zero l k other = absurd (omega (arith, l))
+    opponent (suc zero) l k other = inl refl
+    opponent (suc (suc zero)) l k other = absurd (other refl)
+    opponent (suc (suc (suc zero))) l k other = inr refl
+    opponent (suc (suc (suc (suc i)))) l k other = absurd (omega (arith, k))
+
+-- later, where it has lost no trumps, its side still takes its joint trumps
+pub joint-on : (p : Board) (n : Suit → ℕ) (k : ℕ) → IsBoard p → CanTake p n k → (q : Board) → q.trick ≡ [] → IsLater p.strain (leaders_aims p) p (side_of p.first) q → k ≤ won (side_of p.first) q
+joint-on p n k valid can q empty later =
+    joint-later p.strain p q p.first (side_of p.first) k valid later.valid later.same empty (own-side p.first) (partners-side p.first) can.joint later.part
+    (λ test only. ap (λ x. count test (cards_at q x)) (sym later.first) ∙ later.mine test only)
+    (λ test only. ap (λ x. count test (cards_at q (seat_after x 2))) (sym later.first) ∙ later.partners test only)
+
 -- then it takes so many tricks
 pub can-take : (p : Board) (n : Suit → ℕ) (k : ℕ) → IsBoard p → p.trick ≡ [] → CanTake p n k → total n + k ≤ won (side_of p.first) p
 can-take p n k valid start can =
-    cashed-all (total n) k p.strain p aims n (side_of p.first) p rest (λ c own winner x e away his suits. no-higher p valid p.first x c e away winner own his suits) refl start
+    cashed-all (total n) k p.strain p (leaders_aims p) n (side_of p.first) p (λ q r empty later cards none. joint-on p n k valid can q empty later) (λ c own winner x e away his suits. no-higher p valid p.first x c e away winner own his suits) refl start
     (record { valid = valid; same = refl; ours = own-side p.first; first = refl; part = λ x c h. h; mine = λ test only. refl; partners = λ test only. refl; trumps = λ c e. e })
-    (record { held = λ u. (let h = can.held u in omega (arith, h)); tops = λ u. omega arith; plain = λ u c some e. same-trump p.strain c (card_of u 0) e ∙ can.plain u some }) lets
-  where
-    -- the partner keeps its trumps
-    aims : Aims
-    aims = record { sure = is_winner p p.first; kept = is_trump p.strain; low = no_cards; over = λ u. sure_of (is_winner p p.first) u (cards_at p p.first) }
-
-    rest : (q : Board) (r : Suit → ℕ) → q.trick ≡ [] → IsLater p.strain aims p (side_of p.first) q → HasCards p.strain aims r q → total r ≡ 0 → k ≤ won (side_of p.first) q
-    rest q r empty later cards none =
-        joint-later p.strain p q p.first (side_of p.first) k valid later.valid later.same empty (own-side p.first) (partners-side p.first) can.joint later.part
-        (λ test only. ap (λ x. count test (cards_at q x)) (sym later.first) ∙ later.mine test only)
-        (λ test only. ap (λ x. count test (cards_at q (seat_after x 2))) (sym later.first) ∙ later.partners test only)
-
-    lets : AllLetCash p.strain aims n p
-    lets i l k = record {
-      yields = λ u. (let y = can.yields u i l k in omega (arith, y));
-      follows = λ other. elim (can.follows i (opponent i l k other)) [
-        | inl none ↦ inl (trumps-count p.strain p (seat_after p.first i) ∙ none)
-        | inr each ↦ inr (λ u. (let y = each u in omega (arith, y)))
-      ];
-      spares = λ two u. elim (cases_lt 0 (n u)) [
-        | inl some ↦ (
-            let all : count_of u (hand_on p i) ≤ count (λ c. is_of u c && not (is_trump p.strain c)) (hand_on p i) = count-where (is_of u) (λ c. is_of u c && not (is_trump p.strain c)) (hand_on p i)
-            (λ c has of_u. ap₂ (λ a b. a && not b) of_u (same-trump p.strain c (card_of u 0) (suit-of u c of_u) ∙ can.plain u some)) in
-            omega (arith, all))
-        | inr none ↦ omega (arith, none)
-      ];
-      throws = λ two. (
-          let all = trumps-plain p.strain (hand_on p i) in
-          let trumps = trumps-count p.strain p (seat_after p.first i) in
-          let same : trumps_at p.strain p (seat_after p.first i) ≡ trumps_at p.strain p (seat_after p.first 2) = ap (λ j. trumps_at p.strain p (seat_after p.first j)) two in
-          let many = can.throws in
-          let even = valid.even i k in
-          let none : length p.trick ≡ 0 = ap length start in
-          let flag : flag_of (nat_lt i (length p.trick)) ≡ 0 = ap flag_of (not-under i (length p.trick) none) in
-          omega (arith, all, trumps, same, many, even, flag));
-    }
-      where
-        not-under : (a b : ℕ) → b ≡ 0 → nat_lt a b ≡ false
-        not-under a b h = grind (arith, nat_tests)
-
-        opponent : (i : ℕ) → 1 ≤ i → i < 4 → i ≢ 2 → IsOpposed i
-        opponent zero l k other = absurd (omega (arith, l))
-        opponent (suc zero) l k other = inl refl
-        opponent (suc (suc zero)) l k other = absurd (other refl)
-        opponent (suc (suc (suc zero))) l k other = inr refl
-        opponent (suc (suc (suc (suc i)))) l k other = absurd (omega (arith, k))
+    (record { held = λ u. (let h = can.held u in omega (arith, h)); tops = λ u. omega arith; plain = λ u c some e. same-trump p.strain c (card_of u 0) e ∙ can.plain u some }) (can-let p n k valid start can)

@@ -5,10 +5,12 @@ mod crossing;
 mod joint_trumps;
 mod long_suit;
 mod quick_tricks;
+mod second_hand;
 mod sharing;
 mod winners;
 
 pub use quick_tricks::{against_leader, bounds, for_leader};
+pub use second_hand::for_second_hand;
 
 #[cfg(test)]
 mod tests;

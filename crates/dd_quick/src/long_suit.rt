@@ -136,8 +136,9 @@ fn offer(cash: Cash) -> Offer
     }
 }
 
-/// The winners on which so many tricks of each suit rest.
-pub(crate) fn winners_of(position: &Position, cashed: Cashes, shares: Shares) -> Hand
+/// These cards and the winners on which so many tricks of each suit rest.
+pub(crate) fn with_shares(position: &Position, cards: Hand, cashed: Cashes, shares: Shares) -> Hand
+    ensures more { (c : PlayingCard) → has_card cards c ≡ true → has_card result c ≡ true }
     ensures spades { RestsOn position.now Spades result
         (min shares.spades cashed.spades.depth) }
     ensures hearts { RestsOn position.now Hearts result
@@ -147,7 +148,6 @@ pub(crate) fn winners_of(position: &Position, cashed: Cashes, shares: Shares) ->
     ensures clubs { RestsOn position.now Clubs result
         (min shares.clubs cashed.clubs.depth) }
 {
-    let cards = Hand::new();
     let cards = with_winners(position, cards, Suit::Spades, cashed.spades, shares.spades);
     let cards = with_winners(position, cards, Suit::Hearts, cashed.hearts, shares.hearts);
     let cards = with_winners(
@@ -160,8 +160,14 @@ pub(crate) fn winners_of(position: &Position, cashed: Cashes, shares: Shares) ->
     with_winners(position, cards, Suit::Clubs, cashed.clubs, shares.clubs)
 }
 
-// These cards and the winners on which so many tricks of the suit rest.
-fn with_winners(position: &Position, cards: Hand, suit: Suit, cash: Cash, tricks: u8) -> Hand
+/// These cards and the winners on which so many tricks of the suit rest.
+pub(crate) fn with_winners(
+    position: &Position,
+    cards: Hand,
+    suit: Suit,
+    cash: Cash,
+    tricks: u8,
+) -> Hand
     ensures more { (c : PlayingCard) → has_card cards c ≡ true → has_card result c ≡ true }
     ensures winners { RestsOn position.now suit result (min tricks cash.depth) }
 {

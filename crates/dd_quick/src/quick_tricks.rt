@@ -17,7 +17,7 @@ ghost use Rattle.dd_rank.specs.Depths.{all_cards, depth_in, Covers};
 
 use crate::crossing::{Partners, crossing, with_partners};
 use crate::joint_trumps::{joint_trumps, with_trumps};
-use crate::long_suit::{Cashes, cashed, offers, winners_of};
+use crate::long_suit::{Cashes, cashed, offers, with_shares};
 use crate::sharing::{Shares, share_out};
 use crate::winners::trumps;
 use dd_cards::Hand;
@@ -81,16 +81,16 @@ pub fn against_leader(start: &TrickStart, need: u8) -> Option<Hand>
     }
 }
 
-// What the leader's side is sure of: what the leader cashes in each side suit and in all, and the side's joint trumps.
+/// What the leader's side is sure of: what the leader cashes in each side suit and in all, and the side's joint trumps.
 #[derive(Clone, Copy)]
-struct Sure {
-    cashed: Cashes,
-    side: u8,
-    trumps: u8,
+pub(crate) struct Sure {
+    pub(crate) cashed: Cashes,
+    pub(crate) side: u8,
+    pub(crate) trumps: u8,
 }
 
-// What the leader's side is sure of.
-fn leaders(position: &Position) -> Sure
+/// What the leader's side is sure of.
+pub(crate) fn leaders(position: &Position) -> Sure
     requires { position.now.trick ≡ [] }
     ensures spades { IsCash position.now Spades
         result.cashed.spades.tricks result.cashed.spades.depth }
@@ -138,7 +138,7 @@ fn leaders_cards(position: &Position, ours: Sure, need: u8) -> Hand
     let cashed = ours.cashed;
     let side = need.min(ours.side);
     let shares = share_out(offers(cashed), side);
-    let cards = winners_of(position, cashed, shares);
+    let cards = with_shares(position, Hand::new(), cashed, shares);
     with_trumps(position, position.first(), cards, need - side)
 }
 
@@ -179,7 +179,8 @@ fn crossing_cards(position: &Position, ours: Sure, partners: Partners, need: u8)
         clubs: cashed.clubs.tricks,
     };
     let shares = share_out(partners.next, need - ours.side);
-    with_partners(position, winners_of(position, cashed, all), shares)
+    let cards = with_shares(position, Hand::new(), cashed, all);
+    with_partners(position, cards, shares)
 }
 
 // The winners on which so many tricks of the leader's side rest, by crossing where the others are too few.

@@ -2,6 +2,8 @@ use crate::quick_tricks::{against_leader, bounds, for_leader};
 use dd_cards::{Card, Hands, Rank, Seat, Strain, Suit};
 use dd_play::{Position, TrickStart};
 
+mod second_hand;
+
 // A position before a trick: the hands of North, East, South and West, each with its spades, hearts, diamonds and clubs.
 fn start(texts: [&str; 4], strain: Strain, first: Seat) -> Option<TrickStart> {
     let [north, east, south, west] = texts;

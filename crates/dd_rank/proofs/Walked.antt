@@ -1,34 +1,26 @@
 -- the walk over the ranks of a suit, from the highest down, that makes the owners' number
-use Rattle.std.proofs.Common.{◌≡◌, ℕ, zero, suc, ◌+◌, ◌*◌, ◌^◌, ◌<◌, ◌≤◌, Bool, true, false, refl, sym, ap, ◌∙◌, subst, arith, List, [], ◌∷◌, None, Some, inl, inr, length}
-use Rattle.std.specs.Prelude.{map, filter, slice_get, unwrap_or, ◌==◌, if◌then◌else◌}
-use mathlib.Core.Bool.{not}
-use Rattle.std.proofs.Math.Nat.{pow-le-pow_right, mul-le-mul_left}
-use Rattle.std.proofs.lemmas.Bool.Decides.{eqb_tells}
-use Rattle.std.proofs.Common.{eq-eqb}
+use Rattle.std.proofs.Common.{◌≡◌, ℕ, zero, suc, ◌+◌, ◌*◌, ◌^◌, ◌<◌, ◌≤◌, ◌++◌, Bool, true, false, refl, sym, ap, ◌∙◌, arith, List, [], ◌∷◌, length, append-nil}
+use Rattle.std.specs.Prelude.{map, filter, if◌then◌else◌}
+use Rattle.std.proofs.Math.Nat.{pow-le-pow_right}
+use Rattle.std.proofs.lemmas.List.{length-append, append_assoc}
 use Rattle.dd_cards.specs.Ranks.{lowest_ranks, all_ranks, has_rank}
 use Rattle.dd_cards.proofs.CallerLemmas.{length-filter-le}
 use Rattle.dd_rank.specs.Strings.{number_of, place_by}
 use Rattle.dd_rank.proofs.Digits.{AreDigits, length-map, number-below}
-use Rattle.dd_rank.proofs.Owners.{ranks-fall}
-use Rattle.dd_rank.proofs.Falling.{Has, Falls, part-falls}
 
 -- the number of these ranks' places
 abbrev pub places_number : List ℕ → List ℕ → List ℕ → ℕ
 places_number odd far ranks = number_of 4 (map (place_by odd far) ranks)
 
--- `number` has the places of the ranks above those of `left`, and the next digit counts `weight`
-pub record IsWalked (odd far all left : List ℕ) (number weight : ℕ) : Type 0 where
-  pub falls : Falls left
-  pub whole : number + weight * places_number odd far left ≡ places_number odd far all
-  pub power : weight * 4 ^ length left ≡ 4 ^ length all
+-- `number` has the places of the ranks below those of `left`
+pub record IsWalked (odd far all left : List ℕ) (number : ℕ) : Type 0 where
+  pub walked : List ℕ
+  pub whole : left ++ walked ≡ all
+  pub count : number ≡ places_number odd far walked
 
 -- at the start
-pub walk-start : (odd far all : List ℕ) → filter (has_rank all) all_ranks ≡ all → IsWalked odd far all all 0 1
-walk-start odd far all set = record {
-  falls = subst Falls set (part-falls (has_rank all) all_ranks ranks-fall);
-  whole = omega arith;
-  power = omega arith;
-}
+pub walk-start : (odd far all : List ℕ) → IsWalked odd far all all 0
+walk-start odd far all = record { walked = []; whole = append-nil all; count = refl }
 
 -- a suit has at most thirteen ranks
 pub at-most-thirteen : (all : List ℕ) → filter (has_rank all) all_ranks ≡ all → length all ≤ 13
@@ -58,78 +50,27 @@ places-below odd far ranks =
     let e : 4 ^ length (map (place_by odd far) ranks) ≡ 4 ^ length ranks = ap (λ n. 4 ^ n) (length-map (place_by odd far) ranks) in
     omega (arith, h, e)
 
--- the first rank is at the head
-first-is : (left : List ℕ) (r : ℕ) → Some r ≡ slice_get left 0 → (rest : List ℕ) × (left ≡ r ∷ rest)
-first-is [] r e = absurd (cc)
-first-is (a ∷ left) r e = (left, ap (λ x. x ∷ left) (sym (ap (λ o. unwrap_or o r) e)))
-
--- numbers that are all smaller stay
-smaller-stay : (r : ℕ) (xs : List ℕ) → ((q : ℕ) → Has q xs → q < r) → filter (λ q. not (q == r)) xs ≡ xs
-smaller-stay r [] less = refl
-smaller-stay r (x ∷ xs) less = elim (eqb_tells x r) [
-  | inl same ↦ absurd (let l = less x (inl refl) in let e = same.1 in omega (arith, l, e))
-  | inr other ↦ rw other.0 (ap (λ l. x ∷ l) (smaller-stay r xs (λ q h. less q (inr h))))
-]
-
--- without its head the rest of a falling list
-without-head : (r : ℕ) (rest : List ℕ) → Falls (r ∷ rest) → filter (λ q. not (q == r)) (r ∷ rest) ≡ rest
-without-head r rest falls = rw (eq-eqb r r refl) (smaller-stay r rest falls.0)
-
 -- what one step of the walk may assume, and where it leads
-pub record IsStep (odd far all left new : List ℕ) (number weight place : ℕ) : Type 0 where
-  pub next : IsWalked odd far all new (number + weight * place) (weight * 4)
+pub record IsStep (odd far all left new : List ℕ) (number place : ℕ) : Type 0 where
+  pub next : IsWalked odd far all new (number * 4 + place)
   pub smaller : length new < length left
-  pub part : weight * place < 4 ^ 13
-  pub sum : number + weight * place < 4 ^ 13
-  pub scaled : weight * 4 ≤ 4 ^ 13
+  pub sum : number * 4 + place < 4 ^ 13
 
--- the step at the highest rank that is left
-step-head : (odd far all rest : List ℕ) (r number weight : ℕ) → length all ≤ 13 → IsWalked odd far all (r ∷ rest) number weight
-    → IsStep odd far all (r ∷ rest) rest number weight (place_by odd far r)
-step-head odd far all rest r number weight few w =
-    let bound : 4 ^ length all ≤ 4 ^ 13 = pow-le-pow_right {n = 4} (omega arith) {i = length all} {j = 13} few in
-    let below = places-below odd far all in
-    let whole : number + (weight * place_by odd far r + 4 * (weight * places_number odd far rest)) ≡ places_number odd far all =
-    ap (λ x. number + x) (sym (spread weight (place_by odd far r) (places_number odd far rest))) ∙ w.whole in
-    let power : 4 * (weight * 4 ^ length rest) ≡ 4 ^ length all = sym (scale weight (4 ^ length rest)) ∙ ap (λ x. weight * x) (sym (four (length rest))) ∙ w.power in
-    let least : weight * 1 ≤ weight * 4 ^ length rest = mul-le-mul_left weight (positive (length rest)) in
+-- the step at the lowest rank that is left
+pub walk-step : (odd far all left new : List ℕ) (r number place : ℕ) → length all ≤ 13 → IsWalked odd far all left number
+    → left ≡ new ++ r ∷ [] → place ≡ place_by odd far r → IsStep odd far all left new number place
+walk-step odd far all left new r number place few w last at =
+    let whole : new ++ r ∷ w.walked ≡ all = sym (append_assoc new (r ∷ []) w.walked) ∙ ap (λ l. l ++ w.walked) (sym last) ∙ w.whole in
+    let count : number * 4 + place ≡ places_number odd far (r ∷ w.walked) = (let n = w.count in omega (arith, n, at)) in
+    let lengths : length new + suc (length w.walked) ≡ length all = sym (length-append new (r ∷ w.walked)) ∙ ap length whole in
+    let below = places-below odd far (r ∷ w.walked) in
+    let bound : 4 ^ suc (length w.walked) ≤ 4 ^ 13 = pow-le-pow_right {n = 4} (omega arith) {i = suc (length w.walked)} {j = 13} (omega (arith, few, lengths)) in
     record {
-      next = record {
-        falls = w.falls.1;
-        whole = omega (arith, whole);
-        power = omega (arith, power);
-      };
-      smaller = omega arith;
-      part = omega (arith, whole, below, bound);
-      sum = omega (arith, whole, below, bound);
-      scaled = omega (arith, power, least, bound);
+      next = record { walked = r ∷ w.walked; whole = whole; count = count };
+      smaller = (let e = ap length last ∙ length-append new (r ∷ []) in omega (arith, e));
+      sum = omega (arith, count, below, bound);
     }
-  where
-    positive : (n : ℕ) → 1 ≤ 4 ^ n
-    positive zero = omega arith
-    positive (suc n) = let ih = positive n in let e : 4 ^ suc n ≡ 4 * 4 ^ n = omega arith in omega (arith, ih, e)
-
-    four : (n : ℕ) → 4 ^ suc n ≡ 4 * 4 ^ n
-    four n = omega arith
-
-    spread : (w d m : ℕ) → w * (d + 4 * m) ≡ w * d + 4 * (w * m)
-    spread w d m = omega arith
-
-    scale : (w p : ℕ) → w * (4 * p) ≡ 4 * (w * p)
-    scale w p = omega arith
-
--- the step that the code makes
-pub walk-step : (odd far all left new : List ℕ) (r number weight place : ℕ) → length all ≤ 13 → IsWalked odd far all left number weight
-    → Some r ≡ slice_get left 0 → new ≡ filter (λ q. not (q == r)) left → place ≡ place_by odd far r → IsStep odd far all left new number weight place
-walk-step odd far all left new r number weight place few w first is at =
-    let head = first-is left r first in
-    let here : IsWalked odd far all (r ∷ head.0) number weight = subst (λ l. IsWalked odd far all l number weight) head.1 w in
-    let rest : new ≡ head.0 = is ∙ ap (filter (λ q. not (q == r))) head.1 ∙ without-head r head.0 here.falls in
-    subst (λ l. IsStep odd far all l new number weight place) (sym head.1)
-    (subst (λ l. IsStep odd far all (r ∷ head.0) l number weight place) (sym rest)
-    (subst (λ d. IsStep odd far all (r ∷ head.0) head.0 number weight d) (sym at) (step-head odd far all head.0 r number weight few here)))
 
 -- the end of the walk
-pub walk-end : (odd far all left : List ℕ) (number weight : ℕ) → IsWalked odd far all left number weight → None ≡ slice_get left 0 → number ≡ places_number odd far all
-walk-end odd far all [] number weight w none = (let h = w.whole in omega (arith, h))
-walk-end odd far all (r ∷ left) number weight w none = absurd (cc)
+pub walk-end : (odd far all left : List ℕ) (number : ℕ) → IsWalked odd far all left number → left ≡ [] → number ≡ places_number odd far all
+walk-end odd far all left number w none = w.count ∙ ap (places_number odd far) (ap (λ l. l ++ w.walked) (sym none) ∙ w.whole)

@@ -95,4 +95,10 @@ impl FirstOwners {
     {
         self.depths
     }
+
+    // What there is of each suit: spades, hearts, diamonds, clubs.
+    #[inline]
+    pub(crate) fn suits(&self) -> (TopOwners, TopOwners, TopOwners, TopOwners) {
+        (self.spades, self.hearts, self.diamonds, self.clubs)
+    }
 }

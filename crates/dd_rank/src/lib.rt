@@ -2,6 +2,7 @@
 //! the highest cards of each suit go.
 #![tactic(auto)]
 
+mod brief;
 mod cover;
 mod covering;
 mod depths;
@@ -12,6 +13,7 @@ mod owner_strings;
 mod rank_key;
 mod shape;
 
+pub use brief::{Brief, FirstBrief};
 pub use cover::Cover;
 pub use covering::covers;
 pub use depths::Depths;
@@ -21,6 +23,3 @@ pub use likeness::are_alike;
 pub use owner_strings::OwnerStrings;
 pub use rank_key::RankKey;
 pub use shape::Shape;
-
-#[cfg(test)]
-mod tests;

@@ -173,12 +173,8 @@ fn owners_number(all: Holding, odd: Holding, far: Holding) -> u32
 {
     let mut left = all;
     let mut number = 0;
-    let mut weight = 1;
-    while let Some(rank) = left.highest() {
-        let place = odd.has(rank) as u32 + 2 * far.has(rank) as u32;
-        number += weight * place;
-        weight *= 4;
-        left.remove(rank);
+    while let Some(rank) = left.pop_lowest() {
+        number = number * 4 + (odd.has(rank) as u32 + 2 * far.has(rank) as u32);
     }
     number
 }

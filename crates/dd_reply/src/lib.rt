@@ -18,6 +18,3 @@ pub use reply::{LONGEST_REPLY, Reply, write_answer, write_fault, write_spent};
 pub use request::Request;
 pub use request_reader::{LONGEST_LINE, read_request};
 pub use solving::{Solved, solve};
-
-#[cfg(test)]
-mod tests;

@@ -310,6 +310,3 @@ fn play_fault(fault: PlayFault) -> Fault
         PlayFault::Empty => Fault::NoCard,
     }
 }
-
-#[cfg(test)]
-mod tests;

@@ -42,6 +42,14 @@ struct Later {
     trump: u8,
 }
 
+// No hand that plays later.
+const NOBODY: Later = Later {
+    highest: 0,
+    lowest: 15,
+    beats: 15,
+    trump: 0,
+};
+
 // The groups of the cards of the suit led, the best first.
 // It wins the trick from the next hand, and as fourth hand for good.
 const WINNER: u8 = 5;
@@ -104,7 +112,20 @@ impl Following {
             2 => (FollowingHand::Third, place == 0),
             _ => (FollowingHand::Fourth, place == 1),
         };
-        let next = position.mover().next();
+        // What has played is no matter any more.
+        let (next, last) = match hand {
+            FollowingHand::Second => (
+                later_hand(position, position.mover().left(), led, trump, best),
+                later_hand(position, position.mover().partner(), led, trump, best),
+            ),
+            FollowingHand::Third => {
+                (
+                    later_hand(position, position.mover().left(), led, trump, best),
+                    NOBODY,
+                )
+            }
+            FollowingHand::Fourth => (NOBODY, NOBODY),
+        };
         Following {
             hand,
             led,
@@ -112,8 +133,8 @@ impl Following {
             best,
             ruffed,
             partners,
-            next: later_hand(position, next, led, trump, best),
-            last: later_hand(position, next.next(), led, trump, best),
+            next,
+            last,
         }
     }
 

@@ -15,12 +15,27 @@ use crate::answer::Answer;
 use crate::claim::Claim;
 use crate::table::Bounds;
 use dd_play::{Interval, Position, TrickStart};
-use dd_quick::{against_leader, bounds as quick_bounds, for_leader};
+use dd_quick::{against_leader, bounds as quick_bounds, for_leader, for_second_hand};
 use dd_rank::Depths;
 
-/// Do North and South take at least `need` of the tricks left, where a look or, after it, the quick bounds settle it?
+/// Do North and South take at least `need` of the tricks left, where the quick bounds or, after them, a look settle it?
+/// The bounds cost less than a look.
 #[inline]
 pub(crate) fn known_answer<B: Bounds>(start: &TrickStart, need: u8, table: &mut B) -> Option<Answer>
+    requires low { 1 ≤ need }
+    requires high { need ≤ left start.now }
+    ensures answer { IfSome result (λ answer. IsAnswerBy start.now need answer.cards answer.yes) }
+    ensures board { IsBoard start.now }
+{
+    match quick(start, need) {
+        Some(answer) => Some(answer),
+        None => told_answer(start, need, table),
+    }
+}
+
+// The same by a look.
+#[inline]
+fn told_answer<B: Bounds>(start: &TrickStart, need: u8, table: &mut B) -> Option<Answer>
     requires low { 1 ≤ need }
     requires high { need ≤ left start.now }
     ensures answer { IfSome result (λ answer. IsAnswerBy start.now need answer.cards answer.yes) }
@@ -30,20 +45,21 @@ pub(crate) fn known_answer<B: Bounds>(start: &TrickStart, need: u8, table: &mut 
     let leads = position.first().is_north_south();
     let left = position.tricks_left();
     let leaders = if leads { need } else { left + 1 - need };
-    if let Some(told) = table.settle(start, leaders) {
-        return Some(Answer {
+    match table.settle(start, leaders) {
+        Some(told) => Some(Answer {
             yes: (leaders <= told.0.lo) == leads,
             cards: told.1.cards(start),
-        });
+        }),
+        None => None,
     }
-    quick(start, need)
 }
 
 // The same by the quick tricks of each side, with the winners that they are.
 #[inline]
 fn quick(start: &TrickStart, need: u8) -> Option<Answer>
     requires { need ≤ left start.now }
-    ensures { IfSome result (λ answer. IsAnswerBy start.now need answer.cards answer.yes) }
+    ensures answer { IfSome result (λ answer. IsAnswerBy start.now need answer.cards answer.yes) }
+    ensures board { IsBoard start.now }
 {
     let position = start.position();
     let leads = position.first().is_north_south();
@@ -55,6 +71,20 @@ fn quick(start: &TrickStart, need: u8) -> Option<Answer>
         return Some(Answer { yes: leads, cards });
     }
     let cards = against_leader(start, against)?;
+    Some(Answer { yes: !leads, cards })
+}
+
+/// The same after the lead, where an opponent of the leader has the highest card of its suit and quick tricks from there.
+#[inline]
+pub(crate) fn second_hands_answer(position: &Position, need: u8) -> Option<Answer>
+    requires { need ≤ left position.now }
+    ensures answer { IfSome result (λ answer. IsAnswerBy position.now need answer.cards answer.yes) }
+    ensures board { IsBoard position.now }
+{
+    let leads = position.first().is_north_south();
+    let left = position.tricks_left();
+    let others = if leads { left + 1 - need } else { need };
+    let cards = for_second_hand(position, others)?;
     Some(Answer { yes: !leads, cards })
 }
 

@@ -93,6 +93,17 @@ const OPPONENTS_CARD: u16 = 10;
 // More than any rank.
 const RUFF: u8 = 15;
 
+// A suit of which the leader has no card to weigh.
+const NOT_HELD: SuitView = SuitView {
+    weight: 0,
+    worth: ANY_OTHER,
+    special: ANY_OTHER,
+    own_top: 0,
+    sequence: false,
+    partner: 0,
+    against: 0,
+};
+
 impl Leading {
     /// The view of the mover, with no card on the trick.
     pub(crate) fn of(position: &Position) -> Leading {
@@ -173,6 +184,9 @@ fn owner_of(holdings: &FourHoldings, rank: Option<Rank>) -> Owner {
 
 fn suit_view(position: &Position, suit: Suit) -> SuitView {
     let holdings = four_holdings(position, suit);
+    if holdings.own.is_empty() {
+        return NOT_HELD;
+    }
     let theirs = holdings.left.union(holdings.right);
     let all = holdings.own.union(holdings.partner).union(theirs);
     let top = all.highest();

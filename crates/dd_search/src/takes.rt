@@ -9,7 +9,7 @@ ghost use Rattle.dd_search.specs.Budgets.{EndsAs};
 ghost use Rattle.dd_search.specs.ClaimsBy.{IsAnswer, IsAnswerBy};
 
 use crate::answer::Answer;
-use crate::known::{known_answer, note_answer};
+use crate::known::{known_answer, note_answer, second_hands_answer};
 use crate::meter::{Halt, Meter, go_on};
 use crate::order::list_moves;
 use crate::rests::{also_spared, is_spared, settled_by};
@@ -20,7 +20,7 @@ use dd_equal::whole;
 use dd_play::{Position, TrickStart};
 
 /// Do North and South take at least `need` of the tricks left? It ticks first; at a start of a trick a look or the quick
-/// bounds may settle it; else play does, and what that taught is noted.
+/// bounds may settle it, after the lead second hand's winners; else play does, and what that taught at a start is noted.
 #[cycle(takes)]
 pub(crate) fn takes<B: Bounds, M: Meter>(
     position: &Position,
@@ -37,6 +37,9 @@ pub(crate) fn takes<B: Bounds, M: Meter>(
 {
     go_on(meter)?;
     let Some(start) = TrickStart::of(position) else {
+        if let Some(answer) = second_hands_answer(position, need) {
+            return Ok(answer);
+        }
         return answer_by_play(position, need, table, meter);
     };
     if let Some(answer) = known_answer(&start, need, table) {

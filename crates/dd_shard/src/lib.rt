@@ -5,6 +5,3 @@ mod shard;
 mod slot;
 
 pub use shard::{MOST_SHAPES, Shard};
-
-#[cfg(test)]
-mod tests;

@@ -4,15 +4,8 @@
 //! line, and 2 at a bad line of arguments.
 #![tactic(auto)]
 
-mod command_line;
-mod ending;
-mod help;
-mod one_shard;
-mod run;
-
-use command_line::given_words;
 use dd_lines::CountedDevice;
-use run::run_words;
+use dd_program::{given_words, run_words};
 use std::io;
 use std::process::ExitCode;
 
@@ -23,6 +16,3 @@ fn main(rt: HostRuntime) -> ExitCode {
     let words = given_words(&rt);
     run_words(rt.alloc(), words, &mut input, &mut output, &mut errors).exit_code()
 }
-
-#[cfg(test)]
-mod tests;

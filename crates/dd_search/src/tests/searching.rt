@@ -1,8 +1,8 @@
 //! What a search asks of its table and its meter, in which order, and what it notes.
 //!
 //! The deal is `BEHIND` at notrump, North on lead: spades 3 2, 6 5, A Q, K 4. In each position the search ticks once, then
-//! looks if a trick starts there, then plays. Quick tricks settle nothing here: no leader has a highest card, and there are
-//! no trumps.
+//! looks if a trick starts there, then plays. Quick tricks settle no start of a trick here: no leader has a highest card, and
+//! there are no trumps. After a lead they do in the second trick, where West's king is the highest card left.
 ghost use Rattle.std.specs.Prelude.{◌≤◌, IfSome};
 ghost use Rattle.dd_cards.specs.declared.suit.Suit.{Suit as SuitOf};
 ghost use Rattle.dd_play.specs.Board.{Board, IsBoard};
@@ -137,9 +137,9 @@ fn each_position_is_one_tick_where_one_trick_is_asked_for(rt: HostRuntime) {
 }
 
 // Two tricks are not had. Four positions as above, up to the ace and West's 4. Then South leads the queen: one position at
-// that start of a trick, and one before each of the three cards that follow; the king wins, so West's 4 was enough. South
-// tries the queen in the first trick too, which the ace's failure, by the king, doesn't spare: one position more, West's,
-// where the king settles it. That is nine.
+// that start of a trick, and one after the lead, where West, second hand, has the king; so West's 4 was enough. South tries
+// the queen in the first trick too, which the ace's failure, by the king, doesn't spare: one position more, West's, where
+// the king settles it by counting. That is seven.
 #[test]
 fn each_position_is_one_tick_where_two_tricks_are_asked_for(rt: HostRuntime) {
     let position = position_of(&BEHIND, Seat::North, &[]).expect(&rt, "two cards a hand");
@@ -147,7 +147,7 @@ fn each_position_is_one_tick_where_two_tricks_are_asked_for(rt: HostRuntime) {
     let mut budget = Budget::new(100);
     let answer = asked(&position, 2, &mut log, &mut budget);
     assert_eq!(rt; answer, Some(Ok(false)));
-    assert_eq!(rt; budget.ticks(), 9);
+    assert_eq!(rt; budget.ticks(), 7);
     // What is noted at each start of a trick is the answer there, whatever was asked for.
     assert_eq!(rt;
         log.events.as_slice(),
@@ -187,7 +187,7 @@ fn a_look_that_settles_it_is_the_end(rt: HostRuntime) {
     }
 }
 
-// Of the nine positions the three before the queen's trick is over are not come to, and nothing is noted of it.
+// Of the seven positions the one after the queen's lead is not come to, and nothing is noted of that trick.
 #[test]
 fn a_look_at_the_second_trick_saves_its_positions(rt: HostRuntime) {
     let position = position_of(&BEHIND, Seat::North, &[]).expect(&rt, "two cards a hand");

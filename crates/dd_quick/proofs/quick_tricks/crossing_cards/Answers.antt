@@ -1,10 +1,6 @@
-use Rattle.std.proofs.Common.{arith, ◌-◌, ◌+◌, ◌≤◌, ◌≡◌, ◌∙◌, subst, true}
+use Rattle.std.proofs.Common.{arith, ◌-◌, ◌+◌, ◌≤◌, ◌≡◌, subst}
 use Rattle.dd_cards.specs.Sides.{side_of}
-use Rattle.dd_cards.specs.declared.suit.Suit.TheVariants.{Spades, Hearts, Diamonds, Clubs}
-use Rattle.dd_cards.specs.Seats.{seat_after}
-use Rattle.dd_play.specs.Board.{left}
 use Rattle.dd_play.specs.Reach.{TakesBy, reach}
-use Rattle.dd_quick.specs.QuickTricks.{IsNext, no_trumps, partners_tricks, trumps_at}
 use Rattle.dd_quick.proofs.AcrossClaims.{across-claim, crossed-most, no-joint, no-trumps-at, some-entry}
 use Rattle.dd_quick.proofs.quick_tricks.crossing_cards.Goals as goal
 
@@ -41,12 +37,12 @@ returns c =
     let tc = nc.0 in
     let shared : y.spades + y.hearts + y.diamonds + y.clubs ≡ c.args.need - c.args.ours.side = omega (arith, sum, few, joint, side, of_all, ts, th, td, tc) in
     let all : of.spades.tricks + of.hearts.tricks + of.diamonds.tricks + of.clubs.tricks ≡ c.args.ours.side = omega (arith, side, many, few, joint, partner, of_left, s, h, d, k) in
-    let claim = across-claim p c.winners_of.result cards of.spades.tricks of.hearts.tricks of.diamonds.tricks of.clubs.tricks y.spades y.hearts y.diamonds y.clubs next.spades.first next.hearts.first next.diamonds.first next.clubs.first
+    let claim = across-claim p c.with_shares-cards.result cards of.spades.tricks of.hearts.tricks of.diamonds.tricks of.clubs.tricks y.spades y.hearts y.diamonds y.clubs next.spades.first next.hearts.first next.diamonds.first next.clubs.first
     c.requires.start plain s h d k
-    (record { tricks = of.spades.tricks; cards_of = of.spades.depth; cash = c.requires.spades; few = omega arith; rests = c.winners_of.ensures.spades })
-    (record { tricks = of.hearts.tricks; cards_of = of.hearts.depth; cash = c.requires.hearts; few = omega arith; rests = c.winners_of.ensures.hearts })
-    (record { tricks = of.diamonds.tricks; cards_of = of.diamonds.depth; cash = c.requires.diamonds; few = omega arith; rests = c.winners_of.ensures.diamonds })
-    (record { tricks = of.clubs.tricks; cards_of = of.clubs.depth; cash = c.requires.clubs; few = omega arith; rests = c.winners_of.ensures.clubs })
+    (record { tricks = of.spades.tricks; cards_of = of.spades.depth; cash = c.requires.spades; few = omega arith; rests = c.with_shares-cards.ensures.spades })
+    (record { tricks = of.hearts.tricks; cards_of = of.hearts.depth; cash = c.requires.hearts; few = omega arith; rests = c.with_shares-cards.ensures.hearts })
+    (record { tricks = of.diamonds.tricks; cards_of = of.diamonds.depth; cash = c.requires.diamonds; few = omega arith; rests = c.with_shares-cards.ensures.diamonds })
+    (record { tricks = of.clubs.tricks; cards_of = of.clubs.depth; cash = c.requires.clubs; few = omega arith; rests = c.with_shares-cards.ensures.clubs })
     c.with_partners.ensures.more
     (record { tricks = next.spades.tricks; next = ns; few = c.share_out-shares.ensures.spades; rests = c.with_partners.ensures.spades })
     (record { tricks = next.hearts.tricks; next = nh; few = c.share_out-shares.ensures.hearts; rests = c.with_partners.ensures.hearts })

@@ -28,6 +28,12 @@ takes-returns-in-Some-known_answer-clause-answer g t c =
     let start : MatchOption (Some c.in-Some.start) (p.trick ≡ [] → ⊥) (λ q. (p.trick ≡ []) × (q ≡ p)) = rw c.in-Some.is at c.of.ensures in
     subst (λ (q : Board). IsAnswer q c.args.need answer.yes) start.1 (answer-here c.in-Some.start c.args.need answer.cards answer.yes c.known_answer.ensures.board c.in-Some-known_answer.ensures.answer)
 
+-- So does one that second hand's winners gave.
+pub takes-returns-in-Some-second_hands_answer-clause-answer : goal.takes-returns-in-Some-second_hands_answer-clause-answer
+takes-returns-in-Some-second_hands_answer-clause-answer g t c =
+    let answer = c.in-Some-second_hands_answer.answer in
+    answer-here c.args.position.now c.args.need answer.cards answer.yes c.second_hands_answer.ensures.board c.in-Some-second_hands_answer.ensures.answer
+
 -- the card that is tried may be played
 tried-legal : (g : _) (t : _) (c : answer_by_play-Else-is_spared g t) → IsLegal c.args.position.now c.tried.inside.card
 tried-legal g t c =

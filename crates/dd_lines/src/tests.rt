@@ -1,4 +1,0 @@
-//! Lines through `solve_lines`, over devices of memory that give and take little and fail in time.
-mod devices;
-mod faults;
-mod served;

@@ -1,0 +1,65 @@
+-- The options of `solve`, and the places of a walk over its words.
+use Rattle.std.proofs.Common.{◌≡◌, ◌⊎◌, Bool, codes, true, false, refl, sym, inl, inr, List, [], ◌∷◌, Option, None}
+use Rattle.std.specs.Prelude.{option_map, fold}
+use Rattle.std.specs.Str.{bytes_eq}
+use Rattle.std.proofs.lemmas.Slice.Eq.{bytes_eq-Decides}
+use Rattle.clap.specs.Walk.{Held, Row, Rule, Text, Waiting, Walk, arg_by_long, settled, walked}
+use Rattle.clap.specs.Simple.{Shape, filled, help_rule}
+use Rattle.clap.specs.Faults.{settle_fault, walk_fault}
+use Rattle.dd_program.specs.Program.{budget_rule, entries_rule, solve_app}
+
+-- an option that takes a number
+pub data Opt : Type 0 where
+  budget : Opt
+  entries : Opt
+
+-- its name, without the hyphens
+abbrev pub name_of : Opt → Text
+name_of budget = codes "budget"
+name_of entries = codes "entries"
+
+-- its rule once the command is built
+abbrev pub rule_for : Opt → Rule
+rule_for budget = filled budget_rule
+rule_for entries = filled entries_rule
+
+-- the rules of `solve` once it is built: its two options and the call for help
+abbrev pub solve_rules : List Rule
+solve_rules = rule_for budget ∷ rule_for entries ∷ filled help_rule ∷ []
+
+-- `solve` once it is built
+abbrev pub solve_shape : Shape
+solve_shape = record solve_app.top { rules = solve_rules; is_built = true; disable_help_subcommand = true }
+
+-- a long name is an option's, or that of the call for help, or nobody's
+pub known_name : (name : Text) → ((o : Opt) × (name ≡ name_of o)) ⊎ ((name ≡ codes "help") ⊎ (arg_by_long solve_rules name ≡ None))
+known_name name =
+    go (bytes_eq (codes "budget") name) refl (bytes_eq (codes "entries") name) refl (bytes_eq (codes "help") name) refl
+  where
+    go : (b : Bool) → bytes_eq (codes "budget") name ≡ b → (e : Bool) → bytes_eq (codes "entries") name ≡ e → (h : Bool) → bytes_eq (codes "help") name ≡ h
+        → ((o : Opt) × (name ≡ name_of o)) ⊎ ((name ≡ codes "help") ⊎ (arg_by_long solve_rules name ≡ None))
+    go true is-b e is-e h is-h = inl (budget, sym ((bytes_eq-Decides (codes "budget") name).0 is-b))
+    go false is-b true is-e h is-h = inl (entries, sym ((bytes_eq-Decides (codes "entries") name).0 is-e))
+    go false is-b false is-e true is-h = inr (inl (sym ((bytes_eq-Decides (codes "help") name).0 is-h)))
+    go false is-b false is-e false is-h = inr (inr (rw (is-b, is-e, is-h) refl))
+
+-- what a walk holds between two words
+abbrev pub held_rows : List Row → Option (Text × List Text) → Held
+held_rows rows pending = record { rows = rows; pending = pending; skip = 0 }
+
+-- a place of the walk before any `--`
+abbrev pub here : List Row → Option (Text × List Text) → Waiting → Walk
+here rows pending waiting = record { held = held_rows rows pending; waiting = waiting; position = 1; is_trailing = false; stopped = None }
+
+-- an option's text that is read and not yet used
+abbrev pub pending_of : Option (Opt × Text) → Option (Text × List Text)
+pending_of = option_map (λ p. (name_of p.0, p.1 ∷ []))
+
+-- the walk from here over these words, and the use of what is pending then, meet no fault
+abbrev pub IsFaultless : Walk → List Text → Type 0
+IsFaultless w words =
+    (walk_fault solve_shape [] w words ≡ []) × (settle_fault solve_rules false (fold (walked solve_rules []) w words).held ≡ [])
+
+-- the rows at the end of the walk from here over these words
+abbrev pub rows_at_end : Walk → List Text → List Row
+rows_at_end w words = (settled solve_rules (fold (walked solve_rules []) w words).held).rows

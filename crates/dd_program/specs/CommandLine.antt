@@ -1,0 +1,60 @@
+-- What a command line asks for.
+use Rattle.std.specs.Prelude.{◌≡◌, ◌≤◌, ◌⊎◌, ℕ, false, List, [], ◌∷◌, ◌++◌, Option, Some, None, IfSome, unwrap_or, take, length, codes}
+use Rattle.std.specs.List.{list_any}
+use Rattle.std.specs.Str.{bytes_eq}
+use Rattle.std.specs.Str.Parse.{IsNumeral, digits_value, without_leading_plus}
+use Rattle.dd_shard.specs.declared.shard.TheConstants.{MOST_SHAPES}
+use Rattle.dd_program.specs.declared.command_line.Args.{Args}
+use Rattle.dd_program.specs.declared.command_line.Args.TheVariants.{Solve}
+
+-- the bytes of a word
+abbrev pub Text : Type 0
+Text = List ℕ
+
+-- the text is the number in decimal digits, maybe after a plus sign
+abbrev pub IsNumberText : Text → ℕ → Type 0
+IsNumberText text number = IsNumeral 10 (without_leading_plus text) × (digits_value 10 (without_leading_plus text) ≡ number)
+
+-- The words give the option this number, as `--option N` or as `--option=N`; no word gives it none.
+abbrev pub GivesOption : Text → Option ℕ → List Text → Type 0
+GivesOption option None words = words ≡ []
+GivesOption option (Some number) words =
+    (text : Text) × IsNumberText text number × ((words ≡ option ∷ text ∷ []) ⊎ (words ≡ (option ++ codes "=" ++ text) ∷ []))
+
+-- a budget is at most 1,000,000,000,000 positions
+abbrev pub IsBudget : ℕ → Type 0
+IsBudget positions = positions ≤ 1000000000000
+
+-- a table has at least one entry, and no more than a shard may have shapes
+abbrev pub IsTableSize : ℕ → Type 0
+IsTableSize entries = (1 ≤ entries) × (entries ≤ MOST_SHAPES)
+
+-- The line is the program's name, `solve`, the options that are given, each once and in either order, and maybe `--`.
+pub record AsksToSolve (words : List Text) (budget entries : Option ℕ) : Type 0 where
+  pub program : Text
+  pub of_budget : List Text
+  pub of_entries : List Text
+  pub end : List Text
+  pub line : (words ≡ program ∷ codes "solve" ∷ (of_budget ++ of_entries ++ end)) ⊎ (words ≡ program ∷ codes "solve" ∷ (of_entries ++ of_budget ++ end))
+  pub gives_budget : GivesOption (codes "--budget") budget of_budget
+  pub gives_entries : GivesOption (codes "--entries") entries of_entries
+  pub ends : (end ≡ []) ⊎ (end ≡ codes "--" ∷ [])
+  pub budget_fits : IfSome budget IsBudget
+  pub entries_fit : IfSome entries IsTableSize
+
+-- The line asks for this. Without `--budget` there is no limit, and without `--entries` there are 4,096 of them.
+abbrev pub Asks : List Text → Args → Type 0
+Asks words (Solve budget entries) = (given : Option ℕ) × AsksToSolve words budget given × (entries ≡ unwrap_or given 4096)
+
+-- each number lies in its range
+abbrev pub IsInRange : Args → Type 0
+IsInRange (Solve budget entries) = IfSome budget IsBudget × IsTableSize entries
+
+-- no word is the option's name or begins with it
+abbrev pub IsLeftOut : Text → List Text → Type 0
+IsLeftOut option words = list_any (λ word. bytes_eq (take (length option) word) option) words ≡ false
+
+-- an option that is left out has its default
+abbrev pub HasDefaults : List Text → Args → Type 0
+HasDefaults words (Solve budget entries) =
+    (IsLeftOut (codes "--budget") words → budget ≡ None) × (IsLeftOut (codes "--entries") words → entries ≡ 4096)

@@ -1,0 +1,191 @@
+-- How the program ends, and what it leaves of its streams.
+use Rattle.std.specs.Prelude.{◌≡◌, ◌⊎◌, ℕ, List, [], Option, Result, Ok, Err, Vec, String, codes, map, string_bytes}
+use Rattle.std.specs.Io.KnownBytes.{Appends}
+use Rattle.clap.specs.Kinds.{IsAmong}
+use Rattle.clap.specs.Faults.{fault_of}
+use Rattle.clap.specs.declared.error.kind.ErrorKind.{ErrorKind}
+use Rattle.clap.specs.declared.error.kind.ErrorKind.TheVariants as kind
+use Rattle.dd_lines.specs.declared.counted_device.CountedDevice.{CountedDevice}
+use Rattle.dd_lines.specs.CountedDevices.{bytes_of, failures_of, FailedOnce}
+use Rattle.dd_lines.specs.Served.{ServedAll, ServedBeginning, WroteText}
+use Rattle.dd_program.specs.declared.command_line.Args.{Args}
+use Rattle.dd_program.specs.declared.command_line.Args.TheVariants.{Solve}
+use Rattle.dd_program.specs.declared.command_line.WordsFault.{WordsFault}
+use Rattle.dd_program.specs.declared.command_line.WordsFault.TheVariants.{NotText, OutOfMemory as NoMemory}
+use Rattle.dd_program.specs.declared.ending.Ending.{Ending}
+use Rattle.dd_program.specs.declared.ending.Ending.TheVariants.{Answered, Shown, BadLine, ReadFailed, WriteFailed, OutOfMemory}
+use Rattle.dd_program.specs.CommandLine.{Text, Asks}
+use Rattle.dd_program.specs.Program.{program_app}
+
+-- the program's status after this ending
+abbrev pub status_of : Ending → ℕ
+status_of Answered = 0
+status_of Shown = 0
+status_of ReadFailed = 1
+status_of WriteFailed = 1
+status_of OutOfMemory = 1
+status_of BadLine = 2
+
+-- the line that the standard error gets of a failure
+abbrev pub line_of : Ending → List ℕ
+line_of ReadFailed = codes "ddserve: read failed\n"
+line_of WriteFailed = codes "ddserve: write failed\n"
+line_of OutOfMemory = codes "ddserve: out of memory\n"
+line_of _ = []
+
+-- ---- what the words ask for
+
+-- the words that the program was started with, or why they can't be had
+abbrev pub Words : Type 0
+Words = Result (List Text) WordsFault
+
+-- the same of the words as strings
+abbrev pub words_of : {A B : Type 0} → Result (Vec (String A) B) WordsFault → Words
+words_of (Ok words) = Ok (map string_bytes words.items)
+words_of (Err fault) = Err fault
+
+-- the words ask for this
+abbrev pub AskFor : Words → Args → Type 0
+AskFor (Ok words) args = Asks words args
+AskFor (Err fault) args = ⊥
+
+-- the words ask for nothing
+abbrev pub AskForNothing : Words → Type 0
+AskForNothing words = (args : Args) → ¬ AskFor words args
+
+-- The words have an error of this kind: one of them is no text, or the parser of words counts it among their errors.
+abbrev pub HaveError : Words → ErrorKind → Type 0
+HaveError (Ok words) error = IsAmong error (fault_of program_app words)
+HaveError (Err NotText) error = error ≡ kind.InvalidValue
+HaveError (Err NoMemory) error = ⊥
+
+-- a call for help or for the version, which the parser of words counts as an error
+abbrev pub IsCall : ErrorKind → Type 0
+IsCall error = (error ≡ kind.DisplayHelp) ⊎ (error ≡ kind.DisplayVersion)
+
+-- why words are not done: memory ran out, or they ask for nothing and have this error
+abbrev pub Explains : Words → ErrorKind → Type 0
+Explains words error = (error ≡ kind.OutOfMemory) ⊎ (AskForNothing words × HaveError words error)
+
+-- ---- what becomes of the streams
+
+-- what is known of a device: the bytes that it has left to read, or those that it was given, and its failed calls
+pub record Device : Type 0 where
+  pub bytes : Option (List ℕ)
+  pub failures : ℕ
+
+-- the same of a reader or a writer, by what it knows of its bytes
+abbrev pub state_of : {T : Type 0} → (T → Option (List ℕ)) → CountedDevice T → Device
+state_of bytes counted = record { bytes = bytes_of bytes counted; failures = failures_of counted }
+
+-- the standard input, output and error
+pub record Streams : Type 0 where
+  pub input : Device
+  pub output : Device
+  pub errors : Device
+
+-- the three of them
+abbrev pub streams : Device → Device → Device → Streams
+streams input output errors = record { input = input; output = output; errors = errors }
+
+-- one call failed
+abbrev pub Fails : Device → Device → Type 0
+Fails old new = FailedOnce old.failures new.failures
+
+-- the text was written, and no call failed
+abbrev pub WritesAll : List ℕ → Device → Device → Type 0
+WritesAll text old new = Appends old.bytes new.bytes text × (new.failures ≡ old.failures)
+
+-- a beginning of the text was written, and then a call failed
+abbrev pub WritesBeginning : List ℕ → Device → Device → Type 0
+WritesBeginning text old new = WroteText old.bytes new.bytes text × Fails old new
+
+-- the text was written as far as the device took it
+abbrev pub Writes : List ℕ → Device → Device → Type 0
+Writes text old new = WritesAll text old new ⊎ WritesBeginning text old new
+
+-- memory ran out before anything was read or written, and that was said
+pub record RunsOut (old new : Streams) : Type 0 where
+  pub input : new.input ≡ old.input
+  pub output : new.output ≡ old.output
+  pub said : Writes (line_of OutOfMemory) old.errors new.errors
+
+-- ---- lines are answered
+
+-- the budget of each line
+abbrev pub budget_of : Args → Option ℕ
+budget_of (Solve budget entries) = budget
+
+-- all that came was read, each line of it was answered, and no call failed
+pub record Serves (args : Args) (old new : Streams) : Type 0 where
+  pub served : ServedAll (budget_of args) old.input.bytes new.input.bytes old.output.bytes new.output.bytes
+  pub reads : new.input.failures ≡ old.input.failures
+  pub writes : new.output.failures ≡ old.output.failures
+
+-- what was written is a beginning of the replies to what was read
+abbrev pub ServesBeginning : Args → Streams → Streams → Type 0
+ServesBeginning args old new =
+    ServedBeginning (budget_of args) old.input.bytes new.input.bytes old.output.bytes new.output.bytes
+
+-- a read failed, and what was written is a beginning of the replies
+pub record FailsToRead (args : Args) (old new : Streams) : Type 0 where
+  pub served : ServesBeginning args old new
+  pub reads : Fails old.input new.input
+  pub writes : new.output.failures ≡ old.output.failures
+  pub said : Writes (line_of ReadFailed) old.errors new.errors
+
+-- a write failed, and what was written is a beginning of the replies
+pub record FailsToWrite (args : Args) (old new : Streams) : Type 0 where
+  pub served : ServesBeginning args old new
+  pub reads : new.input.failures ≡ old.input.failures
+  pub writes : Fails old.output new.output
+  pub said : Writes (line_of WriteFailed) old.errors new.errors
+
+-- the lines of the input are answered as the arguments ask, up to this ending
+abbrev pub AnswersUntil : Args → Streams → Streams → Ending → Type 0
+AnswersUntil args old new Answered = Serves args old new × (new.errors ≡ old.errors)
+AnswersUntil args old new ReadFailed = FailsToRead args old new
+AnswersUntil args old new WriteFailed = FailsToWrite args old new
+AnswersUntil args old new OutOfMemory = RunsOut old new
+AnswersUntil args old new _ = ⊥
+
+-- ---- an error is shown
+
+-- a call was shown on the output
+pub record Shows (error : ErrorKind) (old new : Streams) : Type 0 where
+  pub call : IsCall error
+  pub input : new.input ≡ old.input
+  pub output : (text : List ℕ) × WritesAll text old.output new.output
+  pub errors : new.errors ≡ old.errors
+
+-- a call was shown up to where a write failed
+pub record FailsToShow (error : ErrorKind) (old new : Streams) : Type 0 where
+  pub call : IsCall error
+  pub input : new.input ≡ old.input
+  pub output : (text : List ℕ) × WritesBeginning text old.output new.output
+  pub said : Writes (line_of WriteFailed) old.errors new.errors
+
+-- an error that is no call was shown on the standard error, as far as that took it
+pub record Refuses (error : ErrorKind) (old new : Streams) : Type 0 where
+  pub call : ¬ IsCall error
+  pub input : new.input ≡ old.input
+  pub output : new.output ≡ old.output
+  pub said : (text : List ℕ) × Writes text old.errors new.errors
+
+-- an error of this kind is shown, up to this ending
+abbrev pub ShowsUntil : ErrorKind → Streams → Streams → Ending → Type 0
+ShowsUntil error old new Shown = Shows error old new
+ShowsUntil error old new WriteFailed = FailsToShow error old new
+ShowsUntil error old new BadLine = Refuses error old new
+ShowsUntil error old new OutOfMemory = RunsOut old new
+ShowsUntil error old new _ = ⊥
+
+-- ---- the run
+
+-- What a run does up to its ending: it answers lines where the words ask for that, and else shows their error; or memory ran
+-- out before either.
+abbrev pub Runs : Words → Streams → Streams → Ending → Type 0
+Runs words old new ending =
+    ((args : Args) × AskFor words args × AnswersUntil args old new ending)
+    ⊎ ((error : ErrorKind) × AskForNothing words × HaveError words error × ShowsUntil error old new ending)
+    ⊎ ((ending ≡ OutOfMemory) × RunsOut old new)

@@ -1,0 +1,56 @@
+//! How a run of the program ends.
+ghost use Rattle.std.specs.Prelude.{◌≡◌};
+ghost use Rattle.std.specs.Process.{exit_status};
+ghost use Rattle.dd_program.specs.Endings.{line_of, status_of};
+
+use std::process::ExitCode;
+
+/// How a run ended.
+#[derive(Clone, Copy, Debug, PartialEq, Eq)]
+pub enum Ending {
+    /// Each line of the input was answered.
+    Answered,
+    /// Help or the version was asked for, and shown.
+    Shown,
+    /// The words ask for nothing that the program does.
+    BadLine,
+    /// A read of the input failed.
+    ReadFailed,
+    /// A write of the output failed.
+    WriteFailed,
+    /// Memory ran out outside a line.
+    OutOfMemory,
+}
+
+impl Ending {
+    /// The line that the standard error gets of it, with its line feed. Nothing is said of an ending that is no failure,
+    /// nor here of a bad line, which the reader of the words explains.
+    pub fn line(self) -> &'static str
+        ensures { result.now ≡ line_of self }
+    {
+        match self {
+            Ending::ReadFailed => "ddserve: read failed\n",
+            Ending::WriteFailed => "ddserve: write failed\n",
+            Ending::OutOfMemory => "ddserve: out of memory\n",
+            Ending::Answered | Ending::Shown | Ending::BadLine => "",
+        }
+    }
+
+    /// 0 where what the words ask for was done, 1 after a device's fault or want of memory, 2 at a bad line.
+    pub fn status(self) -> u8
+        ensures { result ≡ status_of self }
+    {
+        match self {
+            Ending::Answered | Ending::Shown => 0,
+            Ending::ReadFailed | Ending::WriteFailed | Ending::OutOfMemory => 1,
+            Ending::BadLine => 2,
+        }
+    }
+
+    /// The same as the program's exit code.
+    pub fn exit_code(self) -> ExitCode
+        ensures { exit_status result ≡ status_of self }
+    {
+        ExitCode::from(self.status())
+    }
+}

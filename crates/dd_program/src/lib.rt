@@ -1,0 +1,13 @@
+//! What the program does: from the words of its command line and its streams to its ending.
+#![tactic(auto)]
+
+mod command_line;
+mod ending;
+mod help;
+mod one_shard;
+mod run;
+
+pub use command_line::{Args, VERSION, WordsFault, given_words, not_text, read_args};
+pub use ending::Ending;
+pub use one_shard::OneShard;
+pub use run::run_words;

@@ -1,0 +1,125 @@
+//! What the program does: from its words and its streams to its ending.
+ghost use Rattle.std.specs.Prelude.{◌≡◌, ◌≤◌, IfOk, IfErr};
+ghost use Rattle.clap.specs.Words.{kind_of};
+ghost use Rattle.dd_program.specs.CommandLine.{IsInRange, IsTableSize};
+ghost use Rattle.dd_program.specs.Endings.{line_of, state_of, streams, words_of, Device, AskFor, Explains, Writes, AnswersUntil, ShowsUntil, Runs};
+
+use crate::command_line::{Args, WordsFault, not_text, read_args};
+use crate::ending::Ending;
+use crate::one_shard::OneShard;
+use clap::Error;
+use clap::error::ErrorKind;
+use dd_cache::Cache;
+use dd_lines::{CountedDevice, LineFault, solve_lines, write_whole};
+use std::alloc::{AllocError, Global};
+use std::io::{Read, Write};
+
+/// Does what the words ask for: answers the lines of the input on the output, shows help or the version there, or says on
+/// the standard error what is wrong with the words.
+pub fn run_words<R: Read, O: Write, E: Write>(
+    alloc: Global,
+    words: Result<Vec<String>, WordsFault>,
+    reader: &mut CountedDevice<R>,
+    output: &mut CountedDevice<O>,
+    errors: &mut CountedDevice<E>,
+) -> Ending
+    ensures { Runs (words_of words)
+        (streams (state_of R.remaining reader.old) (state_of O.contents output.old)
+        (state_of E.contents errors.old))
+        (streams (state_of R.remaining reader.new) (state_of O.contents output.new)
+        (state_of E.contents errors.new)) result }
+{
+    match args_of(alloc, words) {
+        Ok(args) => answer(alloc, args, reader, output, errors),
+        Err(error) => match error.kind() {
+            ErrorKind::OutOfMemory => fail(errors, Ending::OutOfMemory),
+            _ => show(alloc, &error, output, errors),
+        },
+    }
+}
+
+/// What the words ask for. The error is a bad line, a call for help or for the version, or want of memory.
+fn args_of(alloc: Global, words: Result<Vec<String>, WordsFault>) -> Result<Args, Error>
+    ensures asked { IfOk result (AskFor (words_of words)) }
+    ensures in_range { IfOk result IsInRange }
+    ensures error { IfErr result (λ error. Explains (words_of words) (kind_of error)) }
+{
+    match words {
+        Ok(words) => read_args(alloc, words.as_slice()),
+        Err(WordsFault::NotText) => Err(not_text(alloc)),
+        Err(WordsFault::OutOfMemory) => Err(AllocError.into()),
+    }
+}
+
+/// Answers the lines of the input, each within the budget, over one table of so many entries behind a cache.
+fn answer<R: Read, O: Write, E: Write>(
+    alloc: Global,
+    args: Args,
+    reader: &mut CountedDevice<R>,
+    output: &mut CountedDevice<O>,
+    errors: &mut CountedDevice<E>,
+) -> Ending
+    requires { IsInRange args }
+    ensures { AnswersUntil args
+        (streams (state_of R.remaining reader.old) (state_of O.contents output.old)
+        (state_of E.contents errors.old))
+        (streams (state_of R.remaining reader.new) (state_of O.contents output.new)
+        (state_of E.contents errors.new)) result }
+{
+    let Args::Solve { budget, entries } = args;
+    let Ok(mut table) = table(alloc, entries) else {
+        return fail(errors, Ending::OutOfMemory);
+    };
+    match solve_lines(alloc, reader, output, &mut table, budget) {
+        Ok(()) => Ending::Answered,
+        Err(LineFault::Read) => fail(errors, Ending::ReadFailed),
+        Err(LineFault::Write) => fail(errors, Ending::WriteFailed),
+    }
+}
+
+/// A table of so many entries behind a cache. The error says that memory ran out.
+fn table(alloc: Global, entries: u32) -> Result<Cache<OneShard>, AllocError>
+    requires { IsTableSize entries }
+{
+    Cache::new(alloc, OneShard::new(alloc, entries)?)
+}
+
+/// Shows help or the version on the output, and any other error on the standard error.
+fn show<O: Write, E: Write>(
+    alloc: Global,
+    error: &Error,
+    output: &mut CountedDevice<O>,
+    errors: &mut CountedDevice<E>,
+) -> Ending
+    ensures { (input : Device) → ShowsUntil (kind_of error.now)
+        (streams input (state_of O.contents output.old) (state_of E.contents errors.old))
+        (streams input (state_of O.contents output.new) (state_of E.contents errors.new)) result }
+{
+    let Ok(text) = error.to_string(alloc) else {
+        return fail(errors, Ending::OutOfMemory);
+    };
+    match error.kind() {
+        ErrorKind::DisplayHelp | ErrorKind::DisplayVersion => {
+            match write_whole(output, text.as_bytes()) {
+                Ok(()) => Ending::Shown,
+                Err(_) => fail(errors, Ending::WriteFailed),
+            }
+        }
+        _ => {
+            // Where the standard error fails too, there is no place left to say so.
+            let _ = write_whole(errors, text.as_bytes());
+            Ending::BadLine
+        }
+    }
+}
+
+/// Says on the standard error why the program ends before its work is done, and ends so.
+fn fail<E: Write>(errors: &mut CountedDevice<E>, ending: Ending) -> Ending
+    ensures ending { result ≡ ending }
+    ensures says { Writes (line_of ending)
+        (state_of E.contents errors.old) (state_of E.contents errors.new) }
+{
+    // Where it fails too, there is no place left to say so.
+    let _ = write_whole(errors, ending.line().as_bytes());
+    ending
+}

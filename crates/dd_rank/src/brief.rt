@@ -1,0 +1,68 @@
+//! What is seen at once of owners: those of the two highest cards of each suit. It tells soon that others differ, and no
+//! more: no answer rests on it.
+
+use crate::first_owners::FirstOwners;
+use crate::owner_strings::OwnerStrings;
+use dd_cards::Suit;
+
+/// The owners of the two highest cards of each suit of a start of a trick.
+// Four bits a suit, the spades' the lowest, and in them the highest card's owner.
+#[derive(Clone, Copy, Debug)]
+pub struct Brief {
+    owners: u16,
+}
+
+/// The same of first owners, as far as there are so many.
+#[derive(Clone, Copy, Debug)]
+pub struct FirstBrief {
+    owners: u16,
+    mask: u16,
+}
+
+impl Default for FirstBrief {
+    /// Of no owners.
+    fn default() -> FirstBrief {
+        FirstBrief { owners: 0, mask: 0 }
+    }
+}
+
+impl OwnerStrings {
+    /// The owners of the two highest cards of each suit.
+    #[inline]
+    pub fn brief(self) -> Brief {
+        Brief {
+            owners: four(
+                self.suit(Suit::Spades),
+                self.suit(Suit::Hearts),
+                self.suit(Suit::Diamonds),
+                self.suit(Suit::Clubs),
+            ),
+        }
+    }
+}
+
+impl FirstOwners {
+    /// The first two owners of each suit, as far as there are so many.
+    #[inline]
+    pub fn brief(&self) -> FirstBrief {
+        let (spades, hearts, diamonds, clubs) = self.suits();
+        FirstBrief {
+            owners: four(spades.owners, hearts.owners, diamonds.owners, clubs.owners),
+            mask: four(spades.mask, hearts.mask, diamonds.mask, clubs.mask),
+        }
+    }
+}
+
+impl FirstBrief {
+    /// May these first owners be those of the position, by what is seen of both?
+    #[inline]
+    pub fn may_be_in(self, position: Brief) -> bool {
+        (self.owners ^ position.owners) & self.mask == 0
+    }
+}
+
+// The four lowest bits of each.
+#[inline]
+fn four(spades: u32, hearts: u32, diamonds: u32, clubs: u32) -> u16 {
+    ((spades & 0xF) | (hearts & 0xF) << 4 | (diamonds & 0xF) << 8 | (clubs & 0xF) << 12) as u16
+}

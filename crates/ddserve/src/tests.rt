@@ -1,4 +1,0 @@
-mod devices;
-mod runs;
-mod tables;
-mod words;

@@ -1,0 +1,132 @@
+use dd_cache::Cache;
+use dd_cards::{Card, Hands, Rank, Seat, Strain, Suit};
+use dd_play::{Interval, Position, TrickStart};
+use dd_search::{Bounds, Endless, NoTable, start_value};
+use std::alloc::AllocError;
+
+// North and the others clockwise with two spades each, at notrump with this leader.
+fn start(ranks: [u8; 8], first: Seat) -> Option<TrickStart> {
+    let mut hands = Hands::new();
+    for (place, rank) in ranks.iter().enumerate() {
+        let seat = Seat::from_code((place / 2) as u8)?;
+        let rank = Rank::from_code(*rank)?;
+        let suit = Suit::Spades;
+        hands.insert(seat, Card { suit, rank });
+    }
+    let position = Position::new(hands, Strain::Notrump, first, &[]).ok()?;
+    TrickStart::of(&position)
+}
+
+// Finds the value over the table, and notes it with its depths.
+fn noted<B: Bounds>(start: &TrickStart, table: &mut B) -> Option<u8> {
+    let (tricks, depths) = start_value(start, table, &mut Endless).ok()?;
+    let interval = Interval {
+        lo: tricks,
+        hi: tricks,
+    };
+    table.note(start, depths, interval);
+    Some(tricks)
+}
+
+// The bounds with which the table settles whether the value reaches the need.
+fn settled<B: Bounds>(table: &mut Cache<B>, start: &TrickStart, need: u8) -> Option<(u8, u8)> {
+    let (interval, _) = table.settle(start, need)?;
+    Some((interval.lo, interval.hi))
+}
+
+#[test]
+fn what_was_noted_settles_the_positions_that_it_covers(rt: HostRuntime) -> Result<(), AllocError> {
+    let mut cache = Cache::new(rt.alloc(), NoTable)?;
+    let caught = start([3, 2, 13, 4, 14, 12, 6, 5], Seat::North).expect(&rt, "two cards a hand");
+    // It has learned nothing, and the king before ace and queen is caught.
+    let before = settled(&mut cache, &caught, 2);
+    assert_eq!(rt; (before, noted(&caught, &mut cache)), (None, Some(2)));
+    let told = cache.settle(&caught, 2).expect(&rt, "the position itself");
+    assert_eq!(rt;
+        (told.0.lo, told.0.hi, told.1.of(Suit::Spades)),
+        (2, 2, 3),
+        "it rests on ace, king and queen"
+    );
+    let lower = start([6, 2, 13, 3, 14, 12, 5, 4], Seat::North).expect(&rt, "two cards a hand");
+    let turned = start([6, 5, 3, 2, 13, 4, 14, 12], Seat::East).expect(&rt, "two cards a hand");
+    let behind = start([3, 2, 6, 5, 14, 12, 13, 4], Seat::North).expect(&rt, "two cards a hand");
+    let found = [
+        // Other cards below the queen.
+        settled(&mut cache, &lower, 2),
+        // All seats turned by one.
+        settled(&mut cache, &turned, 2),
+        // The king behind ace and queen is not caught.
+        settled(&mut cache, &behind, 2),
+    ];
+    assert_eq!(rt; found, [Some((2, 2)), Some((2, 2)), None]);
+    Ok(())
+}
+
+#[test]
+fn what_is_noted_reaches_the_table_behind(rt: HostRuntime) -> Result<(), AllocError> {
+    let near = Cache::new(rt.alloc(), NoTable)?;
+    let mut cache = Cache::new(rt.alloc(), near)?;
+    let caught = start([3, 2, 13, 4, 14, 12, 6, 5], Seat::North).expect(&rt, "two cards a hand");
+    assert_eq!(rt; noted(&caught, &mut cache), Some(2));
+    assert!(rt; cache.behind().settle(&caught, 2).is_some());
+    Ok(())
+}
+
+// A suit in each hand, from the ace down, so many cards each, with North on lead at notrump: it takes all tricks.
+fn suits(tricks: u8) -> Option<TrickStart> {
+    let mut hands = Hands::new();
+    for seat in 0..4 {
+        for lower in 0..tricks.min(13) {
+            let suit = Suit::from_code(seat)?;
+            let rank = Rank::from_code(14 - lower)?;
+            hands.insert(Seat::from_code(seat)?, Card { suit, rank });
+        }
+    }
+    let position = Position::new(hands, Strain::Notrump, Seat::North, &[]).ok()?;
+    TrickStart::of(&position)
+}
+
+// Notes that the value is no more than it is, with its depths.
+fn noted_above<B: Bounds>(start: &TrickStart, table: &mut B) -> Option<u8> {
+    let (tricks, depths) = start_value(start, &mut NoTable, &mut Endless).ok()?;
+    let interval = Interval { lo: 0, hi: tricks };
+    table.note(start, depths, interval);
+    Some(tricks)
+}
+
+#[test]
+fn bounds_of_seven_tricks_reach_the_table_behind_and_of_six_do_not(
+    rt: HostRuntime,
+) -> Result<(), AllocError> {
+    let near = Cache::new(rt.alloc(), NoTable)?;
+    let mut cache = Cache::new(rt.alloc(), near)?;
+    for tricks in 6..8 {
+        let start = suits(tricks).expect(&rt, "a suit in each hand");
+        assert_eq!(rt; noted_above(&start, &mut cache), Some(tricks));
+        let beyond = tricks + 1;
+        let found = [
+            // It is kept.
+            cache.settle(&start, beyond).is_some(),
+            // The bounds leave it open.
+            cache.settle(&start, tricks).is_some(),
+            cache.behind().settle(&start, beyond).is_some(),
+        ];
+        assert_eq!(rt; found, [true, false, tricks == 7], "{tricks} tricks");
+    }
+    Ok(())
+}
+
+#[test]
+fn narrower_bounds_take_the_place_of_wider_ones(rt: HostRuntime) -> Result<(), AllocError> {
+    let mut cache = Cache::new(rt.alloc(), NoTable)?;
+    let start = suits(3).expect(&rt, "a suit in each hand");
+    assert_eq!(rt; noted_above(&start, &mut cache), Some(3));
+    assert_eq!(rt; settled(&mut cache, &start, 3), None, "0 to 3");
+    assert_eq!(rt; noted(&start, &mut cache), Some(3));
+    let found = [
+        settled(&mut cache, &start, 3),
+        settled(&mut cache, &start, 4),
+    ];
+    assert_eq!(rt; found, [Some((3, 3)); 2], "the wider bounds are gone");
+    Ok(())
+}
