@@ -1,8 +1,8 @@
 //! What a search asks of its table and its meter, in which order, and what it notes.
 //!
 //! The deal is `BEHIND` at notrump, North on lead: spades 3 2, 6 5, A Q, K 4. In each position the search ticks once, then
-//! looks if a trick starts there, then plays. Quick tricks settle nothing here: no leader has a highest card, and there are
-//! no trumps.
+//! looks if a trick starts there, then plays. Quick tricks settle that North and South take one trick, and no more: North
+//! crosses to the ace, and no other leader or partner has a highest card.
 ghost use Rattle.std.specs.Prelude.{◌≤◌, IfSome};
 ghost use Rattle.dd_cards.specs.declared.suit.Suit.{Suit as SuitOf};
 ghost use Rattle.dd_play.specs.Board.{Board, IsBoard};
@@ -111,35 +111,25 @@ fn asked<B: Bounds, M: Meter>(
     }
 }
 
-// One trick is had at once. North's 3 and East's 6 have equals below them, so there is one card to try in each hand. South
-// tries the ace, the surest winner, and it wins before West's 4; the king is spared, since the ace takes it too. So a
-// position is come to before each of four cards, and the fifth is settled by counting: North and South have their trick.
+// One trick is a quick trick: North crosses to the ace. So the first position is the only one, after a look, and nothing is
+// noted.
 #[test]
-fn each_position_is_one_tick_where_one_trick_is_asked_for(rt: HostRuntime) {
+fn a_quick_trick_settles_it_after_a_look(rt: HostRuntime) {
     let position = position_of(&BEHIND, Seat::North, &[]).expect(&rt, "two cards a hand");
     let mut log = Log::knowing(NONE);
     let mut budget = Budget::new(100);
     let answer = asked(&position, 1, &mut log, &mut budget);
     assert_eq!(rt; answer, Some(Ok(true)));
-    assert_eq!(rt; budget.ticks(), 4);
-    assert_eq!(rt;
-        log.events.as_slice(),
-        [
-            Event::Look { left: 2 },
-            Event::Note {
-                left: 2,
-                lo: 1,
-                hi: 2,
-            },
-        ]
-        .as_slice()
-    );
+    assert_eq!(rt; budget.ticks(), 1);
+    assert_eq!(rt; log.events.as_slice(), [Event::Look { left: 2 }].as_slice());
 }
 
-// Two tricks are not had. Four positions as above, up to the ace and West's 4. Then South leads the queen: one position at
-// that start of a trick, and one before each of the three cards that follow; the king wins, so West's 4 was enough. South
-// tries the queen in the first trick too, which the ace's failure, by the king, doesn't spare: one position more, West's,
-// where the king settles it. That is nine.
+// Two tricks are not had. North's 3 and East's 6 have equals below them, so there is one card to try in each hand. South
+// tries the ace, the surest winner, and it wins before West's 4; the king is spared, since the ace takes it too. So a
+// position is come to before each of four cards. Then South leads the queen: one position at that start of a trick, and
+// one before each of the three cards that follow; the king wins, so West's 4 was enough. South tries the queen in the
+// first trick too, which the ace's failure, by the king, doesn't spare: one position more, West's, where the king settles
+// it. That is nine.
 #[test]
 fn each_position_is_one_tick_where_two_tricks_are_asked_for(rt: HostRuntime) {
     let position = position_of(&BEHIND, Seat::North, &[]).expect(&rt, "two cards a hand");
@@ -149,6 +139,38 @@ fn each_position_is_one_tick_where_two_tricks_are_asked_for(rt: HostRuntime) {
     assert_eq!(rt; answer, Some(Ok(false)));
     assert_eq!(rt; budget.ticks(), 9);
     // What is noted at each start of a trick is the answer there, whatever was asked for.
+    assert_eq!(rt;
+        log.events.as_slice(),
+        [
+            Event::Look { left: 2 },
+            Event::Look { left: 1 },
+            Event::Note {
+                left: 1,
+                lo: 0,
+                hi: 0,
+            },
+            Event::Note {
+                left: 2,
+                lo: 0,
+                hi: 1,
+            },
+        ]
+        .as_slice()
+    );
+}
+
+// A seat on, East and West have the cards, and the leader's side is theirs: North and South take one trick, since these
+// don't take two. What is noted of them is the same.
+#[test]
+fn each_position_is_one_tick_where_the_other_side_asks(rt: HostRuntime) {
+    let [north, east, south, west] = BEHIND;
+    let turned = [west, north, east, south];
+    let position = position_of(&turned, Seat::East, &[]).expect(&rt, "two cards a hand");
+    let mut log = Log::knowing(NONE);
+    let mut budget = Budget::new(100);
+    let answer = asked(&position, 1, &mut log, &mut budget);
+    assert_eq!(rt; answer, Some(Ok(true)));
+    assert_eq!(rt; budget.ticks(), 9);
     assert_eq!(rt;
         log.events.as_slice(),
         [
