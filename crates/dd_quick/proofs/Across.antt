@@ -1,7 +1,6 @@
 -- crossing to the partner is carried to each position that is covered with the cards on which it rests
-use Rattle.std.proofs.Common.{◌≡◌, ◌≢◌, ℕ, zero, suc, ◌+◌, ◌-◌, ◌<◌, ◌≤◌, Bool, true, false, refl, sym, ap, ◌∙◌, subst, arith, List, [], ◌∷◌, length, inl, inr, min}
-use Rattle.std.specs.Prelude.{nat_le, nat_lt, ◌&&◌, ◌||◌, ◌⊎◌}
-use Rattle.std.specs.List.{list_any}
+use Rattle.std.proofs.Common.{◌≡◌, ◌≢◌, ℕ, zero, suc, ◌+◌, ◌<◌, ◌≤◌, Bool, true, false, refl, sym, ap, ◌∙◌, subst, arith, [], inl, inr}
+use Rattle.std.specs.Prelude.{nat_le, nat_lt, ◌&&◌, ◌⊎◌}
 use mathlib.Core.Bool.{not}
 use mathlib.Core.Path.{ap₂}
 use Rattle.std.proofs.lemmas.Bool.{cases_lt, lt-ltb, le-leb, leb-true}
@@ -16,7 +15,7 @@ use Rattle.dd_cards.proofs.CallerLemmas.{and-left, and-right, else-false, is-sam
 use Rattle.dd_play.specs.Board.{Board, IsBoard, cards_at, left}
 use Rattle.dd_play.specs.Tricks.{is_trump}
 use Rattle.dd_play.specs.Won.{won}
-use Rattle.dd_play.specs.Covers.{IsCover, count_of}
+use Rattle.dd_play.specs.Covers.{IsCover}
 use Rattle.dd_play.specs.Reach.{TakesBy}
 use Rattle.dd_play.proofs.CallerLemmas.{after-code, code-lt, count, count-has, inject, of-suit', once-in, suit-of}
 use Rattle.dd_quick.specs.QuickTricks.{is_next, is_under_low, is_unbeaten, is_winner, length_at, run, trumps_at}

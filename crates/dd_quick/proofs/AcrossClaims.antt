@@ -1,5 +1,5 @@
 -- from what the code counts of the partner's tricks, and the cards that it puts together, to the claim that rests on them
-use Rattle.std.proofs.Common.{◌≡◌, ℕ, zero, suc, ◌+◌, ◌-◌, ◌<◌, ◌≤◌, Bool, true, false, refl, sym, ap, ◌∙◌, subst, arith, List, [], length, inl, inr, min, zero-le}
+use Rattle.std.proofs.Common.{◌≡◌, ℕ, zero, suc, ◌+◌, ◌-◌, ◌<◌, ◌≤◌, Bool, true, false, refl, sym, ap, ◌∙◌, arith, List, [], inl, inr, min, zero-le}
 use Rattle.std.specs.Prelude.{nat_lt, ◌&&◌, ◌||◌, ◌==◌, ◌⊎◌, if◌then◌else◌}
 use mathlib.Core.Bool.{not}
 use mathlib.Core.Path.{ap₂}
@@ -15,16 +15,16 @@ use Rattle.dd_cards.specs.Cards.{is_of, card_of, has_card}
 use Rattle.dd_cards.specs.Seats.{seat_after}
 use Rattle.dd_cards.specs.Sides.{side_of}
 use Rattle.dd_cards.proofs.CallerLemmas.{and-left, and-right, or-split}
-use Rattle.dd_play.specs.Board.{Board, IsBoard, cards_at, left}
+use Rattle.dd_play.specs.Board.{Board, left}
 use Rattle.dd_play.specs.Tricks.{is_trump}
 use Rattle.dd_play.specs.Reach.{TakesBy, reach}
-use Rattle.dd_play.proofs.CallerLemmas.{count, reach-within, suit-of}
-use Rattle.dd_quick.specs.QuickTricks.{IsNext, RestsOnNext, cashed, crossed, is_entry, is_next, joint_trumps, length_at, longest, next_run, no_trumps, partners_tricks, run, side_tricks, suit_tricks, trumps_at, unruffed}
+use Rattle.dd_play.proofs.CallerLemmas.{reach-within, suit-of}
+use Rattle.dd_quick.specs.QuickTricks.{IsNext, RestsOnNext, cashed, crossed, is_entry, is_next, joint_trumps, length_at, next_run, no_trumps, partners_tricks, run, side_tricks, suit_tricks, trumps_at, unruffed}
 use Rattle.dd_quick.specs.Sharing.{SomeOf}
 use Rattle.dd_quick.proofs.Plays.{count-where}
-use Rattle.dd_quick.proofs.Cashing.{hand_on, total}
+use Rattle.dd_quick.proofs.Cashing.{hand_on}
 use Rattle.dd_quick.proofs.Claims.{IsShared, cashed-le, in-longest, long-or-run, run-length, shared-more, shared-tops, shares}
-use Rattle.dd_quick.proofs.Across.{RestsAcross, across-by}
+use Rattle.dd_quick.proofs.Across.{across-by}
 
 -- ---- what is counted
 

@@ -1,15 +1,13 @@
 -- so many of a hand's cards that pass a test, and no more, and how many of a hand's cards there are of a kind
-use Rattle.std.proofs.Common.{◌≡◌, ℕ, suc, ◌+◌, ◌<◌, ◌≤◌, Bool, true, false, refl, sym, ap, ◌∙◌, subst, arith, List, [], ◌∷◌, length, inl, inr, zero-le}
-use Rattle.std.specs.Prelude.{◌&&◌, ◌⊎◌}
+use Rattle.std.proofs.Common.{◌≡◌, ℕ, ◌+◌, ◌<◌, ◌≤◌, Bool, true, false, refl, sym, ap, ◌∙◌, arith, List, [], ◌∷◌, inl, inr}
+use Rattle.std.specs.Prelude.{◌&&◌}
 use mathlib.Core.Bool.{not}
-use mathlib.Core.Path.{ap₂}
 use Rattle.std.proofs.lemmas.Bool.{cases_lt}
-use Rattle.dd_cards.specs.declared.suit.Suit.{Suit}
 use Rattle.dd_cards.specs.PlayingCard.{PlayingCard}
-use Rattle.dd_cards.specs.Cards.{is_of, same_card, has_card}
+use Rattle.dd_cards.specs.Cards.{same_card, has_card}
 use Rattle.dd_cards.specs.Hands.{times}
-use Rattle.dd_cards.proofs.CallerLemmas.{and-left, and-right, else-false, same_card-eq}
-use Rattle.dd_play.proofs.CallerLemmas.{count, count-cons, flag_of, has-first, in-rest, suit-of, times-has}
+use Rattle.dd_cards.proofs.CallerLemmas.{and-left, and-right, else-false}
+use Rattle.dd_play.proofs.CallerLemmas.{count, count-cons, flag_of, has-first, in-rest, times-has}
 use Rattle.dd_quick.proofs.Plays.{count-where}
 
 -- two tests that agree on each card of a hand pass as many

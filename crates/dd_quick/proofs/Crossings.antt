@@ -2,19 +2,18 @@
 -- its own: of a suit that the leader cashes it has other cards to follow with, and in all it has enough others to throw. Then
 -- the leader leads a low card of a suit in which the partner has a winner; that takes the trick, and the partner cashes the
 -- rest.
-use Rattle.std.proofs.Common.{◌≡◌, ◌≢◌, ℕ, zero, suc, ◌+◌, ◌-◌, ◌<◌, ◌≤◌, Bool, true, false, refl, sym, ap, ◌∙◌, subst, arith, List, [], ◌∷◌, ◌++◌, length, inl, inr, min}
+use Rattle.std.proofs.Common.{◌≡◌, ◌≢◌, ℕ, ◌+◌, ◌<◌, ◌≤◌, Bool, true, false, refl, sym, ap, ◌∙◌, subst, arith, List, [], ◌∷◌, ◌++◌, length, inl, inr, min}
 use Rattle.std.specs.Prelude.{filter, nat_le, nat_lt, ◌&&◌, ◌||◌, ◌==◌, ◌⊎◌}
 use Rattle.std.specs.List.{list_all}
 use mathlib.Core.Bool.{not}
 use mathlib.Core.Path.{ap₂}
-use Rattle.std.proofs.lemmas.Bool.{cases_lt, leb-true, lt-ltb, or_left}
-use Rattle.std.proofs.lemmas.Bool.Decides.{eqb_tells, nat_tests}
+use Rattle.std.proofs.lemmas.Bool.{leb-true, lt-ltb}
+use Rattle.std.proofs.lemmas.Bool.Decides.{nat_tests}
 use Rattle.dd_cards.specs.declared.seat.Seat.{Seat}
 use Rattle.dd_cards.specs.declared.suit.Suit.{Suit}
 use Rattle.dd_cards.specs.declared.suit.Suit.TheVariants.{Spades, Hearts, Diamonds, Clubs}
 use Rattle.dd_cards.specs.declared.strain.Strain.{Strain}
 use Rattle.dd_cards.specs.PlayingCard.{PlayingCard}
-use Rattle.dd_cards.specs.Suits.{suit_code}
 use Rattle.dd_cards.specs.Cards.{is_of, card_of, same_card, has_card}
 use Rattle.dd_cards.specs.Seats.{seat_code, seat_after}
 use Rattle.dd_cards.specs.Sides.{is_side}
@@ -28,7 +27,7 @@ use Rattle.dd_play.specs.Covers.{count_of}
 use Rattle.dd_play.specs.Won.{won, point}
 use Rattle.dd_play.proofs.CallerLemmas.{after-code, can, code-lt, count, count-has, count-some, filter-has, filter-passes, flag_of, hand-others, has-first, in-rest, legal-in, legal-leads, of-suit', once-in, own-card, strain-after, suit-of, trick-after, trick-closed, was-in, won_with}
 use Rattle.dd_quick.proofs.Plays.{whoever, count-own, count-where}
-use Rattle.dd_quick.proofs.Cashing.{Aims, AllLetCash, HasCards, IsLater, IsMaster, IsWeaker, Only, by-suits, cashed-all, hand_on, less, no_cards, none-higher, partner-too, same-trump, spare_of, sure_of, total, total-less}
+use Rattle.dd_quick.proofs.Cashing.{Aims, AllLetCash, HasCards, IsLater, IsMaster, IsWeaker, by-suits, cashed-all, hand_on, less, no_cards, none-higher, partner-too, same-trump, spare_of, sure_of, total, total-less}
 use Rattle.dd_quick.proofs.JointPlans.{trumps-plain}
 use Rattle.dd_quick.proofs.Chosen.{Chosen, choose, count-never, count-same, count-split}
 

@@ -1,7 +1,6 @@
 -- the cards that the leader's partner holds next below the leader's run, by their ranks
-use Rattle.std.proofs.Common.{◌≡◌, ◌≢◌, ℕ, ◌<◌, ◌≤◌, Bool, true, false, refl, sym, ap, ◌∙◌, subst, arith, List, [], ◌∷◌, Option, Some, None, inl, inr}
+use Rattle.std.proofs.Common.{◌≡◌, ℕ, ◌<◌, ◌≤◌, Bool, true, false, refl, sym, ap, ◌∙◌, subst, arith, List, [], ◌∷◌, Option, Some, None, inl, inr}
 use Rattle.std.specs.Prelude.{MatchOption, filter, map, slice_get, nat_lt, ◌&&◌}
-use Rattle.std.specs.List.{list_any}
 use mathlib.Core.Bool.{not}
 use mathlib.Core.Path.{ap₂}
 use Rattle.std.proofs.lemmas.Bool.{cases_lt, ltb-true, lt-ltb}
@@ -10,7 +9,7 @@ use Rattle.dd_cards.specs.declared.suit.Suit.{Suit}
 use Rattle.dd_cards.specs.PlayingCard.{PlayingCard}
 use Rattle.dd_cards.specs.Ranks.{all_ranks, has_rank}
 use Rattle.dd_cards.specs.Cards.{is_of, card_of, has_card}
-use Rattle.dd_cards.specs.Seats.{seat_code, seat_after}
+use Rattle.dd_cards.specs.Seats.{seat_after}
 use Rattle.dd_cards.proofs.CallerLemmas.{and-left, and-right, else-false, filter-filter, filter-map, filter-true, not-true}
 use Rattle.dd_play.specs.Board.{Board, IsBoard, cards_at}
 use Rattle.dd_play.proofs.CallerLemmas.{after-code, card-real, code-lt, of-suit', suit-of}

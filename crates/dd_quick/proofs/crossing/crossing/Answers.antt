@@ -1,8 +1,4 @@
-use Rattle.std.proofs.Common.{◌∙◌, sym, ◌+◌, ◌-◌, arith}
-use Rattle.std.specs.Prelude.{min}
-use Rattle.dd_cards.proofs.CallerLemmas.{not-true}
-use Rattle.dd_play.specs.Board.{left}
-use Rattle.dd_quick.specs.QuickTricks.{side_tricks}
+use Rattle.std.proofs.Common.{◌∙◌, sym}
 use Rattle.dd_quick.proofs.AcrossClaims.{crossed-is, crossed-none, not-false}
 use Rattle.dd_quick.proofs.crossing.crossing.Goals as goal
 

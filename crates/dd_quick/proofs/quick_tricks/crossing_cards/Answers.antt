@@ -1,10 +1,6 @@
-use Rattle.std.proofs.Common.{arith, ◌-◌, ◌+◌, ◌≤◌, ◌≡◌, ◌∙◌, subst, true}
+use Rattle.std.proofs.Common.{arith, ◌-◌, ◌+◌, ◌≤◌, ◌≡◌, subst}
 use Rattle.dd_cards.specs.Sides.{side_of}
-use Rattle.dd_cards.specs.declared.suit.Suit.TheVariants.{Spades, Hearts, Diamonds, Clubs}
-use Rattle.dd_cards.specs.Seats.{seat_after}
-use Rattle.dd_play.specs.Board.{left}
 use Rattle.dd_play.specs.Reach.{TakesBy, reach}
-use Rattle.dd_quick.specs.QuickTricks.{IsNext, no_trumps, partners_tricks, trumps_at}
 use Rattle.dd_quick.proofs.AcrossClaims.{across-claim, crossed-most, no-joint, no-trumps-at, some-entry}
 use Rattle.dd_quick.proofs.quick_tricks.crossing_cards.Goals as goal
 
