@@ -297,14 +297,21 @@ fn cash(position: &Position, suit: Suit) -> Cash {
     }
 }
 
-// So many tricks, of long suits first.
-fn shares(cash: &[Cash; 4], need: u8) -> [u8; 4] {
+// The tricks that a suit has, and whether it is asked first.
+#[derive(Clone, Copy)]
+struct Offer {
+    tricks: u8,
+    first: bool,
+}
+
+// So many tricks, of the suits that are asked first before the others.
+fn shares(offers: [Offer; 4], need: u8) -> [u8; 4] {
     let mut left = need;
     let mut shares = [0; 4];
-    for long in [true, false] {
-        for (share, cash) in shares.iter_mut().zip(cash) {
-            if cash.is_long() == long {
-                *share = cash.tricks.min(left);
+    for first in [true, false] {
+        for (share, offer) in shares.iter_mut().zip(offers) {
+            if offer.first == first {
+                *share = offer.tricks.min(left);
                 left -= *share;
             }
         }
@@ -329,6 +336,34 @@ fn with_trumps(position: &Position, seat: Seat, cards: u64, tricks: u8) -> u64 {
     with_highest(cards, trump, unbeaten(position, seat, trump) | unbeaten(position, partner, trump), tricks)
 }
 
+// The cards of the suit that the leader's partner holds next below the leader's run.
+fn next_run(position: &Position, suit: Suit) -> u16 {
+    let [left, partner, right] = others(position.first).map(|other| position.holding(other, suit));
+    let own = position.holding(position.first, suit);
+    let low = own & !above_all(own, left | partner | right);
+    above_all(above_all(partner, left | right), low)
+}
+
+// What the partner takes in a suit once the leader has crossed, and whether the leader can cross there.
+fn next(position: &Position, suit: Suit) -> Offer {
+    let run = winners(position, position.first, suit).count_ones() as u8;
+    let spare = length(position, position.first.next().next(), suit).saturating_sub(run);
+    let tricks = (next_run(position, suit).count_ones() as u8).min(spare);
+    Offer { tricks, first: tricks > 0 && run < length(position, position.first, suit) }
+}
+
+// What the partner takes in each suit once the leader has crossed, and how many tricks that adds to these.
+fn crossing(position: &Position, side: u8) -> ([Offer; 4], u8) {
+    let [left, partner, right] = others(position.first);
+    if [position.first, left, partner, right].into_iter().any(|seat| trumps(position, seat) > 0) {
+        return ([Offer { tricks: 0, first: false }; 4], 0);
+    }
+    let next = SUITS.map(|suit| next(position, suit));
+    let all: u8 = next.iter().map(|offer| offer.tricks).sum();
+    let can = next.iter().any(|offer| offer.first);
+    (next, if can { all.min(position.tricks_left() - side) } else { 0 })
+}
+
 // What the leader's side is sure of: in each side suit, in all, and its joint trumps.
 fn leaders(position: &Position) -> ([Cash; 4], u8, u8) {
     let cash = SUITS.map(|suit| cash(position, suit));
@@ -339,17 +374,45 @@ fn leaders(position: &Position) -> ([Cash; 4], u8, u8) {
 
 fn bounds(position: &Position) -> Interval {
     let (_, side, trumps) = leaders(position);
-    Interval { lo: side + trumps, hi: position.tricks_left() - joint_trumps(position, position.first.next()) }
+    let (_, crossed) = crossing(position, side);
+    Interval { lo: side + trumps + crossed, hi: position.tricks_left() - joint_trumps(position, position.first.next()) }
 }
 
 fn for_leader(position: &Position, need: u8) -> Option<u64> {
     let (cash, side, trumps) = leaders(position);
     if need > side + trumps {
-        return None;
+        return crossing_cards(position, cash, side, trumps, need);
     }
     let side = need.min(side);
-    let cards = with_shares(position, 0, &cash, shares(&cash, side));
+    let cards = with_shares(position, 0, &cash, shares(long_first(&cash), side));
     Some(with_trumps(position, position.first, cards, need - side))
+}
+
+// These cards and the winners on which so many tricks of each suit rest.
+fn with_shares(position: &Position, cards: u64, cash: &[Cash; 4], shares: [u8; 4]) -> u64 {
+    let mut cards = cards;
+    for ((suit, cash), share) in SUITS.into_iter().zip(cash).zip(shares) {
+        cards = with_highest(cards, suit, winners(position, position.first, suit), share.min(cash.depth));
+    }
+    cards
+}
+
+// The tricks of each suit, those of long suits first.
+fn long_first(cash: &[Cash; 4]) -> [Offer; 4] {
+    cash.map(|cash| Offer { tricks: cash.tricks, first: cash.is_long() })
+}
+
+// The cards on which so many tricks rest where the leader crosses to its partner.
+fn crossing_cards(position: &Position, cash: [Cash; 4], side: u8, trumps: u8, need: u8) -> Option<u64> {
+    let (next, crossed) = crossing(position, side);
+    if need > side + trumps + crossed {
+        return None;
+    }
+    let mut cards = with_shares(position, 0, &cash, cash.map(|cash| cash.tricks));
+    for (suit, share) in SUITS.into_iter().zip(shares(next, need - side)) {
+        cards = with_highest(cards, suit, next_run(position, suit), share);
+    }
+    Some(cards)
 }
 
 fn against_leader(position: &Position, need: u8) -> Option<u64> {
@@ -399,7 +462,7 @@ fn after_a_side_suit(before: &Position, suit: Suit, need: u8) -> Option<u64> {
     let side = need.min(side);
     let mut fewer = cash;
     fewer[suit as usize].tricks -= 1;
-    let mut shares = shares(&fewer, side - 1);
+    let mut shares = shares(long_first(&fewer), side - 1);
     shares[suit as usize] += 1;
     Some(with_trumps(before, before.first, with_shares(before, 0, &cash, shares), need - side))
 }
@@ -413,15 +476,7 @@ fn after_a_trump(before: &Position, trump: Suit, need: u8) -> Option<u64> {
     if tops == 0 || side > sure || side >= spare {
         return None;
     }
-    Some(with_shares(before, with_highest(0, trump, run, tops), &cash, shares(&cash, side)))
-}
-
-fn with_shares(before: &Position, cards: u64, cash: &[Cash; 4], shares: [u8; 4]) -> u64 {
-    let mut cards = cards;
-    for ((suit, cash), share) in SUITS.into_iter().zip(cash).zip(shares) {
-        cards = with_highest(cards, suit, winners(before, before.first, suit), share.min(cash.depth));
-    }
-    cards
+    Some(with_shares(before, with_highest(0, trump, run, tops), &cash, shares(long_first(&cash), side)))
 }
 
 // ------------------------------------------------------------------ what answers rest on

@@ -19,7 +19,7 @@ use Rattle.dd_play.specs.Tricks.{is_trump}
 use Rattle.dd_play.specs.Reach.{TakesBy, reach}
 use Rattle.dd_play.proofs.CallerLemmas.{count, flag_of, reach-within}
 use Rattle.dd_quick.specs.QuickTricks.{IsCash, RestsOn, RestsOnTrumps, cashed, is_long, is_winner, joint_trumps, length_at, longest, run, suit_tricks, trumps_at, unbeaten, unruffed}
-use Rattle.dd_quick.specs.SecondHand.{shares}
+use Rattle.dd_quick.specs.Sharing.{shares}
 use Rattle.dd_quick.proofs.Hands.{IsOpposed}
 use Rattle.dd_quick.proofs.Plays.{count-where}
 use Rattle.dd_quick.proofs.Sound.{CanTake}
@@ -65,7 +65,7 @@ joint-is strain p seat t a b c d n trump x y z w e = e ∙ rw (x, y, z, w) refl 
 -- ---- what the leader cashes in a suit
 
 -- at most the tricks when no hand ruffs
-cashed-le : (strain : Strain) (p : Board) (u : Suit) → cashed strain p u ≤ suit_tricks p u
+pub cashed-le : (strain : Strain) (p : Board) (u : Suit) → cashed strain p u ≤ suit_tricks p u
 cashed-le strain p u = elim (is_trump strain (card_of u 0)) as (λ b. (if b then 0 else unruffed strain p (seat_after p.first 1) u (unruffed strain p (seat_after p.first 3) u (suit_tricks p u))) ≤ suit_tricks p u) [
   | true ↦ zero-le
   | false ↦ (let a = unruffed-le p.first 1 (unruffed strain p (seat_after p.first 3) u (suit_tricks p u)) in let b = unruffed-le p.first 3 (suit_tricks p u) in omega (arith, a, b))
@@ -103,11 +103,11 @@ cashed-plain strain p u some = go (is_trump strain (card_of u 0)) refl
     go true e = absurd (let none : cashed strain p u ≡ 0 = ap (λ b. if b then 0 else unruffed strain p (seat_after p.first 1) u (unruffed strain p (seat_after p.first 3) u (suit_tricks p u))) e in omega (arith, none, some))
 
 -- a run is no longer than the suit
-run-length : (p : Board) (x : Seat) (u : Suit) → run p x u ≤ length_at p x u
+pub run-length : (p : Board) (x : Seat) (u : Suit) → run p x u ≤ length_at p x u
 run-length p x u = count-where (λ c. is_of u c && is_winner p x c) (is_of u) (cards_at p x) (λ c has pass. and-left (is_of u c) (is_winner p x c) pass)
 
 -- the tricks of a suit are the run, or all cards, where the run is as long as any other hand's suit
-long-or-run : (p : Board) (u : Suit) → ((longest p u ≤ run p p.first u) × (suit_tricks p u ≡ length_at p p.first u)) ⊎ ((run p p.first u < longest p u) × (suit_tricks p u ≡ run p p.first u))
+pub long-or-run : (p : Board) (u : Suit) → ((longest p u ≤ run p p.first u) × (suit_tricks p u ≡ length_at p p.first u)) ⊎ ((run p p.first u < longest p u) × (suit_tricks p u ≡ run p p.first u))
 long-or-run p u = go (is_long p u) refl
   where
     over : (a b : ℕ) → nat_le a b ≡ false → b < a
@@ -118,7 +118,7 @@ long-or-run p u = go (is_long p u) refl
     go false e = inr (over (longest p u) (run p p.first u) e, rw e refl)
 
 -- a hand that does not lead has no longer suit than the longest
-in-longest : (p : Board) (u : Suit) (i : ℕ) → 1 ≤ i → i < 4 → length_at p (seat_after p.first i) u ≤ longest p u
+pub in-longest : (p : Board) (u : Suit) (i : ℕ) → 1 ≤ i → i < 4 → length_at p (seat_after p.first i) u ≤ longest p u
 in-longest p u zero l k = absurd (omega (arith, l))
 in-longest p u (suc zero) l k = omega arith
 in-longest p u (suc (suc zero)) l k = omega arith
@@ -135,19 +135,19 @@ pub record IsShared (p : Board) (u : Suit) (cards : List PlayingCard) (n : ℕ) 
   pub few : n ≤ tricks
   pub rests : RestsOn p u cards (min n cards_of)
 
--- winners that cards reach more cards reach
+-- with more cards as many winners are reached
 pub rests-more : (p : Board) (u : Suit) (few many : List PlayingCard) (n : ℕ) → ((c : PlayingCard) → has_card few c ≡ true → has_card many c ≡ true) → RestsOn p u few n → RestsOn p u many n
 rests-more p u few many n within r =
     let m = count-where (λ c. (is_of u c && is_winner p p.first c) && reach few c) (λ c. (is_of u c && is_winner p p.first c) && reach many c) (cards_at p p.first) (λ c has pass.
     ap₂ (λ a b. a && b) (and-left (is_of u c && is_winner p p.first c) (reach few c) pass) (reach-within few many within c (and-right (is_of u c && is_winner p p.first c) (reach few c) pass))) in
     omega (arith, r, m)
 
--- with more cards it is so too
-shared-more : (p : Board) (u : Suit) (few many : List PlayingCard) (n : ℕ) → ((c : PlayingCard) → has_card few c ≡ true → has_card many c ≡ true) → IsShared p u few n → IsShared p u many n
+-- so a share rests on more cards too
+pub shared-more : (p : Board) (u : Suit) (few many : List PlayingCard) (n : ℕ) → ((c : PlayingCard) → has_card few c ≡ true → has_card many c ≡ true) → IsShared p u few n → IsShared p u many n
 shared-more p u few many n within s = record { tricks = s.tricks; cards_of = s.cards_of; cash = s.cash; few = s.few; rests = rests-more p u few many (min n s.cards_of) within s.rests }
 
 -- so many winners are reached that the hand that is i places on yields the share
-shared-tops : (p : Board) (u : Suit) (cards : List PlayingCard) (n i : ℕ) → IsShared p u cards n → 1 ≤ i → i < 4 → min n (length_at p (seat_after p.first i) u) ≤ count (λ c. (is_of u c && is_winner p p.first c) && reach cards c) (cards_at p p.first)
+pub shared-tops : (p : Board) (u : Suit) (cards : List PlayingCard) (n i : ℕ) → IsShared p u cards n → 1 ≤ i → i < 4 → min n (length_at p (seat_after p.first i) u) ≤ count (λ c. (is_of u c && is_winner p p.first c) && reach cards c) (cards_at p p.first)
 shared-tops p u cards n i s l k = elim (cases_lt 0 n) [
   | inl some ↦ (
       let few = s.few in
@@ -170,11 +170,11 @@ pub record IsSure (p : Board) (cards : List PlayingCard) (n : Suit → ℕ) (m :
   pub joint : IsJoint p.strain (reach cards) p 0 m
 
 -- Shares of the side suits and of the joint trumps are so counted.
-pub leader-sure : (p : Board) (a b c d cards : List PlayingCard) (s h di cl m : ℕ) → p.trick ≡ [] → IsShared p Spades a s → IsShared p Hearts b h → IsShared p Diamonds c di → IsShared p Clubs d cl
-    → ((e : PlayingCard) → has_card a e ≡ true → has_card b e ≡ true) → ((e : PlayingCard) → has_card b e ≡ true → has_card c e ≡ true) → ((e : PlayingCard) → has_card c e ≡ true → has_card d e ≡ true) → ((e : PlayingCard) → has_card d e ≡ true → has_card cards e ≡ true)
+pub leader-sure : (p : Board) (few cards : List PlayingCard) (s h di cl m : ℕ) → p.trick ≡ [] → IsShared p Spades few s → IsShared p Hearts few h → IsShared p Diamonds few di → IsShared p Clubs few cl
+    → ((e : PlayingCard) → has_card few e ≡ true → has_card cards e ≡ true)
     → s + h + di + cl ≤ left p - trumps_at p.strain p (seat_after p.first 2) → m ≤ joint_trumps p.strain p p.first → RestsOnTrumps p.strain p p.first cards m
     → IsSure p cards (shares s h di cl) m
-leader-sure p a b c d cards s h di cl m start sp he dm cb ab bc cd de throws joint trumps = record {
+leader-sure p few cards s h di cl m start sp he dm cb more throws joint trumps = record {
   can = can;
   tops = λ u i l k. shared-tops p u cards (n u) i (each u) l k;
   joint = joint-rests p.strain p 0 cards m joint trumps;
@@ -184,10 +184,10 @@ leader-sure p a b c d cards s h di cl m start sp he dm cb ab bc cd de throws joi
     n = shares s h di cl
 
     each : (u : Suit) → IsShared p u cards (n u)
-    each Spades = shared-more p Spades a cards s (λ e k. de e (cd e (bc e (ab e k)))) sp
-    each Hearts = shared-more p Hearts b cards h (λ e k. de e (cd e (bc e k))) he
-    each Diamonds = shared-more p Diamonds c cards di (λ e k. de e (cd e k)) dm
-    each Clubs = shared-more p Clubs d cards cl de cb
+    each Spades = shared-more p Spades few cards s more sp
+    each Hearts = shared-more p Hearts few cards h more he
+    each Diamonds = shared-more p Diamonds few cards di more dm
+    each Clubs = shared-more p Clubs few cards cl more cb
 
     -- of a suit no more than is cashed in it
     less : (u : Suit) → n u ≤ cashed p.strain p u
@@ -212,10 +212,10 @@ leader-sure p a b c d cards s h di cl m start sp he dm cb ab bc cd de throws joi
     }
 
 -- They are a claim by the cards on which they rest.
-pub leader-claim : (p : Board) (a b c d cards : List PlayingCard) (s h di cl m : ℕ) → p.trick ≡ [] → IsShared p Spades a s → IsShared p Hearts b h → IsShared p Diamonds c di → IsShared p Clubs d cl
-    → ((e : PlayingCard) → has_card a e ≡ true → has_card b e ≡ true) → ((e : PlayingCard) → has_card b e ≡ true → has_card c e ≡ true) → ((e : PlayingCard) → has_card c e ≡ true → has_card d e ≡ true) → ((e : PlayingCard) → has_card d e ≡ true → has_card cards e ≡ true)
+pub leader-claim : (p : Board) (few cards : List PlayingCard) (s h di cl m : ℕ) → p.trick ≡ [] → IsShared p Spades few s → IsShared p Hearts few h → IsShared p Diamonds few di → IsShared p Clubs few cl
+    → ((e : PlayingCard) → has_card few e ≡ true → has_card cards e ≡ true)
     → s + h + di + cl ≤ left p - trumps_at p.strain p (seat_after p.first 2) → m ≤ joint_trumps p.strain p p.first → RestsOnTrumps p.strain p p.first cards m
     → TakesBy (reach cards) (side_of p.first) p (s + h + di + cl + m)
-leader-claim p a b c d cards s h di cl m start sp he dm cb ab bc cd de throws joint trumps =
-    let sure = leader-sure p a b c d cards s h di cl m start sp he dm cb ab bc cd de throws joint trumps in
+leader-claim p few cards s h di cl m start sp he dm cb more throws joint trumps =
+    let sure = leader-sure p few cards s h di cl m start sp he dm cb more throws joint trumps in
     leader-by (reach cards) p (shares s h di cl) m start sure.can sure.tops sure.joint

@@ -83,7 +83,7 @@ module _ (top : PlayingCard → Bool) (k : ℕ) (to from : PlayingCard → Playi
           less (to c).rank e.rank (ap (λ (d : PlayingCard). nat_le (to c).rank d.rank) (sym b.1) ∙ keep ∙ not-le c.rank (from e).rank low)
 
   -- the image of a winner is a winner
-  winner-image : (x : Seat) (c : PlayingCard) → has_card (cards_at p x) c ≡ true → is_winner p x c ≡ true → top c ≡ true → is_winner q (seat_after x k) (to c) ≡ true
+  pub winner-image : (x : Seat) (c : PlayingCard) → has_card (cards_at p x) c ≡ true → is_winner p x c ≡ true → top c ≡ true → is_winner q (seat_after x k) (to c) ≡ true
   winner-image x c has wins tc = three (free 1 (omega arith) (omega arith)) (free 2 (omega arith) (omega arith)) (free 3 (omega arith) (omega arith))
     where
       three : {a b d : Bool} → a ≡ false → b ≡ false → d ≡ false → not (a || b || d) ≡ true
@@ -93,7 +93,7 @@ module _ (top : PlayingCard → Bool) (k : ℕ) (to from : PlayingCard → Playi
       free i l m = free-image x c i l m has tc (λ e he suits. no-higher p r.valid_p x (seat_after x i) c e (apart x i l m) wins has he suits)
 
   -- the image of a card that no opponent beats is one too
-  unbeaten-image : (x : Seat) (c : PlayingCard) → has_card (cards_at p x) c ≡ true → is_unbeaten p x c ≡ true → top c ≡ true → is_unbeaten q (seat_after x k) (to c) ≡ true
+  pub unbeaten-image : (x : Seat) (c : PlayingCard) → has_card (cards_at p x) c ≡ true → is_unbeaten p x c ≡ true → top c ≡ true → is_unbeaten q (seat_after x k) (to c) ≡ true
   unbeaten-image x c has wins tc = two (free 1 (inl refl) (omega arith) (omega arith)) (free 3 (inr refl) (omega arith) (omega arith))
     where
       two : {a b : Bool} → a ≡ false → b ≡ false → not (a || b) ≡ true
@@ -103,7 +103,7 @@ module _ (top : PlayingCard → Bool) (k : ℕ) (to from : PlayingCard → Playi
       free i opposed l m = free-image x c i l m has tc (λ e he suits. none-over p r.valid_p x i c e opposed wins has he suits)
 
   -- a test that goes over from a hand's top cards to their images passes as many there
-  count-image : (test tested : PlayingCard → Bool) (x : Seat) → ((c : PlayingCard) → has_card (cards_at p x) c ≡ true → test c ≡ true → top c ≡ true → tested (to c) ≡ true)
+  pub count-image : (test tested : PlayingCard → Bool) (x : Seat) → ((c : PlayingCard) → has_card (cards_at p x) c ≡ true → test c ≡ true → top c ≡ true → tested (to c) ≡ true)
       → count (λ c. test c && top c) (cards_at p x) ≤ count tested (cards_at q (seat_after x k))
   count-image test tested x each = inject to from (λ c. test c && top c) tested (cards_at p x) (cards_at q (seat_after x k)) (once-in p r.valid_p x) (λ c h pass.
       let a = and-left (test c) (top c) pass in
@@ -128,7 +128,7 @@ module _ (top : PlayingCard → Bool) (k : ℕ) (to from : PlayingCard → Playi
       both-pass (of-suit' u (to c) (r.to_suit c ∙ suit-of u c of_u)) (unbeaten-image x c h (and-right (is_of u c) (is_unbeaten p x c) pass) tc))
 
   -- the seats after the leader are those after the leader
-  seat-same : (i : ℕ) → seat_after q.first i ≡ seat_after (seat_after p.first i) k
+  pub seat-same : (i : ℕ) → seat_after q.first i ≡ seat_after (seat_after p.first i) k
   seat-same i = ap (λ z. seat_after z i) r.first ∙ turn-turn p.first k i
 
   -- their suits are as long
@@ -141,7 +141,7 @@ module _ (top : PlayingCard → Bool) (k : ℕ) (to from : PlayingCard → Playi
   trumps-same (Trump u) i = length-same i u
 
 -- where no card was played to the one trick, none was to the other
-no-trick : (to from : PlayingCard → PlayingCard) (top : PlayingCard → Bool) (cs ds : List PlayingCard) → cs ≡ [] → AllAnswer to from top cs ds → ds ≡ []
+pub no-trick : (to from : PlayingCard → PlayingCard) (top : PlayingCard → Bool) (cs ds : List PlayingCard) → cs ≡ [] → AllAnswer to from top cs ds → ds ≡ []
 no-trick to from top [] [] e a = refl
 no-trick to from top [] (d ∷ ds) e a = absurd a
 no-trick to from top (c ∷ cs) ds e a = absurd (cc)

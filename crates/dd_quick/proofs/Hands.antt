@@ -37,7 +37,7 @@ places-on h x apart =
     (i, omega (arith, apart), omega arith, sym (seat_code-injective (seat_after h i) x (omega (arith, on))))
 
 -- what is not true of a list is true of none of its cards
-none-of : (test : PlayingCard → Bool) (cards : List PlayingCard) (c : PlayingCard) → list_any test cards ≡ false → has_card cards c ≡ true → test c ≡ false
+pub none-of : (test : PlayingCard → Bool) (cards : List PlayingCard) (c : PlayingCard) → list_any test cards ≡ false → has_card cards c ≡ true → test c ≡ false
 none-of test [] c none has = absurd (cc)
 none-of test (d ∷ cards) c none has = go (test d) (same_card d c) refl refl (λ n h. none-of test cards c n h)
   where
@@ -71,7 +71,7 @@ winner-free p h x c apart winner = go (places-on h x apart)
     go r = ap (λ y. beats p y c) r.3 ∙ by r.0 r.1 r.2
 
 -- what does not pass one of two tests, and passes the first, fails the second
-and-fails : (a b : Bool) → a ≡ true → (a && b) ≡ false → b ≡ false
+pub and-fails : (a b : Bool) → a ≡ true → (a && b) ≡ false → b ≡ false
 and-fails true b e h = h
 and-fails false b e h = absurd (cc)
 

@@ -6,10 +6,15 @@ pub mod Cashing
 pub mod Sound
 pub mod Runs
 pub mod Covered
+pub mod Chosen
+pub mod Crossings
+pub mod Across
+pub mod AcrossClaims
 pub mod Claims
 pub mod Highest
 pub mod Reached
 pub mod Shares
+pub mod Next
 pub mod LeadBack
 pub mod TakenTrick
 pub mod SecondHand

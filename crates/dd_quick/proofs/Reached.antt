@@ -15,7 +15,7 @@ use Rattle.dd_cards.proofs.CallerLemmas.{and-left, and-right, filter-filter, fil
 use Rattle.dd_play.specs.Board.{Board, IsBoard, cards_at}
 use Rattle.dd_play.specs.Reach.{reach}
 use Rattle.dd_play.proofs.CallerLemmas.{after-code, code-lt, count, flag_of, reach-of}
-use Rattle.dd_quick.specs.QuickTricks.{RestsOn, is_long, is_unbeaten, is_winner, length_at, longest, run, suit_tricks, unbeaten}
+use Rattle.dd_quick.specs.QuickTricks.{RestsOn, RestsOnNext, is_long, is_next, is_unbeaten, is_winner, length_at, longest, run, suit_tricks, unbeaten}
 use Rattle.dd_quick.proofs.Hands.{one-hand}
 use Rattle.dd_quick.proofs.Plays.{count-where}
 use Rattle.dd_quick.proofs.Runs.{filter-in, has-part}
@@ -39,6 +39,14 @@ pub winners-reached : (p : Board) (suit : Suit) (ranks : List ℕ) (cards : List
 winners-reached p suit ranks cards n same most =
     let a = reached-of suit (λ c. is_of suit c && is_winner p p.first c) ranks (cards_at p p.first) cards same in
     let b = length-of suit (λ c. is_of suit c && is_winner p p.first c) ranks (cards_at p p.first) same in
+    omega (arith, a, b, most)
+
+-- and so are the partner's cards next below the leader's run
+pub next-reached : (p : Board) (suit : Suit) (ranks : List ℕ) (cards : List PlayingCard) (n : ℕ) → map (card_of suit) ranks ≡ filter (λ c. is_of suit c && is_next p c) (cards_at p (seat_after p.first 2))
+    → min n (length ranks) ≤ length (filter (λ q. has_card cards (card_of suit q)) ranks) → RestsOnNext p suit cards n
+next-reached p suit ranks cards n same most =
+    let a = reached-of suit (λ c. is_of suit c && is_next p c) ranks (cards_at p (seat_after p.first 2)) cards same in
+    let b = length-of suit (λ c. is_of suit c && is_next p c) ranks (cards_at p (seat_after p.first 2)) same in
     omega (arith, a, b, most)
 
 -- the tricks of a long suit are all the leader's cards of it
@@ -94,7 +102,7 @@ parts-pass f g h xs = rw (filter-filter f (λ q. g q || h q) xs, filter-filter f
         omega (arith, ih, a, b, c, here)
 
 -- the ranks of a hand's cards of a suit that pass are those of all ranks
-ranks-part : (p : Board) (x : Seat) (suit : Suit) (test : PlayingCard → Bool) (ranks : List ℕ) → IsBoard p → map (card_of suit) ranks ≡ filter (λ c. is_of suit c && test c) (cards_at p x)
+pub ranks-part : (p : Board) (x : Seat) (suit : Suit) (test : PlayingCard → Bool) (ranks : List ℕ) → IsBoard p → map (card_of suit) ranks ≡ filter (λ c. is_of suit c && test c) (cards_at p x)
     → ranks ≡ filter (λ q. has_card (cards_at p x) (card_of suit q) && test (card_of suit q)) all_ranks
 ranks-part p x suit test ranks valid same = ranks-from_cards suit ranks (filter (λ q. has_card (cards_at p x) (card_of suit q) && test (card_of suit q)) all_ranks) (same
     ∙ sym (filter-filter test (is_of suit) (cards_at p x)) ∙ ap (filter test) (suit-ranks suit (cards_at p x) (valid.sets x)) ∙ filter-map test (card_of suit) (filter (λ q. has_card (cards_at p x) (card_of suit q)) all_ranks)

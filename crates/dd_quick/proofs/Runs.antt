@@ -2,6 +2,7 @@
 use Rattle.std.proofs.Common.{◌≡◌, ◌≢◌, ℕ, zero, suc, ◌+◌, ◌<◌, ◌≤◌, Bool, true, false, refl, sym, ap, ◌∙◌, subst, arith, List, [], ◌∷◌, Option, Some, None, inl, inr}
 use Rattle.std.specs.Prelude.{MatchOption, filter, map, slice_get, nat_lt, ◌&&◌, ◌||◌, ◌==◌}
 use Rattle.std.specs.List.{list_any}
+use mathlib.Core.Bool.{not}
 use mathlib.Core.Path.{ap₂}
 use Rattle.std.proofs.lemmas.Bool.{eqb-true, ltb-true, or_left}
 use Rattle.std.proofs.lemmas.Bool.Decides.{eqb_tells, nat_tests}
@@ -16,7 +17,7 @@ use Rattle.dd_cards.proofs.CallerLemmas.{and-left, and-right, else-false, filter
 use Rattle.dd_play.specs.Board.{Board, IsBoard, cards_at}
 use Rattle.dd_play.proofs.CallerLemmas.{after-code, card-real, code-lt, has-first, in-rest, suit-of}
 use Rattle.dd_quick.specs.QuickTricks.{beats, is_winner, is_unbeaten}
-use Rattle.dd_quick.proofs.Hands.{IsOpposed, no-higher, none-over, places-on}
+use Rattle.dd_quick.proofs.Hands.{IsOpposed, no-higher, none-over, one-hand, places-on}
 
 -- ---- lists of ranks
 
@@ -25,12 +26,12 @@ pub has-part : (test : ℕ → Bool) (ranks : List ℕ) (q : ℕ) → has_rank (
 has-part test ranks q = any-filter_same (λ x. x == q) test (test q) (λ x e. ap test (eqb-true x q e)) ranks
 
 -- each rank is one of all
-has-all : (q : ℕ) → IsRank q → has_rank all_ranks q ≡ true
+pub has-all : (q : ℕ) → IsRank q → has_rank all_ranks q ≡ true
 unfolding all_ranks
 has-all q real = (let low = real.0 in let high = real.1 in has_rank-lowest_ranks 13 q low (omega (arith, high)))
 
 -- a list of ranks has its first
-first-in : (ranks : List ℕ) (r : ℕ) → Some r ≡ slice_get ranks 0 → has_rank ranks r ≡ true
+pub first-in : (ranks : List ℕ) (r : ℕ) → Some r ≡ slice_get ranks 0 → has_rank ranks r ≡ true
 first-in [] r e = absurd (cc)
 first-in (q ∷ ranks) r e =
     let same : r ≡ q = cc in
@@ -47,7 +48,7 @@ lowest-under (suc k) q has = go ((k + 2) == q) refl (lowest-under k q)
     go false e ih = (let l = ih (rw e at has) in omega (arith, l))
 
 -- the first that passes is the highest that passes
-first-highest : (test : ℕ → Bool) (k r q : ℕ) → Some r ≡ slice_get (filter test (lowest_ranks k)) 0 → has_rank (filter test (lowest_ranks k)) q ≡ true → q ≤ r
+pub first-highest : (test : ℕ → Bool) (k r q : ℕ) → Some r ≡ slice_get (filter test (lowest_ranks k)) 0 → has_rank (filter test (lowest_ranks k)) q ≡ true → q ≤ r
 unfolding lowest_ranks
 first-highest test zero r q first has = absurd (cc)
 first-highest test (suc k) r q first has = go (test (k + 2)) refl (first-highest test k r q)
@@ -112,7 +113,7 @@ module _ (p : Board) (h : Seat) (suit : Suit) (own others : List ℕ) (test : Pl
   those-cards winners part = ap (map (card_of suit)) (are-those winners (slice_get others 0) refl part) ∙ sym (filter-map test (card_of suit) own) ∙ ap (filter test) are.mine ∙ filter-filter test (is_of suit) (cards_at p h)
 
 -- a test that fails at each card fails at all
-none-passes : (test : PlayingCard → Bool) (cards : List PlayingCard) → ((d : PlayingCard) → has_card cards d ≡ true → test d ≡ false) → list_any test cards ≡ false
+pub none-passes : (test : PlayingCard → Bool) (cards : List PlayingCard) → ((d : PlayingCard) → has_card cards d ≡ true → test d ≡ false) → list_any test cards ≡ false
 none-passes test [] each = refl
 none-passes test (c ∷ cards) each = rw (each c (has-first c cards)) (none-passes test cards (λ d h. each d (in-rest c d cards h)))
 
@@ -229,6 +230,35 @@ module _ (p : Board) (h : Seat) (suit : Suit) (own others : List ℕ) (held : Ar
   -- so what is above the highest of theirs is the run
   pub run-cards : (winners : List ℕ) → MatchOption (slice_get others 0) (winners ≡ own) (λ r. winners ≡ filter (λ q. nat_lt r q) own) → map (card_of suit) winners ≡ filter (λ c. is_of suit c && is_winner p h c) (cards_at p h)
   run-cards winners part = those-cards p h suit own others (is_winner p h) over-others winners part
+
+  -- and what is below it the cards that are no winners
+  pub low-cards : (low : List ℕ) → MatchOption (slice_get others 0) (low ≡ []) (λ r. low ≡ filter (λ q. nat_lt q r) own) → map (card_of suit) low ≡ filter (λ c. is_of suit c && not (is_winner p h c)) (cards_at p h)
+  low-cards low part = ap (map (card_of suit)) (those (slice_get others 0) refl part) ∙ sym (filter-map (λ c. not (is_winner p h c)) (card_of suit) own) ∙ ap (filter (λ c. not (is_winner p h c))) held.mine ∙ filter-filter (λ c. not (is_winner p h c)) (is_of suit) (cards_at p h)
+    where
+      turned : (a b : ℕ) → a ≢ b → nat_lt a b ≡ not (nat_lt b a)
+      turned a b e = grind (arith, nat_tests)
+
+      -- no rank is held twice
+      differs : (r q : ℕ) → has_rank others r ≡ true → has_rank own q ≡ true → q ≢ r
+      differs r q his mine e =
+          let x = others-from r his in
+          one-hand p held.valid x.0 h (card_of suit r) x.1 x.2 (subst (λ n. has_card (cards_at p h) (card_of suit n) ≡ true) e (sym (has_rank-holding suit own (cards_at p h) q held.mine) ∙ mine))
+
+      none : (xs : List ℕ) → filter (λ q. false) xs ≡ []
+      none [] = refl
+      none (x ∷ xs) = none xs
+
+      those : (highest : Option ℕ) → highest ≡ slice_get others 0 → MatchOption highest (low ≡ []) (λ r. low ≡ filter (λ q. nat_lt q r) own) → low ≡ filter (λ q. not (is_winner p h (card_of suit q))) own
+      those (Some r) first part = part ∙ filter-in (λ q. nat_lt q r) (λ q. not (is_winner p h (card_of suit q))) own (λ q mine.
+          turned q r (differs r q (first-in others r first) mine) ∙ ap not (sym (above-highest p h suit own others (is_winner p h) over-others r q first mine)))
+      those None first part = part ∙ sym (none own) ∙ filter-in (λ q. false) (λ q. not (is_winner p h (card_of suit q))) own (λ q mine. ap not (sym (all q first)))
+        where
+          nothing : (ranks : List ℕ) → None ≡ slice_get ranks 0 → (q : ℕ) → has_rank ranks q ≡ true → ⊥
+          nothing [] e q has = (let no : false ≡ true = has in cc)
+          nothing (r ∷ ranks) e q has = (let no : None ≡ Some r = e in cc)
+
+          all : (q : ℕ) → None ≡ slice_get others 0 → is_winner p h (card_of suit q) ≡ true
+          all q first = over-others.over q (λ n k. absurd (nothing others first n k))
 
 -- ---- the ranks of the opponents
 

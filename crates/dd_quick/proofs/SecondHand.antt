@@ -24,12 +24,12 @@ use Rattle.dd_play.proofs.CallerLemmas.{after-code, code-lt, count, count-has, c
 use Rattle.dd_quick.specs.QuickTricks.{RestsOnTrumps, beats, is_unbeaten, is_winner, joint_trumps, length_at, run, trumps_at, unbeaten}
 use Rattle.dd_quick.specs.SecondHand.{IsBeforeLead, unled}
 use Rattle.dd_quick.proofs.Claims.{IsSure}
-use Rattle.dd_quick.proofs.Cashing.{AllLetCash, HasCards, IsLater, IsMaster, LetsCash, cashed-all, hand_on, is_plain, less, lets-lead, no_cards, one_card, one-total, same-trump, sure_of, total, total-less}
+use Rattle.dd_quick.proofs.Cashing.{AllLetCash, Aims, HasCards, IsLater, IsMaster, LetsCash, cashed-all, hand_on, is_plain, less, lets-lead, no_cards, one_card, one-total, same-trump, sure_of, total, total-less}
 use Rattle.dd_quick.proofs.Hands.{IsOpposed, no-higher}
 use Rattle.dd_quick.proofs.LeadBack.{answered, board-back, cover-back, led-back}
 use Rattle.dd_quick.proofs.Plays.{count-where}
-use Rattle.dd_quick.proofs.TakenTrick.{IsMidway, nobody, one-three, three-one, trick-taken}
-use Rattle.dd_quick.proofs.Sound.{CanTake, can-let, joint-later, joint-on, own-side, partners-side, plain-left}
+use Rattle.dd_quick.proofs.TakenTrick.{IsMidway, LetsWin, lets-cash, lets-win, nobody, one-three, three-one, trick-taken}
+use Rattle.dd_quick.proofs.Sound.{CanTake, can-let, joint-later, joint-on, keeping_trumps, leaders_aims, own-side, partners-side, plain-left}
 use Rattle.dd_quick.proofs.Covered.{IsJoint, RestsOnTops, can-covered, left-same, length-same, run-covered, some-card, trumps-same}
 
 -- ---- what h could cash before the lead
@@ -107,16 +107,17 @@ second-takes p c h i n k valid led opposed at can some =
     lost : (test : PlayingCard → Bool) → count test (without (cards_at o h) m) + flag_of (test m) ≡ count test (cards_at o h)
     lost test = count-lost test o h m valid_o own
 
-    start : (j : ℕ) → 1 ≤ j → j < 4 → LetsCash p.strain sure (less n m) (one_card m) j (without (cards_at o h) m) (hand_on o j)
-    start j l b = lets-lead p.strain sure n j (cards_at o h) (without (cards_at o h) m) (hand_on o j) m (can-let o n k valid_o refl can j l b) some_m (λ u. lost (λ d. is_of u d && sure d)) (inl winner)
+    start : (j : ℕ) → 1 ≤ j → j < 4 → LetsWin p.strain sure (less n m) (one_card m) j (without (cards_at o h) m) (hand_on o j)
+    start j l b = lets-win p.strain sure (cards_at o h) (less n m) (one_card m) j (without (cards_at o h) m) (hand_on o j)
+        (lets-lead p.strain (leaders_aims o) n j (cards_at o h) (without (cards_at o h) m) (hand_on o j) m (can-let o n k valid_o refl can j l b) some_m (λ u. lost (λ d. is_of u d && sure d)) (inl winner))
 
     next : (q : Board) → IsMidway p.strain o sure (less n m) m (without (cards_at o h) m) (without (cards_at o h) m) nobody q → q.trick ≡ [] → q.first ≡ h → total (less n m) + k ≤ won (side_of h) q
-    next q now empty first = cashed-all (total (less n m)) k p.strain o sure (less n m) (side_of h) q (joint-on o n k valid_o can) masters refl empty later cards lets
+    next q now empty first = cashed-all (total (less n m)) k p.strain o (leaders_aims o) (less n m) (side_of h) q (λ r x over still left none. joint-on o n k valid_o can r over still) masters refl empty later cards lets
       where
         hand : cards_at q q.first ≡ without (cards_at o h) m
         hand = ap (cards_at q) first ∙ now.mine
 
-        later : IsLater p.strain o (side_of h) q
+        later : IsLater p.strain (leaders_aims o) o (side_of h) q
         later = record {
           valid = now.valid;
           same = now.same;
@@ -125,17 +126,20 @@ second-takes p c h i n k valid led opposed at can some =
           part = now.part;
           mine = λ test only. (let t = lost test in let z : flag_of (test m) ≡ 0 = ap flag_of (only m plain_m) in let e : count test (cards_at q q.first) ≡ count test (without (cards_at o h) m) = ap (count test) hand in omega (arith, t, z, e));
           partners = λ test only. ap (λ x. count test (cards_at q (seat_after x 2))) first ∙ now.partners plain_m test only;
+          trumps = λ d e. e;
         }
 
-        cards : HasCards p.strain (less n m) q
+        cards : HasCards p.strain (leaders_aims o) (less n m) q
         cards = record {
+          tops = λ u. (let t = lost (λ d. is_of u d && sure d) in let e : sure_of sure u (cards_at q q.first) ≡ sure_of sure u (without (cards_at o h) m) = ap (sure_of sure u) hand in omega (arith, t, e));
           held = λ u. (let t = lost (is_of u) in let e : count_of u (cards_at q q.first) ≡ count_of u (without (cards_at o h) m) = ap (count_of u) hand in let b = can.held u in omega (arith, t, e, b));
           plain = λ u d some e. same-trump p.strain d (card_of u 0) e ∙ can.plain u (omega (arith, some));
         }
 
-        lets : AllLetCash p.strain sure (less n m) q
-        lets j l b = subst (λ x. LetsCash p.strain sure (less n m) no_cards j (cards_at q x) (cards_at q (seat_after x j))) (sym first)
-            (subst (λ own. LetsCash p.strain sure (less n m) no_cards j own (cards_at q (seat_after h j))) (sym now.mine) (now.lets j l b))
+        lets : AllLetCash p.strain (leaders_aims o) (less n m) q
+        lets j l b = subst (λ x. LetsCash p.strain (leaders_aims o) (less n m) no_cards j (cards_at q x) (cards_at q (seat_after x j))) (sym first)
+            (lets-cash p.strain sure (cards_at o h) (less n m) j (cards_at q h) (cards_at q (seat_after h j)) (λ u some. can.plain u (omega (arith, some)))
+            (subst (λ own. LetsWin p.strain sure (less n m) no_cards j own (cards_at q (seat_after h j))) (sym now.mine) (now.lets j l b)))
 
 -- so it is a claim by the cards on which that rests
 pub second-by : (top : PlayingCard → Bool) (p : Board) (c : PlayingCard) (h : Seat) (i : ℕ) (n : Suit → ℕ) (m : ℕ) → p.trick ≡ c ∷ [] → IsOpposed i → h ≡ seat_after p.first i → (IsBoard (unled p c h) → CanTake (unled p c h) n m) → 1 ≤ n c.suit
@@ -194,7 +198,7 @@ module _ (p : Board) (c : PlayingCard) (h : Seat) (i : ℕ) (n : Suit → ℕ) (
         go (Trump t) e = ap (λ u. count_of u cards) (sym (suit-of t m e))
         go Notrump e = absurd (cc)
 
-    start : (j : ℕ) → 1 ≤ j → j < 4 → LetsCash p.strain sure_trump n (one_card m) j (without (cards_at before h) m) (hand_on before j)
+    start : (j : ℕ) → 1 ≤ j → j < 4 → LetsWin p.strain sure_trump n (one_card m) j (without (cards_at before h) m) (hand_on before j)
     start j l b = record {
       yields = λ u. yields u (is_of u m) refl;
       follows = λ other. elim (lets.follows other) [
@@ -205,7 +209,7 @@ module _ (p : Board) (c : PlayingCard) (h : Seat) (i : ℕ) (n : Suit → ℕ) (
           (let one = one-total m in let all = plain-left before (total n + 1) valid_before refl spare in omega (arith, one, all));
     }
       where
-        lets : LetsCash p.strain sure_trump n no_cards j (cards_at before h) (hand_on before j)
+        lets : LetsCash p.strain (leaders_aims before) n no_cards j (cards_at before h) (hand_on before j)
         lets = can-let before n 0 valid_before refl can j l b
 
         yields : (u : Suit) (x : Bool) → is_of u m ≡ x → min (one_card m u + n u) (count_of u (hand_on before j)) ≤ one_card m u + sure_of sure_trump u (without (cards_at before h) m)
@@ -227,28 +231,32 @@ module _ (p : Board) (c : PlayingCard) (h : Seat) (i : ℕ) (n : Suit → ℕ) (
         follows each some u false e = (let one : one_card m u ≡ 0 = ap flag_of e in let y = each u in omega (arith, one, y))
 
     next : (q : Board) → IsMidway p.strain before sure_trump n m (without (cards_at before h) m) (without (cards_at before h) m) nobody q → q.trick ≡ [] → q.first ≡ h → total n + (k - 1) ≤ won (side_of h) q
-    next q now empty first = cashed-all (total n) (k - 1) p.strain q sure_trump n (side_of h) q rest tops refl empty later cards lets
+    next q now empty first = cashed-all (total n) (k - 1) p.strain q aims n (side_of h) q (λ r x over still left none. rest r over still) tops refl empty later cards lets
       where
         hand : cards_at q q.first ≡ without (cards_at before h) m
         hand = ap (cards_at q) first ∙ now.mine
 
-        later : IsLater p.strain q (side_of h) q
-        later = record { valid = now.valid; same = now.same; ours = ap (is_side (side_of h)) first ∙ own-side h; first = refl; part = λ x d has. has; mine = λ test only. refl; partners = λ test only. refl }
+        aims : Aims
+        aims = keeping_trumps p.strain sure_trump (cards_at q q.first)
+
+        later : IsLater p.strain aims q (side_of h) q
+        later = record { trumps = λ d e. e; valid = now.valid; same = now.same; ours = ap (is_side (side_of h)) first ∙ own-side h; first = refl; part = λ x d has. has; mine = λ test only. refl; partners = λ test only. refl }
 
         tops : (d : PlayingCard) → has_card (cards_at q q.first) d ≡ true → sure_trump d ≡ true → IsMaster q d
         tops d mine wins x e away his suits =
             masters d (now.part h d (ap (λ y. has_card (cards_at q y) d) (sym first) ∙ mine)) wins x e (λ z. away (z ∙ sym (ap seat_code first))) (now.part x e his) suits
 
-        cards : HasCards p.strain n q
-        cards = record { held = λ u. held u (is_of u m) refl; plain = λ u d some e. same-trump p.strain d (card_of u 0) e ∙ can.plain u some }
+        cards : HasCards p.strain aims n q
+        cards = record { tops = λ u. omega arith; held = λ u. (let x = held u (is_of u m) refl in omega (arith, x)); plain = λ u d some e. same-trump p.strain d (card_of u 0) e ∙ can.plain u some }
           where
             held : (u : Suit) (x : Bool) → is_of u m ≡ x → n u ≤ count_of u (cards_at q q.first)
             held u true e = (let z = none-cashed u e in omega (arith, z))
             held u false e = (let t = lost (is_of u) in let z : flag_of (is_of u m) ≡ 0 = ap flag_of e in let y : count_of u (cards_at q q.first) ≡ count_of u (without (cards_at before h) m) = ap (count_of u) hand in let b = can.held u in omega (arith, t, z, y, b))
 
-        lets : AllLetCash p.strain sure_trump n q
-        lets j l b = subst (λ x. LetsCash p.strain sure_trump n no_cards j (cards_at q x) (cards_at q (seat_after x j))) (sym first)
-            (subst (λ mine. LetsCash p.strain sure_trump n no_cards j mine (cards_at q (seat_after h j))) (sym now.mine) (now.lets j l b))
+        lets : AllLetCash p.strain aims n q
+        lets j l b = subst (λ x. LetsCash p.strain aims n no_cards j (cards_at q x) (cards_at q (seat_after x j))) (sym first)
+            (lets-cash p.strain sure_trump (cards_at q q.first) n j (cards_at q h) (cards_at q (seat_after h j)) can.plain
+            (subst (λ mine. LetsWin p.strain sure_trump n no_cards j mine (cards_at q (seat_after h j))) (sym now.mine) (now.lets j l b)))
 
         -- its other winners among the trumps are beaten by no opponent later
         unbeaten-on : k - 1 ≤ unbeaten q h c.suit
@@ -279,7 +287,7 @@ module _ (p : Board) (c : PlayingCard) (h : Seat) (i : ℕ) (n : Suit → ℕ) (
             omega (arith, free, long)
         joint Notrump e = absurd (cc)
 
-        rest : (r : Board) → r.trick ≡ [] → IsLater p.strain q (side_of h) r → k - 1 ≤ won (side_of h) r
+        rest : (r : Board) → r.trick ≡ [] → IsLater p.strain aims q (side_of h) r → k - 1 ≤ won (side_of h) r
         rest r over still =
             joint-later p.strain q r h (side_of h) (k - 1) now.valid still.valid still.same over (own-side h) (partners-side h) (joint p.strain trump) still.part
             (λ test only. ap (λ x. count test (cards_at r x)) (sym (still.first ∙ first)) ∙ still.mine test only ∙ ap (λ x. count test (cards_at q x)) first)

@@ -1,6 +1,7 @@
 -- the quick tricks of a side are no more than the tricks that it takes
 use Rattle.std.proofs.Common.{◌≡◌, ◌≢◌, ℕ, zero, suc, ◌+◌, ◌<◌, ◌≤◌, Bool, true, false, refl, sym, ap, ◌∙◌, subst, arith, List, [], ◌∷◌, ◌++◌, length, length-append, inl, inr, min}
 use Rattle.std.specs.Prelude.{filter, nat_le, nat_lt, ◌&&◌, ◌⊎◌}
+use mathlib.Core.Bool.{not}
 use mathlib.Core.Path.{ap₂}
 use Rattle.std.proofs.lemmas.Bool.{leb-true, le-leb, cases_lt}
 use Rattle.dd_cards.specs.declared.seat.Seat.{Seat}
@@ -16,6 +17,7 @@ use Rattle.dd_cards.specs.Sides.{side_of, other_side, is_side}
 use Rattle.dd_cards.specs.declared.side.Side.{Side}
 use Rattle.dd_play.specs.Board.{Board, IsBoard, cards_at, left}
 use Rattle.dd_play.specs.Tricks.{is_trump}
+use Rattle.dd_play.specs.Covers.{count_of}
 use Rattle.dd_play.specs.Won.{won}
 use Rattle.dd_play.proofs.CallerLemmas.{after-code, card-real, code-lt, count, filter-has, filter-passes, flag_of, has-first, in-rest, suit-of}
 use Rattle.dd_quick.specs.QuickTricks.{is_winner, is_unbeaten, run, length_at, unbeaten, trumps_at, joint_trumps}
@@ -23,7 +25,7 @@ use Rattle.dd_quick.proofs.Hands.{IsOpposed, no-higher, none-over}
 use Rattle.dd_quick.proofs.Plays.{count-where}
 use Rattle.dd_quick.proofs.JointPlans.{is_top, trumps-plain}
 use Rattle.dd_quick.proofs.JointTrumps.{joint-taken, place-of}
-use Rattle.dd_quick.proofs.Cashing.{AllLetCash, IsLater, OnlyTrumps, cashed-all, hand_on, is_plain, no_cards, same-trump, total}
+use Rattle.dd_quick.proofs.Cashing.{Aims, AllLetCash, IsLater, OnlyTrumps, cashed-all, hand_on, is_plain, no_cards, same-trump, spare_of, sure_of, total}
 
 -- ---- two lists
 
@@ -234,7 +236,7 @@ pub record CanTake (p : Board) (n : Suit → ℕ) (k : ℕ) : Type 0 where
   pub joint : k ≤ joint_trumps p.strain p p.first
 
 -- a seat's trumps by the test of a trump
-trumps-count : (strain : Strain) (p : Board) (x : Seat) → count (is_trump strain) (cards_at p x) ≡ trumps_at strain p x
+pub trumps-count : (strain : Strain) (p : Board) (x : Seat) → count (is_trump strain) (cards_at p x) ≡ trumps_at strain p x
 trumps-count (Trump t) p x = refl
 trumps-count Notrump p x = none (cards_at p x)
   where
@@ -251,14 +253,33 @@ plain-left p x valid start few =
     let flag : flag_of (nat_lt 2 (length p.trick)) ≡ 0 = ap (λ trick. flag_of (nat_lt 2 (length trick))) start in
     omega (arith, all, trumps, even, flag, few)
 
+-- these cards of the leader's are sure, and the partner keeps its trumps
+abbrev pub keeping_trumps : Strain → (PlayingCard → Bool) → List PlayingCard → Aims
+keeping_trumps strain sure own = record { sure = sure; kept = is_trump strain; low = no_cards; over = λ u. sure_of sure u own }
+
+-- so the winners of the leader at this position
+abbrev pub leaders_aims : Board → Aims
+leaders_aims p = keeping_trumps p.strain (is_winner p p.first) (cards_at p p.first)
+
+-- of side suits a hand may spare all cards where it keeps its trumps
+pub side-spared : (strain : Strain) (n : Suit → ℕ) (hand : List PlayingCard) → ((u : Suit) → 1 ≤ n u → is_trump strain (card_of u 0) ≡ false) → (u : Suit) → min (no_cards u + n u) (count_of u hand) ≤ spare_of (is_trump strain) u hand
+side-spared strain n hand plain u = elim (cases_lt 0 (n u)) [
+  | inl some ↦ (
+      let all : count_of u hand ≤ spare_of (is_trump strain) u hand = count-where (is_of u) (λ c. is_of u c && not (is_trump strain c)) hand
+      (λ c has of_u. ap₂ (λ a b. a && not b) of_u (same-trump strain c (card_of u 0) (suit-of u c of_u) ∙ plain u some)) in
+      omega (arith, all))
+  | inr none ↦ omega (arith, none)
+]
+
 -- so each hand that does not lead lets these cards be cashed
-pub can-let : (p : Board) (n : Suit → ℕ) (k : ℕ) → IsBoard p → p.trick ≡ [] → CanTake p n k → AllLetCash p.strain (is_winner p p.first) n p
+pub can-let : (p : Board) (n : Suit → ℕ) (k : ℕ) → IsBoard p → p.trick ≡ [] → CanTake p n k → AllLetCash p.strain (leaders_aims p) n p
 can-let p n k valid start can i l m = record {
   yields = λ u. (let y = can.yields u i l m in omega (arith, y));
   follows = λ other. elim (can.follows i (opponent i l m other)) [
     | inl none ↦ inl (trumps-count p.strain p (seat_after p.first i) ∙ none)
     | inr each ↦ inr (λ u. (let y = each u in omega (arith, y)))
   ];
+  spares = λ two. side-spared p.strain n (hand_on p i) can.plain;
   throws = λ two. subst (λ j. total no_cards + total n ≤ count (is_plain p.strain) (hand_on p j)) (sym two) (let k = plain-left p (total n) valid start can.throws in omega (arith, k));
 }
   where
@@ -270,7 +291,7 @@ can-let p n k valid start can i l m = record {
     opponent (suc (suc (suc (suc i)))) l k other = absurd (omega (arith, k))
 
 -- later, where it has lost no trumps, its side still takes its joint trumps
-pub joint-on : (p : Board) (n : Suit → ℕ) (k : ℕ) → IsBoard p → CanTake p n k → (q : Board) → q.trick ≡ [] → IsLater p.strain p (side_of p.first) q → k ≤ won (side_of p.first) q
+pub joint-on : (p : Board) (n : Suit → ℕ) (k : ℕ) → IsBoard p → CanTake p n k → (q : Board) → q.trick ≡ [] → IsLater p.strain (leaders_aims p) p (side_of p.first) q → k ≤ won (side_of p.first) q
 joint-on p n k valid can q empty later =
     joint-later p.strain p q p.first (side_of p.first) k valid later.valid later.same empty (own-side p.first) (partners-side p.first) can.joint later.part
     (λ test only. ap (λ x. count test (cards_at q x)) (sym later.first) ∙ later.mine test only)
@@ -279,6 +300,6 @@ joint-on p n k valid can q empty later =
 -- then it takes so many tricks
 pub can-take : (p : Board) (n : Suit → ℕ) (k : ℕ) → IsBoard p → p.trick ≡ [] → CanTake p n k → total n + k ≤ won (side_of p.first) p
 can-take p n k valid start can =
-    cashed-all (total n) k p.strain p (is_winner p p.first) n (side_of p.first) p (joint-on p n k valid can) (λ c own winner x e away his suits. no-higher p valid p.first x c e away winner own his suits) refl start
-    (record { valid = valid; same = refl; ours = own-side p.first; first = refl; part = λ x c h. h; mine = λ test only. refl; partners = λ test only. refl })
-    (record { held = can.held; plain = λ u c some e. same-trump p.strain c (card_of u 0) e ∙ can.plain u some }) (can-let p n k valid start can)
+    cashed-all (total n) k p.strain p (leaders_aims p) n (side_of p.first) p (λ q r empty later cards none. joint-on p n k valid can q empty later) (λ c own winner x e away his suits. no-higher p valid p.first x c e away winner own his suits) refl start
+    (record { valid = valid; same = refl; ours = own-side p.first; first = refl; part = λ x c h. h; mine = λ test only. refl; partners = λ test only. refl; trumps = λ c e. e })
+    (record { held = λ u. (let h = can.held u in omega (arith, h)); tops = λ u. omega arith; plain = λ u c some e. same-trump p.strain c (card_of u 0) e ∙ can.plain u some }) (can-let p n k valid start can)

@@ -1,7 +1,7 @@
 -- A trick that second or fourth hand wins. A card of a suit is led whose highest card an opponent h of the leader holds: h wins
 -- the trick with that card whatever comes, and has the lead; the other hands have followed as they would have to its lead.
 use Rattle.std.proofs.Common.{◌≡◌, ◌≢◌, ℕ, zero, suc, ◌+◌, ◌<◌, ◌≤◌, Bool, true, false, refl, sym, ap, ◌∙◌, subst, arith, List, [], ◌∷◌, ◌++◌, length, inl, inr}
-use Rattle.std.specs.Prelude.{filter, nat_le, nat_lt, ◌&&◌, ◌==◌, ◌⊎◌}
+use Rattle.std.specs.Prelude.{filter, min, nat_le, nat_lt, ◌&&◌, ◌==◌, ◌⊎◌}
 use Rattle.std.specs.List.{list_all, position_or_len}
 use mathlib.Core.Bool.{not}
 use mathlib.Core.Path.{ap₂}
@@ -13,7 +13,7 @@ use Rattle.dd_cards.specs.declared.suit.Suit.{Suit}
 use Rattle.dd_cards.specs.declared.strain.Strain.{Strain}
 use Rattle.dd_cards.specs.declared.strain.Strain.TheVariants.{Trump, Notrump}
 use Rattle.dd_cards.specs.PlayingCard.{PlayingCard}
-use Rattle.dd_cards.specs.Cards.{is_of, same_card, has_card, without}
+use Rattle.dd_cards.specs.Cards.{card_of, is_of, same_card, has_card, without}
 use Rattle.dd_cards.specs.Seats.{seat_code, seat_after}
 use Rattle.dd_cards.specs.Sides.{side_of, is_side}
 use Rattle.dd_cards.proofs.CallerLemmas.{and-left, and-right, else-false, not-true, passes, same_card-eq}
@@ -25,11 +25,11 @@ use Rattle.dd_play.specs.Covers.{count_of}
 use Rattle.dd_play.specs.Won.{point, won}
 use Rattle.dd_play.proofs.CallerLemmas.{Obeys, after-code, can, code-lt, count, count-has, count-some, filter-has, filter-passes, flag_of, hand-others, hand-own, has-first, in-push, in-rest, legal-in, legal-leads, legal-out, of-suit', own-card, strain-after, suit-of, trick-after, trick-closed, was-in, won_with}
 use Rattle.dd_quick.specs.SecondHand.{unled}
-use Rattle.dd_quick.proofs.Cashing.{FollowsSuit, IsMaster, LetsCash, OnlyTrumps, hand_on, is_plain, no_cards, no-trump, none-higher, one_card, one-total, played-on, same-trump}
+use Rattle.dd_quick.proofs.Cashing.{FollowsSuit, IsMaster, LetsCash, OnlyTrumps, follows-on, hand_on, is_plain, no_cards, no-trump, none-higher, one_card, one-total, same-trump, sure_of, total, yields-on}
 use Rattle.dd_quick.proofs.Hands.{IsOpposed}
 use Rattle.dd_quick.proofs.LeadBack.{count-back, is-back, leaders-back, led-back, others-back}
 use Rattle.dd_quick.proofs.Plays.{count-own, whoever}
-use Rattle.dd_quick.proofs.Sound.{own-side, partners-side}
+use Rattle.dd_quick.proofs.Sound.{keeping_trumps, own-side, partners-side, side-spared}
 
 -- ---- the card that wins the trick
 
@@ -111,6 +111,40 @@ wins-at strain m c before behind suit low later = first-at (is_highest_of (decid
 
 -- ---- the trick
 
+-- The hand that is i places after h lets n cards of each suit be cashed, and e more that are led first, where its partner
+-- keeps its trumps: as `LetsCash`, but a trump that is led asks for no card that the partner may spare of its suit.
+pub record LetsWin (strain : Strain) (sure : PlayingCard → Bool) (n e : Suit → ℕ) (i : ℕ) (own his : List PlayingCard) : Type 0 where
+  pub yields : (u : Suit) → min (e u + n u) (count_of u his) ≤ e u + sure_of sure u own
+  pub follows : i ≢ 2 → (count (is_trump strain) his ≡ 0) ⊎ ((u : Suit) → e u + n u ≤ count_of u his)
+  pub throws : i ≡ 2 → total e + total n ≤ count (is_plain strain) his
+
+-- a hand that lets cards be cashed does so
+pub lets-win : (strain : Strain) (sure : PlayingCard → Bool) (all : List PlayingCard) (n e : Suit → ℕ) (i : ℕ) (own his : List PlayingCard) → LetsCash strain (keeping_trumps strain sure all) n e i own his → LetsWin strain sure n e i own his
+lets-win strain sure all n e i own his lets = record { yields = lets.yields; follows = lets.follows; throws = lets.throws }
+
+-- and the other way round where none is led first
+pub lets-cash : (strain : Strain) (sure : PlayingCard → Bool) (all : List PlayingCard) (n : Suit → ℕ) (i : ℕ) (own his : List PlayingCard) → ((u : Suit) → 1 ≤ n u → is_trump strain (card_of u 0) ≡ false)
+    → LetsWin strain sure n no_cards i own his → LetsCash strain (keeping_trumps strain sure all) n no_cards i own his
+lets-cash strain sure all n i own his plain lets = record { yields = lets.yields; follows = lets.follows; spares = λ two. side-spared strain n his plain; throws = lets.throws }
+
+-- a hand that plays a card c to such a lead lets the others be cashed
+played-too : (strain : Strain) (sure : PlayingCard → Bool) (n : Suit → ℕ) (i : ℕ) (own his rest : List PlayingCard) (m c : PlayingCard) → LetsWin strain sure n (one_card m) i own his → ((test : PlayingCard → Bool) → count test rest + flag_of (test c) ≡ count test his) → FollowsSuit m his c
+    → LetsWin strain sure n no_cards i own rest
+played-too strain sure n i own his rest m c lets taken suits = record {
+  yields = yields-on strain sure n i own his rest m c taken suits lets.yields;
+  follows = follows-on strain sure n i own his rest m c taken suits lets.follows;
+  throws = λ two. (
+      let before = lets.throws two in
+      let one = one-total m in
+      let most : flag_of (is_plain strain c) ≤ 1 = flag-one (is_plain strain c) in
+      let t = taken (is_plain strain) in
+      omega (arith, before, one, most, t));
+}
+  where
+    flag-one : (b : Bool) → flag_of b ≤ 1
+    flag-one true = omega arith
+    flag-one false = omega arith
+
 -- the cards that are led first at a hand that waits to play to the trick
 abbrev pub waiting : Bool → PlayingCard → Suit → ℕ
 waiting true m = one_card m
@@ -125,7 +159,7 @@ pub record IsMidway (strain : Strain) (o : Board) (sure : PlayingCard → Bool) 
   pub part : (x : Seat) (d : PlayingCard) → has_card (cards_at p x) d ≡ true → has_card (cards_at o x) d ≡ true
   pub mine : cards_at p o.first ≡ own
   pub partners : is_trump strain m ≡ false → (test : PlayingCard → Bool) → OnlyTrumps strain test → count test (cards_at p (seat_after o.first 2)) ≡ count test (hand_on o 2)
-  pub lets : (i : ℕ) → 1 ≤ i → i < 4 → LetsCash strain sure n (waiting (waits i) m) i kept (cards_at p (seat_after o.first i))
+  pub lets : (i : ℕ) → 1 ≤ i → i < 4 → LetsWin strain sure n (waiting (waits i) m) i kept (cards_at p (seat_after o.first i))
 
 -- all but one of those that waited
 abbrev pub but : ℕ → (ℕ → Bool) → ℕ → Bool
@@ -142,8 +176,8 @@ module _ (strain : Strain) (o : Board) (sure : PlayingCard → Bool) (n : Suit �
   hand = cards_at p (seat_after o.first i)
 
   -- it lets the cards be cashed after m
-  lets-now : LetsCash strain sure n (one_card m) i kept hand
-  lets-now = subst (λ b. LetsCash strain sure n (waiting b m) i kept hand) wait (now.lets i low high)
+  lets-now : LetsWin strain sure n (one_card m) i kept hand
+  lets-now = subst (λ b. LetsWin strain sure n (waiting b m) i kept hand) wait (now.lets i low high)
 
   -- the card is one of its own
   own-played : has_card hand d ≡ true
@@ -186,12 +220,12 @@ module _ (strain : Strain) (o : Board) (sure : PlayingCard → Bool) (n : Suit �
   two-places : (j : ℕ) → j < 4 → j ≢ i → seat_code (seat_after o.first j) ≢ seat_code (seat_after o.first i)
   two-places j l differs = (let a = after-code o.first i in let b = after-code o.first j in let c = code-lt o.first in λ e. omega (arith, a, b, c, e, l, high, differs))
 
-  lets-after : (j : ℕ) → 1 ≤ j → j < 4 → LetsCash strain sure n (waiting (but i waits j) m) j kept (cards_at (after p d) (seat_after o.first j))
+  lets-after : (j : ℕ) → 1 ≤ j → j < 4 → LetsWin strain sure n (waiting (but i waits j) m) j kept (cards_at (after p d) (seat_after o.first j))
   lets-after j l k = elim (eqb_tells j i) [
-    | inl r ↦ subst (λ b. LetsCash strain sure n (waiting b m) j kept (cards_at (after p d) (seat_after o.first j))) (sym (ap₂ (λ a b. a && not b) (ap waits r.1 ∙ wait) r.0))
-        (subst (λ y. LetsCash strain sure n no_cards y kept (cards_at (after p d) (seat_after o.first y))) (sym r.1) (played-on strain sure n i kept hand (cards_at (after p d) (seat_after o.first i)) m d lets-now taken suited))
-    | inr r ↦ subst (λ b. LetsCash strain sure n (waiting b m) j kept (cards_at (after p d) (seat_after o.first j))) (sym (ap (λ b. waits j && not b) r.0 ∙ and-yes (waits j)))
-        (subst (λ cards. LetsCash strain sure n (waiting (waits j) m) j kept cards) (sym (stays (seat_after o.first j) (two-places j k r.1))) (now.lets j l k))
+    | inl r ↦ subst (λ b. LetsWin strain sure n (waiting b m) j kept (cards_at (after p d) (seat_after o.first j))) (sym (ap₂ (λ a b. a && not b) (ap waits r.1 ∙ wait) r.0))
+        (subst (λ y. LetsWin strain sure n no_cards y kept (cards_at (after p d) (seat_after o.first y))) (sym r.1) (played-too strain sure n i kept hand (cards_at (after p d) (seat_after o.first i)) m d lets-now taken suited))
+    | inr r ↦ subst (λ b. LetsWin strain sure n (waiting b m) j kept (cards_at (after p d) (seat_after o.first j))) (sym (ap (λ b. waits j && not b) r.0 ∙ and-yes (waits j)))
+        (subst (λ cards. LetsWin strain sure n (waiting (waits j) m) j kept cards) (sym (stays (seat_after o.first j) (two-places j k r.1))) (now.lets j l k))
   ]
     where
       and-yes : (b : Bool) → (b && true) ≡ b
@@ -231,7 +265,7 @@ takes-over strain o sure n m kept own waits p now turn has = record {
   part = λ x e h. now.part x e (was-in p m now.valid x e h);
   mine = ap (cards_at (after p m)) (sym turn) ∙ hand-own p m now.valid ∙ ap (λ cards. without cards m) (ap (cards_at p) turn ∙ now.mine);
   partners = λ none test only. ap (count test) (stays 2 (omega arith) (omega arith)) ∙ now.partners none test only;
-  lets = λ j l k. subst (λ cards. LetsCash strain sure n (waiting (waits j) m) j kept cards) (sym (stays j l k)) (now.lets j l k);
+  lets = λ j l k. subst (λ cards. LetsWin strain sure n (waiting (waits j) m) j kept cards) (sym (stays j l k)) (now.lets j l k);
 }
   where
     stays : (j : ℕ) → 1 ≤ j → j < 4 → cards_at (after p m) (seat_after o.first j) ≡ cards_at p (seat_after o.first j)
@@ -276,7 +310,7 @@ all-played strain o sure n m kept own waits q none now = record {
   part = now.part;
   mine = now.mine;
   partners = now.partners;
-  lets = λ i l k. subst (λ b. LetsCash strain sure n (waiting b m) i kept (cards_at q (seat_after o.first i))) (none i l k) (now.lets i l k);
+  lets = λ i l k. subst (λ b. LetsWin strain sure n (waiting b m) i kept (cards_at q (seat_after o.first i))) (none i l k) (now.lets i l k);
 }
 
 -- a card that follows suit is legal
@@ -313,7 +347,7 @@ three-three West = refl
 -- it; b is what its side takes then.
 module _ (p : Board) (c : PlayingCard) (h : Seat) (sure : PlayingCard → Bool) (n : Suit → ℕ) (m : PlayingCard) (b : ℕ) (valid : IsBoard p) (led : p.trick ≡ c ∷ [])
     (own : has_card (cards_at (unled p c h) h) m ≡ true) (suit : c.suit ≡ m.suit) (master : IsMaster (unled p c h) m)
-    (start : (i : ℕ) → 1 ≤ i → i < 4 → LetsCash p.strain sure n (one_card m) i (without (cards_at (unled p c h) h) m) (hand_on (unled p c h) i))
+    (start : (i : ℕ) → 1 ≤ i → i < 4 → LetsWin p.strain sure n (one_card m) i (without (cards_at (unled p c h) h) m) (hand_on (unled p c h) i))
     (next : (q : Board) → IsMidway p.strain (unled p c h) sure n m (without (cards_at (unled p c h) h) m) (without (cards_at (unled p c h) h) m) nobody q → q.trick ≡ [] → q.first ≡ h → b ≤ won (side_of h) q) where
   abbrev o : Board
   o = unled p c h
@@ -342,12 +376,12 @@ module _ (p : Board) (c : PlayingCard) (h : Seat) (sure : PlayingCard → Bool) 
       taken : (test : PlayingCard → Bool) → count test (cards_at p (seat_after h j)) + flag_of (test c) ≡ count test (hand_on o j)
       taken test = subst (λ x. count test (cards_at p x) + flag_of (test c) ≡ count test (cards_at o x)) at (sym (ap (count test) (leaders-back p c valid led h) ∙ count-back p c valid led test))
 
-      lets : (i : ℕ) → 1 ≤ i → i < 4 → LetsCash p.strain sure n (waiting (but j everybody i) m) i kept (cards_at p (seat_after h i))
+      lets : (i : ℕ) → 1 ≤ i → i < 4 → LetsWin p.strain sure n (waiting (but j everybody i) m) i kept (cards_at p (seat_after h i))
       lets i l k = elim (eqb_tells i j) [
-        | inl r ↦ subst (λ x. LetsCash p.strain sure n (waiting x m) i kept (cards_at p (seat_after h i))) (sym (ap not r.0))
-            (subst (λ y. LetsCash p.strain sure n no_cards y kept (cards_at p (seat_after h y))) (sym r.1) (played-on p.strain sure n j kept (hand_on o j) (cards_at p (seat_after h j)) m c (start j low high) taken (λ some. suit)))
-        | inr r ↦ subst (λ x. LetsCash p.strain sure n (waiting x m) i kept (cards_at p (seat_after h i))) (sym (ap not r.0))
-            (subst (λ cards. LetsCash p.strain sure n (one_card m) i kept cards) (others-back p c valid led h (seat_after h i) (away i k r.1)) (start i l k))
+        | inl r ↦ subst (λ x. LetsWin p.strain sure n (waiting x m) i kept (cards_at p (seat_after h i))) (sym (ap not r.0))
+            (subst (λ y. LetsWin p.strain sure n no_cards y kept (cards_at p (seat_after h y))) (sym r.1) (played-too p.strain sure n j kept (hand_on o j) (cards_at p (seat_after h j)) m c (start j low high) taken (λ some. suit)))
+        | inr r ↦ subst (λ x. LetsWin p.strain sure n (waiting x m) i kept (cards_at p (seat_after h i))) (sym (ap not r.0))
+            (subst (λ cards. LetsWin p.strain sure n (one_card m) i kept cards) (others-back p c valid led h (seat_after h i) (away i k r.1)) (start i l k))
       ]
 
   -- where the last card is played and h wins, its side has one trick more
@@ -359,7 +393,7 @@ module _ (p : Board) (c : PlayingCard) (h : Seat) (sure : PlayingCard → Bool) 
   -- a hand that waits two places after h has a card that is no trump
   some-plain : (own_now : List PlayingCard) (waits : ℕ → Bool) (q : Board) → IsMidway p.strain o sure n m kept own_now waits q → waits 2 ≡ true → 1 ≤ count (is_plain p.strain) (cards_at q (seat_after h 2))
   some-plain own_now waits q now wait =
-      let lets : LetsCash p.strain sure n (one_card m) 2 kept (cards_at q (seat_after h 2)) = subst (λ x. LetsCash p.strain sure n (waiting x m) 2 kept (cards_at q (seat_after h 2))) wait (now.lets 2 (omega arith) (omega arith)) in
+      let lets : LetsWin p.strain sure n (one_card m) 2 kept (cards_at q (seat_after h 2)) = subst (λ x. LetsWin p.strain sure n (waiting x m) 2 kept (cards_at q (seat_after h 2))) wait (now.lets 2 (omega arith) (omega arith)) in
       let many = lets.throws refl in
       let one = one-total m in
       omega (arith, many, one)

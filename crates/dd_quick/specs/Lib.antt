@@ -1,2 +1,3 @@
 pub mod QuickTricks
+pub mod Sharing
 pub mod SecondHand

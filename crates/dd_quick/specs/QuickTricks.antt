@@ -82,11 +82,46 @@ abbrev pub joint_trumps : Strain → Board → Seat → ℕ
 joint_trumps Notrump p seat = 0
 joint_trumps (Trump trump) p seat = min (unbeaten p seat trump + unbeaten p (seat_after seat 2) trump) (max (length_at p seat trump) (length_at p (seat_after seat 2) trump))
 
+-- ---- crossing to the partner
+
+-- does the leader hold a higher card of the suit that is no winner?
+abbrev pub is_under_low : Board → PlayingCard → Bool
+is_under_low p c = list_any (λ d. (is_of c.suit d && nat_lt c.rank d.rank) && not (is_winner p p.first d)) (cards_at p p.first)
+
+-- can no card beat it but a winner of the leader's?
+abbrev pub is_next : Board → PlayingCard → Bool
+is_next p c = is_unbeaten p (seat_after p.first 2) c && not (is_under_low p c)
+
+-- how many cards of the suit the partner holds next below the leader's run
+abbrev pub next_run : Board → Suit → ℕ
+next_run p suit = length (filter (λ c. is_of suit c && is_next p c) (cards_at p (seat_after p.first 2)))
+
+-- What the partner takes in a suit once the leader has cashed its run: it follows suit to that with other cards.
+abbrev pub partners_tricks : Board → Suit → ℕ
+partners_tricks p suit = min (next_run p suit) (length_at p (seat_after p.first 2) suit - run p p.first suit)
+
+-- can the leader cross in the suit: has it a card beside its run to lead to a winner of its partner's?
+abbrev pub is_entry : Board → Suit → Bool
+is_entry p suit = nat_lt 0 (partners_tricks p suit) && nat_lt (run p p.first suit) (length_at p p.first suit)
+
+-- has no hand a trump?
+abbrev pub no_trumps : Board → Bool
+no_trumps p = (trumps_at p.strain p p.first == 0 && trumps_at p.strain p (seat_after p.first 1) == 0)
+    && (trumps_at p.strain p (seat_after p.first 2) == 0 && trumps_at p.strain p (seat_after p.first 3) == 0)
+
+-- Crossing: where no hand has a trump, the leader cashes, then leads to its partner, and the partner cashes its winners, as far
+-- as there are tricks left.
+abbrev pub crossed : Board → ℕ
+crossed p =
+    (if no_trumps p && ((is_entry p Spades || is_entry p Hearts) || (is_entry p Diamonds || is_entry p Clubs))
+    then min (partners_tricks p Spades + partners_tricks p Hearts + partners_tricks p Diamonds + partners_tricks p Clubs) (left p - side_tricks p)
+    else 0)
+
 -- ---- both
 
 -- the side of the leader takes at least this number
 unfoldable pub quick_lo : Board → ℕ
-quick_lo p = side_tricks p + joint_trumps p.strain p p.first
+quick_lo p = side_tricks p + joint_trumps p.strain p p.first + crossed p
 
 -- and no more than this
 unfoldable pub quick_hi : Board → ℕ
@@ -96,11 +131,19 @@ quick_hi p = left p - joint_trumps p.strain p (seat_after p.first 1)
 abbrev pub IsCash : Board → Suit → ℕ → ℕ → Type 0
 IsCash p suit tricks cards = (tricks ≡ cashed p.strain p suit) × (1 ≤ tricks → cards ≡ depth p suit)
 
+-- the tricks that the partner takes in a suit once the leader has crossed, and whether the leader can cross there
+abbrev pub IsNext : Board → Suit → ℕ → Bool → Type 0
+IsNext p suit tricks entry = (tricks ≡ partners_tricks p suit) × (entry ≡ is_entry p suit)
+
 -- ---- the cards on which a claim rests
 
 -- so many of the leader's winners in the suit, as far as its run goes, are reached by these cards
 abbrev pub RestsOn : Board → Suit → List PlayingCard → ℕ → Type 0
 RestsOn p suit cards n = min n (run p p.first suit) ≤ length (filter (λ c. (is_of suit c && is_winner p p.first c) && reach cards c) (cards_at p p.first))
+
+-- so many of the partner's cards next below the leader's run, as far as there are, are reached by these cards
+abbrev pub RestsOnNext : Board → Suit → List PlayingCard → ℕ → Type 0
+RestsOnNext p suit cards n = min n (next_run p suit) ≤ length (filter (λ c. (is_of suit c && is_next p c) && reach cards c) (cards_at p (seat_after p.first 2)))
 
 -- how many of the seat's cards of the suit that no opponent can beat are reached by these cards
 abbrev pub unbeaten_reached : List PlayingCard → Board → Seat → Suit → ℕ

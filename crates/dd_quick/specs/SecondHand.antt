@@ -1,8 +1,6 @@
--- The position before the lead, for what second or fourth hand would take from there, and numbers by suit.
-use Rattle.std.specs.Prelude.{◌≡◌, ◌⊎◌, ℕ, [], ◌∷◌}
+-- The position before the lead, for what second or fourth hand would take from there.
+use Rattle.std.specs.Prelude.{◌≡◌, ◌⊎◌, [], ◌∷◌}
 use Rattle.dd_cards.specs.declared.seat.Seat.{Seat}
-use Rattle.dd_cards.specs.declared.suit.Suit.{Suit}
-use Rattle.dd_cards.specs.declared.suit.Suit.TheVariants.{Spades, Hearts, Diamonds, Clubs}
 use Rattle.dd_cards.specs.PlayingCard.{PlayingCard}
 use Rattle.dd_cards.specs.Cards.{with_card}
 use Rattle.dd_cards.specs.Hands.{with_hand}
@@ -22,10 +20,3 @@ pub record IsBeforeLead (p : Board) (c : PlayingCard) (before : Board) : Type 0 
   pub led : p.trick ≡ c ∷ []
   pub seat : Opposes p before.first
   pub was : before ≡ unled p c before.first
-
--- of four numbers, one for each suit, that of the suit
-abbrev pub shares : ℕ → ℕ → ℕ → ℕ → Suit → ℕ
-shares s h d c Spades = s
-shares s h d c Hearts = h
-shares s h d c Diamonds = d
-shares s h d c Clubs = c

@@ -1,10 +1,12 @@
 //! Quick tricks: bounds of a position's value without search. It takes no memory.
 #![tactic(auto)]
 
+mod crossing;
 mod joint_trumps;
 mod long_suit;
 mod quick_tricks;
 mod second_hand;
+mod sharing;
 mod winners;
 
 pub use quick_tricks::{against_leader, bounds, for_leader};

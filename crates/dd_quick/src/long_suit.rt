@@ -2,13 +2,14 @@
 //! of the suit, nobody has one after them: then the leader's low cards of this long suit take tricks too, and all rest on
 //! no more than these winners. An opponent that has trumps must not ruff, so it has to follow suit to all; the partner has
 //! to have a card that is no trump for each lead. Cards of long suits are counted first, since fewer cards settle more.
-ghost use Rattle.std.specs.Prelude.{◌≡◌, ◌≤◌, ◌+◌, [], true, min, nat_lt, if◌then◌else◌};
+ghost use Rattle.std.specs.Prelude.{◌≡◌, ◌≤◌, [], true, min};
 ghost use Rattle.dd_cards.specs.declared.strain.Strain.TheVariants.{Trump};
 ghost use Rattle.dd_cards.specs.declared.suit.Suit.TheVariants.{Spades, Hearts, Diamonds, Clubs};
 ghost use Rattle.dd_cards.specs.PlayingCard.{PlayingCard};
 ghost use Rattle.dd_cards.specs.Cards.{has_card};
 ghost use Rattle.dd_quick.specs.QuickTricks.{IsCash, RestsOn, depth, suit_tricks, unruffed};
 
+use crate::sharing::{Offer, Offers, Shares};
 use crate::winners::{length, run, with_highest};
 use dd_cards::{Hand, Seat, Strain, Suit};
 use dd_play::Position;
@@ -27,15 +28,6 @@ pub(crate) struct Cashes {
     pub(crate) hearts: Cash,
     pub(crate) diamonds: Cash,
     pub(crate) clubs: Cash,
-}
-
-/// A number of tricks in each suit.
-#[derive(Clone, Copy)]
-pub(crate) struct Shares {
-    pub(crate) spades: u8,
-    pub(crate) hearts: u8,
-    pub(crate) diamonds: u8,
-    pub(crate) clubs: u8,
 }
 
 /// What the leader cashes in each suit.
@@ -118,61 +110,54 @@ fn unruffed(position: &Position, seat: Seat, trump: Suit, suit: Suit, leads: u8)
     }
 }
 
-/// So many of these tricks, of long suits first.
-pub(crate) fn share_out(cashed: Cashes, need: u8) -> Shares
-    ensures spades { result.spades ≤ cashed.spades.tricks }
-    ensures hearts { result.hearts ≤ cashed.hearts.tricks }
-    ensures diamonds { result.diamonds ≤ cashed.diamonds.tricks }
-    ensures clubs { result.clubs ≤ cashed.clubs.tricks }
-    ensures sum { result.spades + result.hearts + result.diamonds + result.clubs
-        ≡ min need (cashed.spades.tricks + cashed.hearts.tricks + cashed.diamonds.tricks
-        + cashed.clubs.tricks) }
+/// The tricks of each suit, those of long suits first.
+pub(crate) fn offers(cashed: Cashes) -> Offers
+    ensures spades { result.spades.tricks ≡ cashed.spades.tricks }
+    ensures hearts { result.hearts.tricks ≡ cashed.hearts.tricks }
+    ensures diamonds { result.diamonds.tricks ≡ cashed.diamonds.tricks }
+    ensures clubs { result.clubs.tricks ≡ cashed.clubs.tricks }
 {
-    let a = long_share(cashed.spades, need);
-    let left = need - a;
-    let b = long_share(cashed.hearts, left);
-    let left = left - b;
-    let c = long_share(cashed.diamonds, left);
-    let left = left - c;
-    let d = long_share(cashed.clubs, left);
-    let left = left - d;
-    let e = other_share(cashed.spades, left);
-    let left = left - e;
-    let f = other_share(cashed.hearts, left);
-    let left = left - f;
-    let g = other_share(cashed.diamonds, left);
-    let left = left - g;
-    let h = other_share(cashed.clubs, left);
-    Shares {
-        spades: a + e,
-        hearts: b + f,
-        diamonds: c + g,
-        clubs: d + h,
+    Offers {
+        spades: offer(cashed.spades),
+        hearts: offer(cashed.hearts),
+        diamonds: offer(cashed.diamonds),
+        clubs: offer(cashed.clubs),
     }
 }
 
-// Of this suit, where it is a long one.
+// The tricks of this suit.
 #[inline]
-fn long_share(cash: Cash, need: u8) -> u8
-    ensures { result ≡ (if nat_lt cash.depth cash.tricks then min cash.tricks need else 0) }
+fn offer(cash: Cash) -> Offer
+    ensures { result.tricks ≡ cash.tricks }
 {
-    if cash.depth < cash.tricks {
-        cash.tricks.min(need)
-    } else {
-        0
+    Offer {
+        tricks: cash.tricks,
+        first: cash.depth < cash.tricks,
     }
 }
 
-// Of this suit, where it is none.
-#[inline]
-fn other_share(cash: Cash, need: u8) -> u8
-    ensures { result ≡ (if nat_lt cash.depth cash.tricks then 0 else min cash.tricks need) }
+/// These cards and the winners on which so many tricks of each suit rest.
+pub(crate) fn with_shares(position: &Position, cards: Hand, cashed: Cashes, shares: Shares) -> Hand
+    ensures more { (c : PlayingCard) → has_card cards c ≡ true → has_card result c ≡ true }
+    ensures spades { RestsOn position.now Spades result
+        (min shares.spades cashed.spades.depth) }
+    ensures hearts { RestsOn position.now Hearts result
+        (min shares.hearts cashed.hearts.depth) }
+    ensures diamonds { RestsOn position.now Diamonds result
+        (min shares.diamonds cashed.diamonds.depth) }
+    ensures clubs { RestsOn position.now Clubs result
+        (min shares.clubs cashed.clubs.depth) }
 {
-    if cash.depth < cash.tricks {
-        0
-    } else {
-        cash.tricks.min(need)
-    }
+    let cards = with_winners(position, cards, Suit::Spades, cashed.spades, shares.spades);
+    let cards = with_winners(position, cards, Suit::Hearts, cashed.hearts, shares.hearts);
+    let cards = with_winners(
+        position,
+        cards,
+        Suit::Diamonds,
+        cashed.diamonds,
+        shares.diamonds,
+    );
+    with_winners(position, cards, Suit::Clubs, cashed.clubs, shares.clubs)
 }
 
 /// These cards and the winners on which so many tricks of the suit rest.

@@ -1,7 +1,8 @@
-//! Quick tricks. The leader cashes side suits, and its side keeps its joint trumps; the other side has joint trumps. So a
+//! Quick tricks. The leader cashes side suits, and its side keeps its joint trumps; without trumps it crosses to its partner,
+//! which cashes too; the other side has joint trumps. So a
 //! side's quick tricks are no more than it takes, and they rest on winners alone: it takes as many where the lower cards
 //! are others.
-ghost use Rattle.std.specs.Prelude.{◌≡◌, ◌≤◌, ◌+◌, ◌-◌, IsSome, ℕ, [], IfSome};
+ghost use Rattle.std.specs.Prelude.{◌≡◌, ◌<◌, ◌≤◌, ◌+◌, ◌-◌, IsSome, ℕ, [], IfSome, true};
 ghost use Rattle.dd_cards.specs.declared.suit.Suit.{Suit as SuitOf};
 ghost use Rattle.dd_cards.specs.declared.suit.Suit.TheVariants.{Spades, Hearts, Diamonds, Clubs};
 ghost use Rattle.dd_cards.specs.Sides.{side_of, other_side};
@@ -11,13 +12,15 @@ ghost use Rattle.dd_play.specs.Covers.{count_of};
 ghost use Rattle.dd_play.specs.Intervals.{Holds};
 ghost use Rattle.dd_play.specs.Reach.{reach, TakesBy};
 ghost use Rattle.dd_play.specs.Value.{lead};
-ghost use Rattle.dd_quick.specs.QuickTricks.{IsCash, quick_lo, quick_hi, side_tricks, joint_trumps, trumps_at};
+ghost use Rattle.dd_quick.specs.QuickTricks.{IsCash, IsNext, crossed, no_trumps, quick_lo, quick_hi, side_tricks, joint_trumps};
 ghost use Rattle.dd_rank.specs.Depths.{all_cards, depth_in, Covers};
 
+use crate::crossing::{Partners, crossing, with_partners};
 use crate::joint_trumps::{joint_trumps, with_trumps};
-use crate::long_suit::{Cashes, cashed, share_out, with_winners};
-use crate::winners::length;
-use dd_cards::{Hand, Seat, Strain, Suit};
+use crate::long_suit::{Cashes, cashed, offers, with_shares};
+use crate::sharing::{Shares, share_out};
+use crate::winners::trumps;
+use dd_cards::Hand;
 use dd_play::{Interval, Position, TrickStart};
 use dd_rank::Depths;
 
@@ -32,13 +35,14 @@ pub fn bounds(start: &TrickStart) -> (Interval, Depths)
 {
     let position = start.position();
     let ours = leaders(position);
-    let lo = ours.side + ours.trumps;
+    let partners = crossing(position, ours.side);
+    let lo = ours.side + ours.trumps + partners.tricks;
     let theirs = others(position);
     let interval = Interval {
         lo,
         hi: position.tricks_left() - theirs,
     };
-    let cards = leaders_cards(position, ours, lo).union(others_cards(position, theirs));
+    let cards = sure_cards(position, ours, partners, lo).union(others_cards(position, theirs));
     (interval, Depths::of_cards(start, cards))
 }
 
@@ -52,7 +56,11 @@ pub fn for_leader(start: &TrickStart, need: u8) -> Option<Hand>
     let position = start.position();
     let ours = leaders(position);
     if need <= ours.side + ours.trumps {
-        Some(leaders_cards(position, ours, need))
+        return Some(leaders_cards(position, ours, need));
+    }
+    let partners = crossing(position, ours.side);
+    if need <= ours.side + ours.trumps + partners.tricks {
+        Some(crossing_cards(position, ours, partners, need))
     } else {
         None
     }
@@ -111,16 +119,6 @@ pub(crate) fn leaders(position: &Position) -> Sure
     }
 }
 
-/// How many trumps the seat holds.
-pub(crate) fn trumps(position: &Position, seat: Seat) -> u8
-    ensures { result ≡ trumps_at position.now.strain position.now seat }
-{
-    match position.strain() {
-        Strain::Trump(trump) => length(position, seat, trump),
-        Strain::Notrump => 0,
-    }
-}
-
 // The winners on which so many tricks of the leader's side rest: those of side suits first.
 fn leaders_cards(position: &Position, ours: Sure, need: u8) -> Hand
     requires start { position.now.trick ≡ [] }
@@ -139,19 +137,87 @@ fn leaders_cards(position: &Position, ours: Sure, need: u8) -> Hand
 {
     let cashed = ours.cashed;
     let side = need.min(ours.side);
-    let shares = share_out(cashed, side);
-    let cards = Hand::new();
-    let cards = with_winners(position, cards, Suit::Spades, cashed.spades, shares.spades);
-    let cards = with_winners(position, cards, Suit::Hearts, cashed.hearts, shares.hearts);
-    let cards = with_winners(
-        position,
-        cards,
-        Suit::Diamonds,
-        cashed.diamonds,
-        shares.diamonds,
-    );
-    let cards = with_winners(position, cards, Suit::Clubs, cashed.clubs, shares.clubs);
+    let shares = share_out(offers(cashed), side);
+    let cards = with_shares(position, Hand::new(), cashed, shares);
     with_trumps(position, position.first(), cards, need - side)
+}
+
+// The winners on which so many tricks of the leader's side rest where the leader crosses to its partner: all that it cashes,
+// and of its partner's as many as are needed beside.
+fn crossing_cards(position: &Position, ours: Sure, partners: Partners, need: u8) -> Hand
+    requires start { position.now.trick ≡ [] }
+    requires spades { IsCash position.now Spades
+        ours.cashed.spades.tricks ours.cashed.spades.depth }
+    requires hearts { IsCash position.now Hearts
+        ours.cashed.hearts.tricks ours.cashed.hearts.depth }
+    requires diamonds { IsCash position.now Diamonds
+        ours.cashed.diamonds.tricks ours.cashed.diamonds.depth }
+    requires clubs { IsCash position.now Clubs
+        ours.cashed.clubs.tricks ours.cashed.clubs.depth }
+    requires side { ours.side ≡ side_tricks position.now }
+    requires plain { 1 ≤ partners.tricks → no_trumps position.now ≡ true }
+    requires next_spades { 1 ≤ partners.tricks
+        → IsNext position.now Spades partners.next.spades.tricks partners.next.spades.first }
+    requires next_hearts { 1 ≤ partners.tricks
+        → IsNext position.now Hearts partners.next.hearts.tricks partners.next.hearts.first }
+    requires next_diamonds { 1 ≤ partners.tricks
+        → IsNext position.now Diamonds partners.next.diamonds.tricks partners.next.diamonds.first }
+    requires next_clubs { 1 ≤ partners.tricks
+        → IsNext position.now Clubs partners.next.clubs.tricks partners.next.clubs.first }
+    requires tricks { partners.tricks ≡ crossed position.now }
+    requires many { side_tricks position.now
+        + joint_trumps position.now.strain position.now position.now.first < need }
+    requires few { need ≤ side_tricks position.now
+        + joint_trumps position.now.strain position.now position.now.first + crossed position.now }
+    ensures { TakesBy (reach result) (side_of position.now.first) position.now need }
+{
+    let cashed = ours.cashed;
+    let all = Shares {
+        spades: cashed.spades.tricks,
+        hearts: cashed.hearts.tricks,
+        diamonds: cashed.diamonds.tricks,
+        clubs: cashed.clubs.tricks,
+    };
+    let shares = share_out(partners.next, need - ours.side);
+    let cards = with_shares(position, Hand::new(), cashed, all);
+    with_partners(position, cards, shares)
+}
+
+// The winners on which so many tricks of the leader's side rest, by crossing where the others are too few.
+fn sure_cards(position: &Position, ours: Sure, partners: Partners, need: u8) -> Hand
+    requires start { position.now.trick ≡ [] }
+    requires spades { IsCash position.now Spades
+        ours.cashed.spades.tricks ours.cashed.spades.depth }
+    requires hearts { IsCash position.now Hearts
+        ours.cashed.hearts.tricks ours.cashed.hearts.depth }
+    requires diamonds { IsCash position.now Diamonds
+        ours.cashed.diamonds.tricks ours.cashed.diamonds.depth }
+    requires clubs { IsCash position.now Clubs
+        ours.cashed.clubs.tricks ours.cashed.clubs.depth }
+    requires side { ours.side ≡ side_tricks position.now }
+    requires trumps { ours.trumps
+        ≡ joint_trumps position.now.strain position.now position.now.first }
+    requires sums { (ours.side ≤ 13) × (ours.trumps ≤ 13) }
+    requires plain { 1 ≤ partners.tricks → no_trumps position.now ≡ true }
+    requires next_spades { 1 ≤ partners.tricks
+        → IsNext position.now Spades partners.next.spades.tricks partners.next.spades.first }
+    requires next_hearts { 1 ≤ partners.tricks
+        → IsNext position.now Hearts partners.next.hearts.tricks partners.next.hearts.first }
+    requires next_diamonds { 1 ≤ partners.tricks
+        → IsNext position.now Diamonds partners.next.diamonds.tricks partners.next.diamonds.first }
+    requires next_clubs { 1 ≤ partners.tricks
+        → IsNext position.now Clubs partners.next.clubs.tricks partners.next.clubs.first }
+    requires tricks { partners.tricks ≡ crossed position.now }
+    requires few { need ≤ side_tricks position.now
+        + joint_trumps position.now.strain position.now position.now.first + crossed position.now }
+    ensures { TakesBy (reach result) (side_of position.now.first) position.now need }
+{
+    let own = ours.side + ours.trumps;
+    if need <= own {
+        leaders_cards(position, ours, need)
+    } else {
+        crossing_cards(position, ours, partners, need)
+    }
 }
 
 // What the other side is sure of: its joint trumps.

@@ -5,18 +5,18 @@
 //! not sound. An opponent that could ruff the first trick leaves nothing to cash in the suit.
 ghost use Rattle.std.specs.Prelude.{◌≡◌, ◌≤◌, ◌+◌, ◌∷◌, [], true, min, IfSome};
 ghost use Rattle.dd_cards.specs.declared.suit.Suit.TheVariants.{Spades, Hearts, Diamonds, Clubs};
-ghost use Rattle.dd_cards.specs.PlayingCard.{PlayingCard};
-ghost use Rattle.dd_cards.specs.Cards.{has_card};
 ghost use Rattle.dd_cards.specs.Sides.{side_of, other_side};
 ghost use Rattle.dd_play.specs.Tricks.{is_trump};
 ghost use Rattle.dd_play.specs.Reach.{reach, TakesBy};
-ghost use Rattle.dd_quick.specs.QuickTricks.{IsCash, RestsOn, side_tricks, joint_trumps};
-ghost use Rattle.dd_quick.specs.SecondHand.{IsBeforeLead, Opposes, shares, unled};
+ghost use Rattle.dd_quick.specs.QuickTricks.{IsCash, side_tricks, joint_trumps};
+ghost use Rattle.dd_quick.specs.SecondHand.{IsBeforeLead, Opposes, unled};
+ghost use Rattle.dd_quick.specs.Sharing.{shares};
 
 use crate::joint_trumps::with_trumps;
-use crate::long_suit::{Cash, Cashes, Shares, share_out, with_winners};
-use crate::quick_tricks::{Sure, leaders, trumps};
-use crate::winners::run;
+use crate::long_suit::{Cash, Cashes, offers, with_shares, with_winners};
+use crate::quick_tricks::{Sure, leaders};
+use crate::sharing::{Shares, share_out};
+use crate::winners::{run, trumps};
 use dd_cards::{Card, Hand, Holding, Seat, Strain, Suit};
 use dd_play::Position;
 
@@ -69,7 +69,7 @@ fn after_a_trump(position: &Position, before: &Position, led: Card, need: u8) ->
     if tops == 0 || side > sure.side || side >= spare {
         return None;
     }
-    let shares = share_out(sure.cashed, side);
+    let shares = share_out(offers(sure.cashed), side);
     let cash = Cash {
         tricks: tops,
         depth: tops,
@@ -155,7 +155,7 @@ fn share_out_from(suit: Suit, cashed: Cashes, need: u8) -> Shares
         Suit::Diamonds => cashed.diamonds.tricks -= 1,
         Suit::Clubs => cashed.clubs.tricks -= 1,
     }
-    let mut shares = share_out(cashed, need - 1);
+    let mut shares = share_out(offers(cashed), need - 1);
     match suit {
         Suit::Spades => shares.spades += 1,
         Suit::Hearts => shares.hearts += 1,
@@ -186,24 +186,4 @@ fn winners_of(position: &Position, before: &Position, led: Card, sure: Sure, nee
     let shares = share_out_from(led.suit, cashed, side);
     let cards = with_shares(before, Hand::new(), cashed, shares);
     with_trumps(before, before.first(), cards, need - side)
-}
-
-// These cards and the winners on which these shares rest.
-fn with_shares(before: &Position, cards: Hand, cashed: Cashes, shares: Shares) -> Hand
-    ensures more { (c : PlayingCard) → has_card cards c ≡ true → has_card result c ≡ true }
-    ensures spades { RestsOn before.now Spades result (min shares.spades cashed.spades.depth) }
-    ensures hearts { RestsOn before.now Hearts result (min shares.hearts cashed.hearts.depth) }
-    ensures diamonds { RestsOn before.now Diamonds result (min shares.diamonds cashed.diamonds.depth) }
-    ensures clubs { RestsOn before.now Clubs result (min shares.clubs cashed.clubs.depth) }
-{
-    let cards = with_winners(before, cards, Suit::Spades, cashed.spades, shares.spades);
-    let cards = with_winners(before, cards, Suit::Hearts, cashed.hearts, shares.hearts);
-    let cards = with_winners(
-        before,
-        cards,
-        Suit::Diamonds,
-        cashed.diamonds,
-        shares.diamonds,
-    );
-    with_winners(before, cards, Suit::Clubs, cashed.clubs, shares.clubs)
 }

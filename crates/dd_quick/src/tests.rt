@@ -244,7 +244,7 @@ fn no_more_is_claimed_than_exhaustive_play_takes(rt: HostRuntime) {
         (ruffed, clubs, Seat::East, (1, 4), 2),
         (ruffed, clubs, Seat::South, (0, 3), 3),
         (ruffed, clubs, Seat::West, (1, 4), 2),
-        (falling, Strain::Notrump, Seat::North, (1, 4), 3),
+        (falling, Strain::Notrump, Seat::North, (3, 4), 3),
     ];
     for (hands, strain, first, interval, value) in table {
         let start = start(hands, strain, first).expect(&rt, "even hands");
@@ -264,16 +264,108 @@ fn a_winner_counts_at_notrump(rt: HostRuntime) {
             "the ace",
         ),
         (
-            ["32...", "K4...", "AQ...", "65..."],
+            ["32...", "A4...", "KQ...", "65..."],
             (0, 2),
             [0, 0, 0, 0],
-            "no winner leads",
+            "East has the ace",
         ),
     ];
     for (hands, interval, depths, what) in table {
         let start = start(hands, Strain::Notrump, Seat::North).expect(&rt, "even hands");
         assert_eq!(rt; found(&start), (interval, depths), "{what}");
     }
+}
+
+#[test]
+fn without_trumps_the_leader_crosses_to_its_partner(rt: HostRuntime) {
+    let notrump = Strain::Notrump;
+    let hearts = Strain::Trump(Suit::Hearts);
+    let table = [
+        (
+            ["A2...", "54...", "K3...", "76..."],
+            notrump,
+            (2, 2),
+            [2, 0, 0, 0],
+            "the king is next below the ace",
+        ),
+        (
+            ["A2...", "54...", "K3...", "76..."],
+            hearts,
+            (2, 2),
+            [2, 0, 0, 0],
+            "no hand has a trump",
+        ),
+        (
+            ["A2...", "5.2..", "K3...", "76..."],
+            hearts,
+            (1, 1),
+            [1, 0, 0, 0],
+            "East has a trump",
+        ),
+        (
+            ["A2...", "54...", "K.2..", "76..."],
+            notrump,
+            (1, 2),
+            [1, 0, 0, 0],
+            "the king falls under the ace",
+        ),
+        (
+            ["A.2..", "5.3..", "K4...", "76..."],
+            notrump,
+            (1, 2),
+            [1, 0, 0, 0],
+            "the ace is the leader's only spade",
+        ),
+        (
+            ["A..2.", "4..3.", "3.K..", "5.2.."],
+            notrump,
+            (1, 2),
+            [1, 0, 0, 0],
+            "the leader has no heart",
+        ),
+        (
+            ["2.43..", "3.Q6..", "A.K5..", "4.J7.."],
+            notrump,
+            (2, 3),
+            [1, 1, 0, 0],
+            "the partner cashes another suit",
+        ),
+        (
+            ["AT2...", "876...", "K93...", "54.2.."],
+            notrump,
+            (2, 3),
+            [2, 0, 0, 0],
+            "the leader's ten is above the nine",
+        ),
+        (
+            ["A2.A..", "43.2..", "KQJ...", "65.3.."],
+            notrump,
+            (3, 3),
+            [2, 1, 0, 0],
+            "three tricks are left",
+        ),
+    ];
+    for (hands, strain, interval, depths, what) in table {
+        let start = start(hands, strain, Seat::North).expect(&rt, "even hands");
+        assert_eq!(rt; found(&start), (interval, depths), "{what}");
+    }
+}
+
+// A claim with the partner's winners rests on one of the suit in which the leader crosses first.
+#[test]
+fn a_claim_rests_first_on_the_suit_that_is_crossed_in(rt: HostRuntime) {
+    let hands = [".43.2.", "3.Q6..", "A.K5..", "4.J7.."];
+    let start = start(hands, Strain::Notrump, Seat::North).expect(&rt, "even hands");
+    let table = [(1, 0, 0), (2, 0, 1), (3, 1, 1)];
+    for (need, spades, hearts) in table {
+        let cards = for_leader(&start, need).expect(&rt, "three tricks are sure");
+        let of = (
+            cards.of_suit(Suit::Spades).len(),
+            cards.of_suit(Suit::Hearts).len(),
+        );
+        assert_eq!(rt; of, (spades, hearts));
+    }
+    assert!(rt; for_leader(&start, 4).is_none());
 }
 
 // A claim of so many tricks rests on no more winners than it needs, and on those of long suits first.

@@ -1,8 +1,9 @@
 //! What a search asks of its table and its meter, in which order, and what it notes.
 //!
 //! The deal is `BEHIND` at notrump, North on lead: spades 3 2, 6 5, A Q, K 4. In each position the search ticks once, then
-//! looks if a trick starts there, then plays. Quick tricks settle no start of a trick here: no leader has a highest card, and
-//! there are no trumps. After a lead they do in the second trick, where West's king is the highest card left.
+//! asks the quick tricks and looks if a trick starts there, then plays. Quick tricks settle that North and South take one
+//! trick, and no more: North crosses to the ace, and no other leader or partner has a highest card. After a lead they do in
+//! the second trick, where West's king is the highest card left.
 ghost use Rattle.std.specs.Prelude.{◌≤◌, IfSome};
 ghost use Rattle.dd_cards.specs.declared.suit.Suit.{Suit as SuitOf};
 ghost use Rattle.dd_play.specs.Board.{Board, IsBoard};
@@ -111,35 +112,25 @@ fn asked<B: Bounds, M: Meter>(
     }
 }
 
-// One trick is had at once. North's 3 and East's 6 have equals below them, so there is one card to try in each hand. South
-// tries the ace, the surest winner, and it wins before West's 4; the king is spared, since the ace takes it too. So a
-// position is come to before each of four cards, and the fifth is settled by counting: North and South have their trick.
+// One trick is a quick trick: North crosses to the ace. So the first position is the only one, without a look, and nothing
+// is noted.
 #[test]
-fn each_position_is_one_tick_where_one_trick_is_asked_for(rt: HostRuntime) {
+fn a_quick_trick_settles_it_before_a_look(rt: HostRuntime) {
     let position = position_of(&BEHIND, Seat::North, &[]).expect(&rt, "two cards a hand");
     let mut log = Log::knowing(NONE);
     let mut budget = Budget::new(100);
     let answer = asked(&position, 1, &mut log, &mut budget);
     assert_eq!(rt; answer, Some(Ok(true)));
-    assert_eq!(rt; budget.ticks(), 4);
-    assert_eq!(rt;
-        log.events.as_slice(),
-        [
-            Event::Look { left: 2 },
-            Event::Note {
-                left: 2,
-                lo: 1,
-                hi: 2,
-            },
-        ]
-        .as_slice()
-    );
+    assert_eq!(rt; budget.ticks(), 1);
+    assert!(rt; log.events.is_empty());
 }
 
-// Two tricks are not had. Four positions as above, up to the ace and West's 4. Then South leads the queen: one position at
-// that start of a trick, and one after the lead, where West, second hand, has the king; so West's 4 was enough. South tries
-// the queen in the first trick too, which the ace's failure, by the king, doesn't spare: one position more, West's, where
-// the king settles it by counting. That is seven.
+// Two tricks are not had. North's 3 and East's 6 have equals below them, so there is one card to try in each hand. South
+// tries the ace, the surest winner, and it wins before West's 4; the king is spared, since the ace takes it too. So a
+// position is come to before each of four cards. Then South leads the queen: one position at that start of a trick, and
+// one after the lead, where West, second hand, has the king; so West's 4 was enough. South tries the queen in the first
+// trick too, which the ace's failure, by the king, doesn't spare: one position more, West's, where the king settles it by
+// counting. That is seven.
 #[test]
 fn each_position_is_one_tick_where_two_tricks_are_asked_for(rt: HostRuntime) {
     let position = position_of(&BEHIND, Seat::North, &[]).expect(&rt, "two cards a hand");
@@ -169,14 +160,54 @@ fn each_position_is_one_tick_where_two_tricks_are_asked_for(rt: HostRuntime) {
     );
 }
 
+// The deal a seat on: East leads.
+fn turned() -> Option<Position> {
+    let [north, east, south, west] = BEHIND;
+    position_of(&[west, north, east, south], Seat::East, &[])
+}
+
+// East and West have the cards, and the leader's side is theirs: North and South take one trick, since these don't take two.
+// What is noted of them is the same.
+#[test]
+fn each_position_is_one_tick_where_the_other_side_asks(rt: HostRuntime) {
+    let position = turned().expect(&rt, "two cards a hand");
+    let mut log = Log::knowing(NONE);
+    let mut budget = Budget::new(100);
+    let answer = asked(&position, 1, &mut log, &mut budget);
+    assert_eq!(rt; answer, Some(Ok(true)));
+    assert_eq!(rt; budget.ticks(), 7);
+    assert_eq!(rt;
+        log.events.as_slice(),
+        [
+            Event::Look { left: 2 },
+            Event::Look { left: 1 },
+            Event::Note {
+                left: 1,
+                lo: 0,
+                hi: 0,
+            },
+            Event::Note {
+                left: 2,
+                lo: 0,
+                hi: 1,
+            },
+        ]
+        .as_slice()
+    );
+}
+
 #[test]
 fn a_look_that_settles_it_is_the_end(rt: HostRuntime) {
-    let position = position_of(&BEHIND, Seat::North, &[]).expect(&rt, "two cards a hand");
-    let table = [(1, true, "one trick"), (2, false, "two tricks")];
-    for (need, want, what) in table {
+    let ours = position_of(&BEHIND, Seat::North, &[]).expect(&rt, "two cards a hand");
+    let theirs = turned().expect(&rt, "two cards a hand");
+    let table = [
+        (&ours, 2, false, "two tricks of the leader's side"),
+        (&theirs, 1, true, "one trick of the other side"),
+    ];
+    for (position, need, want, what) in table {
         let mut log = Log::knowing(2);
         let mut budget = Budget::new(100);
-        let answer = asked(&position, need, &mut log, &mut budget);
+        let answer = asked(position, need, &mut log, &mut budget);
         assert_eq!(rt; answer, Some(Ok(want)), "{what}");
         assert_eq!(rt; budget.ticks(), 1, "{what}");
         assert_eq!(rt;

@@ -9,12 +9,12 @@ use Rattle.dd_quick.proofs.quick_tricks.bounds.Goals.{After-of_cards}
 
 -- what each side is sure of at the position that is asked
 record Both (c : After-of_cards) : Type 0 where
-  ours : TakesBy (reach c.leaders_cards.result) (side_of c.args.start.now.first) c.args.start.now (c.leaders-ours.result.side + c.leaders-ours.result.trumps)
+  ours : TakesBy (reach c.sure_cards.result) (side_of c.args.start.now.first) c.args.start.now (c.leaders-ours.result.side + c.leaders-ours.result.trumps + c.crossing-partners.result.tricks)
   theirs : TakesBy (reach c.others_cards.result) (other_side (side_of c.args.start.now.first)) c.args.start.now c.others-theirs.result
 
 both : (c : After-of_cards) → Both c
 both c = record {
-  ours = subst (λ (p : Board). TakesBy (reach c.leaders_cards.result) (side_of p.first) p (c.leaders-ours.result.side + c.leaders-ours.result.trumps)) c.position-position.ensures.value c.leaders_cards.ensures;
+  ours = subst (λ (p : Board). TakesBy (reach c.sure_cards.result) (side_of p.first) p (c.leaders-ours.result.side + c.leaders-ours.result.trumps + c.crossing-partners.result.tricks)) c.position-position.ensures.value c.sure_cards.ensures;
   theirs = subst (λ (p : Board). TakesBy (reach c.others_cards.result) (other_side (side_of p.first)) p c.others-theirs.result) c.position-position.ensures.value c.others_cards.ensures;
 }
 
@@ -29,7 +29,7 @@ overflow_sub-interval c =
 pub invariant_of-interval : goal.invariant_of-interval
 invariant_of-interval c =
     let k = both (goal.at.invariant_of-interval c).After-of_cards in
-    let h = sure-within c.args.start.now c.leaders_cards.result c.others_cards.result (c.leaders-ours.result.side + c.leaders-ours.result.trumps) c.others-theirs.result c.position-position.ensures.board k.ours k.theirs in
+    let h = sure-within c.args.start.now c.sure_cards.result c.others_cards.result (c.leaders-ours.result.side + c.leaders-ours.result.trumps + c.crossing-partners.result.tricks) c.others-theirs.result c.position-position.ensures.board k.ours k.theirs in
     let e = c.tricks_left.ensures.tricks ∙ ap left c.position-position.ensures.value in
     record { ordered = omega (arith, h, e) }
 
@@ -38,5 +38,5 @@ returns-clause-holds c =
     let k = both (goal.at.returns-clause-holds c).After-of_cards in
     let p = c.args.start.now in
     let left_is = c.tricks_left.ensures.tricks ∙ ap left c.position-position.ensures.value in
-    sure-bounds p c.leaders_cards.result c.others_cards.result c.union-cards.result (c.leaders-ours.result.side + c.leaders-ours.result.trumps) c.others-theirs.result _ _ _ c.of_cards.ensures.real c.position-position.ensures.board
+    sure-bounds p c.sure_cards.result c.others_cards.result c.union-cards.result (c.leaders-ours.result.side + c.leaders-ours.result.trumps + c.crossing-partners.result.tricks) c.others-theirs.result _ _ _ c.of_cards.ensures.real c.position-position.ensures.board
     c.union-cards.ensures.left c.union-cards.ensures.right c.of_cards.ensures.depths refl (omega (arith, left_is)) k.ours k.theirs

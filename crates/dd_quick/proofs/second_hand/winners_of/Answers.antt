@@ -4,7 +4,7 @@ use Rattle.dd_cards.specs.Sides.{side_of}
 use Rattle.dd_play.specs.Board.{Board}
 use Rattle.dd_play.specs.Reach.{TakesBy, reach}
 use Rattle.dd_quick.specs.QuickTricks.{RestsOnTrumps}
-use Rattle.dd_quick.specs.SecondHand.{shares}
+use Rattle.dd_quick.specs.Sharing.{shares}
 use Rattle.dd_quick.proofs.Claims.{leader-sure}
 use Rattle.dd_quick.proofs.SecondHand.{second-claim}
 use Rattle.dd_quick.proofs.second_hand.winners_of.Goals as goal
@@ -27,12 +27,12 @@ returns c =
     let d = c.requires.diamonds.0 in
     let k = c.requires.clubs.0 in
     let start = ap (λ (q : Board). q.trick) c.requires.before.was in
-    let sure = leader-sure o cards cards cards cards c.with_trumps.result n.spades n.hearts n.diamonds n.clubs m start
+    let sure = leader-sure o cards c.with_trumps.result n.spades n.hearts n.diamonds n.clubs m start
     (record { tricks = of.spades.tricks; cards_of = of.spades.depth; cash = c.requires.spades; few = c.share_out_from-shares.ensures.spades; rests = c.with_shares-cards.ensures.spades })
     (record { tricks = of.hearts.tricks; cards_of = of.hearts.depth; cash = c.requires.hearts; few = c.share_out_from-shares.ensures.hearts; rests = c.with_shares-cards.ensures.hearts })
     (record { tricks = of.diamonds.tricks; cards_of = of.diamonds.depth; cash = c.requires.diamonds; few = c.share_out_from-shares.ensures.diamonds; rests = c.with_shares-cards.ensures.diamonds })
     (record { tricks = of.clubs.tricks; cards_of = of.clubs.depth; cash = c.requires.clubs; few = c.share_out_from-shares.ensures.clubs; rests = c.with_shares-cards.ensures.clubs })
-    (λ e has. has) (λ e has. has) (λ e has. has) c.with_trumps.ensures.more
+    c.with_trumps.ensures.more
     (omega (arith, sum, need, side)) (omega (arith, need, side, few)) trumps in
     let first = subst (λ (x : PlayingCard). 1 ≤ shares n.spades n.hearts n.diamonds n.clubs x.suit) c.led.view_is c.share_out_from-shares.ensures.first in
     let claim = second-claim p c.args.led o c.with_trumps.result (shares n.spades n.hearts n.diamonds n.clubs) m c.requires.before sure first in

@@ -1,0 +1,133 @@
+//! Crossing to the partner. Where no hand has a trump, the leader cashes its suits, then leads a low card to a winner of its
+//! partner's, and the partner cashes what it holds next below the leader's runs. It can keep so many winners: to each lead of
+//! a suit it follows with another card of the suit, since of its cards there no more are counted than the leader's run leaves
+//! it, and it has enough others to throw, since no more tricks are counted than are left. Without that first condition a
+//! winner of the partner's would be counted that falls under the leader's own.
+ghost use Rattle.std.specs.Prelude.{◌≡◌, ◌≤◌, ◌&&◌, ◌||◌, ◌==◌, [], true};
+ghost use mathlib.Core.Bool.{not};
+ghost use Rattle.dd_cards.specs.declared.suit.Suit.TheVariants.{Spades, Hearts, Diamonds, Clubs};
+ghost use Rattle.dd_cards.specs.PlayingCard.{PlayingCard};
+ghost use Rattle.dd_cards.specs.Cards.{has_card};
+ghost use Rattle.dd_cards.specs.Seats.{seat_after};
+ghost use Rattle.dd_quick.specs.QuickTricks.{IsNext, RestsOnNext, crossed, no_trumps, side_tricks, trumps_at};
+
+use crate::sharing::{Offer, Offers, Shares};
+use crate::winners::{length, next_run, run, trumps, with_highest};
+use dd_cards::{Hand, Suit};
+use dd_play::Position;
+
+/// What the partner takes in each suit once the leader has crossed, those first in which the leader can cross, and how many
+/// tricks, 0 to 13, that adds in all: none where it can't.
+#[derive(Clone, Copy)]
+pub(crate) struct Partners {
+    pub(crate) next: Offers,
+    pub(crate) tricks: u8,
+}
+
+const NONE: Offer = Offer {
+    tricks: 0,
+    first: false,
+};
+
+/// What crossing to the partner adds to these tricks that the leader cashes.
+pub(crate) fn crossing(position: &Position, side: u8) -> Partners
+    requires start { position.now.trick ≡ [] }
+    requires side { side ≡ side_tricks position.now }
+    ensures tricks { result.tricks ≡ crossed position.now }
+    ensures plain { 1 ≤ result.tricks → no_trumps position.now ≡ true }
+    ensures spades { 1 ≤ result.tricks
+        → IsNext position.now Spades result.next.spades.tricks result.next.spades.first }
+    ensures hearts { 1 ≤ result.tricks
+        → IsNext position.now Hearts result.next.hearts.tricks result.next.hearts.first }
+    ensures diamonds { 1 ≤ result.tricks
+        → IsNext position.now Diamonds result.next.diamonds.tricks result.next.diamonds.first }
+    ensures clubs { 1 ≤ result.tricks
+        → IsNext position.now Clubs result.next.clubs.tricks result.next.clubs.first }
+    ensures bound { result.tricks ≤ 13 }
+{
+    if has_trumps(position) {
+        return Partners {
+            next: Offers {
+                spades: NONE,
+                hearts: NONE,
+                diamonds: NONE,
+                clubs: NONE,
+            },
+            tricks: 0,
+        };
+    }
+    let spades = next(position, Suit::Spades);
+    let hearts = next(position, Suit::Hearts);
+    let diamonds = next(position, Suit::Diamonds);
+    let clubs = next(position, Suit::Clubs);
+    let all = spades.tricks + hearts.tricks + diamonds.tricks + clubs.tricks;
+    let can = any(spades.first, hearts.first, diamonds.first, clubs.first);
+    let most = position.tricks_left() - side;
+    Partners {
+        next: Offers {
+            spades,
+            hearts,
+            diamonds,
+            clubs,
+        },
+        tricks: if can { all.min(most) } else { 0 },
+    }
+}
+
+// Has a hand a trump?
+fn has_trumps(position: &Position) -> bool
+    ensures { result ≡ not (no_trumps position.now) }
+{
+    let leader = position.first();
+    let none = trumps(position, leader) == 0 && trumps(position, leader.left()) == 0;
+    let nor = trumps(position, leader.partner()) == 0 && trumps(position, leader.right()) == 0;
+    !(none && nor)
+}
+
+// Is one of the four true?
+#[inline]
+fn any(a: bool, b: bool, c: bool, d: bool) -> bool
+    ensures { result ≡ ((a || b) || (c || d)) }
+{
+    (a || b) || (c || d)
+}
+
+// What the partner takes in the suit, and whether the leader can cross there.
+fn next(position: &Position, suit: Suit) -> Offer
+    ensures next { IsNext position.now suit result.tricks result.first }
+    ensures bound { result.tricks ≤ 13 }
+{
+    let leader = position.first();
+    let partner = leader.partner();
+    let run = run(position, leader, suit).len();
+    let his = length(position, partner, suit);
+    let spare = his.saturating_sub(run);
+    let tricks = next_run(position, suit).len().min(spare);
+    let low = run < length(position, leader, suit);
+    Offer {
+        tricks,
+        first: tricks > 0 && low,
+    }
+}
+
+/// These cards and the partner's on which so many tricks of each suit rest.
+pub(crate) fn with_partners(position: &Position, cards: Hand, shares: Shares) -> Hand
+    ensures more { (c : PlayingCard) → has_card cards c ≡ true → has_card result c ≡ true }
+    ensures spades { RestsOnNext position.now Spades result shares.spades }
+    ensures hearts { RestsOnNext position.now Hearts result shares.hearts }
+    ensures diamonds { RestsOnNext position.now Diamonds result shares.diamonds }
+    ensures clubs { RestsOnNext position.now Clubs result shares.clubs }
+{
+    let cards = with_next(position, cards, Suit::Spades, shares.spades);
+    let cards = with_next(position, cards, Suit::Hearts, shares.hearts);
+    let cards = with_next(position, cards, Suit::Diamonds, shares.diamonds);
+    with_next(position, cards, Suit::Clubs, shares.clubs)
+}
+
+// These cards and the partner's on which so many tricks of the suit rest.
+fn with_next(position: &Position, cards: Hand, suit: Suit, tricks: u8) -> Hand
+    ensures more { (c : PlayingCard) → has_card cards c ≡ true → has_card result c ≡ true }
+    ensures next { RestsOnNext position.now suit result tricks }
+{
+    with_highest(cards, suit, next_run(position, suit), tricks)
+}
