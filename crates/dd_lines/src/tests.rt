@@ -2,3 +2,4 @@
 mod devices;
 mod faults;
 mod served;
+mod tables;
