@@ -22,7 +22,7 @@ const PAGES: u32 = 0x1_0000;
 const PLACES: usize = 0x1_0000;
 
 // From so many tricks on the table behind is asked and told too: to ask it of all took longer on the deals tried.
-const WORTH_SHARING: u8 = 7;
+const WORTH_SHARING: u8 = 10;
 
 // So many pages at most are looked at in one place.
 const MOST_PAGES: usize = 64;

@@ -64,6 +64,7 @@ impl TableRequest {
     {
         let (strain, declarer) = contract_of(part);
         let leader = declarer.next();
+        // The proof reads here that no card is in two hands.
         let _ = self.hands.hand(leader);
         match Position::new(self.hands.copy(), strain, leader, &[]) {
             Ok(position) => position,

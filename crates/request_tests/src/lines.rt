@@ -3,3 +3,4 @@ mod counted_device;
 mod devices;
 mod faults;
 mod served;
+mod tables;
