@@ -222,9 +222,12 @@ fn the_words_are_those_of_the_environment(rt: HostRuntime) {
 const THREE_CLASSES: &str =
     "{\"do\":\"solve\",\"deal\":\"N:A2.K.. K3.A.. Q4.Q.. J5.J..\",\"trump\":4,\"first\":0,\"solutions\":3}\n";
 
-// The same, asked for the first of the best.
-const FIRST_OF_THREE: &str =
-    "{\"do\":\"solve\",\"deal\":\"N:A2.K.. K3.A.. Q4.Q.. J5.J..\",\"trump\":4,\"first\":0,\"solutions\":1}\n";
+// Another, whose value no quick trick tells, asked for the first of the best and for all.
+const FIRST_OF_ALL: &str =
+    "{\"do\":\"solve\",\"deal\":\"N:AT.9.. K8.8.. Q.AK.. 9.QT..\",\"trump\":4,\"first\":0,\"solutions\":1}\n";
+
+const ALL: &str =
+    "{\"do\":\"solve\",\"deal\":\"N:AT.9.. K8.8.. Q.AK.. 9.QT..\",\"trump\":4,\"first\":0,\"solutions\":3}\n";
 
 // The least budget, below 100, with which the last of these lines is answered.
 fn least_budget(alloc: Global, entries: u32, lines: &str) -> Result<Option<u32>, AllocError> {
@@ -251,7 +254,7 @@ fn a_line_that_comes_again_needs_fewer_positions(rt: HostRuntime) -> Result<(), 
 #[test]
 fn a_table_of_one_entry_forgets_the_shape_before(rt: HostRuntime) -> Result<(), Fail> {
     let alloc = rt.alloc();
-    let lines = format!(in alloc; "{FIRST_OF_THREE}{ACE}{THREE_CLASSES}")?;
+    let lines = format!(in alloc; "{FIRST_OF_ALL}{ACE}{ALL}")?;
     let one = least_budget(alloc, 1, lines.as_str())?.ok_or("a budget")?;
     let two = least_budget(alloc, 2, lines.as_str())?.ok_or("a budget")?;
     assert!(rt; two < one);
