@@ -240,9 +240,13 @@ fn three_classes() -> &'static str {
     "{\"do\":\"solve\",\"deal\":\"N:A2.K.. K3.A.. Q4.Q.. J5.J..\",\"trump\":4,\"first\":0,\"solutions\":3}\n"
 }
 
-// The same, asked for the first of the best.
-fn first_of_three() -> &'static str {
-    "{\"do\":\"solve\",\"deal\":\"N:A2.K.. K3.A.. Q4.Q.. J5.J..\",\"trump\":4,\"first\":0,\"solutions\":1}\n"
+// Another, whose value no quick trick tells, asked for the first of the best and for all.
+fn first_of_all() -> &'static str {
+    "{\"do\":\"solve\",\"deal\":\"N:AT.9.. K8.8.. Q.AK.. 9.QT..\",\"trump\":4,\"first\":0,\"solutions\":1}\n"
+}
+
+fn all() -> &'static str {
+    "{\"do\":\"solve\",\"deal\":\"N:AT.9.. K8.8.. Q.AK.. 9.QT..\",\"trump\":4,\"first\":0,\"solutions\":3}\n"
 }
 
 // The least budget, below 100, with which the last of these lines is answered.
@@ -271,7 +275,7 @@ fn a_line_that_comes_again_needs_fewer_positions(rt: HostRuntime) -> Result<(), 
 #[test]
 fn a_table_of_one_entry_forgets_the_shape_before(rt: HostRuntime) -> Result<(), Fail> {
     let alloc = rt.alloc();
-    let (first, other, last) = (first_of_three(), ace(), three_classes());
+    let (first, other, last) = (first_of_all(), ace(), all());
     let lines = format!(in alloc; "{first}{other}{last}")?;
     let one = least_budget(alloc, 1, lines.as_str())?.ok_or("a budget")?;
     let two = least_budget(alloc, 2, lines.as_str())?.ok_or("a budget")?;
