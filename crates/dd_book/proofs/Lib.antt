@@ -1,0 +1,6 @@
+pub mod Finishes
+pub mod Indexed
+pub mod Lists
+pub mod Runs
+pub mod SameLaws
+pub mod Turns
