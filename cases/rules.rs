@@ -10,8 +10,9 @@ mod search;
 mod deals;
 
 use deals::{Chance, Played, code, dealt_anew, random_deal, start, turned, written};
-use search::quick::{ALL, JOINT_TRUMPS, LONG_SUITS, RUNS, against_leader, for_leader, for_second_hand};
-use search::quick::{AT_THIRD_HAND, NOBODY_RUFFS, THE_LEAD_IS_NOT_RUFFED, TRUMPS_ARE_DRAWN};
+use search::quick::{ALL, CROSSING, JOINT_TRUMPS, LONG_SUITS, RUNS, against_leader, for_leader, for_second_hand};
+use search::quick::{AT_THIRD_HAND, CROSSES_WITHOUT_A_CARD, NOBODY_RUFFS};
+use search::quick::{NO_WINNER_FALLS, THE_LEAD_IS_NOT_RUFFED, TRUMPS_ARE_DRAWN};
 use search::{Card, Position, Strain, Suit, depths_of};
 use std::process::ExitCode;
 
@@ -49,12 +50,15 @@ const fn others(name: &'static str, played: usize, claim: fn(&Position, u8) -> O
 }
 
 // A rule that is added to the quick tricks gets a line here, and where it has parts a line for each.
-const RIGHT: [Rule; 13] = [
+const RIGHT: [Rule; 16] = [
     leaders("side suits without long ones", for_leader::<RUNS>),
     leaders("long suits", for_leader::<LONG_SUITS>),
     leaders("side suits with long ones", for_leader::<{ RUNS | LONG_SUITS }>),
     leaders("joint trumps of the leader's side", for_leader::<JOINT_TRUMPS>),
     others("joint trumps of the other side", 0, against_leader::<JOINT_TRUMPS>),
+    leaders("crossing to the partner", for_leader::<CROSSING>),
+    leaders("crossing after side suits without long ones", crossed::<{ RUNS | CROSSING }>),
+    leaders("crossing after side suits", crossed::<ALL>),
     leaders("all of the leader's side", for_leader::<ALL>),
     others("second hand: side suits without long ones", 1, side_suit_led::<RUNS>),
     others("second hand: long suits", 1, side_suit_led::<LONG_SUITS>),
@@ -65,12 +69,22 @@ const RIGHT: [Rule; 13] = [
     others("second hand: all after the lead of a trump", 1, trump_led::<ALL>),
 ];
 
-const WRONG: [Rule; 4] = [
+const WRONG: [Rule; 6] = [
     leaders("joint trumps added after a draw", for_leader::<{ ALL | TRUMPS_ARE_DRAWN }>),
     leaders("long suits that opponents with trumps can't follow", for_leader::<{ LONG_SUITS | NOBODY_RUFFS }>),
+    leaders("crossing to winners that fall", crossed::<{ ALL | NO_WINNER_FALLS }>),
+    leaders("crossing without a card to lead", crossed::<{ ALL | CROSSES_WITHOUT_A_CARD }>),
     others("second hand: a lead that third hand ruffs", 1, side_suit_led::<{ ALL | THE_LEAD_IS_NOT_RUFFED }>),
     others("second hand's winners at third hand", 2, third_hand),
 ];
+
+// Only what the leader's own tricks don't answer.
+fn crossed<const RULES: u32>(position: &Position, need: u8) -> Option<u64> {
+    match for_leader::<{ RUNS | LONG_SUITS | JOINT_TRUMPS }>(position, need) {
+        Some(_) => None,
+        None => for_leader::<RULES>(position, need),
+    }
+}
 
 fn is_trump(position: &Position, card: Card) -> bool {
     position.strain == Strain::Trump(card.suit)
