@@ -67,8 +67,7 @@ impl Book {
     }
 
     /// The state of the job of this number, as a fetch shows it, with an answer or a table of its
-    /// own request alone. `None`
-    /// where there is none.
+    /// own request alone. `None` where there is none.
     pub fn state(&self, job: u64) -> Option<JobState>
         ensures state { MatchOption (job_at self.now.jobs job) (result ≡ None)
             (λ found. result ≡ Some (shown_stage found.stage)) }
@@ -78,8 +77,7 @@ impl Book {
     }
 
     /// One step of the book. Only a submit and a finish that was stopped take memory. At `Err` the
-    /// call comes back, and
-    /// the book is as it was.
+    /// call comes back, and the book is as it was.
     pub fn apply(&mut self, call: Call) -> Result<Reply, Memory>
         requires { self.old.claims + 1 < 2 ^ 64 }
         ensures reply { MatchResult result (λ r. r ≡ reply_of self.old call) (λ m. m.0 ≡ call) }

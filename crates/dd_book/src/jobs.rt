@@ -197,9 +197,8 @@ impl Jobs {
     }
 
     /// Records how a part ended that this worker has under this claim number: `false` where there
-    /// is no such part, or the outcome is of
-    /// something else. Where memory runs out the outcome, `Stopped`, comes back. Then, as after
-    /// `false`, nothing changes.
+    /// is no such part, or the outcome is of something else. Where memory runs out the outcome,
+    /// `Stopped`, comes back. Then, as after `false`, nothing changes.
     pub(crate) fn finish(
         &mut self,
         worker: u64,
@@ -246,8 +245,7 @@ impl Jobs {
     }
 
     // The part that this worker has under this claim number, of the job at this place, ends.
-    // `false`, and nothing changes, where the
-    // outcome is of something else.
+    // `false`, and nothing changes, where the outcome is of something else.
     fn end_part(
         &mut self,
         place: usize,

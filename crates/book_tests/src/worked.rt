@@ -1,4 +1,5 @@
-use crate::{Book, Call, JobState, Limits, Outcome, Reply, run_calls};
+//! Worked runs, by single calls and as lists.
+use dd_book::{Book, Call, JobState, Limits, Outcome, Reply, run_calls};
 use dd_cards::{Card, Hands, Rank, Seat, Strain, Suit};
 use dd_play::Position;
 use dd_reply::{Asked, Request, TableRequest, solve, solve_part};
@@ -270,8 +271,10 @@ fn write_row(
     letter: char,
 ) -> Result<(), AllocError> {
     let shown = if part == 0 { "waiting" } else { "running" };
-    let row = format!(in alloc;
-        "\n1 fetches 1: {shown}\n9 claims: job 1 part {part} claim {claim}\n9 finishes 1 {claim} {letter}: recorded"
+    let claimed = format!(in alloc;
+        "\n1 fetches 1: {shown}\n9 claims: job 1 part {part} claim {claim}"
     )?;
-    rows.push_str(row.as_str())
+    rows.push_str(claimed.as_str())?;
+    let finished = format!(in alloc; "\n9 finishes 1 {claim} {letter}: recorded")?;
+    rows.push_str(finished.as_str())
 }
