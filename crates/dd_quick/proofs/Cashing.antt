@@ -1,7 +1,8 @@
 -- The leader cashes side suits. A card that no other hand can beat takes a trick, as long as nobody ruffs it: each opponent
 -- that has trumps has to follow suit, and the partner, which plays as the side likes, keeps its trumps, and other cards too
--- if there are enough that it may spare: of each suit one for each lead that it has to follow. In a long suit, of which the leader has as many winners as any other hand has cards, these winners leave the others
--- without the suit, since each follows suit as long as it can: then the leader's low cards are winners too.
+-- if there are enough that it may spare: of each suit one for each lead that it has to follow. In a long suit, of which the
+-- leader has as many winners as any other hand has cards, these winners leave the others without the suit, since each follows
+-- suit as long as it can: then the leader's low cards are winners too.
 use Rattle.std.proofs.Common.{◌≡◌, ◌≢◌, ℕ, zero, suc, ◌+◌, ◌-◌, ◌<◌, ◌≤◌, Bool, true, false, refl, sym, ap, ◌∙◌, subst, arith, List, [], ◌∷◌, ◌++◌, length, length-append, inl, inr}
 use Rattle.std.specs.Prelude.{filter, nat_le, nat_lt, min, ◌&&◌, ◌==◌, ◌⊎◌}
 use Rattle.std.specs.List.{list_all}

@@ -155,10 +155,6 @@ pub record Plan (strain : Strain) (floor m : ℕ) (u : Suit) (i j : ℕ) (trick 
 
 -- ---- making it
 
--- a flag by the test
-flag-is : (b : Bool) (n : ℕ) → b ≡ true → n ≡ 1 → flag_of b ≡ n
-flag-is b n e k = ap flag_of e ∙ sym k
-
 -- the card that a hand plays is planned
 planned : (strain : Strain) (floor : ℕ) (u : Suit) (i : ℕ) (trick hand : List PlayingCard) (c : PlayingCard) → length trick ≤ i → has_card hand c ≡ true → Follows u hand c
     → IsPlanned strain floor u i trick hand (flag_of (is_top strain floor c)) (flag_of (is_trump strain c))

@@ -1,7 +1,6 @@
 //! Quick tricks. The leader cashes side suits, and its side keeps its joint trumps; without trumps it crosses to its partner,
-//! which cashes too; the other side has joint trumps. So a
-//! side's quick tricks are no more than it takes, and they rest on winners alone: it takes as many where the lower cards
-//! are others.
+//! which cashes too; the other side has joint trumps. So a side's quick tricks are no more than it takes, and they rest on
+//! winners alone: it takes as many where the lower cards are others.
 ghost use Rattle.std.specs.Prelude.{◌≡◌, ◌<◌, ◌≤◌, ◌+◌, ◌-◌, IsSome, ℕ, [], IfSome, true};
 ghost use Rattle.dd_cards.specs.declared.suit.Suit.{Suit as SuitOf};
 ghost use Rattle.dd_cards.specs.declared.suit.Suit.TheVariants.{Spades, Hearts, Diamonds, Clubs};

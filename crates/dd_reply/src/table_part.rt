@@ -1,13 +1,15 @@
 //! The parts of a table, each of which is solved by itself.
 ghost use Rattle.std.specs.Prelude.{◌≡◌, ◌-◌, ◌<◌, ◌≤◌, ◌↔◌, [], IfOk, IsOk, IsTrue};
-ghost use Rattle.dd_play.specs.Board.{left};
+ghost use Rattle.dd_cards.specs.Sides.{side_of};
+ghost use Rattle.dd_play.specs.Board.{left, mover};
 ghost use Rattle.dd_play.specs.Value.{lead};
+ghost use Rattle.dd_play.specs.Won.{won};
 ghost use Rattle.dd_search.specs.Budgets.{EndsAs, IsEndless};
 ghost use Rattle.dd_reply.specs.Results.{part_result};
 
 use crate::table_request::{PARTS, TableRequest};
 use dd_play::Position;
-use dd_search::{Bounds, Halt, Meter, value};
+use dd_search::{Bounds, Halt, Meter, value, value_near};
 use std::marker::Model;
 
 /// A part of a table with its result.
@@ -88,7 +90,23 @@ pub fn solve_part<B: Bounds, M: Meter>(
     // It has a result where the meter can say nothing else than to go on.
     ensures answers { IsEndless M.says → IsOk result }
 {
-    let tricks = declarers_tricks(&request.opening(part), bounds, meter)?;
+    solve_part_near(request, part, None, bounds, meter)
+}
+
+/// The same, where North and South are thought to take some `near` tricks: the search is the shorter the nearer that is.
+pub(crate) fn solve_part_near<B: Bounds, M: Meter>(
+    request: &TableRequest,
+    part: u8,
+    near: Option<u8>,
+    bounds: &mut B,
+    meter: &mut M,
+) -> Result<SolvedPart, Halt>
+    requires { part < PARTS }
+    ensures solved { IfOk result (λ solved. solved ≡ part_result request.now part) }
+    ensures ends { EndsAs (M.says meter.new) result }
+    ensures answers { IsEndless M.says → IsOk result }
+{
+    let tricks = declarers_tricks(&request.opening(part), near, bounds, meter)?;
     Ok(SolvedPart {
         request: request.copy(),
         part,
@@ -99,6 +117,7 @@ pub fn solve_part<B: Bounds, M: Meter>(
 // The tricks of the side that does not lead.
 fn declarers_tricks<B: Bounds, M: Meter>(
     position: &Position,
+    near: Option<u8>,
     bounds: &mut B,
     meter: &mut M,
 ) -> Result<u8, Halt>
@@ -108,6 +127,25 @@ fn declarers_tricks<B: Bounds, M: Meter>(
     ensures ends { EndsAs (M.says meter.new) result }
     ensures answers { IsEndless M.says → IsOk result }
 {
-    let leaders = value(position, bounds, meter)?;
+    let leaders = leaders_tricks(position, near, bounds, meter)?;
     Ok(position.tricks_left() - leaders)
+}
+
+// The tricks of the side that leads.
+fn leaders_tricks<B: Bounds, M: Meter>(
+    position: &Position,
+    near: Option<u8>,
+    bounds: &mut B,
+    meter: &mut M,
+) -> Result<u8, Halt>
+    ensures value { IfOk result
+        (λ tricks. tricks ≡ won (side_of (mover position.now)) position.now) }
+    ensures bound { IfOk result (λ tricks. tricks ≤ 13) }
+    ensures ends { EndsAs (M.says meter.new) result }
+    ensures answers { IsEndless M.says → IsOk result }
+{
+    match near {
+        Some(near) => value_near(position, near, bounds, meter),
+        None => value(position, bounds, meter),
+    }
 }

@@ -3,9 +3,10 @@ ghost use Rattle.std.specs.Prelude.{◌≡◌, ◌+◌, ◌*◌, ◌<◌, IfNone
 ghost use Rattle.dd_reply.specs.Results.{contract_of, first_results, results, tricks_of};
 
 use crate::solved_table::{Results, TricksList};
-use crate::table_part::solve_part;
+use crate::table_part::solve_part_near;
 use crate::table_request::{PARTS, TableRequest};
 use arrayvec::ArrayVec;
+use dd_cards::Seat;
 use dd_search::{Bounds, Budget, Endless};
 
 /// Finds the results of a table. The budget is the most positions that the search for one of them comes to, and `None` lets
@@ -26,7 +27,8 @@ pub(crate) fn solve_table<B: Bounds>(
 }
 
 // Puts the results of a strain behind those of the strains before it. North and South lead first: what is learned of the one
-// helps with the other most.
+// helps with the other most. North and South take about as many tricks whoever leads, so each search begins near the result
+// before it.
 fn solve_strain<B: Bounds>(
     request: &TableRequest,
     strain: u8,
@@ -40,10 +42,13 @@ fn solve_strain<B: Bounds>(
     ensures spent { IfNone result (IsSome budget) }
 {
     let part = 4 * strain;
-    let west = tricks_within(request, part + 3, bounds, budget)?;
-    let east = tricks_within(request, part + 1, bounds, budget)?;
-    let north = tricks_within(request, part, bounds, budget)?;
-    let south = tricks_within(request, part + 2, bounds, budget)?;
+    let all = request.hands().len(Seat::North);
+    let west = tricks_within(request, part + 3, None, bounds, budget)?;
+    let near = all.saturating_sub(west);
+    let east = tricks_within(request, part + 1, Some(near), bounds, budget)?;
+    let near = all.saturating_sub(east);
+    let north = tricks_within(request, part, Some(near), bounds, budget)?;
+    let south = tricks_within(request, part + 2, Some(north), bounds, budget)?;
     tricks.push(north);
     tricks.push(east);
     tricks.push(south);
@@ -51,10 +56,12 @@ fn solve_strain<B: Bounds>(
     Some(())
 }
 
-// The result of a part. `None` where the search spent its budget.
+// The result of a part, where North and South are thought to take some `near` tricks. `None` where the search spent its
+// budget.
 fn tricks_within<B: Bounds>(
     request: &TableRequest,
     part: u8,
+    near: Option<u8>,
     bounds: &mut B,
     budget: Option<u64>,
 ) -> Option<u8>
@@ -63,8 +70,8 @@ fn tricks_within<B: Bounds>(
     ensures spent { IfNone result (IsSome budget) }
 {
     let solved = match budget {
-        Some(limit) => solve_part(request, part, bounds, &mut Budget::new(limit)),
-        None => solve_part(request, part, bounds, &mut Endless),
+        Some(limit) => solve_part_near(request, part, near, bounds, &mut Budget::new(limit)),
+        None => solve_part_near(request, part, near, bounds, &mut Endless),
     };
     match (solved, budget) {
         (Ok(solved), _) => Some(solved.tricks()),

@@ -81,6 +81,9 @@ pub(crate) fn second_hands_answer(position: &Position, need: u8) -> Option<Answe
     ensures answer { IfSome result (λ answer. IsAnswerBy position.now need answer.cards answer.yes) }
     ensures board { IsBoard position.now }
 {
+    if position.trick().len() != 1 {
+        return None;
+    }
     let leads = position.first().is_north_south();
     let left = position.tricks_left();
     let others = if leads { left + 1 - need } else { need };

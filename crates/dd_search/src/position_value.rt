@@ -30,7 +30,25 @@ pub fn value<B: Bounds, M: Meter>(
     // It has an answer where the meter can say nothing else than to go on.
     ensures answers { IsEndless M.says → IsOk result }
 {
-    let found = north_souths_tricks(position, table, meter)?;
+    value_near(position, guess(position), table, meter)
+}
+
+/// The same, the first question being whether North and South take `near` of the tricks: it takes the fewer questions the
+/// nearer that is to what they do.
+pub fn value_near<B: Bounds, M: Meter>(
+    position: &Position,
+    near: u8,
+    table: &mut B,
+    meter: &mut M,
+) -> Result<u8, Halt>
+    ensures value { IfOk result
+        (λ tricks. tricks ≡ won (side_of (mover position.now)) position.now) }
+    ensures bound { IfOk result (λ tricks. tricks ≤ 13) }
+    ensures ticked { OnOk result (M.ticked meter.old meter.new) }
+    ensures ends { EndsAs (M.says meter.new) result }
+    ensures answers { IsEndless M.says → IsOk result }
+{
+    let found = north_souths_tricks(position, near, table, meter)?;
     if position.mover().is_north_south() {
         Ok(found.tricks)
     } else {
@@ -38,9 +56,11 @@ pub fn value<B: Bounds, M: Meter>(
     }
 }
 
-/// The tricks that North and South take from here on, no more and no less, and the cards that both rest on. It ticks first.
+/// The tricks that North and South take from here on, no more and no less, and the cards that both rest on. It ticks first,
+/// and asks first whether they take `near` tricks.
 pub(crate) fn north_souths_tricks<B: Bounds, M: Meter>(
     position: &Position,
+    near: u8,
     table: &mut B,
     meter: &mut M,
 ) -> Result<Claim, Halt>
@@ -58,7 +78,7 @@ pub(crate) fn north_souths_tricks<B: Bounds, M: Meter>(
     let window = window(position, table);
     let mut ours = window.0;
     let mut theirs = window.1;
-    let mut need = guess(position);
+    let mut need = near;
     'window: while ours.tricks + theirs.tricks < left {
         need = next_question(need, ours.tricks, left - theirs.tricks);
         let answer = takes(position, need, table, meter)?;

@@ -9,6 +9,7 @@ ghost use Rattle.dd_rank.specs.Depths.{all_cards, depth_in, Covers};
 ghost use Rattle.dd_search.specs.Budgets.{EndsAs, IsEndless};
 
 use crate::card_scores::score_up_to;
+use crate::guess::guess;
 use crate::meter::{Halt, Meter};
 use crate::position_value::north_souths_tricks;
 use crate::table::Bounds;
@@ -34,7 +35,7 @@ pub fn start_value<B: Bounds, M: Meter>(
     ensures answers { IsEndless M.says → IsOk result }
 {
     let position = start.position();
-    let found = north_souths_tricks(position, table, meter)?;
+    let found = north_souths_tricks(position, guess(position), table, meter)?;
     let depths = Depths::of_cards(start, found.cards);
     if position.first().is_north_south() {
         Ok((found.tricks, depths))

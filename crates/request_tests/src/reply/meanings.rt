@@ -1,6 +1,6 @@
 use super::{after_bar, before_bar};
 use dd_cards::{Card, Rank, Seat, Suit};
-use dd_reply::{Request, read_request};
+use dd_reply::{Asked, Request, read_request};
 use std::alloc::{AllocError, Global};
 use std::test::Fail;
 

@@ -3,7 +3,7 @@ use Rattle.dd_cards.specs.Hands.{FourHands}
 use Rattle.dd_play.specs.Board.{left}
 use Rattle.dd_play.specs.Value.{lead}
 use Rattle.dd_reply.specs.Results.{tricks_of, contract_of}
-use Rattle.dd_reply.proofs.table_part.solve_part.Goals as goal
+use Rattle.dd_reply.proofs.table_part.solve_part_near.Goals as goal
 
 pub invariant_of-result : goal.invariant_of-result
 unfolding tricks_of

@@ -4,8 +4,8 @@ use Rattle.dd_play.proofs.CallerLemmas.{left-13}
 use Rattle.dd_search.specs.ClaimsBy.{ClaimBy}
 use Rattle.dd_search.proofs.Greatest.{value-north-south, value-east-west}
 use Rattle.dd_search.proofs.Relied.{IsExactly, exactly-theirs, exactly-others}
-use Rattle.dd_search.proofs.position_value.value.Goals as goal
-use Rattle.dd_search.proofs.position_value.value.Goals.{After-is_north_south}
+use Rattle.dd_search.proofs.position_value.value_near.Goals as goal
+use Rattle.dd_search.proofs.position_value.value_near.Goals.{After-is_north_south}
 
 -- what was found
 found : (g : _) (c : After-is_north_south g) → IsExactly c.args.position.now c.in_ok-found.found.tricks c.in_ok-found.found.cards

@@ -1,0 +1,315 @@
+//! The quick tricks of `dd_quick` in plain Rust. `RULES` says which are counted, so that `cases/rules.rs` can try each alone: a
+//! search counts `ALL`. What is left out or added is known when it is compiled, and costs nothing.
+use super::{Card, Interval, Position, SUITS, Seat, Strain, Suit, above, below, highest, with};
+
+/// A side suit's highest cards, while the leader holds them without a gap.
+pub const RUNS: u32 = 1;
+/// All cards of a long suit.
+pub const LONG_SUITS: u32 = 2;
+/// The highest trumps that two partners hold between them.
+pub const JOINT_TRUMPS: u32 = 4;
+/// Without trumps, the partner's winners next below the leader's, once the leader has crossed.
+pub const CROSSING: u32 = 8;
+pub const ALL: u32 = RUNS | LONG_SUITS | JOINT_TRUMPS | CROSSING;
+
+// Wrong forms, which `cases/rules.rs` has to find wrong.
+/// An opponent with trumps follows suit as long as it is led.
+pub const NOBODY_RUFFS: u32 = 16;
+/// An opponent with no more trumps than the leader's run does not ruff, and all joint trumps are left to be counted.
+pub const TRUMPS_ARE_DRAWN: u32 = 32;
+/// The suit that is led gives a trick though third hand ruffs it.
+pub const THE_LEAD_IS_NOT_RUFFED: u32 = 64;
+/// Third hand counts as second hand does, a card that its opponent's partner has played too.
+pub const AT_THIRD_HAND: u32 = 128;
+/// No winner of the partner's falls under the leader's.
+pub const NO_WINNER_FALLS: u32 = 256;
+/// The leader crosses without a card to lead to its partner.
+pub const CROSSES_WITHOUT_A_CARD: u32 = 512;
+
+// The cards of a holding above all of these others.
+fn above_all(own: u16, others: u16) -> u16 {
+    if others == 0 { own } else { above(own, highest(others)) }
+}
+
+// The seat's winners of a suit: the highest cards without a gap.
+fn winners(position: &Position, seat: Seat, suit: Suit) -> u16 {
+    let [left, partner, right] = others(seat).map(|other| position.holding(other, suit));
+    above_all(position.holding(seat, suit), left | partner | right)
+}
+
+// The cards of the suit that the seat holds and no opponent can beat.
+fn unbeaten(position: &Position, seat: Seat, suit: Suit) -> u16 {
+    let [left, _, right] = others(seat).map(|other| position.holding(other, suit));
+    above_all(position.holding(seat, suit), left | right)
+}
+
+pub fn others(seat: Seat) -> [Seat; 3] {
+    [seat.next(), seat.next().next(), seat.next().next().next()]
+}
+
+fn length(position: &Position, seat: Seat, suit: Suit) -> u8 {
+    position.holding(seat, suit).count_ones() as u8
+}
+
+fn trumps(position: &Position, seat: Seat) -> u8 {
+    match position.strain {
+        Strain::Trump(trump) => length(position, seat, trump),
+        Strain::Notrump => 0,
+    }
+}
+
+// These cards and the highest ones of the suit, so many of these ranks.
+fn with_highest(cards: u64, suit: Suit, ranks: u16, count: u8) -> u64 {
+    let (mut cards, mut ranks) = (cards, ranks);
+    for _ in 0..count {
+        if ranks != 0 {
+            let rank = highest(ranks);
+            ranks = below(ranks, rank);
+            cards = with(cards, suit, rank);
+        }
+    }
+    cards
+}
+
+// The tricks that the leader cashes in a suit, and the number of the suit's highest cards on which they rest.
+#[derive(Clone, Copy)]
+struct Cash {
+    tricks: u8,
+    depth: u8,
+}
+
+impl Cash {
+    fn is_long(self) -> bool {
+        self.depth < self.tricks
+    }
+}
+
+fn cash<const RULES: u32>(position: &Position, suit: Suit) -> Cash {
+    let [left, partner, right] = others(position.first);
+    let lengths = [left, partner, right].map(|seat| length(position, seat, suit));
+    let longest = lengths[0].max(lengths[1]).max(lengths[2]);
+    let run = winners(position, position.first, suit).count_ones() as u8;
+    let (tricks, depth) = if RULES & LONG_SUITS != 0 && longest <= run {
+        (length(position, position.first, suit), longest)
+    } else if RULES & RUNS != 0 {
+        (run, run)
+    } else {
+        (0, 0)
+    };
+    let follows = |seat| trumps(position, seat) == 0 || RULES & NOBODY_RUFFS != 0 || is_drawn::<RULES>(position, seat);
+    let unruffed = |seat, leads: u8| if follows(seat) { leads } else { leads.min(length(position, seat, suit)) };
+    match position.strain {
+        Strain::Notrump => Cash { tricks, depth },
+        Strain::Trump(trump) if trump == suit => Cash { tricks: 0, depth: 0 },
+        Strain::Trump(_) => Cash { tricks: unruffed(left, unruffed(right, tricks)), depth },
+    }
+}
+
+fn is_drawn<const RULES: u32>(position: &Position, seat: Seat) -> bool {
+    match position.strain {
+        Strain::Trump(trump) if RULES & TRUMPS_ARE_DRAWN != 0 => {
+            trumps(position, seat) <= winners(position, position.first, trump).count_ones() as u8
+        }
+        _ => false,
+    }
+}
+
+// The tricks that a suit has, and whether it is asked first.
+#[derive(Clone, Copy)]
+struct Offer {
+    tricks: u8,
+    first: bool,
+}
+
+// So many tricks, of the suits that are asked first before the others.
+fn shares(offers: [Offer; 4], need: u8) -> [u8; 4] {
+    let mut left = need;
+    let mut shares = [0; 4];
+    for first in [true, false] {
+        for (share, offer) in shares.iter_mut().zip(offers) {
+            if offer.first == first {
+                *share = offer.tricks.min(left);
+                left -= *share;
+            }
+        }
+    }
+    shares
+}
+
+// The tricks of the joint trumps of the seat and its partner.
+fn joint_trumps<const RULES: u32>(position: &Position, seat: Seat) -> u8 {
+    let Strain::Trump(trump) = position.strain else { return 0 };
+    if RULES & JOINT_TRUMPS == 0 {
+        return 0;
+    }
+    let partner = seat.next().next();
+    let both = unbeaten(position, seat, trump).count_ones() + unbeaten(position, partner, trump).count_ones();
+    (both as u8).min(length(position, seat, trump).max(length(position, partner, trump)))
+}
+
+fn with_trumps(position: &Position, seat: Seat, cards: u64, tricks: u8) -> u64 {
+    let Strain::Trump(trump) = position.strain else { return cards };
+    let [left, partner, right] = others(seat);
+    if length(position, left, trump) == 0 && length(position, right, trump) == 0 {
+        return cards;
+    }
+    with_highest(cards, trump, unbeaten(position, seat, trump) | unbeaten(position, partner, trump), tricks)
+}
+
+// The cards of the suit that the leader's partner holds next below the leader's run.
+fn next_run(position: &Position, suit: Suit) -> u16 {
+    let [left, partner, right] = others(position.first).map(|other| position.holding(other, suit));
+    let own = position.holding(position.first, suit);
+    let low = own & !above_all(own, left | partner | right);
+    above_all(above_all(partner, left | right), low)
+}
+
+// What the partner takes in a suit once the leader has crossed, and whether the leader can cross there.
+fn next<const RULES: u32>(position: &Position, suit: Suit) -> Offer {
+    let run = winners(position, position.first, suit).count_ones() as u8;
+    let spare = length(position, position.first.next().next(), suit).saturating_sub(run);
+    let next = next_run(position, suit).count_ones() as u8;
+    let tricks = if RULES & NO_WINNER_FALLS == 0 { next.min(spare) } else { next };
+    let card = RULES & CROSSES_WITHOUT_A_CARD != 0 || run < length(position, position.first, suit);
+    Offer { tricks, first: tricks > 0 && card }
+}
+
+// What the partner takes in each suit once the leader has crossed, and how many tricks that adds to these.
+fn crossing<const RULES: u32>(position: &Position, side: u8) -> ([Offer; 4], u8) {
+    let [left, partner, right] = others(position.first);
+    let seats = [position.first, left, partner, right];
+    if RULES & CROSSING == 0 || seats.into_iter().any(|seat| trumps(position, seat) > 0) {
+        return ([Offer { tricks: 0, first: false }; 4], 0);
+    }
+    let next = SUITS.map(|suit| next::<RULES>(position, suit));
+    let all: u8 = next.iter().map(|offer| offer.tricks).sum();
+    let can = next.iter().any(|offer| offer.first);
+    (next, if can { all.min(position.tricks_left() - side) } else { 0 })
+}
+
+// What the leader's side is sure of: in each side suit, in all, and its joint trumps.
+fn leaders<const RULES: u32>(position: &Position) -> ([Cash; 4], u8, u8) {
+    let cash = SUITS.map(|suit| cash::<RULES>(position, suit));
+    let all: u8 = cash.iter().map(|cash| cash.tricks).sum();
+    let side = all.min(position.tricks_left() - trumps(position, position.first.next().next()));
+    (cash, side, joint_trumps::<RULES>(position, position.first))
+}
+
+/// An interval that holds the tricks of the leader's side from this start of a trick on.
+pub fn bounds<const RULES: u32>(position: &Position) -> Interval {
+    let (_, side, trumps) = leaders::<RULES>(position);
+    let (_, crossed) = crossing::<RULES>(position, side);
+    let theirs = joint_trumps::<RULES>(position, position.first.next());
+    Interval { lo: side + trumps + crossed, hi: position.tricks_left() - theirs }
+}
+
+/// At a start of a trick: the cards on which it rests that the leader's side takes at least `need` tricks.
+pub fn for_leader<const RULES: u32>(position: &Position, need: u8) -> Option<u64> {
+    let (cash, side, trumps) = leaders::<RULES>(position);
+    if need > side + trumps {
+        return crossing_cards::<RULES>(position, cash, side, trumps, need);
+    }
+    let side = need.min(side);
+    let cards = with_shares(position, 0, &cash, shares(long_first(&cash), side));
+    Some(with_trumps(position, position.first, cards, need - side))
+}
+
+// These cards and the winners on which so many tricks of each suit rest.
+fn with_shares(position: &Position, cards: u64, cash: &[Cash; 4], shares: [u8; 4]) -> u64 {
+    let mut cards = cards;
+    for ((suit, cash), share) in SUITS.into_iter().zip(cash).zip(shares) {
+        cards = with_highest(cards, suit, winners(position, position.first, suit), share.min(cash.depth));
+    }
+    cards
+}
+
+// The tricks of each suit, those of long suits first.
+fn long_first(cash: &[Cash; 4]) -> [Offer; 4] {
+    cash.map(|cash| Offer { tricks: cash.tricks, first: cash.is_long() })
+}
+
+// The cards on which so many tricks rest where the leader crosses to its partner.
+fn crossing_cards<const RULES: u32>(position: &Position, cash: [Cash; 4], side: u8, trumps: u8, need: u8) -> Option<u64> {
+    let (next, crossed) = crossing::<RULES>(position, side);
+    if need > side + trumps + crossed {
+        return None;
+    }
+    let mut cards = with_shares(position, 0, &cash, cash.map(|cash| cash.tricks));
+    for (suit, share) in SUITS.into_iter().zip(shares(next, need - side)) {
+        cards = with_highest(cards, suit, next_run(position, suit), share);
+    }
+    Some(cards)
+}
+
+/// At a start of a trick: the cards on which it rests that the other side takes at least `need` tricks.
+pub fn against_leader<const RULES: u32>(position: &Position, need: u8) -> Option<u64> {
+    let left = position.first.next();
+    if need <= joint_trumps::<RULES>(position, left) { Some(with_trumps(position, left, 0, need)) } else { None }
+}
+
+// The opponent of the leader with the highest card left of the suit led, where an opponent has it.
+fn heading(position: &Position, led: Card) -> Option<Seat> {
+    let [left, partner, right] = others(position.first);
+    let best = |seat| match position.holding(seat, led.suit) {
+        0 => 0,
+        holding => highest(holding),
+    };
+    let (second, fourth) = (best(left), best(right));
+    let others = best(position.first).max(best(partner)).max(led.rank);
+    if second > others.max(fourth) {
+        Some(left)
+    } else if fourth > others.max(second) {
+        Some(right)
+    } else {
+        None
+    }
+}
+
+/// After the lead: the cards on which it rests that the opponents of its leader take at least `need` tricks: their winners,
+/// that of the suit led the first of them, counted in the position before it.
+pub fn for_second_hand<const RULES: u32>(position: &Position, need: u8) -> Option<u64> {
+    if position.played != if RULES & AT_THIRD_HAND == 0 { 1 } else { 2 } {
+        return None;
+    }
+    let led = position.trick[0];
+    let seat = heading(position, led)?;
+    let mut hands = position.hands;
+    hands[position.first as usize] |= 1 << led.place();
+    if RULES & AT_THIRD_HAND != 0 {
+        hands[position.first.next() as usize] |= 1 << position.trick[1].place();
+    }
+    let before = Position { hands, strain: position.strain, first: seat, trick: position.trick, played: 0 };
+    match position.strain {
+        Strain::Trump(trump) if trump == led.suit => after_a_trump::<RULES>(&before, led.suit, need),
+        _ => after_a_side_suit::<RULES>(&before, led.suit, need),
+    }
+}
+
+fn after_a_side_suit<const RULES: u32>(before: &Position, suit: Suit, need: u8) -> Option<u64> {
+    let (mut cash, side, trumps) = leaders::<RULES>(before);
+    if RULES & THE_LEAD_IS_NOT_RUFFED != 0 {
+        cash[suit as usize].tricks = cash[suit as usize].tricks.max(1);
+    }
+    if need == 0 || cash[suit as usize].tricks == 0 || side == 0 || need > side + trumps {
+        return None;
+    }
+    let side = need.min(side);
+    let mut fewer = cash;
+    fewer[suit as usize].tricks -= 1;
+    let mut shares = shares(long_first(&fewer), side - 1);
+    shares[suit as usize] += 1;
+    Some(with_trumps(before, before.first, with_shares(before, 0, &cash, shares), need - side))
+}
+
+fn after_a_trump<const RULES: u32>(before: &Position, trump: Suit, need: u8) -> Option<u64> {
+    let (cash, sure, _) = leaders::<RULES>(before);
+    let run = winners(before, before.first, trump);
+    let tops = need.min(run.count_ones() as u8);
+    let side = need - tops;
+    let spare = before.tricks_left() - trumps(before, before.first.next().next());
+    if tops == 0 || side > sure || side >= spare {
+        return None;
+    }
+    Some(with_shares(before, with_highest(0, trump, run, tops), &cash, shares(long_first(&cash), side)))
+}
+
