@@ -80,3 +80,47 @@ fn a_refused_growth_leaves_the_book(rt: HostRuntime) -> Result<(), AllocError> {
     }
     Ok(())
 }
+
+// Each of sixty jobs is claimed before the next is submitted, so that what waits has to grow when all of them are stopped.
+#[test]
+fn a_refused_growth_leaves_a_stopped_job_running(rt: HostRuntime) -> Result<(), AllocError> {
+    let alloc = rt.alloc();
+    let limits = Limits::new(2, 100, 1, 1).expect(&rt, "limits in their ranges");
+    let made = make(alloc)?.expect(&rt, "hands in their forms");
+    let mut book = Book::new(alloc, limits);
+    for job in 1..61u64 {
+        follow(
+            &rt,
+            &mut book,
+            &made,
+            Step::Submit(job, Asks::Ace),
+            Told::Job(job),
+        );
+        follow(
+            &rt,
+            &mut book,
+            &made,
+            Step::Claim(9),
+            Told::Claimed(job, job),
+        );
+    }
+    for job in 1..61u64 {
+        let stopped = Step::Finish(9, job, job, Ends::Stopped);
+        follow(
+            &rt,
+            &mut book,
+            &made,
+            Step::Fetch(job, job),
+            Told::State(job, Shows::Running),
+        );
+        follow(&rt, &mut book, &made, stopped, Told::Recorded);
+        follow(
+            &rt,
+            &mut book,
+            &made,
+            Step::Fetch(job, job),
+            Told::State(job, Shows::Waiting),
+        );
+    }
+    Ok(())
+}

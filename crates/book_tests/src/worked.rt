@@ -1,4 +1,6 @@
 //! Worked runs, by single calls and as lists.
+ghost use Rattle.std.specs.Prelude.{◌<◌};
+
 use dd_book::{Book, Call, JobState, Limits, Outcome, Reply, run_calls};
 use dd_cards::{Card, Hands, Rank, Seat, Strain, Suit};
 use dd_play::Position;
@@ -19,11 +21,27 @@ fn hands(ranks: &[u8], each: usize) -> Option<Hands> {
     Some(hands)
 }
 
-// A: North's ace, with the king, queen and jack; B: two cards each; T: the table of the hands of A.
+// A suit each: North's spades, East's hearts, South's diamonds, West's clubs.
+fn whole_suits() -> Option<Hands> {
+    let mut hands = Hands::new();
+    for place in 0..52u8 {
+        let seat = Seat::from_code(place % 4)?;
+        let suit = Suit::from_code(place % 4)?;
+        let rank = Rank::from_code(place / 4 + 2)?;
+        hands.insert(seat, Card { suit, rank });
+    }
+    Some(hands)
+}
+
+// A: North's ace, with the king, queen and jack; B: two cards each; T: the table of the hands of A;
+// S: the table of a suit each.
 fn asked(name: &str) -> Option<Asked> {
     if name == "T" {
         let hands = hands(&[14, 13, 12, 11], 1)?;
         return Some(Asked::Table(TableRequest::new(hands).ok()?));
+    }
+    if name == "S" {
+        return Some(Asked::Table(TableRequest::new(whole_suits()?).ok()?));
     }
     let hands = if name == "A" {
         hands(&[14, 13, 12, 11], 1)?
@@ -35,7 +53,7 @@ fn asked(name: &str) -> Option<Asked> {
 }
 
 // The outcome of this name: the answer to A or B, the result of a part of T by its letter (a for
-// 0), spent or stopped.
+// 0), the result of the second part of S by its own, spent or stopped.
 fn outcome(name: &str) -> Option<Outcome> {
     if name == "spent" {
         return Some(Outcome::Spent);
@@ -43,20 +61,29 @@ fn outcome(name: &str) -> Option<Outcome> {
     if name == "stopped" {
         return Some(Outcome::Stopped);
     }
+    if name == "S" {
+        return part_of("S", 1);
+    }
     if let Some(part) = name.as_bytes().first() {
         if (97..117).contains(part) {
-            let Asked::Table(request) = asked("T")? else {
-                return None;
-            };
-            let part = *part - 97;
-            let solved = solve_part(&request, part, &mut NoTable, &mut Endless).ok()?;
-            return Some(Outcome::Part(solved));
+            return part_of("T", *part - 97);
         }
     }
     let Asked::Solve(request) = asked(name)? else {
         return None;
     };
     Some(Outcome::Solved(solve(request, &mut NoTable, &mut Endless).ok()?))
+}
+
+// The result of a part of the table of this name.
+fn part_of(name: &str, part: u8) -> Option<Outcome>
+    requires { part < 20 }
+{
+    let Asked::Table(request) = asked(name)? else {
+        return None;
+    };
+    let solved = solve_part(&request, part, &mut NoTable, &mut Endless).ok()?;
+    Some(Outcome::Part(solved))
 }
 
 fn number(word: Option<&str>) -> u64 {
@@ -199,6 +226,22 @@ fn a_cancelled_claim_is_stale_and_the_next_job_is_done(rt: HostRuntime) -> Resul
 }
 
 #[test]
+fn two_jobs_of_one_request_are_told_apart(rt: HostRuntime) -> Result<(), AllocError> {
+    let rows = "1 submits A: job 1
+1 submits A: job 2
+9 claims: job 1 claim 1
+1 cancels 1: cancelled 1
+9 finishes 1 1 A: stale
+9 claims: job 2 claim 2
+9 finishes 2 2 A: recorded
+1 fetches 2: done with 1
+1 fetches 1: cancelled
+1 cancels 2: fault 17
+2 fetches 2: fault 16";
+    follow(&rt, rt.alloc(), ample(&rt), rows)
+}
+
+#[test]
 fn limits_and_a_shut_refuse_in_their_order(rt: HostRuntime) -> Result<(), AllocError> {
     let rows = "1 submits A: job 1
 1 submits A: fault 13
@@ -245,6 +288,21 @@ fn a_table_is_claimed_part_by_part_and_cancelled_whole(rt: HostRuntime) -> Resul
 8 finishes 1 3 b: stale
 1 cancels 1: cancelled 1
 9 finishes 1 2 b: stale
+9 claims: job 2 claim 4";
+    follow(&rt, rt.alloc(), ample(&rt), rows)
+}
+
+#[test]
+fn a_full_table_is_claimed_so_too(rt: HostRuntime) -> Result<(), AllocError> {
+    let rows = "1 submits S: job 1
+1 submits A: job 2
+8 claims: job 1 part 0 claim 1
+9 claims: job 1 part 1 claim 2
+8 finishes 1 1 stopped: recorded
+8 claims: job 1 part 0 claim 3
+1 fetches 1: running
+1 cancels 1: cancelled 1
+9 finishes 1 2 S: stale
 9 claims: job 2 claim 4";
     follow(&rt, rt.alloc(), ample(&rt), rows)
 }
