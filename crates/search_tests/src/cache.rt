@@ -95,12 +95,12 @@ fn noted_above<B: Bounds>(start: &TrickStart, table: &mut B) -> Option<u8> {
 }
 
 #[test]
-fn bounds_of_seven_tricks_reach_the_table_behind_and_of_six_do_not(
+fn bounds_of_ten_tricks_reach_the_table_behind_and_of_nine_do_not(
     rt: HostRuntime,
 ) -> Result<(), AllocError> {
     let near = Cache::new(rt.alloc(), NoTable)?;
     let mut cache = Cache::new(rt.alloc(), near)?;
-    for tricks in 6..8 {
+    for tricks in 9..11 {
         let start = suits(tricks).expect(&rt, "a suit in each hand");
         assert_eq!(rt; noted_above(&start, &mut cache), Some(tricks));
         let beyond = tricks + 1;
@@ -111,7 +111,7 @@ fn bounds_of_seven_tricks_reach_the_table_behind_and_of_six_do_not(
             cache.settle(&start, tricks).is_some(),
             cache.behind().settle(&start, beyond).is_some(),
         ];
-        assert_eq!(rt; found, [true, false, tricks == 7], "{tricks} tricks");
+        assert_eq!(rt; found, [true, false, tricks == 10], "{tricks} tricks");
     }
     Ok(())
 }
