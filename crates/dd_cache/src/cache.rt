@@ -70,7 +70,8 @@ impl<B> Cache<B> {
 
     // What settles the question of the position with these strings.
     fn own(&self, strings: &OwnerStrings, need: u8) -> Option<(Interval, Depths)>
-        ensures told { IfSome result (λ told. (t : ToldOf) × IsSound (shape_in strings.now) t × AreFirst t.firsts strings.now × (t.firsts.depths ≡ told.1) × (t.interval ≡ told.0)) }
+        ensures told { IfSome result (λ told. (t : ToldOf) × IsSound (shape_in strings.now) t
+            × AreFirst t.firsts strings.now × (t.firsts.depths ≡ told.1) × (t.interval ≡ told.0)) }
         ensures settles { IfSome result (λ told. (need ≤ told.0.lo) ⊎ (told.0.hi < need)) }
     {
         // The proof reads here what it means that shapes are compared.
@@ -123,7 +124,8 @@ impl<B> Cache<B> {
 
 impl<B: Bounds> Bounds for Cache<B> {
     // What it tells holds. What it still has depends on what came since.
-    ghost tells = { λ cache p depths interval. (q : Board) → IsBoard q → Covers p (depth_in depths) q → Holds interval (lead q) };
+    ghost tells = { λ cache p depths interval. (q : Board) → IsBoard q
+        → Covers p (depth_in depths) q → Holds interval (lead q) };
 
     ghost holds = { λ cache p depths interval q told. told q };
 

@@ -68,7 +68,8 @@ impl Page {
     pub(crate) fn settle(&self, strings: &OwnerStrings, need: u8) -> Option<&Told>
         ensures sound { IfSome result (λ told. IsSound self.now.shape told.now) }
         ensures firsts { IfSome result (λ told. AreFirst told.now.firsts strings.now) }
-        ensures settles { IfSome result (λ told. (need ≤ told.now.interval.lo) ⊎ (told.now.interval.hi < need)) }
+        ensures settles { IfSome result (λ told. (need ≤ told.now.interval.lo)
+            ⊎ (told.now.interval.hi < need)) }
     {
         let brief = strings.brief();
         for (place, told) in self.told.as_slice().iter().enumerate() {

@@ -35,7 +35,8 @@ impl Told {
     #[inline]
     pub(crate) fn answers(&self, strings: &OwnerStrings, need: u8) -> bool
         ensures firsts { IsTrue result → AreFirst self.now.firsts strings.now }
-        ensures settles { IsTrue result → (need ≤ self.now.interval.lo) ⊎ (self.now.interval.hi < need) }
+        ensures settles { IsTrue result → (need ≤ self.now.interval.lo)
+            ⊎ (self.now.interval.hi < need) }
     {
         (need <= self.interval.lo || self.interval.hi < need) && self.firsts.are_in(strings)
     }

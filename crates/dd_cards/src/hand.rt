@@ -115,7 +115,8 @@ impl Hand {
 
     /// Takes the first card out: the highest of the first suit. None where no card is left.
     pub fn pop_first(&mut self) -> Option<Card>
-        ensures { MatchOption result ((self.old ≡ []) × (self.new ≡ [])) (λ card. self.old ≡ card ∷ self.new) }
+        ensures { MatchOption result ((self.old ≡ []) × (self.new ≡ [])) (λ card. self.old ≡ card
+            ∷ self.new) }
     {
         if self.mask == 0 {
             return None;

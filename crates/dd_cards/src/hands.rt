@@ -75,8 +75,10 @@ impl Hands {
     /// The seat whose hand has the card; None where no hand has it.
     pub fn holder(&self, card: Card) -> Option<Seat>
         ensures some { IfSome result (λ seat. has_card (hand_of self.now seat) card ≡ true) }
-        ensures only { IfSome result (λ seat. (other : Seat) → has_card (hand_of self.now other) card ≡ true → other ≡ seat) }
-        ensures none { IfNone result ((seat : Seat) → has_card (hand_of self.now seat) card ≡ false) }
+        ensures only { IfSome result (λ seat. (other : Seat)
+            → has_card (hand_of self.now other) card ≡ true → other ≡ seat) }
+        ensures none { IfNone result ((seat : Seat) → has_card (hand_of self.now seat) card
+            ≡ false) }
     {
         // The proof reads here that no card is in two hands.
         let _ = &self.masks;
@@ -95,8 +97,11 @@ impl Hands {
 
     /// Puts the card into this hand. False, and nothing changed, where some hand has it.
     pub fn insert(&mut self, seat: Seat, card: Card) -> bool
-        ensures inserts { IsTrue result ↔ ((other : Seat) → has_card (hand_of self.old other) card ≡ false) }
-        ensures hands { self.new ≡ (if result then with_hand self.old seat (with_card (hand_of self.old seat) card) else self.old) }
+        ensures inserts { IsTrue result ↔ ((other : Seat) → has_card (hand_of self.old other) card
+            ≡ false) }
+        ensures hands { self.new
+            ≡ (if result then with_hand self.old seat (with_card (hand_of self.old seat) card) else
+            self.old) }
     {
         if self.holder(card).is_some() {
             return false;

@@ -88,7 +88,8 @@ impl Holding {
     /// Takes the highest rank out. None where no rank is left.
     #[inline]
     pub fn pop_highest(&mut self) -> Option<Rank>
-        ensures { MatchOption result ((self.old ≡ []) × (self.new ≡ [])) (λ rank. self.old ≡ rank ∷ self.new) }
+        ensures { MatchOption result ((self.old ≡ []) × (self.new ≡ [])) (λ rank. self.old ≡ rank
+            ∷ self.new) }
     {
         // The proof reads here that the ranks fall along the list.
         let _ = &self.mask;
@@ -100,7 +101,8 @@ impl Holding {
     /// Takes the lowest rank out. None where no rank is left.
     #[inline]
     pub fn pop_lowest(&mut self) -> Option<Rank>
-        ensures { MatchOption result ((self.old ≡ []) × (self.new ≡ [])) (λ rank. self.old ≡ self.new ++ rank ∷ []) }
+        ensures { MatchOption result ((self.old ≡ []) × (self.new ≡ [])) (λ rank. self.old
+            ≡ self.new ++ rank ∷ []) }
     {
         if self.mask == 0 {
             return None;
@@ -124,7 +126,8 @@ impl Holding {
     #[inline]
     pub fn next_from(self, rank: Rank) -> Option<Rank>
         ensures { MatchOption result ((q : ℕ) → has_rank self q ≡ true → q < rank)
-            (λ r. (has_rank self r ≡ true) × (rank ≤ r) × ((q : ℕ) → has_rank self q ≡ true → rank ≤ q → r ≤ q)) }
+            (λ r. (has_rank self r ≡ true) × (rank ≤ r) × ((q : ℕ) → has_rank self q ≡ true
+            → rank ≤ q → r ≤ q)) }
     {
         let least = rank.code();
         let part = self.mask >> least;

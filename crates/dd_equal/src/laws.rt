@@ -17,7 +17,8 @@ ghost use Rattle.dd_equal.specs.EqualCards.{are_equal, tops, equals_of, classes_
 
 /// Equal cards have one score, whatever other cards of the hand lie between them.
 pub fn equal_cards_score_alike()
-    ensures { (p : Board) (c d : PlayingCard) → IsBoard p → IsLegal p c → IsLegal p d → are_equal p c d ≡ true
+    ensures { (p : Board) (c d : PlayingCard) → IsBoard p → IsLegal p c → IsLegal p d
+        → are_equal p c d ≡ true
         → score p d ≡ score p c }
 {}
 
@@ -36,7 +37,8 @@ pub fn classes_part_the_legal_cards()
 pub fn one_card_of_each_class()
     ensures { (side : Side) (p : Board) (n : ℕ) → IsBoard p → is_side side (mover p) ≡ false
         → 1 ≤ left p
-        → ((c : PlayingCard) → has_card (tops p) c ≡ true → (m : ℕ) × Takes side (after p c) m × (n ≤ m + point side p c))
+        → ((c : PlayingCard) → has_card (tops p) c ≡ true → (m : ℕ) × Takes side (after p c) m
+        × (n ≤ m + point side p c))
         → Takes side p n }
 {}
 
@@ -44,5 +46,6 @@ pub fn one_card_of_each_class()
 pub fn one_card_of_each_class_by_high_cards()
     ensures { (top : PlayingCard → Bool) (side : Side) (p : Board) (n : ℕ) → IsUpward top
         → IsBoard p → is_side side (mover p) ≡ false → 1 ≤ left p
-        → IsWhole top p → ((c : PlayingCard) → has_card (tops p) c ≡ true → IsWorth top side p c n) → TakesBy top side p n }
+        → IsWhole top p → ((c : PlayingCard) → has_card (tops p) c ≡ true
+        → IsWorth top side p c n) → TakesBy top side p n }
 {}

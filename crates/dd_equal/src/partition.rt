@@ -54,9 +54,13 @@ pub fn list_classes(position: &Position, classes: &mut ArrayVec<Class, 13>)
 fn push_suit(classes: &mut ArrayVec<Class, 13>, position: &Position, own: Holding, suit: Suit)
     requires own { map (card_of suit) own ≡ filter (is_of suit) (legal position.now) }
     requires board { IsBoard position.now }
-    requires room { array_vec_len classes.old + length (filter (is_of suit) (legal position.now)) ≤ 13 }
-    ensures items { classes.new.items ≡ classes.old.items ++ map (class_of position.now) (filter (is_top position.now) (filter (is_of suit) (legal position.now))) }
-    ensures len { array_vec_len classes.new ≤ array_vec_len classes.old + length (filter (is_of suit) (legal position.now)) }
+    requires room { array_vec_len classes.old + length (filter (is_of suit) (legal position.now)) ≤
+        13 }
+    ensures items { classes.new.items ≡ classes.old.items
+        ++ map (class_of position.now) (filter (is_top position.now) (filter (is_of suit) (legal
+        position.now))) }
+    ensures len { array_vec_len classes.new ≤ array_vec_len classes.old + length (filter (is_of
+        suit) (legal position.now)) }
 {
     if own.is_empty() {
         return;
@@ -68,7 +72,8 @@ fn push_suit(classes: &mut ArrayVec<Class, 13>, position: &Position, own: Holdin
 fn push_classes(classes: &mut ArrayVec<Class, 13>, suit: Suit, own: Holding, others: Holding)
     requires apart { AreApart own others }
     requires room { array_vec_len classes.old + length own ≤ 13 }
-    ensures items { classes.new.items ≡ classes.old.items ++ map (class_of_rank suit own others) (filter (is_top_rank own others) own) }
+    ensures items { classes.new.items ≡ classes.old.items
+        ++ map (class_of_rank suit own others) (filter (is_top_rank own others) own) }
     ensures len { array_vec_len classes.new ≤ array_vec_len classes.old + length own }
 {
     let mut rest = own;
@@ -85,7 +90,8 @@ fn push_classes(classes: &mut ArrayVec<Class, 13>, suit: Suit, own: Holding, oth
 // The ranks above the floor and those below it. Without a floor all are above.
 pub(crate) fn ranks_around(ranks: Holding, floor: Option<Rank>) -> (Holding, Holding)
     ensures { MatchOption floor ((result.0 ≡ ranks) × (result.1 ≡ []))
-        (λ f. (result.0 ≡ filter (λ q. nat_lt f q) ranks) × (result.1 ≡ filter (λ q. nat_lt q f) ranks)) }
+        (λ f. (result.0 ≡ filter (λ q. nat_lt f q) ranks) × (result.1 ≡ filter
+        (λ q. nat_lt q f) ranks)) }
 {
     match floor {
         Some(floor) => (ranks.above(floor), ranks.below(floor)),
@@ -95,7 +101,8 @@ pub(crate) fn ranks_around(ranks: Holding, floor: Option<Rank>) -> (Holding, Hol
 
 // The ranks of the cards of this suit in the other hands and on the trick.
 pub(crate) fn other_ranks(position: &Position, suit: Suit) -> Holding
-    ensures { result ≡ filter (λ r. has_card (other_cards position.now) (card_of suit r)) all_ranks }
+    ensures { result ≡ filter
+        (λ r. has_card (other_cards position.now) (card_of suit r)) all_ranks }
 {
     let mover = position.mover();
     let left = mover.left();

@@ -48,8 +48,10 @@ fn whole_suit(position: &Position, reached: Hand, own: Holding, suit: Suit) -> H
     requires board { IsBoard position.now }
     ensures more { (c : PlayingCard) → has_card reached c ≡ true → has_card result c ≡ true }
     ensures others { (c : PlayingCard) → c.suit ≢ suit → reach result c ≡ reach reached c }
-    ensures whole { (r q : ℕ) → IsLegal position.now (card_of suit r) → IsLegal position.now (card_of suit q)
-        → are_equal position.now (card_of suit r) (card_of suit q) ≡ true → reach result (card_of suit r) ≡ true → reach result (card_of suit q) ≡ true }
+    ensures whole { (r q : ℕ) → IsLegal position.now (card_of suit r)
+        → IsLegal position.now (card_of suit q)
+        → are_equal position.now (card_of suit r) (card_of suit q) ≡ true
+        → reach result (card_of suit r) ≡ true → reach result (card_of suit q) ≡ true }
 {
     let Some(floor) = reached.holding(suit).next_from(Rank::of(2)) else {
         return reached;

@@ -36,14 +36,14 @@ pub enum LineFault {
 ///
 /// A last part without a line feed is a line where it isn't empty. Nothing is tried again after a failed call.
 ///
-/// The bounds are shared by the searches for all lines. The budget is the most positions that the search for one line
+/// The table are shared by the searches for all lines. The budget is the most positions that the search for one line
 /// comes to, and `None` lets each search go on to its end: a line whose search spends it is told so in place of an
 /// answer.
 pub fn solve_lines<R: Read, W: Write, B: Bounds>(
     alloc: Global,
     reader: &mut CountedDevice<R>,
     writer: &mut CountedDevice<W>,
-    bounds: &mut B,
+    table: &mut B,
     budget: Option<u64>,
 ) -> Result<(), LineFault>
     // All was read, and each of its lines was answered.
@@ -62,8 +62,8 @@ pub fn solve_lines<R: Read, W: Write, B: Bounds>(
     let mut buffer = [0; PIECE];
     for _ in 0..u64::MAX {
         match reader.read(&mut buffer) {
-            Ok(0) => return answer_last(alloc, &line, writer, bounds, budget),
-            Ok(count) => take_piece(alloc, &buffer[..count], &mut line, writer, bounds, budget)?,
+            Ok(0) => return answer_last(alloc, &line, writer, table, budget),
+            Ok(count) => take_piece(alloc, &buffer[..count], &mut line, writer, table, budget)?,
             Err(_) => return Err(LineFault::Read),
         }
     }
@@ -75,7 +75,7 @@ fn answer_last<W: Write, B: Bounds>(
     alloc: Global,
     line: &Line,
     writer: &mut CountedDevice<W>,
-    bounds: &mut B,
+    table: &mut B,
     budget: Option<u64>,
 ) -> Result<(), LineFault>
     ensures ok { OnOk result
@@ -87,7 +87,7 @@ fn answer_last<W: Write, B: Bounds>(
     if line.is_empty() {
         Ok(())
     } else {
-        answer_line(alloc, line, writer, bounds, budget)
+        answer_line(alloc, line, writer, table, budget)
     }
 }
 
@@ -97,7 +97,7 @@ fn take_piece<W: Write, B: Bounds>(
     piece: &[u8],
     line: &mut Line,
     writer: &mut CountedDevice<W>,
-    bounds: &mut B,
+    table: &mut B,
     budget: Option<u64>,
 ) -> Result<(), LineFault>
     ensures ok { OnOk result
@@ -112,7 +112,7 @@ fn take_piece<W: Write, B: Bounds>(
 {
     for byte in piece {
         if *byte == LINE_FEED {
-            answer_line(alloc, line, writer, bounds, budget)?;
+            answer_line(alloc, line, writer, table, budget)?;
             line.clear();
         } else {
             line.push(*byte);
@@ -126,7 +126,7 @@ fn answer_line<W: Write, B: Bounds>(
     alloc: Global,
     line: &Line,
     writer: &mut CountedDevice<W>,
-    bounds: &mut B,
+    table: &mut B,
     budget: Option<u64>,
 ) -> Result<(), LineFault>
     ensures ok { OnOk result (WritesReplies W.contents budget writer.old writer.new line.now
@@ -135,16 +135,16 @@ fn answer_line<W: Write, B: Bounds>(
         (λ held. held ∷ [])) }
     ensures fault { StopsAtFailedWrite writer.old writer.new result }
 {
-    let reply = reply_line(alloc, line, bounds, budget);
+    let reply = reply_line(alloc, line, table, budget);
     write_whole(writer, reply.as_str().as_bytes())
 }
 
 /// The reply to the line that the buffer stands for, with a line feed at its end.
-fn reply_line<B: Bounds>(alloc: Global, line: &Line, bounds: &mut B, budget: Option<u64>) -> Reply
+fn reply_line<B: Bounds>(alloc: Global, line: &Line, table: &mut B, budget: Option<u64>) -> Reply
     ensures { (held : List ℕ) → StandsFor line.now held →
         (text : List ℕ) × IsReply budget held text × (result.bytes ≡ text ++ line_feed ∷ []) }
 {
-    let mut reply = reply_to_line(alloc, line.bytes(), bounds, budget);
+    let mut reply = reply_to_line(alloc, line.bytes(), table, budget);
     reply.push('\n');
     reply
 }

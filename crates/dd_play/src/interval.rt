@@ -13,7 +13,8 @@ impl Interval {
 
     /// From `lo` to `hi`, and nothing where `hi` is less than `lo`.
     pub fn new(lo: u8, hi: u8) -> Option<Interval>
-        ensures { MatchOption result (hi < lo) (λ interval. (interval.lo ≡ lo) × (interval.hi ≡ hi)) }
+        ensures { MatchOption result (hi < lo) (λ interval. (interval.lo ≡ lo) × (interval.hi
+            ≡ hi)) }
     {
         if lo <= hi {
             Some(Interval { lo, hi })

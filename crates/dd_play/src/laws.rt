@@ -63,7 +63,8 @@ pub fn claims()
         → IsLegal p c → Takes side (after p c) n → Takes side p (n + point side p c) }
     ensures every_card { (side : Side) (p : Board) (n : ℕ) → IsBoard p
         → is_side side (mover p) ≡ false → 1 ≤ left p
-        → ((c : PlayingCard) → IsLegal p c → (m : ℕ) × Takes side (after p c) m × (n ≤ m + point side p c)) → Takes side p n }
+        → ((c : PlayingCard) → IsLegal p c → (m : ℕ) × Takes side (after p c) m
+        × (n ≤ m + point side p c)) → Takes side p n }
     ensures point { (side : Side) (p : Board) (c : PlayingCard)
         → point side p c + point (other_side side) p c ≡ (if completes p then 1 else 0) }
     ensures both { (side : Side) (p : Board) (n m : ℕ) → IsBoard p → Takes side p n
@@ -72,7 +73,8 @@ pub fn claims()
         → won side p + won (other_side side) p ≡ left p }
     ensures exactly { (side : Side) (p : Board) (n m : ℕ) → IsBoard p → Takes side p n
         → Takes (other_side side) p m → n + m ≡ left p → won side p ≡ n }
-    ensures bounds { (p : Board) (lo hi : ℕ) → IsBoard p → p.trick ≡ [] → ((lo ≤ lead p) × (lead p ≤ hi))
+    ensures bounds { (p : Board) (lo hi : ℕ) → IsBoard p → p.trick ≡ [] → ((lo ≤ lead p)
+        × (lead p ≤ hi))
         ↔ (Takes (side_of p.first) p lo × Takes (other_side (side_of p.first)) p (left p - hi)) }
 {}
 
@@ -94,7 +96,8 @@ pub fn claims_by_high_cards()
     ensures more { (few many : PlayingCard → Bool) (side : Side) (p : Board) (n : ℕ)
         → ((c : PlayingCard) → few c ≡ true → many c ≡ true)
         → IsUpward few → TakesBy few side p n → TakesBy many side p n }
-    ensures one_card { (top : PlayingCard → Bool) (side : Side) (p : Board) (c : PlayingCard) (n : ℕ)
+    ensures one_card { (top : PlayingCard
+        → Bool) (side : Side) (p : Board) (c : PlayingCard) (n : ℕ)
         → is_side side (mover p) ≡ true
         → IsLegal p c → IsWorth top side p c n → TakesBy top side p n }
     ensures every_card { (top : PlayingCard → Bool) (side : Side) (p : Board) (n : ℕ)
@@ -105,7 +108,8 @@ pub fn claims_by_high_cards()
         → TakesBy top side (after p c) n → IsWorth top side p c (n + point side p c) }
     ensures less { (top : PlayingCard → Bool) (side : Side) (p : Board) (c : PlayingCard) (n m : ℕ)
         → IsWorth top side p c n → m ≤ n → IsWorth top side p c m }
-    ensures wider { (few many : PlayingCard → Bool) (side : Side) (p : Board) (c : PlayingCard) (n : ℕ)
+    ensures wider { (few many : PlayingCard
+        → Bool) (side : Side) (p : Board) (c : PlayingCard) (n : ℕ)
         → ((c : PlayingCard) → few c ≡ true → many c ≡ true)
         → IsUpward few → IsWorth few side p c n → IsWorth many side p c n }
     ensures low { (top : PlayingCard → Bool) (side : Side) (p : Board) (c d : PlayingCard) (n : ℕ)
@@ -119,14 +123,19 @@ pub fn claims_by_high_cards()
 /// Deals whose value can be counted by hand: the ace takes its trick for the leader's side, and against it; a king
 /// before the ace and queen is caught, and behind them it is not; a low trump takes an ace.
 pub fn worked_deals()
-    ensures ace { lead (deal (spades (14 ∷ [])) (spades (13 ∷ [])) (spades (12 ∷ [])) (spades (11 ∷ []))
+    ensures ace { lead (deal (spades (14 ∷ [])) (spades (13 ∷ [])) (spades (12 ∷ [])) (spades (11
+        ∷ []))
         Strain.Notrump Seat.North) ≡ 1 }
-    ensures king { lead (deal (spades (14 ∷ [])) (spades (13 ∷ [])) (spades (12 ∷ [])) (spades (11 ∷ []))
+    ensures king { lead (deal (spades (14 ∷ [])) (spades (13 ∷ [])) (spades (12 ∷ [])) (spades (11
+        ∷ []))
         Strain.Notrump Seat.East) ≡ 0 }
-    ensures caught { lead (deal (spades (3 ∷ 2 ∷ [])) (spades (13 ∷ 4 ∷ [])) (spades (14 ∷ 12 ∷ [])) (spades (6 ∷ 5 ∷ []))
+    ensures caught { lead (deal (spades (3 ∷ 2 ∷ [])) (spades (13 ∷ 4 ∷ [])) (spades (14 ∷ 12
+        ∷ [])) (spades (6 ∷ 5 ∷ []))
         Strain.Notrump Seat.North) ≡ 2 }
-    ensures safe { lead (deal (spades (3 ∷ 2 ∷ [])) (spades (6 ∷ 5 ∷ [])) (spades (14 ∷ 12 ∷ [])) (spades (13 ∷ 4 ∷ []))
+    ensures safe { lead (deal (spades (3 ∷ 2 ∷ [])) (spades (6 ∷ 5 ∷ [])) (spades (14 ∷ 12
+        ∷ [])) (spades (13 ∷ 4 ∷ []))
         Strain.Notrump Seat.North) ≡ 1 }
-    ensures ruff { lead (deal (spades (14 ∷ [])) (hearts (2 ∷ [])) (spades (2 ∷ [])) (spades (3 ∷ []))
+    ensures ruff { lead (deal (spades (14 ∷ [])) (hearts (2 ∷ [])) (spades (2 ∷ [])) (spades (3
+        ∷ []))
         (Strain.Trump Suit.Hearts) Seat.North) ≡ 0 }
 {}

@@ -189,7 +189,8 @@ impl Position {
         requires { has_card (legal self.now) card ≡ true }
         ensures next { result.0 ≡ after self.now card }
         ensures wins { result.1 ≡ (if completes self.now
-            then Some (winner_of (trick_with self.now card) self.now.first self.now.strain) else None) }
+            then Some (winner_of (trick_with self.now card) self.now.first self.now.strain) else
+            None) }
         ensures board { IsBoard self.now }
         ensures legal { IsBoard result.0 }
     {
@@ -223,8 +224,10 @@ impl Position {
     pub fn contested_winner(&self, card: Card, winner: Option<Seat>) -> Option<Card>
         requires legal { has_card (legal self.now) card ≡ true }
         requires winner { winner ≡ (if completes self.now
-            then Some (winner_of (trick_with self.now card) self.now.first self.now.strain) else None) }
-        ensures { (top : PlayingCard → Bool) → IfSome result (λ won. top won ≡ true) → IsSettled top self.now card }
+            then Some (winner_of (trick_with self.now card) self.now.first self.now.strain) else
+            None) }
+        ensures { (top : PlayingCard → Bool) → IfSome result (λ won. top won ≡ true)
+            → IsSettled top self.now card }
     {
         let Some(seat) = winner else {
             return None;
@@ -299,9 +302,12 @@ fn with_place(trick: [Card; 3], place: u8, card: Card) -> [Card; 3]
 // Does a card stand twice among the hands and the trick?
 fn stands_twice(hands: &Hands, trick: &[Card]) -> bool
     requires { AreHands hands.now }
-    ensures twice { OnTrue result (¬ ((c : PlayingCard) → times_in hands.now c + times trick.now c ≤ 1)) }
-    ensures once { OnFalse result ((c : PlayingCard) → times_in hands.now c + times trick.now c ≤ 1) }
-    ensures real { OnFalse result ((c : PlayingCard) → has_card trick.now c ≡ true → IsRank c.rank) }
+    ensures twice { OnTrue result (¬ ((c : PlayingCard)
+        → times_in hands.now c + times trick.now c ≤ 1)) }
+    ensures once { OnFalse result ((c : PlayingCard)
+        → times_in hands.now c + times trick.now c ≤ 1) }
+    ensures real { OnFalse result ((c : PlayingCard) → has_card trick.now c ≡ true
+        → IsRank c.rank) }
 {
     let mut seen = hands.copy();
     for card in trick {
@@ -318,7 +324,8 @@ fn stands_twice(hands: &Hands, trick: &[Card]) -> bool
 fn is_even(hands: &Hands, first: Seat, played: u8, left: u8) -> bool
     requires { AreHands hands.now }
     ensures { IsTrue result ↔ ((k : ℕ) → k < 4 →
-        length (hand_of hands.now (seat_after first k)) + (if nat_lt k played then 1 else 0) ≡ left) }
+        length (hand_of hands.now (seat_after first k)) + (if nat_lt k played then 1 else 0)
+        ≡ left) }
 {
     for k in 0..4 {
         let has_played = if k < played { 1 } else { 0 };

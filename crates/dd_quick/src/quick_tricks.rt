@@ -28,7 +28,8 @@ use dd_rank::Depths;
 /// of the cards left, from the highest down to the lowest winner. It plays no card and takes no memory.
 #[tactic(auto, unfolding(crate::specs::QuickTricks::quick_lo, crate::specs::QuickTricks::quick_hi))]
 pub fn bounds(start: &TrickStart) -> (Interval, Depths)
-    ensures holds { (q : Board) → IsBoard q → Covers start.now (depth_in result.1) q → Holds result.0 (lead q) }
+    ensures holds { (q : Board) → IsBoard q → Covers start.now (depth_in result.1) q
+        → Holds result.0 (lead q) }
     ensures within { (quick_lo start.now ≤ result.0.lo) × (result.0.hi ≤ quick_hi start.now) }
     ensures depths { (u : SuitOf) → depth_in result.1 u ≤ count_of u (all_cards start.now) }
 {

@@ -24,7 +24,8 @@ use dd_play::Position;
 /// rests that the opponents take at least `need` tricks, this one included, where they have so many quick tricks.
 pub fn for_second_hand(position: &Position, need: u8) -> Option<Hand>
     ensures { IfSome result
-        (λ cards. TakesBy (reach cards) (other_side (side_of position.now.first)) position.now need) }
+        (λ cards. TakesBy (reach cards) (other_side (side_of position.now.first)) position.now
+        need) }
 {
     let [led] = position.trick() else {
         return None;
@@ -41,7 +42,8 @@ pub fn for_second_hand(position: &Position, need: u8) -> Option<Hand>
 // The same by what is sure before the lead, where a side suit was led.
 fn after_a_side_suit(position: &Position, before: &Position, led: Card, need: u8) -> Option<Hand>
     requires { IsBeforeLead position.now led before.now }
-    ensures { IfSome result (λ cards. TakesBy (reach cards) (side_of before.now.first) position.now need) }
+    ensures { IfSome result
+        (λ cards. TakesBy (reach cards) (side_of before.now.first) position.now need) }
 {
     let sure = leaders(before);
     let first = tricks_in(sure.cashed, led.suit);
@@ -56,7 +58,8 @@ fn after_a_side_suit(position: &Position, before: &Position, led: Card, need: u8
 fn after_a_trump(position: &Position, before: &Position, led: Card, need: u8) -> Option<Hand>
     requires before { IsBeforeLead position.now led before.now }
     requires trump { is_trump position.now.strain led ≡ true }
-    ensures { IfSome result (λ cards. TakesBy (reach cards) (side_of before.now.first) position.now need) }
+    ensures { IfSome result
+        (λ cards. TakesBy (reach cards) (side_of before.now.first) position.now need) }
 {
     let sure = leaders(before);
     let seat = before.first();

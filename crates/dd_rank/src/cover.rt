@@ -153,7 +153,8 @@ impl TopOwners {
     // Are these no more, and the first of the others?
     #[inline]
     pub(crate) fn begin(self, others: TopOwners) -> bool
-        ensures { result ≡ (nat_le self.mask others.mask && nat_eq (bit_and others.owners self.mask) self.owners) }
+        ensures { result ≡ (nat_le self.mask others.mask
+            && nat_eq (bit_and others.owners self.mask) self.owners) }
     {
         self.mask <= others.mask && others.owners & self.mask == self.owners
     }

@@ -28,9 +28,19 @@ impl Model for Depths {
 
     ghost Value = { FourDepths };
 
-    ghost view = { λ d. record { spades = d.spades; hearts = d.hearts; diamonds = d.diamonds; clubs = d.clubs } };
+    ghost view = { λ d. record {
+      spades = d.spades;
+      hearts = d.hearts;
+      diamonds = d.diamonds;
+      clubs = d.clubs;
+    } };
 
-    ghost inverse = { λ v. record { spades = v.spades; hearts = v.hearts; diamonds = v.diamonds; clubs = v.clubs } };
+    ghost inverse = { λ v. record {
+      spades = v.spades;
+      hearts = v.hearts;
+      diamonds = v.diamonds;
+      clubs = v.clubs;
+    } };
 }
 
 impl Depths {

@@ -27,9 +27,16 @@ impl Model for FirstOwners {
 
     ghost Value = { Firsts };
 
-    ghost view = { λ f. record { depths = f.depths; spades = f.spades.owners; hearts = f.hearts.owners; diamonds = f.diamonds.owners; clubs = f.clubs.owners } };
+    ghost view = { λ f. record {
+      depths = f.depths;
+      spades = f.spades.owners;
+      hearts = f.hearts.owners;
+      diamonds = f.diamonds.owners;
+      clubs = f.clubs.owners;
+    } };
 
-    ghost invariant = { λ f. (f.spades.mask ≡ 4 ^ f.depths.spades - 1) × (f.hearts.mask ≡ 4 ^ f.depths.hearts - 1)
+    ghost invariant = { λ f. (f.spades.mask ≡ 4 ^ f.depths.spades - 1) × (f.hearts.mask
+        ≡ 4 ^ f.depths.hearts - 1)
         × (f.diamonds.mask ≡ 4 ^ f.depths.diamonds - 1) × (f.clubs.mask ≡ 4 ^ f.depths.clubs - 1) };
 }
 
@@ -53,7 +60,8 @@ impl FirstOwners {
     pub fn of(strings: OwnerStrings, depths: Depths) -> FirstOwners
         requires { (u : SuitOf) → depth_in depths u ≤ 13 }
         ensures depths { result.depths ≡ depths }
-        ensures owners { (u : SuitOf) → first_in result u ≡ string_in strings u % 4 ^ depth_in depths u }
+        ensures owners { (u : SuitOf) → first_in result u
+            ≡ string_in strings u % 4 ^ depth_in depths u }
     {
         FirstOwners {
             depths,

@@ -31,24 +31,34 @@ pub fn alike_positions()
 /// `few`: these are thirteen at most.
 /// `full`: at full depths it covers the alike positions and no others.
 pub fn covered_positions()
-    ensures told { (cards : List PlayingCard) (depths : Suit → ℕ) (p : Board) (lo hi : ℕ) → ((c : PlayingCard) → has_card cards c ≡ true → IsRank c.rank)
+    ensures told { (cards : List PlayingCard) (depths : Suit → ℕ) (p : Board) (lo hi : ℕ)
+        → ((c : PlayingCard) → has_card cards c ≡ true → IsRank c.rank)
         → p.trick ≡ [] → ((u : Suit) → depths u ≤ depths_of (reach cards) p u)
         → ((q : Board) → IsBoard q → Covers p depths q → (lo ≤ lead q) × (lead q ≤ hi))
         → TakesBy (reach cards) (side_of p.first) p lo
         × TakesBy (reach cards) (other_side (side_of p.first)) p (left p - hi) }
-    ensures noted { (cards : List PlayingCard) (depths : Suit → ℕ) (p : Board) (lo hi : ℕ) → ((c : PlayingCard) → has_card cards c ≡ true → IsRank c.rank)
+    ensures noted { (cards : List PlayingCard) (depths : Suit → ℕ) (p : Board) (lo hi : ℕ)
+        → ((c : PlayingCard) → has_card cards c ≡ true → IsRank c.rank)
         → IsBoard p → ((u : Suit) → depths_of (reach cards) p u ≤ depths u)
         → TakesBy (reach cards) (side_of p.first) p lo
         → TakesBy (reach cards) (other_side (side_of p.first)) p (left p - hi)
         → (q : Board) → IsBoard q → Covers p depths q → (lo ≤ lead q) × (lead q ≤ hi) }
-    ensures chained { (depths : Suit → ℕ) (p q r : Board) → Covers p depths q → Covers q depths r → Covers p depths r }
-    ensures itself { (p : Board) (depths : Suit → ℕ) → p.trick ≡ [] → ((u : Suit) → depths u ≤ count_of u (all_cards p)) → Covers p depths p }
-    ensures shapes { (p q : Board) (depths : Suit → ℕ) → IsBoard p → IsBoard q → Covers p depths q → shape_of q ≡ shape_of p }
-    ensures owners { (p q : Board) (depths : Suit → ℕ) → IsBoard p → IsBoard q → p.trick ≡ [] → q.trick ≡ [] → ((u : Suit) → depths u ≤ count_of u (all_cards p))
-        → (Covers p depths q ↔ ((shape_of q ≡ shape_of p) × ((u : Suit) → string_in (strings_of q) u % 4 ^ depths u ≡ string_in (strings_of p) u % 4 ^ depths u))) }
-    ensures counts { (p q : Board) → IsBoard p → IsBoard q → shape_of q ≡ shape_of p → (u : Suit) → count_of u (all_cards q) ≡ count_of u (all_cards p) }
+    ensures chained { (depths : Suit → ℕ) (p q r : Board) → Covers p depths q → Covers q depths r
+        → Covers p depths r }
+    ensures itself { (p : Board) (depths : Suit → ℕ) → p.trick ≡ [] → ((u : Suit)
+        → depths u ≤ count_of u (all_cards p)) → Covers p depths p }
+    ensures shapes { (p q : Board) (depths : Suit → ℕ) → IsBoard p → IsBoard q → Covers p depths q
+        → shape_of q ≡ shape_of p }
+    ensures owners { (p q : Board) (depths : Suit → ℕ) → IsBoard p → IsBoard q → p.trick ≡ []
+        → q.trick ≡ [] → ((u : Suit) → depths u ≤ count_of u (all_cards p))
+        → (Covers p depths q ↔ ((shape_of q ≡ shape_of p) × ((u : Suit)
+        → string_in (strings_of q) u % 4 ^ depths u
+        ≡ string_in (strings_of p) u % 4 ^ depths u))) }
+    ensures counts { (p q : Board) → IsBoard p → IsBoard q → shape_of q ≡ shape_of p → (u : Suit)
+        → count_of u (all_cards q) ≡ count_of u (all_cards p) }
     ensures few { (p : Board) → IsBoard p → (u : Suit) → count_of u (all_cards p) ≤ 13 }
-    ensures full { (p q : Board) (depths : Suit → ℕ) → IsBoard p → IsBoard q → ((u : Suit) → depths u ≡ count_of u (all_cards p)) → (Covers p depths q ↔ AreAlike p q) }
+    ensures full { (p q : Board) (depths : Suit → ℕ) → IsBoard p → IsBoard q → ((u : Suit)
+        → depths u ≡ count_of u (all_cards p)) → (Covers p depths q ↔ AreAlike p q) }
 {}
 
 /// Owner strings tell positions apart just as far as these aren't alike.
@@ -57,8 +67,10 @@ pub fn covered_positions()
 /// `shapes`: and the test by which shapes are compared, whether those are.
 /// `mixed`: equal keys have one mixing number, which is all that a hasher is fed of them.
 pub fn alike_strings()
-    ensures alike { (p q : Board) → IsBoard p → IsBoard q → p.trick ≡ [] → q.trick ≡ [] → (AreAlike p q ↔ strings_of q ≡ strings_of p) }
+    ensures alike { (p q : Board) → IsBoard p → IsBoard q → p.trick ≡ [] → q.trick ≡ []
+        → (AreAlike p q ↔ strings_of q ≡ strings_of p) }
     ensures keys { (x y : Strings) → (same_strings x y ≡ true ↔ x ≡ y) }
     ensures shapes { (x y : ShapeOf) → (same_shape x y ≡ true ↔ x ≡ y) }
-    ensures mixed { (x y : Strings) → same_strings x y ≡ true → mixing_number_in x ≡ mixing_number_in y }
+    ensures mixed { (x y : Strings) → same_strings x y ≡ true → mixing_number_in x
+        ≡ mixing_number_in y }
 {}

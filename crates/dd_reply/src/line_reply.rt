@@ -20,49 +20,49 @@ use std::alloc::Global;
 pub fn reply_to_line<B: Bounds>(
     alloc: Global,
     line: &[u8],
-    bounds: &mut B,
+    table: &mut B,
     budget: Option<u64>,
 ) -> Reply
     ensures text { IsReply budget line.now result.bytes }
     ensures bound { array_string_len result ≤ LONGEST_REPLY }
 {
     match (read_request(alloc, line), budget) {
-        (Ok(Asked::Solve(request)), Some(limit)) => reply_within(request, bounds, limit),
-        (Ok(Asked::Solve(request)), None) => reply_in_the_end(request, bounds),
-        (Ok(Asked::Table(request)), _) => table_reply(&request, bounds, budget),
+        (Ok(Asked::Solve(request)), Some(limit)) => reply_within(request, table, limit),
+        (Ok(Asked::Solve(request)), None) => reply_in_the_end(request, table),
+        (Ok(Asked::Table(request)), _) => table_reply(&request, table, budget),
         (Err(fault), _) => write_fault(fault),
     }
 }
 
 /// The answer to a request, or that the budget is spent.
-fn reply_within<B: Bounds>(request: Request, bounds: &mut B, limit: u64) -> Reply
+fn reply_within<B: Bounds>(request: Request, table: &mut B, limit: u64) -> Reply
     ensures text { (result.bytes ≡ asked_text (Asked.Solve request)) ⊎ (result.bytes ≡ spent_text) }
     ensures bound { array_string_len result ≤ LONGEST_REPLY }
 {
-    match solve(request, bounds, &mut Budget::new(limit)) {
+    match solve(request, table, &mut Budget::new(limit)) {
         Ok(solved) => write_answer(solved.answer()),
         Err(_) => write_spent(),
     }
 }
 
 /// The answer to a request, however long it takes.
-fn reply_in_the_end<B: Bounds>(request: Request, bounds: &mut B) -> Reply
+fn reply_in_the_end<B: Bounds>(request: Request, table: &mut B) -> Reply
     ensures text { result.bytes ≡ asked_text (Asked.Solve request) }
     ensures bound { array_string_len result ≤ LONGEST_REPLY }
 {
-    match solve(request, bounds, &mut Endless) {
+    match solve(request, table, &mut Endless) {
         Ok(solved) => write_answer(solved.answer()),
         Err(_) => unreachable!(),
     }
 }
 
 /// The results of a table, or that the search for one of them spent the budget.
-fn table_reply<B: Bounds>(request: &TableRequest, bounds: &mut B, budget: Option<u64>) -> Reply
+fn table_reply<B: Bounds>(request: &TableRequest, table: &mut B, budget: Option<u64>) -> Reply
     ensures text { (result.bytes ≡ asked_text (Asked.Table request.now)) ⊎
         (IsSome budget × (result.bytes ≡ spent_text)) }
     ensures bound { array_string_len result ≤ LONGEST_REPLY }
 {
-    match solve_table(request, bounds, budget) {
+    match solve_table(request, table, budget) {
         Some(results) => write_table(&results),
         None => write_spent(),
     }

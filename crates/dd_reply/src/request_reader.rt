@@ -251,8 +251,10 @@ fn table_request(hands: Hands) -> Result<TableRequest, Fault>
 
 // What is asked of a position, or the first fault of the fields.
 fn solve_asked(object: &Map<String, Value>) -> Result<Asked, Fault>
-    ensures { MatchOption (solve_fields (members_view object.now.entries)) (result ≡ Err Fault.WrongField)
-        (λ fields. (asked : Result Question Fault) × MeansFields fields asked × (result ≡ asked_as Asked.Solve asked)) }
+    ensures { MatchOption (solve_fields (members_view object.now.entries)) (result
+        ≡ Err Fault.WrongField)
+        (λ fields. (asked : Result Question Fault) × MeansFields fields asked × (result
+        ≡ asked_as Asked.Solve asked)) }
 {
     let fields = solve_fields(object).ok_or(Fault::WrongField)?;
     let request = request_of(&fields)?;

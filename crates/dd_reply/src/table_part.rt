@@ -81,7 +81,7 @@ impl SolvedPart {
 pub fn solve_part<B: Bounds, M: Meter>(
     request: &TableRequest,
     part: u8,
-    bounds: &mut B,
+    table: &mut B,
     meter: &mut M,
 ) -> Result<SolvedPart, Halt>
     requires { part < PARTS }
@@ -90,7 +90,7 @@ pub fn solve_part<B: Bounds, M: Meter>(
     // It has a result where the meter can say nothing else than to go on.
     ensures answers { IsEndless M.says → IsOk result }
 {
-    solve_part_near(request, part, None, bounds, meter)
+    solve_part_near(request, part, None, table, meter)
 }
 
 /// The same, where North and South are thought to take some `near` tricks: the search is the shorter the nearer that is.
@@ -98,7 +98,7 @@ pub(crate) fn solve_part_near<B: Bounds, M: Meter>(
     request: &TableRequest,
     part: u8,
     near: Option<u8>,
-    bounds: &mut B,
+    table: &mut B,
     meter: &mut M,
 ) -> Result<SolvedPart, Halt>
     requires { part < PARTS }
@@ -106,7 +106,7 @@ pub(crate) fn solve_part_near<B: Bounds, M: Meter>(
     ensures ends { EndsAs (M.says meter.new) result }
     ensures answers { IsEndless M.says → IsOk result }
 {
-    let tricks = declarers_tricks(&request.opening(part), near, bounds, meter)?;
+    let tricks = declarers_tricks(&request.opening(part), near, table, meter)?;
     Ok(SolvedPart {
         request: request.copy(),
         part,
@@ -118,7 +118,7 @@ pub(crate) fn solve_part_near<B: Bounds, M: Meter>(
 fn declarers_tricks<B: Bounds, M: Meter>(
     position: &Position,
     near: Option<u8>,
-    bounds: &mut B,
+    table: &mut B,
     meter: &mut M,
 ) -> Result<u8, Halt>
     requires start { position.now.trick ≡ [] }
@@ -127,7 +127,7 @@ fn declarers_tricks<B: Bounds, M: Meter>(
     ensures ends { EndsAs (M.says meter.new) result }
     ensures answers { IsEndless M.says → IsOk result }
 {
-    let leaders = leaders_tricks(position, near, bounds, meter)?;
+    let leaders = leaders_tricks(position, near, table, meter)?;
     Ok(position.tricks_left() - leaders)
 }
 
@@ -135,7 +135,7 @@ fn declarers_tricks<B: Bounds, M: Meter>(
 fn leaders_tricks<B: Bounds, M: Meter>(
     position: &Position,
     near: Option<u8>,
-    bounds: &mut B,
+    table: &mut B,
     meter: &mut M,
 ) -> Result<u8, Halt>
     ensures value { IfOk result
@@ -145,7 +145,7 @@ fn leaders_tricks<B: Bounds, M: Meter>(
     ensures answers { IsEndless M.says → IsOk result }
 {
     match near {
-        Some(near) => value_near(position, near, bounds, meter),
-        None => value(position, bounds, meter),
+        Some(near) => value_near(position, near, table, meter),
+        None => value(position, table, meter),
     }
 }

@@ -36,7 +36,8 @@ impl TableRequest {
         ensures valid { IsOk result ↔ (AreEven hands × (1 ≤ length hands.north)) }
         ensures value { IfOk result (λ request. request ≡ hands) }
         ensures uneven { (result ≡ Err PlayFault.Uneven) ↔ (¬ AreEven hands) }
-        ensures empty { (result ≡ Err PlayFault.Empty) ↔ (AreEven hands × (length hands.north ≡ 0)) }
+        ensures empty { (result ≡ Err PlayFault.Empty) ↔ (AreEven hands × (length hands.north
+            ≡ 0)) }
     {
         if !are_even(&hands) {
             return Err(PlayFault::Uneven);

@@ -13,7 +13,7 @@ use dd_search::{Bounds, Budget, Endless};
 /// each search go on to its end. `None` where a search spent its budget.
 pub(crate) fn solve_table<B: Bounds>(
     request: &TableRequest,
-    bounds: &mut B,
+    table: &mut B,
     budget: Option<u64>,
 ) -> Option<Results>
     ensures results { IfSome result (λ found. found ≡ results request.now) }
@@ -21,7 +21,7 @@ pub(crate) fn solve_table<B: Bounds>(
 {
     let mut tricks = ArrayVec::new();
     for strain in 0..5 {
-        solve_strain(request, strain, &mut tricks, bounds, budget)?;
+        solve_strain(request, strain, &mut tricks, table, budget)?;
     }
     Some(Results::of(tricks))
 }
@@ -33,22 +33,23 @@ fn solve_strain<B: Bounds>(
     request: &TableRequest,
     strain: u8,
     tricks: &mut TricksList,
-    bounds: &mut B,
+    table: &mut B,
     budget: Option<u64>,
 ) -> Option<()>
     requires strain { strain < 5 }
     requires before { tricks.old.items ≡ first_results request.now (4 * strain) }
-    ensures more { IfSome result (λ _. tricks.new.items ≡ first_results request.now (4 * strain + 4)) }
+    ensures more { IfSome result (λ _. tricks.new.items
+        ≡ first_results request.now (4 * strain + 4)) }
     ensures spent { IfNone result (IsSome budget) }
 {
     let part = 4 * strain;
     let all = request.hands().len(Seat::North);
-    let west = tricks_within(request, part + 3, None, bounds, budget)?;
+    let west = tricks_within(request, part + 3, None, table, budget)?;
     let near = all.saturating_sub(west);
-    let east = tricks_within(request, part + 1, Some(near), bounds, budget)?;
+    let east = tricks_within(request, part + 1, Some(near), table, budget)?;
     let near = all.saturating_sub(east);
-    let north = tricks_within(request, part, Some(near), bounds, budget)?;
-    let south = tricks_within(request, part + 2, Some(north), bounds, budget)?;
+    let north = tricks_within(request, part, Some(near), table, budget)?;
+    let south = tricks_within(request, part + 2, Some(north), table, budget)?;
     tricks.push(north);
     tricks.push(east);
     tricks.push(south);
@@ -62,7 +63,7 @@ fn tricks_within<B: Bounds>(
     request: &TableRequest,
     part: u8,
     near: Option<u8>,
-    bounds: &mut B,
+    table: &mut B,
     budget: Option<u64>,
 ) -> Option<u8>
     requires { part < PARTS }
@@ -70,8 +71,8 @@ fn tricks_within<B: Bounds>(
     ensures spent { IfNone result (IsSome budget) }
 {
     let solved = match budget {
-        Some(limit) => solve_part_near(request, part, near, bounds, &mut Budget::new(limit)),
-        None => solve_part_near(request, part, near, bounds, &mut Endless),
+        Some(limit) => solve_part_near(request, part, near, table, &mut Budget::new(limit)),
+        None => solve_part_near(request, part, near, table, &mut Endless),
     };
     match (solved, budget) {
         (Ok(solved), _) => Some(solved.tricks()),

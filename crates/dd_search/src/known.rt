@@ -78,7 +78,8 @@ fn quick(start: &TrickStart, need: u8) -> Option<Answer>
 #[inline]
 pub(crate) fn second_hands_answer(position: &Position, need: u8) -> Option<Answer>
     requires { need ≤ left position.now }
-    ensures answer { IfSome result (λ answer. IsAnswerBy position.now need answer.cards answer.yes) }
+    ensures answer { IfSome result
+        (λ answer. IsAnswerBy position.now need answer.cards answer.yes) }
     ensures board { IsBoard position.now }
 {
     if position.trick().len() != 1 {
@@ -155,7 +156,8 @@ pub(crate) fn window<B: Bounds>(position: &Position, table: &mut B) -> (Claim, C
 // What North and South take and what East and West take, by bounds that hold at these depths.
 fn claims(start: &TrickStart, interval: Interval, depths: Depths) -> (Claim, Claim)
     requires within { (u : SuitOf) → depth_in depths u ≤ count_of u (all_cards start.now) }
-    requires holds { (q : Board) → IsBoard q → Covers start.now (depth_in depths) q → Holds interval (lead q) }
+    requires holds { (q : Board) → IsBoard q → Covers start.now (depth_in depths) q
+        → Holds interval (lead q) }
     ensures { IsWindow start.now result.0 result.1 }
 {
     let position = start.position();
@@ -181,7 +183,8 @@ fn claims(start: &TrickStart, interval: Interval, depths: Depths) -> (Claim, Cla
 fn leaders_interval(leads: bool, left: u8, interval: Interval) -> Interval
     requires { interval.lo ≤ left }
     ensures same { OnTrue leads ((result.lo ≡ interval.lo) × (result.hi ≡ min interval.hi left)) }
-    ensures other { OnFalse leads ((result.lo ≡ left - interval.hi) × (result.hi ≡ left - interval.lo)) }
+    ensures other { OnFalse leads ((result.lo ≡ left - interval.hi) × (result.hi
+        ≡ left - interval.lo)) }
 {
     if leads {
         Interval {

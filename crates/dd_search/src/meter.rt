@@ -126,11 +126,14 @@ impl Meter for Budget {
     /// Goes as long as fewer than the limit have gone, and is spent from then on.
     #[inline]
     fn tick(&mut self) -> Tick
-        ensures says { (result ≡ Tick.Spent → self.new.count ≡ self.new.limit) × (result ≡ Tick.Stop → ⊥) }
-        ensures went { result ≡ Tick.Go → (self.old.limit ≡ self.new.limit) × (self.old.count < self.new.count) }
+        ensures says { (result ≡ Tick.Spent → self.new.count ≡ self.new.limit) × (result
+            ≡ Tick.Stop → ⊥) }
+        ensures went { result ≡ Tick.Go → (self.old.limit ≡ self.new.limit)
+            × (self.old.count < self.new.count) }
         ensures spent { (result ≡ Tick.Spent) ↔ (self.old.count ≡ self.old.limit) }
         ensures stays { result ≡ Tick.Spent → self.new ≡ self.old }
-        ensures counts { result ≡ Tick.Go → self.new ≡ record { limit = self.old.limit; count = self.old.count + 1 } }
+        ensures counts { result ≡ Tick.Go → self.new
+            ≡ record { limit = self.old.limit; count = self.old.count + 1 } }
     {
         if self.count < self.limit {
             self.count += 1;

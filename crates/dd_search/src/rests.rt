@@ -16,7 +16,8 @@ use dd_play::Position;
 pub(crate) fn settled_by(position: &Position, card: Card, winner: Option<Seat>, cards: Hand) -> Hand
     requires legal { has_card (legal position.now) card ≡ true }
     requires winner { winner ≡ (if completes position.now
-        then Some (winner_of (trick_with position.now card) position.now.first position.now.strain) else None) }
+        then Some (winner_of (trick_with position.now card) position.now.first position.now.strain)
+        else None) }
     ensures more { (c : PlayingCard) → has_card cards c ≡ true → has_card result c ≡ true }
     ensures settled { IsSettled (reach result) position.now card }
 {
@@ -34,7 +35,8 @@ pub(crate) fn settled_by(position: &Position, card: Card, winner: Option<Seat>, 
 /// Is one of these cards of the card's suit and no lower?
 #[inline]
 pub(crate) fn is_spared(spared: Hand, card: Card) -> bool
-    ensures { result ≡ true → (e : PlayingCard) × (has_card spared e ≡ true) × (e.suit ≡ card.suit) × (card.rank ≤ e.rank) }
+    ensures { result ≡ true → (e : PlayingCard) × (has_card spared e ≡ true) × (e.suit
+        ≡ card.suit) × (card.rank ≤ e.rank) }
 {
     match spared.holding(card.suit).highest() {
         Some(rank) => card.rank.code() <= rank.code(),
@@ -47,7 +49,8 @@ pub(crate) fn is_spared(spared: Hand, card: Card) -> bool
 #[inline]
 pub(crate) fn also_spared(spared: Hand, card: Card, cards: Hand) -> Hand
     ensures { (e : PlayingCard) → has_card result e ≡ true → (has_card spared e ≡ true)
-        ⊎ ((e.suit ≡ card.suit) × (card.rank ≤ e.rank) × ((c : PlayingCard) → c.suit ≡ card.suit → c.rank ≤ e.rank → reach cards c ≡ false)) }
+        ⊎ ((e.suit ≡ card.suit) × (card.rank ≤ e.rank) × ((c : PlayingCard) → c.suit ≡ card.suit
+        → c.rank ≤ e.rank → reach cards c ≡ false)) }
 {
     let suit = card.suit;
     let least = card.rank.code();

@@ -27,8 +27,10 @@ pub fn start_value<B: Bounds, M: Meter>(
     meter: &mut M,
 ) -> Result<(u8, Depths), Halt>
     ensures value { IfOk result (λ found. found.0 ≡ lead start.now) }
-    ensures depths { IfOk result (λ found. (q : Board) → IsBoard q → Covers start.now (depth_in found.1) q → lead q ≡ lead start.now) }
-    ensures within { IfOk result (λ found. (u : SuitOf) → depth_in found.1 u ≤ count_of u (all_cards start.now)) }
+    ensures depths { IfOk result (λ found. (q : Board) → IsBoard q
+        → Covers start.now (depth_in found.1) q → lead q ≡ lead start.now) }
+    ensures within { IfOk result (λ found. (u : SuitOf)
+        → depth_in found.1 u ≤ count_of u (all_cards start.now)) }
     ensures ticked { OnOk result (M.ticked meter.old meter.new) }
     ensures ends { EndsAs (M.says meter.new) result }
     // It has an answer where the meter can say nothing else than to go on.
@@ -51,9 +53,12 @@ pub fn start_scores<B: Bounds, M: Meter>(
     table: &mut B,
     meter: &mut M,
 ) -> Result<(ArrayVec<(Card, u8), 13>, Depths), Halt>
-    ensures scores { IfOk result (λ found. found.0.items ≡ map (λ c. (c, score start.now c)) (tops start.now)) }
-    ensures depths { IfOk result (λ found. (q : Board) → IsBoard q → Covers start.now (depth_in found.1) q → lead q ≡ lead start.now) }
-    ensures within { IfOk result (λ found. (u : SuitOf) → depth_in found.1 u ≤ count_of u (all_cards start.now)) }
+    ensures scores { IfOk result (λ found. found.0.items ≡ map
+        (λ c. (c, score start.now c)) (tops start.now)) }
+    ensures depths { IfOk result (λ found. (q : Board) → IsBoard q
+        → Covers start.now (depth_in found.1) q → lead q ≡ lead start.now) }
+    ensures within { IfOk result (λ found. (u : SuitOf)
+        → depth_in found.1 u ≤ count_of u (all_cards start.now)) }
     ensures ends { EndsAs (M.says meter.new) result }
     // It has an answer where the meter can say nothing else than to go on.
     ensures answers { IsEndless M.says → IsOk result }
@@ -71,7 +76,8 @@ fn scores_up_to<B: Bounds, M: Meter>(
     meter: &mut M,
 ) -> Result<ArrayVec<(Card, u8), 13>, Halt>
     requires { best ≡ lead start.now }
-    ensures scores { IfOk result (λ found. found.items ≡ map (λ c. (c, score start.now c)) (tops start.now)) }
+    ensures scores { IfOk result (λ found. found.items ≡ map
+        (λ c. (c, score start.now c)) (tops start.now)) }
     ensures ends { EndsAs (M.says meter.new) result }
 {
     let position = start.position();

@@ -21,12 +21,14 @@ pub trait Bounds {
     /// Bounds, with their depths, and nothing where none are known.
     fn look(&mut self, start: &TrickStart) -> Option<(Interval, Depths)>
         ensures told { IfSome result (λ told. tells self.old start.now told.1 told.0) }
-        ensures within { IfSome result (λ told. (u : Suit) → depth_in told.1 u ≤ count_of u (all_cards start.now)) };
+        ensures within { IfSome result (λ told. (u : Suit)
+            → depth_in told.1 u ≤ count_of u (all_cards start.now)) };
 
     /// Bounds that settle whether the leader's side takes at least `need` tricks, and nothing where none are known.
     fn settle(&mut self, start: &TrickStart, need: u8) -> Option<(Interval, Depths)>
         ensures told { IfSome result (λ told. tells self.old start.now told.1 told.0) }
-        ensures within { IfSome result (λ told. (u : Suit) → depth_in told.1 u ≤ count_of u (all_cards start.now)) }
+        ensures within { IfSome result (λ told. (u : Suit)
+            → depth_in told.1 u ≤ count_of u (all_cards start.now)) }
         ensures settles { IfSome result (λ told. (need ≤ told.0.lo) ⊎ (told.0.hi < need)) }
     {
         let told = self.look(start)?;
@@ -40,10 +42,12 @@ pub trait Bounds {
     /// Hands over bounds, with their depths, which may be kept or not.
     fn note(&mut self, start: &TrickStart, depths: Depths, interval: Interval)
         requires within { (u : Suit) → depth_in depths u ≤ count_of u (all_cards start.now) }
-        requires holds { (q : Board) → IsBoard q → Covers start.now (depth_in depths) q → Holds interval (lead q) };
+        requires holds { (q : Board) → IsBoard q → Covers start.now (depth_in depths) q
+            → Holds interval (lead q) };
 
     /// what is told holds
-    ghost holds: { (table : Self) (p : Board) (depths : FourDepths) (interval : Interval) (q : Board) → tells table p depths interval
+    ghost holds: { (table : Self) (p : Board) (depths : FourDepths) (interval : Interval) (q :
+        Board) → tells table p depths interval
         → IsBoard q → Covers p (depth_in depths) q → Holds interval (lead q) };
 }
 
