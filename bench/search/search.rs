@@ -8,7 +8,7 @@ mod order;
 pub mod quick;
 pub mod shard;
 
-use order::{guess, moves};
+use order::{Plan, guess};
 use quick::{ALL, against_leader, bounds, for_leader, for_second_hand, others};
 use shard::Shard;
 use std::io::{self, BufRead, Write};
@@ -86,7 +86,7 @@ impl Card {
         self.suit.shift() + self.rank as u32
     }
 
-    fn at(place: u32) -> Card {
+    pub fn at(place: u32) -> Card {
         Card {
             suit: SUITS[(3 - place / 16) as usize],
             rank: (place % 16) as u8,
@@ -167,6 +167,26 @@ impl Position {
             let next = Position { hands, trick, played: self.played + 1, ..*self };
             (next, None)
         }
+    }
+
+    // The highest card of each class of equal cards that may be played, as a mask.
+    fn tops_mask(&self) -> u64 {
+        let own = self.hands[self.mover() as usize];
+        let mut all = self.hands[0] | self.hands[1] | self.hands[2] | self.hands[3];
+        for card in &self.trick[..self.played as usize] {
+            all |= 1 << card.place();
+        }
+        let gaps = 0x7ffc_7ffc_7ffc_7ffcu64 & !all;
+        let mut reach = own >> 1;
+        let mut p = gaps >> 1;
+        reach |= p & (reach >> 1);
+        p &= p >> 1;
+        reach |= p & (reach >> 2);
+        p &= p >> 2;
+        reach |= p & (reach >> 4);
+        p &= p >> 4;
+        reach |= p & (reach >> 8);
+        self.choices() & !reach
     }
 
     // The highest card of each class of equal cards that may be played.
@@ -267,16 +287,13 @@ fn settled_by(position: &Position, card: Card, winner: Option<Seat>, cards: u64)
     if trick.iter().filter(|card| card.suit == won.suit).count() > 1 { cards | 1 << won.place() } else { cards }
 }
 
-fn is_spared(spared: u64, card: Card) -> bool {
-    card.rank <= highest(lane(spared, card.suit))
-}
-
-fn also_spared(spared: u64, card: Card, cards: u64) -> u64 {
-    match lane(cards, card.suit) {
-        0 => with(spared, card.suit, 14),
-        cards if card.rank < lowest(cards) => with(spared, card.suit, lowest(cards) - 1),
-        _ => spared,
-    }
+// The cards of the suit that the failure of a card tells of too: those below all that it rests on, where the card is one.
+fn told_too(card: Card, cards: u64) -> u64 {
+    let shift = card.suit.shift();
+    let lane = 0xffffu64 << shift;
+    let of = cards & lane;
+    let below = if of == 0 { lane } else { lane & (of & of.wrapping_neg()).wrapping_sub(1) };
+    if below >> card.place() & 1 == 1 { below } else { 0 }
 }
 
 // The lowest card of each class of the mover that the cards reach in part.
@@ -422,13 +439,11 @@ impl<B: Bounds> Search<B> {
             return answer;
         }
         let ours = position.mover().is_north_south();
-        let mut list = [(Card { suit: Suit::Spades, rank: 2 }, 0); 13];
-        let count = moves(position, self.legal, &mut list);
-        let (mut found, mut cards, mut spared) = (None, 0, 0);
-        for &(card, _) in &list[..count] {
-            if is_spared(spared, card) {
-                continue;
-            }
+        let (mut found, mut cards) = (None, 0);
+        let mut untried = position.tops_mask();
+        let plan = if self.legal { Plan::Listed } else { Plan::of(position, untried) };
+        while untried != 0 {
+            let card = plan.next(untried);
             let (next, winner) = position.play(card);
             let rest = need - trick_of(winner);
             let later = match counted(&next, rest) {
@@ -441,7 +456,7 @@ impl<B: Bounds> Search<B> {
                 break;
             }
             cards |= by;
-            spared = also_spared(spared, card, by);
+            untried &= !(1 << card.place()) & !told_too(card, by);
         }
         let answer = match found {
             Some(cards) => Answer { yes: ours, cards },

@@ -92,7 +92,7 @@ highest-leading m pos small =
     rw e (highest_at m t.0 t.2 t.3)
 
 -- sixteen ones from bit k on
-lane_mask : (k : ℕ) → k ≤ 48 → 65535 * 2 ^ k % 2 ^ 64 ≡ 2 ^ (k + 16) - 2 ^ k
+pub lane_mask : (k : ℕ) → k ≤ 48 → 65535 * 2 ^ k % 2 ^ 64 ≡ 2 ^ (k + 16) - 2 ^ k
 lane_mask k h = shl_whole 65535 16 k 64 (lit< tt) (omega arith) ∙ (let e : 2 ^ (k + 16) ≡ 2 ^ k * 65536 = pow-add 2 k 16 in omega (arith, e))
 
 -- the bits of a suit's own lane are kept

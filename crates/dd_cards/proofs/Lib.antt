@@ -10,6 +10,9 @@ pub mod Counts
 pub mod HandsLaws
 pub mod Codes
 pub mod Unions
+pub mod Sequences
+pub mod Heads
+pub mod Kept
 pub mod Lowest
 pub mod SideLaws
 pub mod MaskRanks

@@ -1,12 +1,12 @@
 -- what a mask's operations do to the list of its ranks
-use Rattle.std.proofs.Common.{◌≡◌, ℕ, zero, suc, ◌+◌, ◌-◌, ◌*◌, ◌%◌, ◌^◌, ◌<◌, ◌≤◌, Bool, true, false, cond, refl, sym, ap, ◌∙◌, arith, List, [], ◌∷◌, length, Some, None, subst, nat_eq, max, bit_and, bit_or, w16, inl, inr, ◌⊎◌, eq-eqb, zero-add}
+use Rattle.std.proofs.Common.{◌≡◌, ℕ, zero, suc, ◌+◌, ◌-◌, ◌*◌, ◌%◌, ◌^◌, ◌<◌, ◌≤◌, Bool, true, false, cond, refl, sym, ap, ◌∙◌, arith, List, [], ◌∷◌, length, Some, None, subst, nat_eq, max, min, bit_and, bit_or, w16, inl, inr, ◌⊎◌, eq-eqb, zero-add}
 use Rattle.std.specs.Prelude.{filter, find, slice_get, ◌==◌, ◌||◌, ◌&&◌, nat_lt, count_ones}
 use mathlib.Core.Bool.{not}
 use Rattle.std.specs.Int.{bit_at, bit_not}
 use Rattle.std.proofs.lemmas.Nat.{ones_cat, mod_below, pow_pos}
 use Rattle.std.proofs.Math.Nat.{mod-eq_of_lt}
 use Rattle.dd_cards.specs.MaskLaws.{digit}
-use Rattle.std.proofs.lemmas.Nat.Bits.{bit_at-lt, bit_at_or}
+use Rattle.std.proofs.lemmas.Nat.Bits.{bit_at-lt, bit_at_and, bit_at_or}
 use Rattle.std.proofs.lemmas.Bool.{cases_lt, eqb-true, lt-ltb, le-ltb}
 use Rattle.std.proofs.lemmas.Bool.Decides.{eqb_tells}
 use Rattle.std.proofs.lemmas.Map.Views.{any-filter_same}
@@ -105,6 +105,21 @@ ranks_of-or m n valid valid' =
     either (suc zero) (suc zero) h k = refl
     either (suc (suc a)) b h k = absurd (omega arith)
     either a (suc (suc b)) h k = absurd (omega arith)
+
+-- the bits of both masks are the ranks of both
+pub ranks_of-and : (m n : ℕ) → IsMask n → ranks_of (bit_and m n) ≡ filter (has_rank (ranks_of n)) (ranks_of m)
+unfolding ranks_of
+ranks_of-and m n valid =
+    filter-same (in_mask (bit_and m n)) (λ q. in_mask m q && has_rank (ranks_of n) q) (λ q. rw (has_rank-ranks_of n q valid, bit_at_and m n q) (both (bit_at m q) (bit_at n q) (bit_at-lt m q) (bit_at-lt n q))) all_ranks
+    ∙ sym (filter-filter (has_rank (ranks_of n)) (in_mask m) all_ranks)
+  where
+    both : (a b : ℕ) → a < 2 → b < 2 → (min a b == 1) ≡ ((a == 1) && (b == 1))
+    both zero zero h k = refl
+    both zero (suc zero) h k = refl
+    both (suc zero) zero h k = refl
+    both (suc zero) (suc zero) h k = refl
+    both (suc (suc a)) b h k = absurd (omega arith)
+    both a (suc (suc b)) h k = absurd (omega arith)
 
 -- the highest rank that passes is the first found
 find_first : (k : ℕ) (p : ℕ → Bool) (j : ℕ) → 2 ≤ j → j < k + 2 → p j ≡ true → ((q : ℕ) → j < q → p q ≡ false) → find p (lowest_ranks k) ≡ Some j

@@ -10,3 +10,4 @@ pub mod Cards
 pub mod HandMasks
 pub mod HandMaskLaws
 pub mod Hands
+pub mod Sequences

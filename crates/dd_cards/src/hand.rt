@@ -1,13 +1,18 @@
-ghost use Rattle.std.specs.Prelude.{◌≡◌, ◌∷◌, [], ◌↔◌, ◌||◌, true, IsTrue, MatchOption, map, filter, length};
+ghost use Rattle.std.specs.Prelude.{◌≡◌, ◌∷◌, [], ◌^◌, ◌/◌, ◌<◌, ◌↔◌, ◌||◌, ◌&&◌, true, bit_and, bit_or, IsTrue, MatchOption, map, filter, length, nat_lt};
+ghost use mathlib.Core.Bool.{not};
 ghost use Rattle.dd_cards.specs.PlayingCard.{PlayingCard};
 ghost use Rattle.dd_cards.specs.Ranks.{IsRank};
-ghost use Rattle.dd_cards.specs.Cards.{is_of, card_of, has_card, with_card, deck};
+ghost use Rattle.dd_cards.specs.Cards.{is_of, card_of, has_card, with_card, without, deck};
+ghost use Rattle.dd_cards.specs.Sequences.{heads};
 
 use crate::card::Card;
 use crate::holding::Holding;
 use crate::rank::Rank;
 use crate::suit::Suit;
 use std::marker::Model;
+
+// The bits of all cards.
+const PACK: u64 = 0x7ffc_7ffc_7ffc_7ffc;
 
 /// A set of cards, seen as their list: suit by suit from the spades on, and in a suit from the highest card down.
 // 64 bits, sixteen for each suit, the spades on top, so that the bits from the top are the cards in order.
@@ -113,6 +118,54 @@ impl Hand {
         }
     }
 
+    /// These cards but this one.
+    #[inline]
+    pub fn without(self, card: Card) -> Hand
+        ensures { result ≡ without self card }
+    {
+        Hand {
+            mask: self.mask & !(1 << card.place()),
+        }
+    }
+
+    /// These cards but those of this suit.
+    #[inline]
+    pub fn without_suit(self, suit: Suit) -> Hand
+        ensures { result ≡ filter (λ c. not (is_of suit c)) self }
+    {
+        Hand {
+            mask: self.mask & !(0xffff << suit.shift()),
+        }
+    }
+
+    /// These cards but those of this suit that are lower than this rank.
+    #[inline]
+    pub fn without_below(self, suit: Suit, rank: Rank) -> Hand
+        ensures { result ≡ filter (λ c. not (is_of suit c && nat_lt c.rank rank)) self }
+    {
+        let shift = suit.shift();
+        Hand {
+            mask: self.mask & !((1 << (shift + rank.code())) - (1 << shift)),
+        }
+    }
+
+    /// The highest card of each sequence: of these cards those that have no other above them in their suit with none of the others
+    /// between.
+    // What is below a card of these spreads down over places without a card, each time twice as far.
+    #[inline]
+    pub fn heads(self, others: Hand) -> Hand
+        ensures { result ≡ heads self others }
+    {
+        let gaps = PACK & !(self.mask | others.mask);
+        let (below, clear) = spread(self.mask >> 1, gaps >> 1, 1);
+        let (below, clear) = spread(below, clear, 2);
+        let (below, clear) = spread(below, clear, 4);
+        let (below, _) = spread(below, clear, 8);
+        Hand {
+            mask: self.mask & !below,
+        }
+    }
+
     /// Takes the first card out: the highest of the first suit. None where no card is left.
     pub fn pop_first(&mut self) -> Option<Card>
         ensures { MatchOption result ((self.old ≡ []) × (self.new ≡ [])) (λ card. self.old ≡ card
@@ -125,4 +178,15 @@ impl Hand {
         self.mask &= !(1 << place);
         Some(Card::at(place))
     }
+}
+
+// The places below, and those so many places further down with gaps alone above them; and the places with gaps alone twice
+// as far above them.
+#[inline]
+fn spread(below: u64, clear: u64, places: u8) -> (u64, u64)
+    requires { places < 64 }
+    ensures below { result.0 ≡ bit_or below (bit_and clear (below / 2 ^ places)) }
+    ensures clear { result.1 ≡ bit_and clear (clear / 2 ^ places) }
+{
+    (below | clear & (below >> places), clear & (clear >> places))
 }

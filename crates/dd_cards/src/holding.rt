@@ -165,6 +165,16 @@ impl Holding {
         }
     }
 
+    /// The ranks of both sets.
+    #[inline]
+    pub fn intersection(self, other: Holding) -> Holding
+        ensures { result ≡ filter (has_rank other) self }
+    {
+        Holding {
+            mask: self.mask & other.mask,
+        }
+    }
+
     /// Puts the rank in, and tells whether it was missing.
     pub fn insert(&mut self, rank: Rank) -> bool
         ensures added { self.new ≡ with_rank self.old rank }

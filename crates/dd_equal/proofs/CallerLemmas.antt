@@ -2,7 +2,7 @@
 
 -- ---- a legal card wins as much as the highest card of its class
 -- where the other side is to play, the highest card of each class stands for the class
-pub use Rattle.dd_equal.proofs.Tops.{every-class}
+pub use Rattle.dd_equal.proofs.ClassTops.{every-class}
 -- ---- equal cards that a claim rests on are answered by equal cards, so one is worth as much as another
 -- the law, in the words of the test
 pub use Rattle.dd_equal.proofs.Images.{each-class-whole}

@@ -24,7 +24,7 @@ use Rattle.dd_equal.specs.EqualCards.{other_cards, is_between, are_equal, is_top
 use Rattle.dd_equal.proofs.Swaps.{IsNotBetween, AreEqual, equal-won}
 use Rattle.dd_equal.proofs.Equal.{tells-equal}
 use Rattle.dd_equal.proofs.Suits.{others-split}
-use Rattle.dd_equal.proofs.Tops.{some-card}
+use Rattle.dd_equal.proofs.ClassTops.{some-card}
 
 -- ---- equal top cards have equal images
 side-keeps : (top : PlayingCard → Bool) (to from : PlayingCard → PlayingCard) (e y : PlayingCard) → Pulled top to from (Keeps to top) e y → top (from e) ≡ true → top (from y) ≡ true → (from e).suit ≡ (from y).suit

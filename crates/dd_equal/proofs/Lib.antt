@@ -3,8 +3,9 @@ pub mod Suits
 pub mod Walks
 pub mod Swaps
 pub mod Equal
-pub mod Tops
+pub mod ClassTops
 pub mod Images
 pub mod Wholes
 pub mod OneClass
+pub mod HeadCards
 pub mod CallerLemmas

@@ -23,7 +23,7 @@ use Rattle.dd_equal.specs.SuitClasses.{is_separated, equal_ranks}
 use Rattle.dd_equal.proofs.EqualCards.{set-legal}
 use Rattle.dd_equal.proofs.Equal.{none-at}
 use Rattle.dd_equal.proofs.Suits.{AreRanks, any-card, between-ranks, class-ranks, others-differ, suit_ranks}
-use Rattle.dd_equal.proofs.Tops.{some-card}
+use Rattle.dd_equal.proofs.ClassTops.{some-card}
 use Rattle.dd_equal.proofs.Walks.{filter-members, has-filter}
 
 -- ---- equal cards, by ranks

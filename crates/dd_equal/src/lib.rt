@@ -2,11 +2,13 @@
 #![tactic(auto)]
 
 mod class;
+mod highest;
 mod laws;
 mod partition;
 mod whole_classes;
 
 pub use class::Class;
+pub use highest::tops;
 pub use laws::{
     classes_part_the_legal_cards, equal_cards_score_alike, one_card_of_each_class,
     one_card_of_each_class_by_high_cards,

@@ -1,177 +1,93 @@
--- putting moves in order loses none and doubles none
-use Rattle.std.proofs.Common.{◌≡◌, ◌≢◌, ℕ, zero, suc, ◌+◌, ◌-◌, ◌<◌, ◌≤◌, Bool, true, false, refl, sym, ap, ◌∙◌, subst, append_assoc, arith, List, [], ◌∷◌, ◌++◌, Option, None, Some, length, take, length-append, length-set, get_or, set, get_or-set_same, get_or-set_other}
-use Rattle.std.specs.Prelude.{map, cond}
-use Rattle.std.specs.List.{swap}
-use Rattle.std.specs.List.Sorted.{IsPermutation}
-use Rattle.std.proofs.lemmas.List.{set-set, take_more, take_all, map-append, append-nil}
-use Rattle.std.proofs.lemmas.List.Sums.{length-filter}
-use Rattle.std.proofs.Math.Seq.{set-append_seam}
-use Rattle.std.proofs.lemmas.List.Edits.{swap_is}
-use Rattle.std.proofs.lemmas.List.Sorted.{IsPermutation-refl, IsPermutation-swap, IsPermutation-trans, IsPermutation-map, IsPermutation-append_left, IsPermutation-append_right, IsPermutation-append_comm, sum_by-IsPermutation}
+-- the cards that are still to be tried
+use Rattle.std.proofs.Common.{◌≡◌, ℕ, ◌+◌, ◌<◌, ◌≤◌, Bool, true, false, cond, refl, sym, ap, ◌∙◌, subst, arith, List, [], ◌∷◌, Option, None, Some, length, inl, inr, ◌⊎◌}
+use Rattle.std.specs.Prelude.{filter, map, IfSome, MatchOption, ◌&&◌, nat_lt, slice_get}
+use Rattle.std.proofs.lemmas.Bool.{eqb-true, ltb-true}
+use mathlib.Core.Bool.{not}
+use Rattle.dd_cards.specs.declared.suit.Suit.{Suit}
 use Rattle.dd_cards.specs.PlayingCard.{PlayingCard}
-use Rattle.dd_cards.specs.Cards.{same_card, has_card}
-use Rattle.dd_cards.specs.Hands.{times}
+use Rattle.dd_cards.specs.Ranks.{has_rank}
+use Rattle.dd_cards.specs.Suits.{suit_code}
+use Rattle.dd_cards.specs.Cards.{same_card, has_card, card_of, is_of, without}
+use Rattle.dd_cards.proofs.CallerLemmas.{any-filter, and-left, and-right, has_card-filter, has_rank-holding, length-filter-le, same_card-eq, same_card-self, suit_code-injective}
 use Rattle.dd_play.specs.Board.{Board}
 use Rattle.dd_play.specs.Play.{legal}
+use Rattle.dd_play.specs.Reach.{reach}
 use Rattle.dd_play.specs.Simulations.{IsLegal}
-use Rattle.dd_cards.proofs.CallerLemmas.{any-filter, same_card-eq, times-cons}
-use Rattle.dd_play.proofs.CallerLemmas.{flag_of, has-first, in-rest, times-has}
-use Rattle.dd_equal.specs.EqualCards.{EqualCards, class_of, classes_of, is_top, tops}
-use Rattle.dd_search.specs.Moves.{WeighedCard, cards_of, IsReordering}
+use Rattle.dd_rank.proofs.CallerLemmas.{first-there}
+use Rattle.dd_equal.specs.EqualCards.{is_top, tops}
 
 -- the highest card of a class is legal
 pub top-legal : (p : Board) (c : PlayingCard) → has_card (tops p) c ≡ true → IsLegal p c
 top-legal p c has = any-filter (λ d. same_card d c) (is_top p) (legal p) has
 
--- ---- one card of each class
+-- ---- a choice is one of the cards
 
--- the card of the move that is held back, if there is one
-abbrev pub held : Option WeighedCard → List PlayingCard
-held None = []
-held (Some m) = m.card ∷ []
+-- what holds of what there is, in other words
+pub if-some : {X : Type 0} (P Q : X → Type 0) → ((x : X) → P x → Q x) → (o : Option X) → IfSome o P → IfSome o Q
+if-some P Q f None h = tt
+if-some P Q f (Some x) h = f x h
 
--- where a move is held back it counts as one
-pub held-one : (n i : ℕ) (best : Option WeighedCard) (m : WeighedCard) → best ≡ Some m → n + length (held best) ≡ i → n + 1 ≡ i
-held-one n i best m is count = subst (λ (b : Option WeighedCard). n + length (held b) ≡ i) is count
+-- a rank of the part is one of the ranks
+pub rank-among : (ranks others part : List ℕ) (r : ℕ) → part ≡ filter (has_rank others) ranks → has_rank part r ≡ true → has_rank ranks r ≡ true
+rank-among ranks others part r is has = any-filter _ (has_rank others) ranks (ap (λ xs. has_rank xs r) (sym is) ∙ has)
 
--- .. and its card stands behind the others
-pub held-last : (cards : List PlayingCard) (moves : List WeighedCard) (best : Option WeighedCard) (m : WeighedCard) → best ≡ Some m → IsPermutation cards (cards_of moves ++ held best)
-    → IsPermutation cards (cards_of moves ++ m.card ∷ [])
-held-last cards moves best m is same = subst (λ (b : Option WeighedCard). IsPermutation cards (cards_of moves ++ held b)) is same
+-- the first of the ranks is one of them
+pub first-among : (ranks : List ℕ) (o : Option ℕ) → o ≡ slice_get ranks 0 → IfSome o (λ r. has_rank ranks r ≡ true)
+first-among ranks None is = tt
+first-among ranks (Some r) is = first-there ranks r is
 
--- and where none is, the moves have all cards
-pub held-none : (cards : List PlayingCard) (moves : List WeighedCard) (best : Option WeighedCard) → best ≡ None → IsPermutation cards (cards_of moves ++ held best) → IsPermutation cards (cards_of moves)
-held-none cards moves best is same = subst (IsPermutation cards) (append-nil (cards_of moves)) (subst (λ (b : Option WeighedCard). IsPermutation cards (cards_of moves ++ held b)) is same)
+-- a rank of the suit is that of a card
+pub rank-card : (s : Suit) (ranks : List ℕ) (cards : List PlayingCard) (r : ℕ) → map (card_of s) ranks ≡ filter (is_of s) cards → has_rank ranks r ≡ true → has_card cards (card_of s r) ≡ true
+rank-card s ranks cards r are has = sym (has_rank-holding s ranks cards r are) ∙ has
 
--- one class more, and its highest card among the cards
-pub one-more : (classes : List EqualCards) (old new : List PlayingCard) (i : ℕ) (class : EqualCards) (card : PlayingCard) → i < length classes → class ≡ get_or classes i class → card ≡ class.top
-    → IsPermutation (map (λ k. k.top) (take i classes)) old → IsPermutation (old ++ card ∷ []) new → IsPermutation (map (λ k. k.top) (take (i + 1) classes)) new
-one-more classes old new i class card within is top same put =
-    let walked : map (λ (k : EqualCards). k.top) (take (i + 1) classes) ≡ map (λ (k : EqualCards). k.top) (take i classes) ++ card ∷ [] =
-    ap (map (λ (k : EqualCards). k.top)) (take_more classes i class within)
-    ∙ map-append (λ (k : EqualCards). k.top) (take i classes) (get_or classes i class ∷ [])
-    ∙ ap (λ c. map (λ (k : EqualCards). k.top) (take i classes) ++ c ∷ []) (ap (λ (k : EqualCards). k.top) (sym is) ∙ sym top) in
-    subst (λ cards. IsPermutation cards new) (sym walked)
-    (IsPermutation-trans (map (λ (k : EqualCards). k.top) (take i classes) ++ card ∷ []) (old ++ card ∷ []) new
-    (IsPermutation-append_left (card ∷ []) (map (λ (k : EqualCards). k.top) (take i classes)) old same) put)
+-- ---- fewer cards are left
 
--- another card is held back, or stands among the moves
-pub next-held : (moves : List WeighedCard) (new : List PlayingCard) (first second : PlayingCard) → IsPermutation (cards_of moves ++ first ∷ second ∷ []) new
-    → IsPermutation ((cards_of moves ++ first ∷ []) ++ second ∷ []) new
-next-held moves new first second same =
-    subst (λ cards. IsPermutation cards new) (sym (append_assoc (cards_of moves) (first ∷ []) (second ∷ []))) same
-
--- the cards of moves and of one more that was put among them
-pub put-cards : (old new : List WeighedCard) (m : WeighedCard) (card : PlayingCard) → m.card ≡ card → IsPermutation (old ++ m ∷ []) new
-    → IsPermutation (cards_of old ++ card ∷ []) (cards_of new)
-put-cards old new m card same put =
-    subst (λ cards. IsPermutation cards (cards_of new))
-    (map-append (λ (w : WeighedCard). w.card) old (m ∷ []) ∙ ap (λ c. cards_of old ++ c ∷ []) same)
-    (IsPermutation-map (λ (w : WeighedCard). w.card) (old ++ m ∷ []) new put)
-
--- of two cards the first was put among the moves, and the second comes behind them
-pub first-put : (old new : List WeighedCard) (m : WeighedCard) (first second : PlayingCard) → m.card ≡ first → IsPermutation (old ++ m ∷ []) new
-    → IsPermutation (cards_of old ++ first ∷ second ∷ []) (cards_of new ++ second ∷ [])
-first-put old new m first second same put =
-    subst (λ cards. IsPermutation cards (cards_of new ++ second ∷ [])) (append_assoc (cards_of old) (first ∷ []) (second ∷ []))
-    (IsPermutation-append_left (second ∷ []) (cards_of old ++ first ∷ []) (cards_of new) (put-cards old new m first same put))
-
--- .. or the second was, and the first comes behind them
-pub second-put : (old new : List WeighedCard) (m : WeighedCard) (first second : PlayingCard) → m.card ≡ second → IsPermutation (old ++ m ∷ []) new
-    → IsPermutation (cards_of old ++ first ∷ second ∷ []) (cards_of new ++ first ∷ [])
-second-put old new m first second same put =
-    IsPermutation-trans (cards_of old ++ first ∷ second ∷ []) (cards_of old ++ second ∷ first ∷ []) (cards_of new ++ first ∷ [])
-    (IsPermutation-append_right (cards_of old) (first ∷ second ∷ []) (second ∷ first ∷ []) (IsPermutation-append_comm (first ∷ []) (second ∷ [])))
-    (first-put old new m second first same put)
-
--- a card stands as often in any order
-times-permutation : (cards others : List PlayingCard) → IsPermutation cards others → IsReordering others cards
-times-permutation cards others same c =
-    length-filter (λ d. same_card d c) others ∙ sum_by-IsPermutation (λ d. cond (same_card d c) 1 0) cards others same ∙ sym (length-filter (λ d. same_card d c) cards)
-
--- the highest cards of all classes
-tops-of : (p : Board) (cards : List PlayingCard) → map (λ k. k.top) (map (class_of p) cards) ≡ cards
-tops-of p [] = refl
-tops-of p (c ∷ cards) = ap (λ rest. c ∷ rest) (tops-of p cards)
-
--- so the moves are the highest cards of the classes in some order
-pub all-tops : (p : Board) (classes : List EqualCards) (cards : List PlayingCard) (i : ℕ) → classes ≡ classes_of p → length classes ≤ i
-    → IsPermutation (map (λ k. k.top) (take i classes)) cards → IsReordering cards (tops p)
-all-tops p classes cards i are done same =
-    let whole : map (λ (k : EqualCards). k.top) (take i classes) ≡ tops p = ap (map (λ (k : EqualCards). k.top)) (take_all i classes done ∙ are) ∙ tops-of p (tops p) in
-    times-permutation (tops p) cards (subst (λ tops. IsPermutation tops cards) whole same)
-
--- ---- the moves are legal, and none is missing
-
--- a card that stands once or more is there
-has-times : (cards : List PlayingCard) (c : PlayingCard) → 1 ≤ times cards c → has_card cards c ≡ true
-has-times [] c h = absurd (omega arith)
-has-times (d ∷ cards) c h = go (same_card d c) refl (has-times cards c)
+-- a card that does not pass makes the list shorter
+pub shorter : (f : PlayingCard → Bool) (c : PlayingCard) → f c ≡ false → (cards : List PlayingCard) → has_card cards c ≡ true → length (filter f cards) < length cards
+shorter f c fails [] has = absurd (cc)
+shorter f c fails (d ∷ cards) has = go (same_card d c) refl (shorter f c fails cards)
   where
-    go : (b : Bool) → same_card d c ≡ b → (1 ≤ times cards c → has_card cards c ≡ true) → has_card (d ∷ cards) c ≡ true
-    go true e rest = rw e refl
-    go false e rest = in-rest d c cards (rest (let one = times-cons d cards c in let k : flag_of (same_card d c) ≡ 0 = ap flag_of e in omega (arith, h, one, k)))
+    add : (b : Bool) (n : ℕ) → length (filter f cards) < n → length (cond b (d ∷ filter f cards) (filter f cards)) < n + 1
+    add true n h = omega (arith, h)
+    add false n h = omega (arith, h)
 
--- the same cards in another order
-reordered : (cards others : List PlayingCard) (c : PlayingCard) → times cards c ≡ times others c → has_card others c ≡ true → has_card cards c ≡ true
-reordered cards others c same has = has-times cards c (let h = times-has others c has in omega (arith, h, same))
+    go : (b : Bool) → same_card d c ≡ b → (has_card cards c ≡ true → length (filter f cards) < length cards) → length (filter f (d ∷ cards)) < length (d ∷ cards)
+    go true e ih =
+        let gone : f d ≡ false = ap f (same_card-eq d c e) ∙ fails in
+        let rest = length-filter-le f cards in
+        rw gone (omega (arith, rest))
+    go false e ih =
+        let less = ih (rw e at has) in
+        let more = add (f d) (length cards) less in
+        omega (arith, more)
 
--- the card at a place is among the cards
-at-place : (moves : List WeighedCard) (k : ℕ) (d : WeighedCard) → k < length moves → has_card (cards_of moves) (get_or moves k d).card ≡ true
-at-place [] k d h = absurd (omega arith)
-at-place (m ∷ moves) zero d h = has-first m.card (cards_of moves)
-at-place (m ∷ moves) (suc k) d h = in-rest m.card (get_or moves k d).card (cards_of moves) (at-place moves k d (omega arith))
+-- what was left out is told by its failure, or is the card itself
+abbrev pub IsTold : List PlayingCard → PlayingCard → List PlayingCard → List PlayingCard → Type 0
+IsTold old card by new = (c : PlayingCard) → has_card old c ≡ true → (has_card new c ≡ true) ⊎ ((c ≡ card) ⊎ ((c.suit ≡ card.suit) × (reach by c ≡ false) × (reach by card ≡ false)))
 
--- a card among the cards has a place
-place-of : (moves : List WeighedCard) (c : PlayingCard) (d : WeighedCard) → has_card (cards_of moves) c ≡ true → (k : ℕ) × (k < length moves) × ((get_or moves k d).card ≡ c)
-place-of [] c d h = absurd (cc)
-place-of (m ∷ moves) c d h = go (same_card m.card c) refl (place-of moves c d)
+-- what a test keeps, and what it leaves out
+pub kept-told : (f : PlayingCard → Bool) (old : List PlayingCard) (card : PlayingCard) (by new : List PlayingCard) → new ≡ filter f old
+    → ((c : PlayingCard) → f c ≡ false → (c ≡ card) ⊎ ((c.suit ≡ card.suit) × (reach by c ≡ false) × (reach by card ≡ false))) → IsTold old card by new
+kept-told f old card by new is out c has = go (f c) refl
   where
-    go : (b : Bool) → same_card m.card c ≡ b → (has_card (cards_of moves) c ≡ true → (k : ℕ) × (k < length moves) × ((get_or moves k d).card ≡ c))
-        → (k : ℕ) × (k < length (m ∷ moves)) × ((get_or (m ∷ moves) k d).card ≡ c)
-    go true e rest = (0, omega arith, same_card-eq m.card c e)
-    go false e rest = let found = rest (rw e at h) in let within = found.1 in (suc found.0, omega (arith, within), found.2)
+    go : (b : Bool) → f c ≡ b → (has_card new c ≡ true) ⊎ ((c ≡ card) ⊎ ((c.suit ≡ card.suit) × (reach by c ≡ false) × (reach by card ≡ false)))
+    go true e = inl (ap (λ xs. has_card xs c) is ∙ has_card-filter f old c ∙ rw e has)
+    go false e = inr (out c e)
 
--- a move's card may be played
-pub move-legal : (p : Board) (places moves : List WeighedCard) (k : ℕ) (m : WeighedCard) (card : PlayingCard) → places ≡ moves → IsReordering (cards_of moves) (tops p) → k < length places
-    → m ≡ get_or places k m → card ≡ m.card → IsLegal p card
-move-legal p places moves k m card all same within is e =
-    let here : has_card (cards_of places) card ≡ true = subst (λ (x : PlayingCard). has_card (cards_of places) x ≡ true) (sym (e ∙ ap (λ (m : WeighedCard). m.card) is)) (at-place places k m within) in
-    let there : has_card (cards_of moves) card ≡ true = ap (λ ms. has_card (cards_of ms) card) (sym all) ∙ here in
-    top-legal p card (reordered (tops p) (cards_of moves) card (sym (same card)) there)
+not-not : (b : Bool) → not b ≡ false → b ≡ true
+not-not true h = refl
+not-not false h = absurd (cc)
 
--- what holds of the card at each place holds of the highest card of each class
-pub each-top : (p : Board) (places moves : List WeighedCard) (i : ℕ) (P : PlayingCard → Type 0) → places ≡ moves → IsReordering (cards_of moves) (tops p) → length places ≤ i
-    → ((k : ℕ) → k < i → (d : WeighedCard) → P (get_or places k d).card) → (c : PlayingCard) → has_card (tops p) c ≡ true → P c
-each-top p places moves i P all same done each c has =
-    let d : WeighedCard = record { card = c; weight = 0 } in
-    let there : has_card (cards_of places) c ≡ true = ap (λ ms. has_card (cards_of ms) c) all ∙ reordered (cards_of moves) (tops p) c (same c) has in
-    let found = place-of places c d there in
-    let within = found.1 in
-    subst P found.2 (each found.0 (omega (arith, within, done)) d)
+-- a card that is the card
+pub is-same : (c d : PlayingCard) → not (same_card c d) ≡ false → c ≡ d
+is-same c d h = same_card-eq c d (not-not (same_card c d) h)
 
--- ---- one move put into its place
+-- a card of the suit that is lower
+pub is-low : (s : Suit) (c : PlayingCard) (r : ℕ) → not (is_of s c && nat_lt c.rank r) ≡ false → (c.suit ≡ s) × (c.rank < r)
+is-low s c r h =
+    let both = not-not (is_of s c && nat_lt c.rank r) h in
+    (suit_code-injective c.suit s (eqb-true _ _ (and-left (is_of s c) (nat_lt c.rank r) both)), ltb-true c.rank r (and-right (is_of s c) (nat_lt c.rank r) both))
 
--- what is put last stands at the place behind all the others
-pub last-place : {X : Type 0} (xs ys : List X) (x : X) (n : ℕ) → ys ≡ xs ++ x ∷ [] → n ≡ length xs → (n < length ys) × IsPermutation (xs ++ x ∷ []) (set ys n x)
-last-place xs ys x n e same =
-    let long : length ys ≡ length xs + 1 = ap length e ∙ length-append xs (x ∷ []) in
-    let there : set ys n x ≡ xs ++ x ∷ [] = ap (λ zs. set zs n x) e ∙ ap (λ i. set (xs ++ x ∷ []) i x) same ∙ set-append_seam xs x [] x in
-    (omega (arith, long, same), subst (λ zs. IsPermutation (xs ++ x ∷ []) zs) (sym there) (IsPermutation-refl (xs ++ x ∷ [])))
-
--- an element goes one place down, and the one before it one up
-pub one-down : {X : Type 0} (whole ys : List X) (i : ℕ) (x before : X) → 0 < i → i < length ys → before ≡ get_or ys (i - 1) before → IsPermutation whole (set ys i x)
-    → (i - 1 < length (set ys i before)) × IsPermutation whole (set (set ys i before) (i - 1) x)
-one-down whole ys i x before some within is same =
-    let zs = set ys i x in
-    let long : length zs ≡ length ys = length-set ys i x in
-    let long' : length (set ys i before) ≡ length ys = length-set ys i before in
-    let other : i - 1 ≢ i = omega arith in
-    let lower : get_or zs (i - 1) before ≡ before = get_or-set_other ys i (i - 1) x before other ∙ sym is in
-    let here : get_or zs i before ≡ x = get_or-set_same ys i x before within in
-    let swapped : set (set ys i before) (i - 1) x ≡ swap zs i (i - 1) =
-    ap (λ us. set us (i - 1) x) (sym (set-set ys i x before))
-    ∙ ap (λ y. set (set zs i y) (i - 1) x) (sym lower)
-    ∙ ap (λ y. set (set zs i (get_or zs (i - 1) before)) (i - 1) y) (sym here)
-    ∙ swap_is zs i (i - 1) before (omega (arith, long)) (omega (arith, long)) in
-    (omega (arith, long'), IsPermutation-trans whole zs (set (set ys i before) (i - 1) x) same (IsPermutation-swap zs (set (set ys i before) (i - 1) x) i (i - 1) (omega (arith, long)) (omega (arith, long)) swapped))
+-- a card of the suit
+pub is-of-suit : (s : Suit) (c : PlayingCard) → not (is_of s c) ≡ false → c.suit ≡ s
+is-of-suit s c h = suit_code-injective c.suit s (eqb-true _ _ (not-not (is_of s c) h))

@@ -30,8 +30,7 @@ use Rattle.dd_equal.proofs.CallerLemmas.{each-class-whole, with-new, with-which}
 use Rattle.dd_rank.proofs.CallerLemmas.{first-there, itself, noted}
 use Rattle.dd_rank.specs.Depths.{all_cards, Covers, depths_of}
 use Rattle.dd_search.specs.ClaimsBy.{IsAnswer, IsAnswerBy, AnswerBy, ClaimBy, IsClaimBy, IsWindow}
-use Rattle.dd_search.specs.Moves.{WeighedCard, cards_of, IsReordering}
-use Rattle.dd_search.proofs.Orders.{each-top}
+use Rattle.dd_search.proofs.Orders.{IsTold}
 
 -- these cards are among those
 abbrev pub Within : List PlayingCard → List PlayingCard → Type 0
@@ -123,45 +122,34 @@ pub none-settles : (p : Board) (need : ℕ) (cards : List PlayingCard) (said : B
 none-settles p need cards said valid side some most whole each =
     answers said p need cards (each-class-whole (reach cards) (claimant said) p (claimed said p need) (reach-upward cards) valid (turn-not said (side_of (mover p)) side) (omega (arith, some, most)) whole each)
 
--- ---- the walk over the moves
+-- ---- the walk over the cards
 
--- each move so far gives the other side its answer
-abbrev pub AllLead : Board → ℕ → List WeighedCard → ℕ → List PlayingCard → Bool → Type 0
-AllLead p need places i cards said = (k : ℕ) → k < i → (d : WeighedCard) → Leads p need (get_or places k d).card cards said
+-- of each class the highest card is still to be tried, or gives the other side its answer
+abbrev pub AllLead : Board → ℕ → List PlayingCard → List PlayingCard → Bool → Type 0
+AllLead p need untried cards said = (c : PlayingCard) → has_card (tops p) c ≡ true → (has_card untried c ≡ true) ⊎ Leads p need c cards said
 
--- and so does each card up to one of these of its suit
-abbrev pub AllSpared : Board → ℕ → List PlayingCard → List PlayingCard → Bool → Type 0
-AllSpared p need spared cards said = (e : PlayingCard) → has_card spared e ≡ true → (c : PlayingCard) → c.suit ≡ e.suit → c.rank ≤ e.rank → Leads p need c cards said
+-- what is still to be tried may be played
+abbrev pub AllLegal : Board → List PlayingCard → Type 0
+AllLegal p untried = (c : PlayingCard) → has_card untried c ≡ true → IsLegal p c
 
--- one move more
-pub one-more : (p : Board) (need : ℕ) (places : List WeighedCard) (i : ℕ) (m : WeighedCard) (card : PlayingCard) (old new : List PlayingCard) (said : Bool) → m ≡ get_or places i m → i < length places → card ≡ m.card → Within old new
-    → Leads p need card new said → AllLead p need places i old said → AllLead p need places (i + 1) new said
-one-more p need places i m card old new said is within same more here each =
-    below_more _ _ (λ k h d. leads-wider p need (get_or places k d).card old new said more (each k h d)) (λ d.
-    let place : get_or places i d ≡ m = get_or_default places i d m within ∙ sym is in
-    subst (λ (x : PlayingCard). Leads p need x new said) (same ∙ ap (λ (y : WeighedCard). y.card) (sym place)) here)
-
--- what also_spared says of its result
-abbrev pub IsAlso : List PlayingCard → PlayingCard → List PlayingCard → List PlayingCard → Type 0
-IsAlso old card by new = (e : PlayingCard) → has_card new e ≡ true → (has_card old e ≡ true) ⊎ ((e.suit ≡ card.suit) × (card.rank ≤ e.rank) × ((c : PlayingCard) → c.suit ≡ card.suit → c.rank ≤ e.rank → reach by c ≡ false))
-
--- more cards are spared
-pub more-spared : (p : Board) (need : ℕ) (card : PlayingCard) (old new by cards all : List PlayingCard) (said : Bool) → IsAlso old card by new → Within cards all → Within by all → Leads p need card by said
-    → AllSpared p need old cards said → AllSpared p need new all said
-more-spared p need card old new by cards all said also a b here each e has c suits low = elim (also e has) [
-  | inl before ↦ leads-wider p need c cards all said a (each e before c suits low)
-  | inr now ↦ leads-wider p need c by all said b (leads-low p need card c by said (now.2 card refl now.1) (now.2 c (suits ∙ now.0) low) (suits ∙ now.0) here)
+-- one card more is tried
+pub one-more : (p : Board) (need : ℕ) (card : PlayingCard) (old new by cards all : List PlayingCard) (said : Bool) → IsTold old card by new → Within cards all → Within by all → Leads p need card by said
+    → AllLead p need old cards said → AllLead p need new all said
+one-more p need card old new by cards all said told a b here each c has = elim (each c has) [
+  | inl before ↦ elim (told c before) [
+    | inl still ↦ inl still
+    | inr gone ↦ inr (leads-wider p need c by all said b (elim gone [
+      | inl same ↦ subst (λ (x : PlayingCard). Leads p need x by said) (sym same) here
+      | inr low ↦ leads-low p need card c by said low.2 low.1 low.0 here
+    ]))
+  ]
+  | inr done ↦ inr (leads-wider p need c cards all said a done)
 ]
 
--- ---- what is spared
+-- ---- what a failure tells of
 
 abbrev pub AreOf : Suit → List ℕ → List PlayingCard → Type 0
 AreOf s ranks cards = map (card_of s) ranks ≡ filter (is_of s) cards
-
--- the highest of the suit is no lower
-pub first-spared : (s : Suit) (ranks : List ℕ) (cards : List PlayingCard) (r n : ℕ) → AreOf s ranks cards → Some n ≡ slice_get ranks 0 → r ≤ n
-    → (e : PlayingCard) × (has_card cards e ≡ true) × (e.suit ≡ s) × (r ≤ e.rank)
-first-spared s ranks cards r n are first low = (card_of s n, sym (has_rank-holding s ranks cards n are) ∙ first-there ranks n first, refl, low)
 
 -- nothing of the suit is reached
 pub none-reached : (s : Suit) (ranks : List ℕ) (cards : List PlayingCard) → AreOf s ranks cards → ((d : PlayingCard) → has_card cards d ≡ true → IsRank d.rank) → ((q : ℕ) → has_rank ranks q ≡ true → q < 2)
@@ -182,17 +170,6 @@ low-reached s ranks cards floor are real least c suits below = else-false _ (λ 
     let l = least d.0.rank (has_rank-holding s ranks cards d.0.rank are ∙ ap (has_card cards) (sym same) ∙ d.1) (real d.0 d.1).0 in
     let m = d.3 in
     omega (arith, l, m, below))
-
--- one card more is spared
-pub also-one : (old cards : List PlayingCard) (card x : PlayingCard) → x.suit ≡ card.suit → card.rank ≤ x.rank → ((c : PlayingCard) → c.suit ≡ card.suit → c.rank ≤ x.rank → reach cards c ≡ false) → IsAlso old card cards (with_card old x)
-also-one old cards card x suits low none e h = elim (with-which old x e h) [
-  | inl same ↦ inr (
-    ap (λ (y : PlayingCard). y.suit) same ∙ suits,
-    (let r : e.rank ≡ x.rank = ap (λ (y : PlayingCard). y.rank) same in omega (arith, r, low)),
-    λ c s l. none c s (let r : e.rank ≡ x.rank = ap (λ (y : PlayingCard). y.rank) same in omega (arith, r, l)),
-  )
-  | inr before ↦ inl before
-]
 
 -- a card that is put in is reached
 pub reach-new : (cards : List PlayingCard) (x : PlayingCard) → IsRank x.rank → reach (with_card cards x) x ≡ true
@@ -243,12 +220,14 @@ pub settled-answer : (p q : Board) (need rest : ℕ) (c : PlayingCard) (later by
 settled-answer p q need rest c later by b said valid side has some next same answer wanted within settled =
     one-settles p need c by b side has (leads p q need rest c later by b valid has some next same (subst (λ (x : Bool). IsAnswerBy q rest later x) (same-beq said b wanted) answer) within settled)
 
--- no move was enough for the side to play, so the other side has its answer
-pub all-tried : (p : Board) (need : ℕ) (places moves : List WeighedCard) (i : ℕ) (cards all : List PlayingCard) (b : Bool) → IsBoard p → b ≡ is_north_south (mover p) → places ≡ moves → IsReordering (cards_of moves) (tops p)
-    → 1 ≤ need → need ≤ left p → length places ≤ i → AllLead p need places i cards (not b) → Within cards all → IsWhole (reach all) p → IsAnswerBy p need all (not b)
-all-tried p need places moves i cards all b valid side same order some most done lead more whole =
-    let each : (c : PlayingCard) → has_card (tops p) c ≡ true → Leads p need c cards (not b) = each-top p places moves i (λ c. Leads p need c cards (not b)) same order done lead in
-    none-settles p need all (not b) valid (ap not side) some most whole (λ c has. leads-wider p need c cards all (not b) more (each c has))
+-- no card was enough for the side to play, so the other side has its answer
+pub all-tried : (p : Board) (need : ℕ) (untried cards all : List PlayingCard) (b : Bool) → IsBoard p → b ≡ is_north_south (mover p)
+    → 1 ≤ need → need ≤ left p → untried ≡ [] → AllLead p need untried cards (not b) → Within cards all → IsWhole (reach all) p → IsAnswerBy p need all (not b)
+all-tried p need untried cards all b valid side some most none lead more whole =
+    none-settles p need all (not b) valid (ap not side) some most whole (λ c has. elim (lead c has) [
+      | inl left_over ↦ absurd (let no : has_card [] c ≡ true = ap (λ xs. has_card xs c) (sym none) ∙ left_over in cc)
+      | inr done ↦ leads-wider p need c cards all (not b) more done
+    ])
 
 -- ---- what an answer teaches
 

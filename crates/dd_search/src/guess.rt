@@ -1,7 +1,7 @@
 //! Where to begin: a guess of the tricks of a side, from who leads, and who holds the high cards and the trumps.
 ghost use Rattle.std.specs.Prelude.{◌≤◌};
 
-use crate::strength::code_of_highest;
+use crate::holdings::code_of_highest;
 use dd_cards::{Holding, Strain, Suit};
 use dd_play::Position;
 

@@ -1,18 +1,43 @@
 //! Which card looks best to lead: what speaks for a suit, and then for a card of it. Round numbers, set by hand.
-ghost use Rattle.std.specs.Prelude.{◌≤◌};
+ghost use Rattle.std.specs.Prelude.{◌≡◌, ◌≤◌, true, IfSome};
+ghost use Rattle.dd_cards.specs.Cards.{has_card};
 
-use crate::strength::code_of_highest;
-use dd_cards::{Holding, Rank, Seat, Strain, Suit};
-use dd_equal::Class;
+use crate::holdings::code_of_highest;
+use arrayvec::ArrayVec;
+use dd_cards::{Card, Hand, Holding, Rank, Seat, Strain, Suit};
 use dd_play::Position;
+use std::marker::Model;
 
-/// What a leader sees of each suit.
+/// A card to try, and how good it looks.
 #[derive(Clone, Copy, Debug)]
+pub(crate) struct Move {
+    pub(crate) card: Card,
+    pub(crate) weight: u16,
+}
+
+impl Model for Move {
+    ghost use Rattle.dd_search.specs.Moves.{WeighedCard};
+
+    ghost Value = { WeighedCard };
+
+    ghost view = { λ m. record { card = m.card; weight = m.weight } };
+
+    ghost inverse = { λ v. record { card = v.card; weight = v.weight } };
+}
+
+impl Default for Move {
+    fn default() -> Move {
+        Move {
+            card: Card::default(),
+            weight: 0,
+        }
+    }
+}
+
+/// The cards that may be led, in no order, each with how good it looks.
+#[derive(Drop)]
 pub(crate) struct Leading {
-    spades: SuitView,
-    hearts: SuitView,
-    diamonds: SuitView,
-    clubs: SuitView,
+    moves: ArrayVec<Move, 13>,
 }
 
 #[derive(Clone, Copy, Debug)]
@@ -27,6 +52,9 @@ struct SuitView {
     own_top: u8,
     // whether the leader has the second highest card and not the highest
     sequence: bool,
+    // the leader's cards and those of the other hands
+    own: Holding,
+    others: Holding,
     // the rank of partner's highest card, and more than any rank where partner ruffs
     partner: u8,
     // the rank of the opponents' highest card, and more than any rank where one of them ruffs
@@ -93,49 +121,96 @@ const OPPONENTS_CARD: u16 = 10;
 // More than any rank.
 const RUFF: u8 = 15;
 
-// A suit of which the leader has no card to weigh.
-const NOT_HELD: SuitView = SuitView {
-    weight: 0,
-    worth: ANY_OTHER,
-    special: ANY_OTHER,
-    own_top: 0,
-    sequence: false,
-    partner: 0,
-    against: 0,
-};
+// What the best card of a suit weighs more: each suit is rather tried once before one is tried again.
+const BEST_OF_ITS_SUIT: u16 = 30;
 
 impl Leading {
-    /// The view of the mover, with no card on the trick.
-    pub(crate) fn of(position: &Position) -> Leading {
-        Leading {
-            spades: suit_view(position, Suit::Spades),
-            hearts: suit_view(position, Suit::Hearts),
-            diamonds: suit_view(position, Suit::Diamonds),
-            clubs: suit_view(position, Suit::Clubs),
-        }
+    /// These cards of the mover, with no card on the trick.
+    pub(crate) fn of(position: &Position, choices: Hand) -> Leading {
+        let mut moves = ArrayVec::new();
+        weigh_suit(position, Suit::Spades, choices, &mut moves);
+        weigh_suit(position, Suit::Hearts, choices, &mut moves);
+        weigh_suit(position, Suit::Diamonds, choices, &mut moves);
+        weigh_suit(position, Suit::Clubs, choices, &mut moves);
+        Leading { moves }
     }
 
-    /// How good the highest card of a class looks.
+    /// The best of the cards that were not tried yet.
     #[inline]
-    pub(crate) fn weight_of(&self, class: Class) -> u16 {
-        let card = class.top;
-        let rank = card.rank.code();
-        let view = match card.suit {
-            Suit::Spades => &self.spades,
-            Suit::Hearts => &self.hearts,
-            Suit::Diamonds => &self.diamonds,
-            Suit::Clubs => &self.clubs,
-        };
-        let special = rank == view.own_top || view.sequence && class.equals != 0;
-        let worth = if special { view.special } else { view.worth };
-        let worth = if rank.max(view.partner) > view.against {
-            worth.wins
-        } else {
-            worth.loses
-        };
-        view.weight
-            .saturating_add(worth)
-            .saturating_sub(rank as u16)
+    pub(crate) fn best(&self, untried: Hand) -> Option<Card>
+        ensures { IfSome result (λ card. has_card untried card ≡ true) }
+    {
+        let mut weight = 0;
+        let mut best = None;
+        for tried in self.moves.as_slice() {
+            let tried = *tried;
+            if tried.weight > weight && untried.has(tried.card) {
+                weight = tried.weight;
+                best = Some(tried.card);
+            }
+        }
+        best
+    }
+}
+
+// Adds the choices of this suit.
+fn weigh_suit(position: &Position, suit: Suit, choices: Hand, moves: &mut ArrayVec<Move, 13>) {
+    let mut rest = choices.holding(suit);
+    let Some(lowest) = rest.pop_lowest() else {
+        return;
+    };
+    let view = suit_view(position, suit);
+    let mut best = weighed(&view, suit, lowest);
+    'ranks: while let Some(rank) = rest.pop_lowest() {
+        let new = weighed(&view, suit, rank);
+        let other = if new.weight > best.weight { best } else { new };
+        if new.weight > best.weight {
+            best = new;
+        }
+        add(moves, other);
+    }
+    let weight = best.weight.saturating_add(BEST_OF_ITS_SUIT);
+    add(moves, Move { weight, ..best });
+}
+
+// There is room for thirteen.
+#[inline]
+fn add(moves: &mut ArrayVec<Move, 13>, new: Move) {
+    if !moves.is_full() {
+        moves.push(new);
+    }
+}
+
+// A card of the suit, and how good it looks.
+#[inline]
+fn weighed(view: &SuitView, suit: Suit, rank: Rank) -> Move {
+    let code = rank.code();
+    let special = code == view.own_top || view.sequence && has_equal(view, rank);
+    let worth = if special { view.special } else { view.worth };
+    let worth = if code.max(view.partner) > view.against {
+        worth.wins
+    } else {
+        worth.loses
+    };
+    let weight = view
+        .weight
+        .saturating_add(worth)
+        .saturating_sub(code as u16);
+    Move {
+        card: Card { suit, rank },
+        weight,
+    }
+}
+
+// Has the card an equal below it?
+#[inline]
+fn has_equal(view: &SuitView, rank: Rank) -> bool {
+    match view.own.next_below(rank) {
+        Some(lower) => match view.others.next_below(rank) {
+            Some(other) => other.code() < lower.code(),
+            None => true,
+        },
+        None => false,
     }
 }
 
@@ -184,9 +259,6 @@ fn owner_of(holdings: &FourHoldings, rank: Option<Rank>) -> Owner {
 
 fn suit_view(position: &Position, suit: Suit) -> SuitView {
     let holdings = four_holdings(position, suit);
-    if holdings.own.is_empty() {
-        return NOT_HELD;
-    }
     let theirs = holdings.left.union(holdings.right);
     let all = holdings.own.union(holdings.partner).union(theirs);
     let top = all.highest();
@@ -216,6 +288,8 @@ fn suit_view(position: &Position, suit: Suit) -> SuitView {
             0
         },
         sequence: top_owner != Owner::Leader && second_owner == Owner::Leader,
+        own: holdings.own,
+        others: theirs.union(holdings.partner),
         partner: if partner_ruffs {
             RUFF
         } else {

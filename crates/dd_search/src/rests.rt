@@ -1,5 +1,5 @@
 //! What an answer rests on, and which cards it answers for.
-ghost use Rattle.std.specs.Prelude.{◌≡◌, ◌≤◌, ◌⊎◌, true, false, Some, None, if◌then◌else◌};
+ghost use Rattle.std.specs.Prelude.{◌≡◌, ◌<◌, ◌⊎◌, true, false, length, Some, None, if◌then◌else◌};
 ghost use Rattle.dd_cards.specs.PlayingCard.{PlayingCard};
 ghost use Rattle.dd_cards.specs.Cards.{has_card};
 ghost use Rattle.dd_play.specs.Tricks.{winner_of};
@@ -32,42 +32,27 @@ pub(crate) fn settled_by(position: &Position, card: Card, winner: Option<Seat>, 
     }
 }
 
-/// Is one of these cards of the card's suit and no lower?
+/// Of the cards still to try those that the failure of this one says nothing of: not the card itself, and where it is lower
+/// than all of its suit that its failure rests on, none of the suit that is lower than these.
 #[inline]
-pub(crate) fn is_spared(spared: Hand, card: Card) -> bool
-    ensures { result ≡ true → (e : PlayingCard) × (has_card spared e ≡ true) × (e.suit
-        ≡ card.suit) × (card.rank ≤ e.rank) }
-{
-    match spared.holding(card.suit).highest() {
-        Some(rank) => card.rank.code() <= rank.code(),
-        None => false,
-    }
-}
-
-/// These cards and, where a card is lower than all of its suit that its failure rests on, the highest such card: what holds
-/// of the one card holds of each up to the other.
-#[inline]
-pub(crate) fn also_spared(spared: Hand, card: Card, cards: Hand) -> Hand
-    ensures { (e : PlayingCard) → has_card result e ≡ true → (has_card spared e ≡ true)
-        ⊎ ((e.suit ≡ card.suit) × (card.rank ≤ e.rank) × ((c : PlayingCard) → c.suit ≡ card.suit
-        → c.rank ≤ e.rank → reach cards c ≡ false)) }
+pub(crate) fn still_untried(untried: Hand, card: Card, cards: Hand) -> Hand
+    requires { has_card untried card ≡ true }
+    ensures fewer { length result < length untried }
+    ensures among { (c : PlayingCard) → has_card result c ≡ true → has_card untried c ≡ true }
+    ensures told { (c : PlayingCard) → has_card untried c ≡ true → (has_card result c ≡ true)
+        ⊎ ((c ≡ card) ⊎ ((c.suit ≡ card.suit) × (reach cards c ≡ false)
+        × (reach cards card ≡ false))) }
 {
     let suit = card.suit;
     let least = card.rank.code();
     match cards.holding(suit).next_from(Rank::of(2)) {
-        None => spared.with(Card {
-            suit,
-            rank: Rank::of(14),
-        }),
+        None => untried.without_suit(suit),
         Some(floor) => {
-            let floor = floor.code();
-            if least < floor {
-                spared.with(Card {
-                    suit,
-                    rank: Rank::of(floor - 1),
-                })
+            let lowest = floor.code();
+            if least < lowest {
+                untried.without_below(suit, floor)
             } else {
-                spared
+                untried.without(card)
             }
         }
     }

@@ -11,12 +11,11 @@ ghost use Rattle.dd_search.specs.ClaimsBy.{IsAnswer, IsAnswerBy};
 use crate::answer::Answer;
 use crate::known::{known_answer, note_answer, second_hands_answer};
 use crate::meter::{Halt, Meter, go_on};
-use crate::order::list_moves;
-use crate::rests::{also_spared, is_spared, settled_by};
+use crate::order::Outlook;
+use crate::rests::{settled_by, still_untried};
 use crate::table::Bounds;
-use arrayvec::ArrayVec;
 use dd_cards::{Hand, Seat};
-use dd_equal::whole;
+use dd_equal::{tops, whole};
 use dd_play::{Position, TrickStart};
 
 /// Do North and South take at least `need` of the tricks left? It ticks first; at a start of a trick a look or the quick
@@ -50,7 +49,7 @@ pub(crate) fn takes<B: Bounds, M: Meter>(
     Ok(answer)
 }
 
-// The answer by the cards: one of each class that isn't spared is tried until one settles it.
+// The answer by the cards: one of each class is tried until one settles it, but for those that a failure tells of too.
 #[cycle(takes)]
 fn answer_by_play<B: Bounds, M: Meter>(
     position: &Position,
@@ -66,16 +65,11 @@ fn answer_by_play<B: Bounds, M: Meter>(
     ensures ticked { (m : M) → M.ticked m meter.old → OnOk result (M.ticked m meter.new) }
     ensures ends { EndsAs (M.says meter.new) result }
 {
-    let mut moves = ArrayVec::new();
-    list_moves(position, &mut moves);
     let north_south = position.mover().is_north_south();
+    let mut untried = tops(position);
+    let outlook = Outlook::of(position, untried);
     let mut cards = Hand::new();
-    let mut spared = Hand::new();
-    for tried in moves.as_slice() {
-        let card = tried.card;
-        if is_spared(spared, card) {
-            continue;
-        }
+    'tries: while let Some(card) = outlook.best(untried) {
         // The position stays where `play` put it: a copy of it would wait for its bytes to be written.
         let played = position.play(card);
         let rest = rest_after(need, played.1);
@@ -94,7 +88,7 @@ fn answer_by_play<B: Bounds, M: Meter>(
             });
         }
         cards = cards.union(by);
-        spared = also_spared(spared, card, by);
+        untried = still_untried(untried, card, by);
     }
     Ok(Answer {
         yes: !north_south,

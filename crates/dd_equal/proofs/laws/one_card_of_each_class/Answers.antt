@@ -1,4 +1,4 @@
-use Rattle.dd_equal.proofs.Tops.{every-class}
+use Rattle.dd_equal.proofs.ClassTops.{every-class}
 use Rattle.dd_equal.proofs.laws.one_card_of_each_class.Goals as goal
 
 pub returns : goal.returns

@@ -1,0 +1,252 @@
+-- the highest card of each sequence of a hand
+use Rattle.std.proofs.Common.{◌≡◌, ℕ, zero, suc, ◌+◌, ◌-◌, ◌*◌, ◌/◌, ◌%◌, ◌^◌, ◌<◌, ◌≤◌, Bool, true, false, refl, sym, ap, ◌∙◌, subst, arith, List, [], ◌∷◌, inl, inr, ◌⊎◌, eq-eqb, bit_and, bit_or, w64, lit<}
+use Rattle.std.specs.Prelude.{filter, ◌==◌, ◌&&◌, ◌||◌, nat_lt, nat_le}
+use Rattle.std.specs.List.{list_any}
+use Rattle.std.specs.Int.{bit_at, bit_not}
+use mathlib.Core.Bool.{not}
+use Rattle.std.proofs.lemmas.Bool.{eqb-true, ltb-true, leb-true, cases_lt}
+use Rattle.std.proofs.lemmas.Bool.Decides.{eqb_tells, nat_tests}
+use Rattle.dd_cards.specs.declared.suit.Suit.{Suit}
+use Rattle.dd_cards.specs.Suits.{suit_code, suit_shift}
+use Rattle.dd_cards.specs.PlayingCard.{PlayingCard}
+use Rattle.dd_cards.specs.Ranks.{IsRank}
+use Rattle.dd_cards.specs.Cards.{is_of, card_of, same_card, deck, has_card, place_of}
+use Rattle.dd_cards.specs.HandMasks.{in_hand, cards_of, IsHandMask}
+use Rattle.dd_cards.specs.Sequences.{is_above, is_headed, heads}
+use Rattle.dd_cards.proofs.CardLists.{suit_code-lt, suit_code-injective, same_card-eq}
+use Rattle.dd_cards.proofs.HandLists.{filter-deck, has_card-cards_of, place_of-lt}
+use Rattle.dd_cards.proofs.SetLaws.{same_card-self}
+use Rattle.dd_cards.proofs.Unions.{cards-real}
+use Rattle.dd_cards.proofs.General.{and-left, and-right, and-both, and-false, or-left, or-right, or-split, not-true, false-not, else-false, both-ways, filter-filter}
+use Rattle.dd_cards.proofs.Sequences.{is_set, reaches, set-and, set-or, set-not}
+
+-- the bits of all cards
+abbrev pub pack : ℕ
+pack = 9222386859403673596
+
+-- the bits of no card of either
+abbrev pub gaps_of : ℕ → ℕ → ℕ
+gaps_of m n = bit_and pack (bit_not w64 (bit_or m n))
+
+all_below : (ℕ → Bool) → ℕ → Bool
+all_below p zero = true
+all_below p (suc n) = p n && all_below p n
+
+all_below-at : (p : ℕ → Bool) (n i : ℕ) → all_below p n ≡ true → i < n → p i ≡ true
+unfolding all_below
+all_below-at p zero i all h = absurd (omega arith)
+all_below-at p (suc n) i all h = elim (eqb_tells i n) [
+  | inl same ↦ ap p same.1 ∙ and-left (p n) (all_below p n) all
+  | inr other ↦ all_below-at p n i (and-right (p n) (all_below p n) all) (omega (arith, other.1))
+]
+
+is_place : ℕ → Bool
+is_place i = nat_le 2 (i % 16) && nat_le (i % 16) 14
+
+every-place : all_below (λ i. (not (is_place i) || is_set pack i) && (not (is_set pack i) || is_place i)) 64 ≡ true
+unfolding all_below is_place
+every-place = refl
+
+place-in : (i : ℕ) → i < 64 → is_place i ≡ true → is_set pack i ≡ true
+place-in i h e = go (is_place i) (is_set pack i) e (and-left (not (is_place i) || is_set pack i) (not (is_set pack i) || is_place i) (all_below-at (λ i. (not (is_place i) || is_set pack i) && (not (is_set pack i) || is_place i)) 64 i every-place h))
+  where
+    go : (a b : Bool) → a ≡ true → (not a || b) ≡ true → b ≡ true
+    go true b e h = h
+    go false b e h = absurd (cc)
+
+in-place : (i : ℕ) → i < 64 → is_set pack i ≡ true → is_place i ≡ true
+in-place i h e = go (is_set pack i) (is_place i) e (and-right (not (is_place i) || is_set pack i) (not (is_set pack i) || is_place i) (all_below-at (λ i. (not (is_place i) || is_set pack i) && (not (is_set pack i) || is_place i)) 64 i every-place h))
+  where
+    go : (a b : Bool) → a ≡ true → (not a || b) ≡ true → b ≡ true
+    go true b e h = h
+    go false b e h = absurd (cc)
+
+-- the place of a rank in its suit's lane
+rank-at : (s : Suit) (r : ℕ) → r ≤ 15 → ((suit_shift s + r) % 16 ≡ r) × (suit_shift s + r < 64)
+rank-at s r h = let k : suit_code s < 4 = suit_code-lt s in (omega (arith, h, k), omega (arith, h, k))
+
+real-place : (s : Suit) (r : ℕ) → IsRank r → is_set pack (suit_shift s + r) ≡ true
+unfolding is_place
+real-place s r real =
+    let at = rank-at s r (omega (arith, real.1)) in
+    place-in (suit_shift s + r) at.1 (rw at.0 (and-both (nat_le 2 r) (nat_le r 14) (le-true 2 r real.0) (le-true r 14 real.1)))
+  where
+    le-true : (a b : ℕ) → a ≤ b → nat_le a b ≡ true
+    le-true a b h = grind (arith, nat_tests)
+
+place-real : (s : Suit) (r : ℕ) → r ≤ 15 → is_set pack (suit_shift s + r) ≡ true → IsRank r
+unfolding is_place
+place-real s r h set =
+    let at = rank-at s r h in
+    let e : is_place (suit_shift s + r) ≡ true = in-place (suit_shift s + r) at.1 set in
+    let low = leb-true 2 ((suit_shift s + r) % 16) (and-left (nat_le 2 ((suit_shift s + r) % 16)) (nat_le ((suit_shift s + r) % 16) 14) e) in
+    let high = leb-true ((suit_shift s + r) % 16) 14 (and-right (nat_le 2 ((suit_shift s + r) % 16)) (nat_le ((suit_shift s + r) % 16) 14) e) in
+    (omega (arith, low, at.0), omega (arith, high, at.0))
+
+-- a gap has neither, and is a card's
+gap-set : (m n i : ℕ) → bit_or m n < 2 ^ 64 → i < 64 → is_set (gaps_of m n) i ≡ (is_set pack i && not (is_set m i || is_set n i))
+gap-set m n i small h = set-and pack (bit_not w64 (bit_or m n)) i ∙ ap (λ b. is_set pack i && b) (set-not (bit_or m n) i small h ∙ ap not (set-or m n i))
+
+-- a rank above, of these, with none of the others between
+abbrev pub Above : ℕ → ℕ → Suit → ℕ → ℕ → Type 0
+Above m n s r q = (r < q) × IsRank q × (is_set m (suit_shift s + q) ≡ true) × ((x : ℕ) → r < x → x < q → is_set n (suit_shift s + x) ≡ false)
+
+-- what is reached is such a rank
+found : (m n : ℕ) (s : Suit) (k r : ℕ) → IsHandMask m → bit_or m n < 2 ^ 64 → IsRank r → reaches (is_set m) (is_set (gaps_of m n)) k (suit_shift s + r) ≡ true → (q : ℕ) × Above m n s r q
+unfolding reaches
+found m n s zero r valid small real h = absurd (cc)
+found m n s (suc k) r valid small real h =
+    let next : suit_shift s + r + 1 ≡ suit_shift s + (r + 1) = omega arith in
+    let at = rank-at s (r + 1) (let t = real.1 in omega (arith, t)) in
+    elim (or-split (is_set m (suit_shift s + r + 1)) (is_set (gaps_of m n) (suit_shift s + r + 1) && reaches (is_set m) (is_set (gaps_of m n)) k (suit_shift s + r + 1)) h) [
+      | inl own ↦ (
+          let v = valid (suit_shift s + r + 1) (eqb-true _ _ own) in
+          let low = v.1 in
+          let high = v.2 in
+          (r + 1, (omega arith, (let a = at.0 in let l = real.0 in omega (arith, l), let a = at.0 in omega (arith, high, a, next)), ap (is_set m) (sym next) ∙ own, λ x l u. absurd (omega (arith, l, u)))))
+      | inr rest ↦ (
+          let here = is_set (gaps_of m n) (suit_shift s + r + 1) in
+          let beyond = reaches (is_set m) (is_set (gaps_of m n)) k (suit_shift s + r + 1) in
+          let gap : is_set (gaps_of m n) (suit_shift s + (r + 1)) ≡ true = ap (is_set (gaps_of m n)) (sym next) ∙ and-left here beyond rest in
+          let far : reaches (is_set m) (is_set (gaps_of m n)) k (suit_shift s + (r + 1)) ≡ true = ap (reaches (is_set m) (is_set (gaps_of m n)) k) (sym next) ∙ and-right here beyond rest in
+          let filled = is_set m (suit_shift s + (r + 1)) || is_set n (suit_shift s + (r + 1)) in
+          let both : (is_set pack (suit_shift s + (r + 1)) && not filled) ≡ true = sym (gap-set m n (suit_shift s + (r + 1)) small at.1) ∙ gap in
+          let card : IsRank (r + 1) = place-real s (r + 1) (let t = real.1 in omega (arith, t)) (and-left (is_set pack (suit_shift s + (r + 1))) (not filled) both) in
+          let none : is_set n (suit_shift s + (r + 1)) ≡ false = or-second (is_set m (suit_shift s + (r + 1))) (is_set n (suit_shift s + (r + 1))) (not-true filled (and-right (is_set pack (suit_shift s + (r + 1))) (not filled) both)) in
+          let later : (q : ℕ) × Above m n s (r + 1) q = found m n s k (r + 1) valid small card far in
+          let q : ℕ = later.0 in
+          let higher : r + 1 < q = later.1.0 in (
+            q,
+            (
+              omega (arith, higher),
+              later.1.1,
+              later.1.2,
+              λ x l u. elim (eqb_tells x (r + 1)) [
+                | inl same ↦ ap (λ y. is_set n (suit_shift s + y)) same.1 ∙ none
+                | inr other ↦ later.1.3 x (let o = other.1 in omega (arith, o, l)) u
+              ],
+            ),
+          ))
+    ]
+  where
+    or-second : (a b : Bool) → (a || b) ≡ false → b ≡ false
+    or-second true b h = absurd (cc)
+    or-second false b h = h
+
+-- and such a rank is reached
+finds : (m n : ℕ) (s : Suit) (k r q : ℕ) → bit_or m n < 2 ^ 64 → IsRank r → Above m n s r q → q ≤ r + k → reaches (is_set m) (is_set (gaps_of m n)) k (suit_shift s + r) ≡ true
+unfolding reaches
+finds m n s zero r q small real above near = absurd (let l = above.0 in omega (arith, l, near))
+finds m n s (suc k) r q small real above near =
+    let next : suit_shift s + (r + 1) ≡ suit_shift s + r + 1 = omega arith in
+    let low = real.0 in
+    let l = above.0 in
+    let top = above.1.1 in
+    elim (eqb_tells q (r + 1)) [
+      | inl same ↦ or-left (is_set m (suit_shift s + r + 1)) _ (ap (is_set m) (sym next) ∙ ap (λ y. is_set m (suit_shift s + y)) (sym same.1) ∙ above.2)
+      | inr other ↦ (
+          let o = other.1 in
+          let higher : r + 1 < q = omega (arith, l, o) in
+          let card : IsRank (r + 1) = (omega (arith, low), omega (arith, higher, top)) in
+          let at = rank-at s (r + 1) (omega (arith, higher, top)) in
+          let none : is_set n (suit_shift s + (r + 1)) ≡ false = above.3 (r + 1) (omega arith) higher in
+          let rest : reaches (is_set m) (is_set (gaps_of m n)) k (suit_shift s + r + 1) ≡ true =
+          ap (reaches (is_set m) (is_set (gaps_of m n)) k) (sym next)
+          ∙ finds m n s k (r + 1) q small card (higher, above.1, above.2, λ x a b. above.3 x (omega (arith, a)) b) (omega (arith, near)) in
+          let gap : is_set (gaps_of m n) (suit_shift s + r + 1) ≡ (true && not (is_set m (suit_shift s + r + 1) || false)) =
+          ap (is_set (gaps_of m n)) (sym next) ∙ gap-set m n (suit_shift s + (r + 1)) small at.1
+          ∙ ap (λ b. b && not (is_set m (suit_shift s + (r + 1)) || is_set n (suit_shift s + (r + 1)))) (real-place s (r + 1) card)
+          ∙ ap (λ b. true && not (is_set m (suit_shift s + (r + 1)) || b)) none
+          ∙ ap (λ y. true && not (is_set m y || false)) next in
+          go (is_set m (suit_shift s + r + 1)) (is_set (gaps_of m n) (suit_shift s + r + 1)) _ gap rest)
+    ]
+  where
+    go : (a g rest : Bool) → g ≡ (true && not (a || false)) → rest ≡ true → (a || (g && rest)) ≡ true
+    go true g rest e h = refl
+    go false g rest e h = and-both g rest e h
+
+-- ---- of lists
+
+any-of : (t : PlayingCard → Bool) (d : PlayingCard) (cards : List PlayingCard) → has_card cards d ≡ true → t d ≡ true → list_any t cards ≡ true
+any-of t d [] has e = absurd (cc)
+any-of t d (c ∷ cards) has e = elim (or-split (same_card c d) (has_card cards d) has) [
+  | inl same ↦ or-left (t c) (list_any t cards) (ap t (same_card-eq c d same) ∙ e)
+  | inr later ↦ or-right (t c) (list_any t cards) (any-of t d cards later e)
+]
+
+any-some : (t : PlayingCard → Bool) (cards : List PlayingCard) → list_any t cards ≡ true → (d : PlayingCard) × (has_card cards d ≡ true) × (t d ≡ true)
+any-some t [] h = absurd (cc)
+any-some t (c ∷ cards) h = elim (or-split (t c) (list_any t cards) h) [
+  | inl here ↦ (c, or-left (same_card c c) (has_card cards c) (same_card-self c), here)
+  | inr later ↦ (let d = any-some t cards later in (d.0, or-right (same_card c d.0) (has_card cards d.0) d.1, d.2))
+]
+
+above-is : (s : Suit) (r q : ℕ) → r < q → is_above (card_of s r) (card_of s q) ≡ true
+above-is s r q h = and-both (is_of s (card_of s q)) (nat_lt r q) (eq-eqb (suit_code s) (suit_code s) refl) (lt r q h)
+  where
+    lt : (a b : ℕ) → a < b → nat_lt a b ≡ true
+    lt a b h = grind (arith, nat_tests)
+
+above-tells : (s : Suit) (r : ℕ) (d : PlayingCard) → is_above (card_of s r) d ≡ true → (d ≡ card_of s d.rank) × (r < d.rank)
+above-tells s r d h =
+    let suits : d.suit ≡ s = suit_code-injective d.suit s (eqb-true _ _ (and-left _ _ h)) in
+    (ap (λ u. card_of u d.rank) suits, ltb-true r d.rank (and-right (is_of s d) _ h))
+
+-- a card of a mask has its bit set
+set-of : (m : ℕ) (s : Suit) (r : ℕ) → IsRank r → has_card (cards_of m) (card_of s r) ≡ is_set m (suit_shift s + r)
+set-of m s r real = has_card-cards_of m (card_of s r) real
+
+-- a rank is reached exactly where another of these heads it
+headed : (m n : ℕ) (s : Suit) (r : ℕ) → IsHandMask m → bit_or m n < 2 ^ 64 → IsRank r
+    → reaches (is_set m) (is_set (gaps_of m n)) 16 (suit_shift s + r) ≡ is_headed (cards_of m) (cards_of n) (card_of s r)
+headed m n s r valid small real = both-ways _ _ there back
+  where
+    c : PlayingCard
+    c = card_of s r
+
+    between : PlayingCard → PlayingCard → Bool
+    between d e = is_above c e && is_above e d
+
+    test : PlayingCard → Bool
+    test d = is_above c d && not (list_any (between d) (cards_of n))
+
+    there : reaches (is_set m) (is_set (gaps_of m n)) 16 (suit_shift s + r) ≡ true → list_any test (cards_of m) ≡ true
+    there h =
+        let q = found m n s 16 r valid small real h in
+        let d : PlayingCard = card_of s q.0 in
+        any-of test d (cards_of m) (set-of m s q.0 q.1.1 ∙ q.1.2) (and-both (is_above c d) _ (above-is s r q.0 q.1.0) (false-not _ (else-false _ (λ some.
+        let e = any-some (between d) (cards_of n) some in
+        let up = above-tells s r e.0 (and-left (is_above c e.0) (is_above e.0 d) e.2) in
+        let down : e.0.rank < q.0 = ltb-true e.0.rank q.0 (and-right _ (nat_lt e.0.rank q.0) (and-right (is_above c e.0) (is_above e.0 d) e.2)) in
+        let bit : is_set n (suit_shift s + e.0.rank) ≡ true = sym (set-of n s e.0.rank (cards-real n e.0 e.1)) ∙ ap (has_card (cards_of n)) (sym up.0) ∙ e.1 in
+        let none = q.1.3 e.0.rank up.1 down in
+        (let no : true ≡ false = sym bit ∙ none in cc)))))
+
+    back : list_any test (cards_of m) ≡ true → reaches (is_set m) (is_set (gaps_of m n)) 16 (suit_shift s + r) ≡ true
+    back h =
+        let d = any-some test (cards_of m) h in
+        let up = above-tells s r d.0 (and-left (is_above c d.0) _ d.2) in
+        let rank = cards-real m d.0 d.1 in
+        let high = rank.1 in
+        let none : list_any (between d.0) (cards_of n) ≡ false = not-true _ (and-right (is_above c d.0) _ d.2) in
+        finds m n s 16 r d.0.rank small real (
+          up.1,
+          rank,
+          sym (set-of m s d.0.rank rank) ∙ ap (has_card (cards_of m)) (sym up.0) ∙ d.1,
+          λ x a b. else-false _ (λ bit.
+              let low = real.0 in
+              let card : IsRank x = (omega (arith, low, a), omega (arith, high, b)) in
+              let there : list_any (between d.0) (cards_of n) ≡ true = any-of (between d.0) (card_of s x) (cards_of n) (set-of n s x card ∙ bit)
+              (and-both (is_above c (card_of s x)) _ (above-is s r x a) (ap (is_above (card_of s x)) up.0 ∙ above-is s x d.0.rank b)) in
+              (let no : true ≡ false = sym there ∙ none in cc)),
+        ) (omega (arith, high))
+
+-- so what is left is the highest of each sequence
+pub heads-of : (m n below : ℕ) → IsHandMask m → bit_or m n < 2 ^ 64 → below < 2 ^ 64 → ((i : ℕ) → is_set below i ≡ reaches (is_set m) (is_set (gaps_of m n)) 16 i)
+    → cards_of (bit_and m (bit_not w64 below)) ≡ heads (cards_of m) (cards_of n)
+unfolding cards_of
+heads-of m n below valid small small' same =
+    filter-deck (in_hand (bit_and m (bit_not w64 below))) (λ c. in_hand m c && not (is_headed (cards_of m) (cards_of n) c)) (λ c real.
+    set-and m (bit_not w64 below) (place_of c)
+    ∙ ap (λ b. in_hand m c && b) (set-not below (place_of c) small' (place_of-lt c real) ∙ ap not (same (place_of c) ∙ headed m n c.suit c.rank valid small real)))
+    ∙ sym (filter-filter (λ c. not (is_headed (cards_of m) (cards_of n) c)) (in_hand m) deck)

@@ -1,0 +1,185 @@
+-- the highest cards of classes as the highest of sequences
+use Rattle.std.proofs.Common.{◌≡◌, ℕ, ◌+◌, ◌<◌, ◌≤◌, Bool, true, false, refl, sym, ap, ◌∙◌, subst, arith, List, [], ◌∷◌, ◌++◌, take, get_or, length, inl, inr, eq-eqb}
+use Rattle.std.specs.Prelude.{filter, nat_lt, ◌&&◌, ◌||◌, ◌==◌}
+use Rattle.std.specs.List.{list_any}
+use mathlib.Core.Bool.{not}
+use Rattle.std.proofs.lemmas.Bool.{eqb-true, ltb-true, lt-ltb, le-ltb, cases_lt}
+use Rattle.std.proofs.lemmas.List.{take_more, take_all}
+use Rattle.std.proofs.lemmas.List.Folds.{list_any-append}
+use Rattle.dd_cards.specs.PlayingCard.{PlayingCard}
+use Rattle.dd_cards.specs.Ranks.{IsRank}
+use Rattle.dd_cards.specs.Suits.{suit_code}
+use Rattle.dd_cards.specs.Cards.{deck, is_of, same_card, has_card, with_card}
+use Rattle.dd_cards.specs.Sequences.{is_above, is_headed, heads}
+use Rattle.dd_cards.proofs.CallerLemmas.{and-left, and-right, and-both, or-left, or-right, or-split, both-ways, else-false, filter-same, has_card-deck, has_card-filter, real-set, same_card-eq, same_card-self}
+use Rattle.dd_cards.specs.Seats.{seat_after}
+use Rattle.dd_play.specs.Board.{Board, IsBoard, cards_at, mover}
+use Rattle.dd_play.specs.Play.{legal}
+use Rattle.dd_equal.specs.EqualCards.{other_cards, is_between, are_equal, is_top, tops}
+use Rattle.dd_equal.proofs.ClassTops.{some-card}
+use Rattle.dd_equal.proofs.Suits.{others-split}
+
+any-of : (t : PlayingCard → Bool) (d : PlayingCard) (cards : List PlayingCard) → has_card cards d ≡ true → t d ≡ true → list_any t cards ≡ true
+any-of t d [] has e = absurd (cc)
+any-of t d (c ∷ cards) has e = elim (or-split (same_card c d) (has_card cards d) has) [
+  | inl same ↦ or-left (t c) (list_any t cards) (ap t (same_card-eq c d same) ∙ e)
+  | inr later ↦ or-right (t c) (list_any t cards) (any-of t d cards later e)
+]
+
+any-same : (t u : PlayingCard → Bool) → ((d : PlayingCard) → t d ≡ u d) → (cards : List PlayingCard) → list_any t cards ≡ list_any u cards
+any-same t u e [] = refl
+any-same t u e (c ∷ cards) = rw (e c, any-same t u e cards) refl
+
+-- what lies between a card and a higher one of its suit, either way
+between-same : (c d : PlayingCard) (xs ys : List PlayingCard) → ((e : PlayingCard) → has_card xs e ≡ has_card ys e) → is_of c.suit d ≡ true → c.rank < d.rank
+    → list_any (λ e. is_above c e && is_above e d) xs ≡ list_any (is_between c d) ys
+between-same c d xs ys same suits higher = both-ways _ _ there back
+  where
+    there : list_any (λ e. is_above c e && is_above e d) xs ≡ true → list_any (is_between c d) ys ≡ true
+    there h =
+        let e = some-card (λ e. is_above c e && is_above e d) xs h in
+        let up : is_above c e.0 ≡ true = and-left (is_above c e.0) (is_above e.0 d) e.2 in
+        let down : is_above e.0 d ≡ true = and-right (is_above c e.0) (is_above e.0 d) e.2 in
+        any-of (is_between c d) e.0 ys (sym (same e.0) ∙ e.1)
+        (and-both (is_of c.suit e.0) _ (and-left (is_of c.suit e.0) (nat_lt c.rank e.0.rank) up)
+        (or-left (nat_lt c.rank e.0.rank && nat_lt e.0.rank d.rank) _ (and-both _ _ (and-right (is_of c.suit e.0) (nat_lt c.rank e.0.rank) up) (and-right (is_of e.0.suit d) (nat_lt e.0.rank d.rank) down))))
+
+    back : list_any (is_between c d) ys ≡ true → list_any (λ e. is_above c e && is_above e d) xs ≡ true
+    back h =
+        let e = some-card (is_between c d) ys h in
+        let x : PlayingCard = e.0 in
+        let of : is_of c.suit x ≡ true = and-left (is_of c.suit x) ((nat_lt c.rank x.rank && nat_lt x.rank d.rank) || (nat_lt d.rank x.rank && nat_lt x.rank c.rank)) e.2 in
+        let either : ((nat_lt c.rank x.rank && nat_lt x.rank d.rank) || (nat_lt d.rank x.rank && nat_lt x.rank c.rank)) ≡ true = and-right (is_of c.suit x) _ e.2 in
+        let one : suit_code x.suit ≡ suit_code c.suit = eqb-true _ _ of in
+        let two : suit_code d.suit ≡ suit_code c.suit = eqb-true _ _ suits in
+        elim (or-split (nat_lt c.rank x.rank && nat_lt x.rank d.rank) (nat_lt d.rank x.rank && nat_lt x.rank c.rank) either) [
+          | inl up ↦ any-of (λ e. is_above c e && is_above e d) x xs (same x ∙ e.1)
+              (and-both (is_above c x) (is_above x d) (and-both (is_of c.suit x) _ of (and-left (nat_lt c.rank x.rank) _ up))
+              (and-both (is_of x.suit d) _ (eq-eqb (suit_code d.suit) (suit_code x.suit) (two ∙ sym one)) (and-right (nat_lt c.rank x.rank) _ up)))
+          | inr down ↦ absurd (
+              let a : d.rank < x.rank = ltb-true _ _ (and-left (nat_lt d.rank x.rank) _ down) in
+              let b : x.rank < c.rank = ltb-true _ _ (and-right (nat_lt d.rank x.rank) _ down) in
+              omega (arith, a, b, higher))
+        ]
+
+-- a higher card of the sequence is a higher equal card
+headed-same : (p : Board) (others : List PlayingCard) (c d : PlayingCard) → ((e : PlayingCard) → has_card others e ≡ has_card (other_cards p) e)
+    → (is_above c d && not (list_any (λ e. is_above c e && is_above e d) others)) ≡ (are_equal p c d && nat_lt c.rank d.rank)
+headed-same p others c d same = go (is_of c.suit d) (nat_lt c.rank d.rank) refl refl
+  where
+    go : (a l : Bool) → is_of c.suit d ≡ a → nat_lt c.rank d.rank ≡ l
+        → ((a && l) && not (list_any (λ e. is_above c e && is_above e d) others)) ≡ ((a && not (list_any (is_between c d) (other_cards p))) && l)
+    go false l e f = refl
+    go true false e f = swap (not (list_any (is_between c d) (other_cards p)))
+      where
+        swap : (b : Bool) → false ≡ (b && false)
+        swap true = refl
+        swap false = refl
+    go true true e f = ap not (between-same c d others (other_cards p) same e (ltb-true _ _ f)) ∙ swap (not (list_any (is_between c d) (other_cards p)))
+      where
+        swap : (b : Bool) → b ≡ (b && true)
+        swap true = refl
+        swap false = refl
+
+pub tops-heads : (p : Board) (cards others : List PlayingCard) → cards ≡ legal p → ((e : PlayingCard) → has_card others e ≡ has_card (other_cards p) e) → heads cards others ≡ tops p
+tops-heads p cards others are same =
+    rw are (filter-same (λ c. not (is_headed (legal p) others c)) (is_top p) (λ c. ap not (any-same _ _ (λ d. headed-same p others c d same) (legal p))) (legal p))
+
+-- ---- the other cards as a set
+
+-- each of these is a card of the pack
+abbrev pub AreReal : List PlayingCard → Type 0
+AreReal cards = (c : PlayingCard) → has_card cards c ≡ true → IsRank c.rank
+
+kept-of-deck : (p : PlayingCard → Bool) (c : PlayingCard) → (p c ≡ true → IsRank c.rank) → has_card (filter p deck) c ≡ p c
+kept-of-deck p c real = has_card-filter p deck c ∙ go (p c) refl
+  where
+    go : (b : Bool) → p c ≡ b → (b && has_card deck c) ≡ b
+    go true e = has_card-deck c (real e)
+    go false e = refl
+
+-- those of two sets together
+pub union-has : (xs ys all : List PlayingCard) → all ≡ filter (λ c. has_card xs c || has_card ys c) deck → AreReal xs → AreReal ys → (c : PlayingCard) → has_card all c ≡ (has_card xs c || has_card ys c)
+union-has xs ys all is real real' c =
+    ap (λ cards. has_card cards c) is ∙ kept-of-deck (λ c. has_card xs c || has_card ys c) c (λ h. elim (or-split (has_card xs c) (has_card ys c) h) [ inl a ↦ real c a | inr b ↦ real' c b ])
+
+pub union-real : (xs ys all : List PlayingCard) → all ≡ filter (λ c. has_card xs c || has_card ys c) deck → AreReal xs → AreReal ys → AreReal all
+union-real xs ys all is real real' c h = elim (or-split (has_card xs c) (has_card ys c) (sym (union-has xs ys all is real real' c) ∙ h)) [ inl a ↦ real c a | inr b ↦ real' c b ]
+
+same-either : (c d : PlayingCard) → same_card c d ≡ same_card d c
+same-either c d = both-ways _ _ (λ h. turn c d (same_card-eq c d h)) (λ h. turn d c (same_card-eq d c h))
+  where
+    turn : (c d : PlayingCard) → c ≡ d → same_card d c ≡ true
+    turn c d e = ap (λ x. same_card x c) (sym e) ∙ same_card-self c
+
+-- what stands in the set so far, of those it began with and of the cards walked
+abbrev pub Holds : List PlayingCard → List PlayingCard → List PlayingCard → Type 0
+Holds first walked cards = AreReal cards × ((c : PlayingCard) → has_card cards c ≡ (has_card first c || has_card walked c))
+
+pub holds-none : (first : List PlayingCard) → AreReal first → Holds first [] first
+holds-none first real = (real, λ c. or-false' (has_card first c))
+  where
+    or-false' : (b : Bool) → b ≡ (b || false)
+    or-false' true = refl
+    or-false' false = refl
+
+real-same : (c x : PlayingCard) → c ≡ x → IsRank x.rank → IsRank c.rank
+real-same c x e real = subst (λ (y : PlayingCard). IsRank y.rank) (sym e) real
+
+-- one card of the trick more
+pub holds-more : (first trick old new : List PlayingCard) (i : ℕ) (x : PlayingCard) → i < length trick → x ≡ get_or trick i x → IsRank x.rank → new ≡ with_card old x → Holds first (take i trick) old
+    → Holds first (take (i + 1) trick) new
+holds-more first trick old new i x within is real put held = (
+  λ c h. elim (or-split (same_card c x) (has_card old c) (sym (has-new c) ∙ h)) [
+    | inl same ↦ real-same c x (same_card-eq c x same) real
+    | inr before ↦ held.0 c before
+  ],
+  each,
+)
+  where
+    has-new : (c : PlayingCard) → has_card new c ≡ (same_card c x || has_card old c)
+    has-new c = ap (λ cards. has_card cards c) put ∙ kept-of-deck (λ d. same_card d x || has_card old d) c (λ h. elim (or-split (same_card c x) (has_card old c) h) [
+      | inl same ↦ real-same c x (same_card-eq c x same) real
+      | inr before ↦ held.0 c before
+    ])
+
+    turn : (a b d : Bool) → (a || (b || d)) ≡ (b || (d || (a || false)))
+    turn true true d = refl
+    turn true false true = refl
+    turn true false false = refl
+    turn false true d = refl
+    turn false false true = refl
+    turn false false false = refl
+
+    walked : (c : PlayingCard) → has_card (take (i + 1) trick) c ≡ (has_card (take i trick) c || (same_card x c || false))
+    walked c = ap (λ cards. has_card cards c) (take_more trick i x within) ∙ list_any-append (λ d. same_card d c) (take i trick) (get_or trick i x ∷ [])
+        ∙ ap (λ d. has_card (take i trick) c || (same_card d c || false)) (sym is)
+
+    each : (c : PlayingCard) → has_card new c ≡ (has_card first c || has_card (take (i + 1) trick) c)
+    each c = has-new c ∙ ap (λ b. same_card c x || b) (held.1 c)
+        ∙ turn (same_card c x) (has_card first c) (has_card (take i trick) c)
+        ∙ ap (λ b. has_card first c || (has_card (take i trick) c || (b || false))) (same-either c x)
+        ∙ ap (λ b. has_card first c || b) (sym (walked c))
+
+-- the other hands and the whole trick
+pub holds-all : (p : Board) (two three cards trick : List PlayingCard) (i : ℕ) → IsBoard p
+    → two ≡ filter (λ c. has_card (cards_at p (seat_after (mover p) 1)) c || has_card (cards_at p (seat_after (mover p) 2)) c) deck
+    → three ≡ filter (λ c. has_card two c || has_card (cards_at p (seat_after (mover p) 3)) c) deck
+    → trick ≡ p.trick → length trick ≤ i → Holds three (take i trick) cards → (c : PlayingCard) → has_card cards c ≡ has_card (other_cards p) c
+holds-all p two three cards trick i valid a b same done held c =
+    held.1 c
+    ∙ ap (λ xs. has_card three c || has_card xs c) (take_all i trick done ∙ same)
+    ∙ ap (λ x. x || has_card p.trick c) (union-has two (cards_at p (seat_after (mover p) 3)) three b (union-real (cards_at p (seat_after (mover p) 1)) (cards_at p (seat_after (mover p) 2)) two a (hand 1) (hand 2)) (hand 3) c
+    ∙ ap (λ x. x || has_card (cards_at p (seat_after (mover p) 3)) c) (union-has (cards_at p (seat_after (mover p) 1)) (cards_at p (seat_after (mover p) 2)) two a (hand 1) (hand 2) c))
+    ∙ sym (others-split p c)
+  where
+    hand : (k : ℕ) → AreReal (cards_at p (seat_after (mover p) k))
+    hand k d h = real-set (cards_at p (seat_after (mover p) k)) d (valid.sets (seat_after (mover p) k)) h
+
+pub three-real : (p : Board) (two three : List PlayingCard) → IsBoard p
+    → two ≡ filter (λ c. has_card (cards_at p (seat_after (mover p) 1)) c || has_card (cards_at p (seat_after (mover p) 2)) c) deck
+    → three ≡ filter (λ c. has_card two c || has_card (cards_at p (seat_after (mover p) 3)) c) deck → AreReal three
+three-real p two three valid a b = union-real two (cards_at p (seat_after (mover p) 3)) three b (union-real (cards_at p (seat_after (mover p) 1)) (cards_at p (seat_after (mover p) 2)) two a (hand 1) (hand 2)) (hand 3)
+  where
+    hand : (k : ℕ) → AreReal (cards_at p (seat_after (mover p) k))
+    hand k d h = real-set (cards_at p (seat_after (mover p) k)) d (valid.sets (seat_after (mover p) k)) h

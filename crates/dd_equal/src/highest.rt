@@ -1,0 +1,36 @@
+//! The highest card of each class of equal cards, for one that needs no more of it.
+ghost use Rattle.std.specs.Prelude.{◌≡◌};
+ghost use Rattle.dd_cards.specs.PlayingCard.{PlayingCard};
+ghost use Rattle.dd_cards.specs.Cards.{has_card};
+ghost use Rattle.dd_equal.specs.EqualCards.{other_cards, tops};
+
+use dd_cards::Hand;
+use dd_play::Position;
+
+/// The highest card of each class of the cards that may be played.
+#[inline]
+pub fn tops(position: &Position) -> Hand
+    ensures { result ≡ tops position.now }
+{
+    position.choices().heads(others(position))
+}
+
+// The cards in the other hands and on the trick.
+#[inline]
+fn others(position: &Position) -> Hand
+    ensures { (c : PlayingCard) → has_card result c ≡ has_card (other_cards position.now) c }
+{
+    let mover = position.mover();
+    let hands = position.hands();
+    let mut cards = hands
+        .hand(mover.left())
+        .union(hands.hand(mover.partner()))
+        .union(hands.hand(mover.right()));
+    for card in position.trick() {
+        let card = *card;
+        // The proof reads here that it is a card of the pack.
+        let _rank = card.rank.code();
+        cards = cards.with(card);
+    }
+    cards
+}
