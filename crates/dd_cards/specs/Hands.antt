@@ -1,8 +1,9 @@
 -- Four hands, each the list of its cards in the order of the deck.
-use Rattle.std.specs.Prelude.{◌≡◌, ℕ, true, List, length, filter}
+use Rattle.std.specs.Prelude.{◌≡◌, ◌||◌, ℕ, Bool, true, List, length, filter}
 use Rattle.dd_cards.specs.declared.seat.Seat.{Seat}
 use Rattle.dd_cards.specs.declared.seat.Seat.TheVariants.{North, East, South, West}
 use Rattle.dd_cards.specs.PlayingCard.{PlayingCard}
+use Rattle.dd_cards.specs.Seats.{seat_after}
 use Rattle.dd_cards.specs.Cards.{deck, has_card, same_card, without}
 
 -- the cards of each seat
@@ -33,6 +34,11 @@ with_hand hands West cards = record hands { west = cards }
 -- the same hands, with c in none of them
 abbrev pub hands_without : FourHands → PlayingCard → FourHands
 hands_without hands c = dealt (without hands.north c) (without hands.east c) (without hands.south c) (without hands.west c)
+
+-- has another seat the card?
+abbrev pub is_anothers : FourHands → Seat → PlayingCard → Bool
+is_anothers hands seat c =
+    (has_card (hand_of hands (seat_after seat 1)) c || has_card (hand_of hands (seat_after seat 2)) c) || has_card (hand_of hands (seat_after seat 3)) c
 
 -- no card stands in two hands
 abbrev pub AreDisjoint : FourHands → Type 0

@@ -42,18 +42,39 @@ impl Seat {
     }
 
     /// The next seat clockwise, whose turn it is next (Laws of Duplicate Bridge 2017, Law 44B).
+    #[inline]
     pub fn next(self) -> Seat
         ensures { result ≡ next_seat self }
     {
-        match self {
-            Seat::North => Seat::East,
-            Seat::East => Seat::South,
-            Seat::South => Seat::West,
-            Seat::West => Seat::North,
+        self.after(1)
+    }
+
+    /// The seat that comes so many places after it, clockwise.
+    // By its code: by cases it would be a jump that is seldom foreseen.
+    #[inline(always)]
+    pub fn after(self, places: u8) -> Seat
+        requires { places < 4 }
+        ensures { result ≡ seat_after self places }
+    {
+        Seat::at((self.code() + places) % 4)
+    }
+
+    // The seat of a code.
+    #[inline(always)]
+    fn at(code: u8) -> Seat
+        requires { code < 4 }
+        ensures { seat_code result ≡ code }
+    {
+        match code {
+            0 => Seat::North,
+            1 => Seat::East,
+            2 => Seat::South,
+            _ => Seat::West,
         }
     }
 
     /// The left-hand opponent, who sits next clockwise.
+    #[inline]
     pub fn left(self) -> Seat
         ensures { result ≡ seat_after self 1 }
     {
@@ -61,27 +82,19 @@ impl Seat {
     }
 
     /// The partner, who sits opposite.
+    #[inline]
     pub fn partner(self) -> Seat
         ensures { result ≡ seat_after self 2 }
     {
-        match self {
-            Seat::North => Seat::South,
-            Seat::East => Seat::West,
-            Seat::South => Seat::North,
-            Seat::West => Seat::East,
-        }
+        self.after(2)
     }
 
     /// The right-hand opponent.
+    #[inline]
     pub fn right(self) -> Seat
         ensures { result ≡ seat_after self 3 }
     {
-        match self {
-            Seat::North => Seat::West,
-            Seat::East => Seat::North,
-            Seat::South => Seat::East,
-            Seat::West => Seat::South,
-        }
+        self.after(3)
     }
 
     /// The side that the seat plays for.

@@ -11,7 +11,8 @@ use Rattle.dd_cards.specs.Ranks.{IsRank}
 use Rattle.dd_cards.specs.Suits.{suit_code}
 use Rattle.dd_cards.specs.Cards.{deck, is_of, same_card, has_card, with_card}
 use Rattle.dd_cards.specs.Sequences.{is_above, is_headed, heads}
-use Rattle.dd_cards.proofs.CallerLemmas.{and-left, and-right, and-both, or-left, or-right, or-split, both-ways, else-false, filter-same, has_card-deck, has_card-filter, real-set, same_card-eq, same_card-self}
+use Rattle.dd_cards.proofs.CallerLemmas.{and-left, and-right, and-both, or-left, or-right, or-split, both-ways, else-false, filter-same, has_card-deck, has_card-filter, IsSet-deck, IsSet-filter, real-set, same_card-eq, same_card-self}
+use Rattle.dd_cards.specs.Hands.{is_anothers}
 use Rattle.dd_cards.specs.Seats.{seat_after}
 use Rattle.dd_play.specs.Board.{Board, IsBoard, cards_at, mover}
 use Rattle.dd_play.specs.Play.{legal}
@@ -98,13 +99,9 @@ kept-of-deck p c real = has_card-filter p deck c ∙ go (p c) refl
     go true e = has_card-deck c (real e)
     go false e = refl
 
--- those of two sets together
-pub union-has : (xs ys all : List PlayingCard) → all ≡ filter (λ c. has_card xs c || has_card ys c) deck → AreReal xs → AreReal ys → (c : PlayingCard) → has_card all c ≡ (has_card xs c || has_card ys c)
-union-has xs ys all is real real' c =
-    ap (λ cards. has_card cards c) is ∙ kept-of-deck (λ c. has_card xs c || has_card ys c) c (λ h. elim (or-split (has_card xs c) (has_card ys c) h) [ inl a ↦ real c a | inr b ↦ real' c b ])
-
-pub union-real : (xs ys all : List PlayingCard) → all ≡ filter (λ c. has_card xs c || has_card ys c) deck → AreReal xs → AreReal ys → AreReal all
-union-real xs ys all is real real' c h = elim (or-split (has_card xs c) (has_card ys c) (sym (union-has xs ys all is real real' c) ∙ h)) [ inl a ↦ real c a | inr b ↦ real' c b ]
+-- cards kept of the deck are real
+pub kept-real : (p : PlayingCard → Bool) → AreReal (filter p deck)
+kept-real p c h = real-set (filter p deck) c (IsSet-filter p deck IsSet-deck) h
 
 same-either : (c d : PlayingCard) → same_card c d ≡ same_card d c
 same-either c d = both-ways _ _ (λ h. turn c d (same_card-eq c d h)) (λ h. turn d c (same_card-eq d c h))
@@ -162,24 +159,19 @@ holds-more first trick old new i x within is real put held = (
         ∙ ap (λ b. has_card first c || b) (sym (walked c))
 
 -- the other hands and the whole trick
-pub holds-all : (p : Board) (two three cards trick : List PlayingCard) (i : ℕ) → IsBoard p
-    → two ≡ filter (λ c. has_card (cards_at p (seat_after (mover p) 1)) c || has_card (cards_at p (seat_after (mover p) 2)) c) deck
-    → three ≡ filter (λ c. has_card two c || has_card (cards_at p (seat_after (mover p) 3)) c) deck
+pub holds-all : (p : Board) (three cards trick : List PlayingCard) (i : ℕ) → IsBoard p → three ≡ filter (is_anothers p.hands (mover p)) deck
     → trick ≡ p.trick → length trick ≤ i → Holds three (take i trick) cards → (c : PlayingCard) → has_card cards c ≡ has_card (other_cards p) c
-holds-all p two three cards trick i valid a b same done held c =
+holds-all p three cards trick i valid are same done held c =
     held.1 c
     ∙ ap (λ xs. has_card three c || has_card xs c) (take_all i trick done ∙ same)
-    ∙ ap (λ x. x || has_card p.trick c) (union-has two (cards_at p (seat_after (mover p) 3)) three b (union-real (cards_at p (seat_after (mover p) 1)) (cards_at p (seat_after (mover p) 2)) two a (hand 1) (hand 2)) (hand 3) c
-    ∙ ap (λ x. x || has_card (cards_at p (seat_after (mover p) 3)) c) (union-has (cards_at p (seat_after (mover p) 1)) (cards_at p (seat_after (mover p) 2)) two a (hand 1) (hand 2) c))
+    ∙ ap (λ x. x || has_card p.trick c) (ap (λ xs. has_card xs c) are ∙ kept-of-deck (is_anothers p.hands (mover p)) c (λ h. elim (or-split (hand 1 || hand 2) (hand 3) h) [
+      | inl two ↦ elim (or-split (hand 1) (hand 2) two) [ inl a ↦ real 1 a | inr b ↦ real 2 b ]
+      | inr d ↦ real 3 d
+    ]))
     ∙ sym (others-split p c)
   where
-    hand : (k : ℕ) → AreReal (cards_at p (seat_after (mover p) k))
-    hand k d h = real-set (cards_at p (seat_after (mover p) k)) d (valid.sets (seat_after (mover p) k)) h
+    hand : ℕ → Bool
+    hand k = has_card (cards_at p (seat_after (mover p) k)) c
 
-pub three-real : (p : Board) (two three : List PlayingCard) → IsBoard p
-    → two ≡ filter (λ c. has_card (cards_at p (seat_after (mover p) 1)) c || has_card (cards_at p (seat_after (mover p) 2)) c) deck
-    → three ≡ filter (λ c. has_card two c || has_card (cards_at p (seat_after (mover p) 3)) c) deck → AreReal three
-three-real p two three valid a b = union-real two (cards_at p (seat_after (mover p) 3)) three b (union-real (cards_at p (seat_after (mover p) 1)) (cards_at p (seat_after (mover p) 2)) two a (hand 1) (hand 2)) (hand 3)
-  where
-    hand : (k : ℕ) → AreReal (cards_at p (seat_after (mover p) k))
-    hand k d h = real-set (cards_at p (seat_after (mover p) k)) d (valid.sets (seat_after (mover p) k)) h
+    real : (k : ℕ) → hand k ≡ true → IsRank c.rank
+    real k h = real-set (cards_at p (seat_after (mover p) k)) c (valid.sets (seat_after (mover p) k)) h

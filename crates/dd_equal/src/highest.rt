@@ -20,12 +20,7 @@ pub fn tops(position: &Position) -> Hand
 fn others(position: &Position) -> Hand
     ensures { (c : PlayingCard) → has_card result c ≡ has_card (other_cards position.now) c }
 {
-    let mover = position.mover();
-    let hands = position.hands();
-    let mut cards = hands
-        .hand(mover.left())
-        .union(hands.hand(mover.partner()))
-        .union(hands.hand(mover.right()));
+    let mut cards = position.hands().others(position.mover());
     for card in position.trick() {
         let card = *card;
         // The proof reads here that it is a card of the pack.

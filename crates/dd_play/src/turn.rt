@@ -4,14 +4,10 @@ ghost use Rattle.dd_cards.specs.Seats.{seat_after};
 use dd_cards::Seat;
 
 // The seat that comes `places` after `first`, clockwise.
+#[inline]
 pub(crate) fn seat_after(first: Seat, places: u8) -> Seat
     requires { places < 4 }
     ensures { result ≡ seat_after first places }
 {
-    match places {
-        0 => first,
-        1 => first.left(),
-        2 => first.partner(),
-        _ => first.right(),
-    }
+    first.after(places)
 }

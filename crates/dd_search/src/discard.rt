@@ -12,9 +12,6 @@ use dd_play::Position;
 /// What the cards of a hand are worth that has none of the suit led.
 #[derive(Clone, Copy, Debug)]
 pub(crate) struct Discarding {
-    // the hand, and those of its cards that are to be tried
-    hand: Hand,
-    choices: Hand,
     // the trump suit, where it can ruff
     trump: Option<Suit>,
     worth: Worth,
@@ -27,13 +24,13 @@ pub(crate) struct Discarding {
 // What a card is worth, by hand.
 #[derive(Clone, Copy, Debug)]
 struct Worth {
-    discard: u16,
+    discard: u8,
     // a trump that wins, and that the next hand can't beat
-    holds: u16,
+    holds: u8,
     // a trump that the next hand may beat
-    may_hold: u16,
+    may_hold: u8,
     // a trump that is below a ruff that lies
-    useless: u16,
+    useless: u8,
 }
 
 // Partner wins, and a card that serves nowhere goes; a trump would take partner's trick.
@@ -79,8 +76,8 @@ const FIRST_OF_ITS_SUIT: u16 = 55;
 const FOUR_TO_SPARE_FROM: u16 = 7;
 
 impl Discarding {
-    /// What these cards are worth, of which none is of the suit led.
-    pub(crate) fn of(position: &Position, choices: Hand, view: &View) -> Discarding {
+    /// What the mover's cards are worth, of which none is of the suit led.
+    pub(crate) fn of(view: &View) -> Discarding {
         let best = view.best.code();
         let nexts = code_of_highest(view.next.suit);
         let worth = match view.hand {
@@ -101,8 +98,6 @@ impl Discarding {
             FollowingHand::Fourth => FOURTH_HAND,
         };
         Discarding {
-            hand: position.hands().hand(position.mover()),
-            choices,
             trump: view.trump,
             worth,
             beaten: if view.ruffed { best } else { 0 },
@@ -110,21 +105,29 @@ impl Discarding {
         }
     }
 
-    /// The best of the cards that were not tried yet.
+    /// The best of the choices that were not tried yet.
     #[inline]
-    pub(crate) fn best(&self, untried: Hand) -> Option<Card>
+    pub(crate) fn best(&self, position: &Position, choices: Hand, untried: Hand) -> Option<Card>
         ensures { IfSome result (λ card. has_card untried card ≡ true) }
     {
-        let best = self.better(untried, Suit::Spades, None);
-        let best = self.better(untried, Suit::Hearts, best);
-        let best = self.better(untried, Suit::Diamonds, best);
-        let best = self.better(untried, Suit::Clubs, best)?;
+        let hand = position.hands().hand(position.mover());
+        let best = self.better(hand, choices, untried, Suit::Spades, None);
+        let best = self.better(hand, choices, untried, Suit::Hearts, best);
+        let best = self.better(hand, choices, untried, Suit::Diamonds, best);
+        let best = self.better(hand, choices, untried, Suit::Clubs, best)?;
         Some(best.card)
     }
 
     // The better of this card and the suit's best.
     #[inline]
-    fn better(&self, untried: Hand, suit: Suit, best: Option<Move>) -> Option<Move>
+    fn better(
+        &self,
+        hand: Hand,
+        choices: Hand,
+        untried: Hand,
+        suit: Suit,
+        best: Option<Move>,
+    ) -> Option<Move>
         requires { IfSome best (λ m. has_card untried m.card ≡ true) }
         ensures { IfSome result (λ m. has_card untried m.card ≡ true) }
     {
@@ -132,19 +135,19 @@ impl Discarding {
         let (group, worth) = if self.trump == Some(suit) {
             self.ruffs(ranks)
         } else {
-            (ranks, self.worth.discard)
+            (ranks, self.worth.discard as u16)
         };
         let Some(rank) = lowest(ranks.intersection(group)) else {
             return best;
         };
-        let first = if ranks == self.choices.holding(suit) {
+        let first = if ranks == choices.holding(suit) {
             FIRST_OF_ITS_SUIT
         } else {
             0
         };
         let weight = worth
             .saturating_add(first)
-            .saturating_add(spare(self.hand.holding(suit)))
+            .saturating_add(spare(hand.holding(suit)))
             .saturating_sub(rank.code() as u16);
         match best {
             Some(old) if old.weight >= weight => best,
@@ -161,11 +164,11 @@ impl Discarding {
         let beats = above_code(ranks, self.beaten);
         let holds = above_code(beats, self.overruffs);
         if !holds.is_empty() {
-            (holds, self.worth.holds)
+            (holds, self.worth.holds as u16)
         } else if !beats.is_empty() {
-            (beats, self.worth.may_hold)
+            (beats, self.worth.may_hold as u16)
         } else {
-            (ranks, self.worth.useless)
+            (ranks, self.worth.useless as u16)
         }
     }
 }

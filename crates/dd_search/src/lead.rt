@@ -35,10 +35,7 @@ impl Default for Move {
 }
 
 /// The cards that may be led, in no order, each with how good it looks.
-#[derive(Drop)]
-pub(crate) struct Leading {
-    moves: ArrayVec<Move, 13>,
-}
+pub(crate) type Leads = ArrayVec<Move, 13>;
 
 #[derive(Clone, Copy, Debug)]
 struct SuitView {
@@ -124,37 +121,33 @@ const RUFF: u8 = 15;
 // What the best card of a suit weighs more: each suit is rather tried once before one is tried again.
 const BEST_OF_ITS_SUIT: u16 = 30;
 
-impl Leading {
-    /// These cards of the mover, with no card on the trick.
-    pub(crate) fn of(position: &Position, choices: Hand) -> Leading {
-        let mut moves = ArrayVec::new();
-        weigh_suit(position, Suit::Spades, choices, &mut moves);
-        weigh_suit(position, Suit::Hearts, choices, &mut moves);
-        weigh_suit(position, Suit::Diamonds, choices, &mut moves);
-        weigh_suit(position, Suit::Clubs, choices, &mut moves);
-        Leading { moves }
-    }
+/// Puts these cards of the mover into an empty list, with no card on the trick.
+pub(crate) fn weigh(position: &Position, choices: Hand, leads: &mut Leads) {
+    weigh_suit(position, Suit::Spades, choices, leads);
+    weigh_suit(position, Suit::Hearts, choices, leads);
+    weigh_suit(position, Suit::Diamonds, choices, leads);
+    weigh_suit(position, Suit::Clubs, choices, leads);
+}
 
-    /// The best of the cards that were not tried yet.
-    #[inline]
-    pub(crate) fn best(&self, untried: Hand) -> Option<Card>
-        ensures { IfSome result (λ card. has_card untried card ≡ true) }
-    {
-        let mut weight = 0;
-        let mut best = None;
-        for tried in self.moves.as_slice() {
-            let tried = *tried;
-            if tried.weight > weight && untried.has(tried.card) {
-                weight = tried.weight;
-                best = Some(tried.card);
-            }
+/// The best lead that was not tried yet.
+#[inline]
+pub(crate) fn best_lead(leads: &Leads, untried: Hand) -> Option<Card>
+    ensures { IfSome result (λ card. has_card untried card ≡ true) }
+{
+    let mut weight = 0;
+    let mut best = None;
+    for lead in leads.as_slice() {
+        let lead = *lead;
+        if lead.weight > weight && untried.has(lead.card) {
+            weight = lead.weight;
+            best = Some(lead.card);
         }
-        best
     }
+    best
 }
 
 // Adds the choices of this suit.
-fn weigh_suit(position: &Position, suit: Suit, choices: Hand, moves: &mut ArrayVec<Move, 13>) {
+fn weigh_suit(position: &Position, suit: Suit, choices: Hand, leads: &mut Leads) {
     let mut rest = choices.holding(suit);
     let Some(lowest) = rest.pop_lowest() else {
         return;
@@ -167,17 +160,17 @@ fn weigh_suit(position: &Position, suit: Suit, choices: Hand, moves: &mut ArrayV
         if new.weight > best.weight {
             best = new;
         }
-        add(moves, other);
+        add(leads, other);
     }
     let weight = best.weight.saturating_add(BEST_OF_ITS_SUIT);
-    add(moves, Move { weight, ..best });
+    add(leads, Move { weight, ..best });
 }
 
 // There is room for thirteen.
 #[inline]
-fn add(moves: &mut ArrayVec<Move, 13>, new: Move) {
-    if !moves.is_full() {
-        moves.push(new);
+fn add(leads: &mut Leads, new: Move) {
+    if !leads.is_full() {
+        leads.push(new);
     }
 }
 

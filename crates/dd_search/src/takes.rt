@@ -10,6 +10,7 @@ ghost use Rattle.dd_search.specs.ClaimsBy.{IsAnswer, IsAnswerBy};
 
 use crate::answer::Answer;
 use crate::known::{known_answer, note_answer, second_hands_answer};
+use crate::lead::Leads;
 use crate::meter::{Halt, Meter, go_on};
 use crate::order::Outlook;
 use crate::rests::{settled_by, still_untried};
@@ -66,10 +67,12 @@ fn answer_by_play<B: Bounds, M: Meter>(
     ensures ends { EndsAs (M.says meter.new) result }
 {
     let north_south = position.mover().is_north_south();
-    let mut untried = tops(position);
-    let outlook = Outlook::of(position, untried);
+    let choices = tops(position);
+    let mut leads = Leads::new();
+    let outlook = Outlook::of(position, choices, &mut leads);
+    let mut untried = choices;
     let mut cards = Hand::new();
-    'tries: while let Some(card) = outlook.best(untried) {
+    'tries: while let Some(card) = outlook.best(position, choices, untried, &leads) {
         // The position stays where `play` put it: a copy of it would wait for its bytes to be written.
         let played = position.play(card);
         let rest = rest_after(need, played.1);

@@ -71,8 +71,8 @@ answer_by_play-settled_by-by-requires-clause-legal g t c = tried-legal g t (goal
 
 pub answer_by_play-tries-init : goal.answer_by_play-tries-init
 answer_by_play-tries-init g t c = record {
-  lead = λ d has. inl (ap (λ cards. has_card cards d) c.tops-untried.ensures ∙ has);
-  legal = λ d has. top-legal c.args.position.now d (ap (λ cards. has_card cards d) (sym c.tops-untried.ensures) ∙ has);
+  lead = λ d has. inl (ap (λ cards. has_card cards d) c.tops-choices.ensures ∙ has);
+  legal = λ d has. top-legal c.args.position.now d (ap (λ cards. has_card cards d) (sym c.tops-choices.ensures) ∙ has);
   ticked = λ m h. h;
 }
 
