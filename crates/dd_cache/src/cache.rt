@@ -133,31 +133,44 @@ impl<B: Bounds> Bounds for Cache<B> {
         self.behind.look(start)
     }
 
-    fn settle(&mut self, start: &TrickStart, need: u8) -> Option<(Interval, Depths)> {
+    fn settle(
+        &mut self,
+        start: &TrickStart,
+        strings: &OwnerStrings,
+        need: u8,
+    ) -> Option<(Interval, Depths)> {
         // The proof reads here that it is a start of a trick, and what a position covers.
         let _ = start.position();
         covered_positions();
-        let strings = OwnerStrings::of(start);
-        match self.own(&strings, need) {
+        match self.own(strings, need) {
             Some(told) => Some(told),
             None => {
                 if start.position().tricks_left() < WORTH_SHARING {
                     return None;
                 }
-                self.behind.settle(start, need)
+                self.behind.settle(start, strings, need)
             }
         }
     }
 
     fn note(&mut self, start: &TrickStart, depths: Depths, interval: Interval) {
+        self.note_by(start, &OwnerStrings::of(start), depths, interval);
+    }
+
+    fn note_by(
+        &mut self,
+        start: &TrickStart,
+        strings: &OwnerStrings,
+        depths: Depths,
+        interval: Interval,
+    ) {
         let _ = start.position();
         covered_positions();
-        let strings = OwnerStrings::of(start);
-        let firsts = FirstOwners::of(strings, depths);
+        let firsts = FirstOwners::of(*strings, depths);
         self.keep(strings.shape(), Told { firsts, interval });
         let exact = interval.lo == interval.hi;
         if exact || start.position().tricks_left() >= WORTH_SHARING {
-            self.behind.note(start, depths, interval);
+            self.behind.note_by(start, strings, depths, interval);
         }
     }
 }

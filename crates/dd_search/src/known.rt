@@ -9,6 +9,7 @@ ghost use Rattle.dd_play.specs.Value.{lead};
 ghost use Rattle.dd_play.specs.Intervals.{Holds};
 ghost use Rattle.dd_play.specs.Reach.{reach, TakesBy};
 ghost use Rattle.dd_rank.specs.Depths.{all_cards, depth_in, Covers};
+ghost use Rattle.dd_rank.specs.Strings.{strings_of};
 ghost use Rattle.dd_search.specs.ClaimsBy.{IsAnswerBy, IsWindow, north_souths};
 
 use crate::answer::Answer;
@@ -16,47 +17,12 @@ use crate::claim::Claim;
 use crate::table::Bounds;
 use dd_play::{Interval, Position, TrickStart};
 use dd_quick::{against_leader, bounds as quick_bounds, for_leader, for_second_hand};
-use dd_rank::Depths;
+use dd_rank::{Depths, OwnerStrings};
 
-/// Do North and South take at least `need` of the tricks left, where the quick bounds or, after them, a look settle it?
-/// The bounds cost less than a look.
+/// Do North and South take at least `need` of the tricks left, where the quick tricks of a side settle it? With the winners
+/// that they are. It costs less than a look.
 #[inline]
-pub(crate) fn known_answer<B: Bounds>(start: &TrickStart, need: u8, table: &mut B) -> Option<Answer>
-    requires low { 1 ≤ need }
-    requires high { need ≤ left start.now }
-    ensures answer { IfSome result (λ answer. IsAnswerBy start.now need answer.cards answer.yes) }
-    ensures board { IsBoard start.now }
-{
-    match quick(start, need) {
-        Some(answer) => Some(answer),
-        None => told_answer(start, need, table),
-    }
-}
-
-// The same by a look.
-#[inline]
-fn told_answer<B: Bounds>(start: &TrickStart, need: u8, table: &mut B) -> Option<Answer>
-    requires low { 1 ≤ need }
-    requires high { need ≤ left start.now }
-    ensures answer { IfSome result (λ answer. IsAnswerBy start.now need answer.cards answer.yes) }
-    ensures board { IsBoard start.now }
-{
-    let position = start.position();
-    let leads = position.first().is_north_south();
-    let left = position.tricks_left();
-    let leaders = if leads { need } else { left + 1 - need };
-    match table.settle(start, leaders) {
-        Some(told) => Some(Answer {
-            yes: (leaders <= told.0.lo) == leads,
-            cards: told.1.cards(start),
-        }),
-        None => None,
-    }
-}
-
-// The same by the quick tricks of each side, with the winners that they are.
-#[inline]
-fn quick(start: &TrickStart, need: u8) -> Option<Answer>
+pub(crate) fn quick_answer(start: &TrickStart, need: u8) -> Option<Answer>
     requires { need ≤ left start.now }
     ensures answer { IfSome result (λ answer. IsAnswerBy start.now need answer.cards answer.yes) }
     ensures board { IsBoard start.now }
@@ -72,6 +38,33 @@ fn quick(start: &TrickStart, need: u8) -> Option<Answer>
     }
     let cards = against_leader(start, against)?;
     Some(Answer { yes: !leads, cards })
+}
+
+/// The same by a look at a table, to which the start's strings are handed.
+#[inline]
+pub(crate) fn told_answer<B: Bounds>(
+    start: &TrickStart,
+    strings: &OwnerStrings,
+    need: u8,
+    table: &mut B,
+) -> Option<Answer>
+    requires strings { strings.now ≡ strings_of start.now }
+    requires low { 1 ≤ need }
+    requires high { need ≤ left start.now }
+    ensures answer { IfSome result (λ answer. IsAnswerBy start.now need answer.cards answer.yes) }
+    ensures board { IsBoard start.now }
+{
+    let position = start.position();
+    let leads = position.first().is_north_south();
+    let left = position.tricks_left();
+    let leaders = if leads { need } else { left + 1 - need };
+    match table.settle(start, strings, leaders) {
+        Some(told) => Some(Answer {
+            yes: (leaders <= told.0.lo) == leads,
+            cards: told.1.cards(start),
+        }),
+        None => None,
+    }
 }
 
 /// The same after the lead, where an opponent of the leader has the highest card of its suit and quick tricks from there.
@@ -93,13 +86,21 @@ pub(crate) fn second_hands_answer(position: &Position, need: u8) -> Option<Answe
 }
 
 /// Hands over what an answer proves of the value.
-pub(crate) fn note_answer<B: Bounds>(start: &TrickStart, need: u8, answer: Answer, table: &mut B)
+pub(crate) fn note_answer<B: Bounds>(
+    start: &TrickStart,
+    strings: &OwnerStrings,
+    need: u8,
+    answer: Answer,
+    table: &mut B,
+)
+    requires strings { strings.now ≡ strings_of start.now }
     requires low { 1 ≤ need }
     requires high { need ≤ left start.now }
     requires answer { IsAnswerBy start.now need answer.cards answer.yes }
 {
     let interval = interval_of(start, need, answer);
-    table.note(start, Depths::of_cards(start, answer.cards), interval);
+    let depths = Depths::of_cards(start, answer.cards);
+    table.note_by(start, strings, depths, interval);
 }
 
 /// The bounds that an answer proves of the value, and no more: at least `need` tricks for North and South, or fewer.

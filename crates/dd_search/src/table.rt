@@ -6,9 +6,10 @@ ghost use Rattle.dd_play.specs.Covers.{count_of};
 ghost use Rattle.dd_play.specs.Value.{lead};
 ghost use Rattle.dd_play.specs.Intervals.{Holds};
 ghost use Rattle.dd_rank.specs.Depths.{FourDepths, depth_in, all_cards, Covers};
+ghost use Rattle.dd_rank.specs.Strings.{strings_of};
 
 use dd_play::{Interval, TrickStart};
-use dd_rank::Depths;
+use dd_rank::{Depths, OwnerStrings};
 
 /// Known bounds of the values of positions. A value is the number of tricks, 0 to 13, of the leader's side. Bounds come
 /// with depths, and hold of each position that the one asked covers at these.
@@ -24,8 +25,15 @@ pub trait Bounds {
         ensures within { IfSome result (λ told. (u : Suit)
             → depth_in told.1 u ≤ count_of u (all_cards start.now)) };
 
-    /// Bounds that settle whether the leader's side takes at least `need` tricks, and nothing where none are known.
-    fn settle(&mut self, start: &TrickStart, need: u8) -> Option<(Interval, Depths)>
+    /// Bounds that settle whether the leader's side takes at least `need` tricks, and nothing where none are known. The
+    /// strings are those of the start.
+    fn settle(
+        &mut self,
+        start: &TrickStart,
+        strings: &OwnerStrings,
+        need: u8,
+    ) -> Option<(Interval, Depths)>
+        requires { strings.now ≡ strings_of start.now }
         ensures told { IfSome result (λ told. tells self.old start.now told.1 told.0) }
         ensures within { IfSome result (λ told. (u : Suit)
             → depth_in told.1 u ≤ count_of u (all_cards start.now)) }
@@ -44,6 +52,22 @@ pub trait Bounds {
         requires within { (u : Suit) → depth_in depths u ≤ count_of u (all_cards start.now) }
         requires holds { (q : Board) → IsBoard q → Covers start.now (depth_in depths) q
             → Holds interval (lead q) };
+
+    /// The same, where the start's strings are known.
+    fn note_by(
+        &mut self,
+        start: &TrickStart,
+        strings: &OwnerStrings,
+        depths: Depths,
+        interval: Interval,
+    )
+        requires strings { strings.now ≡ strings_of start.now }
+        requires within { (u : Suit) → depth_in depths u ≤ count_of u (all_cards start.now) }
+        requires holds { (q : Board) → IsBoard q → Covers start.now (depth_in depths) q
+            → Holds interval (lead q) }
+    {
+        self.note(start, depths, interval);
+    }
 
     /// what is told holds
     ghost holds: { (table : Self) (p : Board) (depths : FourDepths) (interval : Interval) (q :

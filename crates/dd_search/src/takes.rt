@@ -9,7 +9,7 @@ ghost use Rattle.dd_search.specs.Budgets.{EndsAs};
 ghost use Rattle.dd_search.specs.ClaimsBy.{IsAnswer, IsAnswerBy};
 
 use crate::answer::Answer;
-use crate::known::{known_answer, note_answer, second_hands_answer};
+use crate::known::{note_answer, quick_answer, second_hands_answer, told_answer};
 use crate::lead::Leads;
 use crate::meter::{Halt, Meter, go_on};
 use crate::order::Outlook;
@@ -18,6 +18,7 @@ use crate::table::Bounds;
 use dd_cards::{Hand, Seat};
 use dd_equal::{tops, whole};
 use dd_play::{Position, TrickStart};
+use dd_rank::OwnerStrings;
 
 /// Do North and South take at least `need` of the tricks left? It ticks first; at a start of a trick a look or the quick
 /// bounds may settle it, after the lead second hand's winners; else play does, and what that taught at a start is noted.
@@ -42,11 +43,15 @@ pub(crate) fn takes<B: Bounds, M: Meter>(
         }
         return answer_by_play(position, need, table, meter);
     };
-    if let Some(answer) = known_answer(&start, need, table) {
+    if let Some(answer) = quick_answer(&start, need) {
+        return Ok(answer);
+    }
+    let strings = OwnerStrings::of(&start);
+    if let Some(answer) = told_answer(&start, &strings, need, table) {
         return Ok(answer);
     }
     let answer = answer_by_play(position, need, table, meter)?;
-    note_answer(&start, need, answer, table);
+    note_answer(&start, &strings, need, answer, table);
     Ok(answer)
 }
 

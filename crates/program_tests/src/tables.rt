@@ -3,6 +3,7 @@ use dd_cards::{Card, Rank, Seat, Strain, Suit};
 use dd_pbn::read_deal;
 use dd_play::{Interval, Position, TrickStart};
 use dd_program::OneShard;
+use dd_rank::OwnerStrings;
 use dd_reply::{Request, solve, write_answer};
 use dd_search::{Bounds, Endless, NoTable, start_value};
 use dd_shard::Shard;
@@ -174,7 +175,10 @@ fn the_cache_and_the_table_behind_it_remember_a_solved_position(
     let want = r#"{"cards":[{"equals":4,"rank":3,"score":2,"suit":0}]}"#;
     assert!(rt; answers(&mut table, CAUGHT, Seat::North, want));
     let lower = start(&rt, "N:62... K3... AQ... 54...", Seat::North);
-    assert!(rt; table.settle(&lower, 2).is_some(), "the cache");
+    assert!(rt;
+        table.settle(&lower, &OwnerStrings::of(&lower), 2).is_some(),
+        "the cache"
+    );
     assert_eq!(rt;
         bounds_told(table.behind(), &lower),
         Some((2, 2)),

@@ -1,6 +1,7 @@
 use dd_cache::Cache;
 use dd_cards::{Card, Hands, Rank, Seat, Strain, Suit};
 use dd_play::{Interval, Position, TrickStart};
+use dd_rank::OwnerStrings;
 use dd_search::{Bounds, Endless, NoTable, start_value};
 use std::alloc::AllocError;
 
@@ -30,7 +31,7 @@ fn noted<B: Bounds>(start: &TrickStart, table: &mut B) -> Option<u8> {
 
 // The bounds with which the table settles whether the value reaches the need.
 fn settled<B: Bounds>(table: &mut Cache<B>, start: &TrickStart, need: u8) -> Option<(u8, u8)> {
-    let (interval, _) = table.settle(start, need)?;
+    let (interval, _) = table.settle(start, &OwnerStrings::of(start), need)?;
     Some((interval.lo, interval.hi))
 }
 
@@ -41,7 +42,10 @@ fn what_was_noted_settles_the_positions_that_it_covers(rt: HostRuntime) -> Resul
     // It has learned nothing, and the king before ace and queen is caught.
     let before = settled(&mut cache, &caught, 2);
     assert_eq!(rt; (before, noted(&caught, &mut cache)), (None, Some(2)));
-    let told = cache.settle(&caught, 2).expect(&rt, "the position itself");
+    let strings = OwnerStrings::of(&caught);
+    let told = cache
+        .settle(&caught, &strings, 2)
+        .expect(&rt, "the position itself");
     assert_eq!(rt;
         (told.0.lo, told.0.hi, told.1.of(Suit::Spades)),
         (2, 2, 3),
@@ -68,7 +72,7 @@ fn what_is_noted_reaches_the_table_behind(rt: HostRuntime) -> Result<(), AllocEr
     let mut cache = Cache::new(rt.alloc(), near)?;
     let caught = start([3, 2, 13, 4, 14, 12, 6, 5], Seat::North).expect(&rt, "two cards a hand");
     assert_eq!(rt; noted(&caught, &mut cache), Some(2));
-    assert!(rt; cache.behind().settle(&caught, 2).is_some());
+    assert!(rt; settled(cache.behind(), &caught, 2).is_some());
     Ok(())
 }
 
@@ -106,10 +110,10 @@ fn bounds_of_ten_tricks_reach_the_table_behind_and_of_nine_do_not(
         let beyond = tricks + 1;
         let found = [
             // It is kept.
-            cache.settle(&start, beyond).is_some(),
+            settled(&mut cache, &start, beyond).is_some(),
             // The bounds leave it open.
-            cache.settle(&start, tricks).is_some(),
-            cache.behind().settle(&start, beyond).is_some(),
+            settled(&mut cache, &start, tricks).is_some(),
+            settled(cache.behind(), &start, beyond).is_some(),
         ];
         assert_eq!(rt; found, [true, false, tricks == 10], "{tricks} tricks");
     }
