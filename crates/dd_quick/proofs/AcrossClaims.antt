@@ -24,7 +24,7 @@ use Rattle.dd_quick.specs.Sharing.{SomeOf, shares}
 use Rattle.dd_quick.proofs.Plays.{count-where}
 use Rattle.dd_quick.proofs.Cashing.{hand_on}
 use Rattle.dd_quick.proofs.Claims.{IsShared, cashed-le, in-longest, long-or-run, run-length, shared-more, shared-tops}
-use Rattle.dd_quick.proofs.Across.{across-by}
+use Rattle.dd_quick.proofs.Across.{RestsAcross}
 
 -- ---- what is counted
 
@@ -184,14 +184,13 @@ next-more p u few many n within r =
     ap₂ (λ a b. a && b) (and-left (is_of u c && is_next p c) (reach few c) pass) (reach-within few many within c (and-right (is_of u c && is_next p c) (reach few c) pass))) in
     omega (arith, r, m)
 
--- All that the leader cashes, and shares of the partner's tricks, one of them in a suit to cross in, are a claim by the cards on
--- which they rest.
-pub across-claim : (p : Board) (few cards : List PlayingCard) (s h di cl t u v w : ℕ) (a b c d : Bool) → p.trick ≡ [] → no_trumps p ≡ true
+-- All that the leader cashes, and shares of the partner's tricks, one of them in a suit to cross in: what crossing rests on.
+pub across-rests : (p : Board) (few cards : List PlayingCard) (s h di cl t u v w : ℕ) (a b c d : Bool) → no_trumps p ≡ true
     → s ≡ cashed p.strain p Spades → h ≡ cashed p.strain p Hearts → di ≡ cashed p.strain p Diamonds → cl ≡ cashed p.strain p Clubs
     → IsShared p Spades few s → IsShared p Hearts few h → IsShared p Diamonds few di → IsShared p Clubs few cl → ((e : PlayingCard) → has_card few e ≡ true → has_card cards e ≡ true)
     → IsNextShared p Spades cards a t → IsNextShared p Hearts cards b u → IsNextShared p Diamonds cards c v → IsNextShared p Clubs cards d w → SomeOf a b c d t u v w
-    → s + h + di + cl + (t + u + v + w) ≤ left p → TakesBy (reach cards) (side_of p.first) p (s + h + di + cl + (t + u + v + w))
-across-claim p few cards s h di cl t u v w a b c d start none s_is h_is d_is c_is sp he dm cb more sn hn dn cn some room = elim some [
+    → s + h + di + cl + (t + u + v + w) ≤ left p → (e : Suit) × RestsAcross (reach cards) p (shares s h di cl) (shares t u v w) e
+across-rests p few cards s h di cl t u v w a b c d none s_is h_is d_is c_is sp he dm cb more sn hn dn cn some room = elim some [
   | inl x ↦ elim x [ inl k ↦ by Spades (sn.next.1) k | inr k ↦ by Hearts (hn.next.1) k ]
   | inr x ↦ elim x [ inl k ↦ by Diamonds (dn.next.1) k | inr k ↦ by Clubs (cn.next.1) k ]
 ]
@@ -241,8 +240,8 @@ across-claim p few cards s h di cl t u v w a b c d start none s_is h_is d_is c_i
           | inr l ↦ (let k = l.1 in omega (arith, e, most, k))
         ]
 
-    by : (e : Suit) → marks e ≡ is_entry p e → (marks e ≡ true) × (1 ≤ y e) → TakesBy (reach cards) (side_of p.first) p (s + h + di + cl + (t + u + v + w))
-    by e same k = across-by (reach cards) p n y e start (λ valid. record {
+    by : (e : Suit) → marks e ≡ is_entry p e → (marks e ≡ true) × (1 ≤ y e) → (e : Suit) × RestsAcross (reach cards) p (shares s h di cl) (shares t u v w) e
+    by e same k = (e, record {
       plain = no-trumps-at p none;
       held = λ x. (
           let e = all x in

@@ -190,7 +190,7 @@ abbrev pub FollowsSuit : PlayingCard → List PlayingCard → PlayingCard → Ty
 FollowsSuit m hand c = 1 ≤ count_of m.suit hand → c.suit ≡ m.suit
 
 -- the partner spares the card: it follows suit, or has more of the suit to spare than are to be cashed
-abbrev Throws : Aims → (Suit → ℕ) → PlayingCard → List PlayingCard → PlayingCard → Type 0
+abbrev pub Throws : Aims → (Suit → ℕ) → PlayingCard → List PlayingCard → PlayingCard → Type 0
 Throws aims n m his c = (aims.kept c ≡ false) × ((c.suit ≡ m.suit) ⊎ (n c.suit + 1 ≤ spare_of aims.kept c.suit his))
 
 -- a hand plays a card c to the lead of m
@@ -289,7 +289,7 @@ module _ (strain : Strain) (aims : Aims) (n : Suit → ℕ) (i : ℕ) (own his r
       omega (arith, before, one, plain, t)
 
   -- in one
-  played-on : LetsCash strain aims n no_cards i own rest
+  pub played-on : LetsCash strain aims n no_cards i own rest
   played-on = record {
     yields = yields-on strain aims.sure n i own his rest m c taken suits lets.yields;
     follows = follows-on strain aims.sure n i own his rest m c taken suits lets.follows;
@@ -486,7 +486,7 @@ more-somewhere a b h = elim (cases_lt (a Spades) (b Spades)) [
 ]
 
 -- the partner has a card to spare
-spare-card : (strain : Strain) (aims : Aims) (n : Suit → ℕ) (m : PlayingCard) (own rest hand : List PlayingCard) → LetsCash strain aims n (one_card m) 2 own hand
+pub spare-card : (strain : Strain) (aims : Aims) (n : Suit → ℕ) (m : PlayingCard) (own rest hand : List PlayingCard) → LetsCash strain aims n (one_card m) 2 own hand
     → (c : PlayingCard) × (has_card (following (m ∷ rest) hand) c ≡ true) × Throws aims n m hand c
 spare-card strain aims n m own rest hand lets = elim (cases_lt 0 (count_of m.suit hand)) [
   | inl l ↦ (

@@ -29,6 +29,7 @@ use Rattle.dd_play.proofs.CallerLemmas.{after-code, can, code-lt, count, count-h
 use Rattle.dd_quick.proofs.Plays.{whoever, count-own, count-where}
 use Rattle.dd_quick.proofs.Cashing.{Aims, AllLetCash, HasCards, IsLater, IsMaster, IsWeaker, by-suits, cashed-all, hand_on, less, no_cards, none-higher, partner-too, same-trump, spare_of, sure_of, total, total-less}
 use Rattle.dd_quick.proofs.JointPlans.{trumps-plain}
+use Rattle.dd_quick.proofs.Plans.{IsPlan, planned}
 use Rattle.dd_quick.proofs.Chosen.{Chosen, choose, count-never, count-same, count-split}
 
 -- ---- the third hand wins
@@ -501,6 +502,10 @@ module _ (s : Side) (q : Board) (sure next : PlayingCard → Bool) (n y : Suit �
         let all = crosses s r m.0 w.0 later.valid empty later.ours none-later m.1 w.1 (suit-of e m.0 m.2 ∙ sym suit) (over-later w.0 w.1 keep) (total (less y w.0)) (λ t crossed. cashes w.0 t keep crossed) in
         omega (arith, fewer, all)
 
-  -- so the side takes all of them
+  -- so it is a plan to cash, to cross and to cash there
+  pub cross-plan : (aims : Aims) × IsPlan q.strain q s aims n (total y)
+  cross-plan = (aims, record { masters = can.masters; begins = starts; cards = cards; lets = lets; beyond = λ r k empty later left_over nothing. then-partner r k empty later left_over nothing })
+
+  -- and the side takes all of them
   pub crossed-all : total n + total y ≤ won s q
-  crossed-all = cashed-all (total n) (total y) q.strain q aims n s q (λ r k empty later left_over nothing. then-partner r k empty later left_over nothing) can.masters refl start starts cards lets
+  crossed-all = planned q.strain q s cross-plan.0 n (total y) start cross-plan.1

@@ -3,6 +3,7 @@ pub mod Plays
 pub mod JointPlans
 pub mod JointTrumps
 pub mod Cashing
+pub mod Plans
 pub mod Sound
 pub mod Runs
 pub mod Covered
@@ -18,3 +19,5 @@ pub mod Next
 pub mod LeadBack
 pub mod TakenTrick
 pub mod SecondHand
+pub mod SecondTrump
+pub mod SecondAcross

@@ -25,7 +25,8 @@ use Rattle.dd_quick.proofs.Hands.{IsOpposed, no-higher, none-over}
 use Rattle.dd_quick.proofs.Plays.{count-where}
 use Rattle.dd_quick.proofs.JointPlans.{is_top, trumps-plain}
 use Rattle.dd_quick.proofs.JointTrumps.{joint-taken, place-of}
-use Rattle.dd_quick.proofs.Cashing.{Aims, AllLetCash, IsLater, OnlyTrumps, cashed-all, hand_on, is_plain, no_cards, same-trump, spare_of, sure_of, total}
+use Rattle.dd_quick.proofs.Plans.{IsPlan, planned}
+use Rattle.dd_quick.proofs.Cashing.{Aims, AllLetCash, IsLater, OnlyTrumps, hand_on, is_plain, no_cards, same-trump, spare_of, sure_of, total}
 
 -- ---- two lists
 
@@ -291,15 +292,22 @@ can-let p n k valid start can i l m = record {
     opponent (suc (suc (suc (suc i)))) l k other = absurd (omega (arith, k))
 
 -- later, where it has lost no trumps, its side still takes its joint trumps
-pub joint-on : (p : Board) (n : Suit → ℕ) (k : ℕ) → IsBoard p → CanTake p n k → (q : Board) → q.trick ≡ [] → IsLater p.strain (leaders_aims p) p (side_of p.first) q → k ≤ won (side_of p.first) q
+joint-on : (p : Board) (n : Suit → ℕ) (k : ℕ) → IsBoard p → CanTake p n k → (q : Board) → q.trick ≡ [] → IsLater p.strain (leaders_aims p) p (side_of p.first) q → k ≤ won (side_of p.first) q
 joint-on p n k valid can q empty later =
     joint-later p.strain p q p.first (side_of p.first) k valid later.valid later.same empty (own-side p.first) (partners-side p.first) can.joint later.part
     (λ test only. ap (λ x. count test (cards_at q x)) (sym later.first) ∙ later.mine test only)
     (λ test only. ap (λ x. count test (cards_at q (seat_after x 2))) (sym later.first) ∙ later.partners test only)
 
--- then it takes so many tricks
+-- so it is a plan to cash them
+pub take-plan : (p : Board) (n : Suit → ℕ) (k : ℕ) → IsBoard p → p.trick ≡ [] → CanTake p n k → IsPlan p.strain p (side_of p.first) (leaders_aims p) n k
+take-plan p n k valid start can = record {
+  masters = λ c own winner x e away his suits. no-higher p valid p.first x c e away winner own his suits;
+  begins = record { valid = valid; same = refl; ours = own-side p.first; first = refl; part = λ x c h. h; mine = λ test only. refl; partners = λ test only. refl; trumps = λ c e. e };
+  cards = record { held = λ u. (let h = can.held u in omega (arith, h)); tops = λ u. omega arith; plain = λ u c some e. same-trump p.strain c (card_of u 0) e ∙ can.plain u some };
+  lets = can-let p n k valid start can;
+  beyond = λ q r empty later cards none. joint-on p n k valid can q empty later;
+}
+
+-- and it takes so many tricks
 pub can-take : (p : Board) (n : Suit → ℕ) (k : ℕ) → IsBoard p → p.trick ≡ [] → CanTake p n k → total n + k ≤ won (side_of p.first) p
-can-take p n k valid start can =
-    cashed-all (total n) k p.strain p (leaders_aims p) n (side_of p.first) p (λ q r empty later cards none. joint-on p n k valid can q empty later) (λ c own winner x e away his suits. no-higher p valid p.first x c e away winner own his suits) refl start
-    (record { valid = valid; same = refl; ours = own-side p.first; first = refl; part = λ x c h. h; mine = λ test only. refl; partners = λ test only. refl; trumps = λ c e. e })
-    (record { held = λ u. (let h = can.held u in omega (arith, h)); tops = λ u. omega arith; plain = λ u c some e. same-trump p.strain c (card_of u 0) e ∙ can.plain u some }) (can-let p n k valid start can)
+can-take p n k valid start can = planned p.strain p (side_of p.first) (leaders_aims p) n k start (take-plan p n k valid start can)

@@ -4,6 +4,7 @@
 ghost use Rattle.std.specs.Prelude.{◌≡◌, ◌<◌, ◌≤◌, ◌+◌, ◌-◌, IsSome, ℕ, [], IfSome, true};
 ghost use Rattle.dd_cards.specs.declared.suit.Suit.{Suit as SuitOf};
 ghost use Rattle.dd_cards.specs.declared.suit.Suit.TheVariants.{Spades, Hearts, Diamonds, Clubs};
+ghost use Rattle.dd_cards.specs.PlayingCard.{PlayingCard};
 ghost use Rattle.dd_cards.specs.Sides.{side_of, other_side};
 ghost use Rattle.dd_cards.specs.Seats.{seat_after};
 ghost use Rattle.dd_play.specs.Board.{Board, IsBoard, left};
@@ -11,7 +12,8 @@ ghost use Rattle.dd_play.specs.Covers.{count_of};
 ghost use Rattle.dd_play.specs.Intervals.{Holds};
 ghost use Rattle.dd_play.specs.Reach.{reach, TakesBy};
 ghost use Rattle.dd_play.specs.Value.{lead};
-ghost use Rattle.dd_quick.specs.QuickTricks.{IsCash, IsNext, crossed, no_trumps, quick_lo, quick_hi, side_tricks, joint_trumps};
+ghost use Rattle.dd_quick.specs.QuickTricks.{IsCash, IsNext, cashed, crossed, no_trumps, quick_lo, quick_hi, side_tricks, joint_trumps};
+ghost use Rattle.dd_quick.specs.SecondHand.{IsBeforeLead};
 ghost use Rattle.dd_rank.specs.Depths.{all_cards, depth_in, Covers};
 
 use crate::crossing::{Partners, crossing, with_partners};
@@ -142,9 +144,9 @@ fn leaders_cards(position: &Position, ours: Sure, need: u8) -> Hand
     with_trumps(position, position.first(), cards, need - side)
 }
 
-// The winners on which so many tricks of the leader's side rest where the leader crosses to its partner: all that it cashes,
-// and of its partner's as many as are needed beside.
-fn crossing_cards(position: &Position, ours: Sure, partners: Partners, need: u8) -> Hand
+/// The winners on which so many tricks of the leader's side rest where the leader crosses to its partner: all that it cashes,
+/// and of its partner's as many as are needed beside. The same holds after another hand's lead that it wins.
+pub(crate) fn crossing_cards(position: &Position, ours: Sure, partners: Partners, need: u8) -> Hand
     requires start { position.now.trick ≡ [] }
     requires spades { IsCash position.now Spades
         ours.cashed.spades.tricks ours.cashed.spades.depth }
@@ -169,7 +171,10 @@ fn crossing_cards(position: &Position, ours: Sure, partners: Partners, need: u8)
         + joint_trumps position.now.strain position.now position.now.first < need }
     requires few { need ≤ side_tricks position.now
         + joint_trumps position.now.strain position.now position.now.first + crossed position.now }
-    ensures { TakesBy (reach result) (side_of position.now.first) position.now need }
+    ensures leads { TakesBy (reach result) (side_of position.now.first) position.now need }
+    ensures after_a_lead { (p : Board) (led : PlayingCard) → IsBeforeLead p led position.now
+        → 1 ≤ cashed position.now.strain position.now led.suit
+        → TakesBy (reach result) (side_of position.now.first) p need }
 {
     let cashed = ours.cashed;
     let all = Shares {
