@@ -50,7 +50,7 @@ const fn others(name: &'static str, played: usize, claim: fn(&Position, u8) -> O
 }
 
 // A rule that is added to the quick tricks gets a line here, and where it has parts a line for each.
-const RIGHT: [Rule; 16] = [
+const RIGHT: [Rule; 18] = [
     leaders("side suits without long ones", for_leader::<RUNS>),
     leaders("long suits", for_leader::<LONG_SUITS>),
     leaders("side suits with long ones", for_leader::<{ RUNS | LONG_SUITS }>),
@@ -63,18 +63,22 @@ const RIGHT: [Rule; 16] = [
     others("second hand: side suits without long ones", 1, side_suit_led::<RUNS>),
     others("second hand: long suits", 1, side_suit_led::<LONG_SUITS>),
     others("second hand: side suits and joint trumps", 1, side_suit_led::<{ RUNS | JOINT_TRUMPS }>),
+    others("second hand: crossing after side suits without long ones", 1, second_crossed::<{ RUNS | CROSSING }>),
+    others("second hand: crossing after side suits", 1, second_crossed::<ALL>),
     others("second hand: all after the lead of a side suit", 1, side_suit_led::<ALL>),
     others("second hand: the trump led", 1, trump_led::<0>),
     others("second hand: the trump led and side suits", 1, trump_led::<RUNS>),
     others("second hand: all after the lead of a trump", 1, trump_led::<ALL>),
 ];
 
-const WRONG: [Rule; 6] = [
+const WRONG: [Rule; 8] = [
     leaders("joint trumps added after a draw", for_leader::<{ ALL | TRUMPS_ARE_DRAWN }>),
     leaders("long suits that opponents with trumps can't follow", for_leader::<{ LONG_SUITS | NOBODY_RUFFS }>),
     leaders("crossing to winners that fall", crossed::<{ ALL | NO_WINNER_FALLS }>),
     leaders("crossing without a card to lead", crossed::<{ ALL | CROSSES_WITHOUT_A_CARD }>),
     others("second hand: a lead that third hand ruffs", 1, side_suit_led::<{ ALL | THE_LEAD_IS_NOT_RUFFED }>),
+    others("second hand: crossing to winners that fall", 1, second_crossed::<{ ALL | NO_WINNER_FALLS }>),
+    others("second hand: crossing without a card to lead", 1, second_crossed::<{ ALL | CROSSES_WITHOUT_A_CARD }>),
     others("second hand's winners at third hand", 2, third_hand),
 ];
 
@@ -92,6 +96,14 @@ fn is_trump(position: &Position, card: Card) -> bool {
 
 fn side_suit_led<const RULES: u32>(position: &Position, need: u8) -> Option<u64> {
     if is_trump(position, position.trick[0]) { None } else { for_second_hand::<RULES>(position, need) }
+}
+
+// Only what second hand's own tricks don't answer.
+fn second_crossed<const RULES: u32>(position: &Position, need: u8) -> Option<u64> {
+    match side_suit_led::<{ RUNS | LONG_SUITS | JOINT_TRUMPS }>(position, need) {
+        Some(_) => None,
+        None => side_suit_led::<RULES>(position, need),
+    }
 }
 
 fn trump_led<const RULES: u32>(position: &Position, need: u8) -> Option<u64> {

@@ -290,8 +290,11 @@ fn after_a_side_suit<const RULES: u32>(before: &Position, suit: Suit, need: u8) 
     if RULES & THE_LEAD_IS_NOT_RUFFED != 0 {
         cash[suit as usize].tricks = cash[suit as usize].tricks.max(1);
     }
-    if need == 0 || cash[suit as usize].tricks == 0 || side == 0 || need > side + trumps {
+    if need == 0 || cash[suit as usize].tricks == 0 || side == 0 {
         return None;
+    }
+    if need > side + trumps {
+        return crossing_cards::<RULES>(before, cash, side, trumps, need);
     }
     let side = need.min(side);
     let mut fewer = cash;

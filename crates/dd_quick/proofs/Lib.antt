@@ -2,6 +2,7 @@ pub mod Hands
 pub mod Plays
 pub mod JointPlans
 pub mod JointTrumps
+pub mod FirstCard
 pub mod Cashing
 pub mod Plans
 pub mod Sound

@@ -15,7 +15,7 @@ pub record IsPlan (strain : Strain) (o : Board) (s : Side) (aims : Aims) (n : Su
   pub begins : IsLater strain aims o s o
   pub cards : HasCards strain aims n o
   pub lets : AllLetCash strain aims n o
-  pub beyond : (q : Board) (r : Suit → ℕ) → q.trick ≡ [] → IsLater strain aims o s q → HasCards strain aims r q → total r ≡ 0 → b ≤ won s q
+  pub beyond : (q : Board) (r : Suit → ℕ) → q.trick ≡ [] → IsLater strain aims o s q → HasCards strain aims r q → AllLetCash strain aims r q → total r ≡ 0 → b ≤ won s q
 
 -- the side takes what is planned
 pub planned : (strain : Strain) (o : Board) (s : Side) (aims : Aims) (n : Suit → ℕ) (b : ℕ) → o.trick ≡ [] → IsPlan strain o s aims n b → total n + b ≤ won s o

@@ -1,38 +1,31 @@
 -- Second hand wins. A card of a suit is led whose highest card an opponent h of the leader holds, who has not played yet. What
 -- h could take with the lead in the position before, with that card as the first of its tricks, its side takes now.
-use Rattle.std.proofs.Common.{◌≡◌, ◌≢◌, ℕ, ◌+◌, ◌-◌, ◌*◌, ◌<◌, ◌≤◌, Bool, true, false, refl, sym, ap, ◌∙◌, subst, arith, List, [], ◌∷◌, inl, inr, zero-le}
-use Rattle.std.specs.Prelude.{filter, nat_lt, min, ◌&&◌, ◌||◌, ◌⊎◌}
-use mathlib.Core.Bool.{not}
-use mathlib.Core.Path.{ap₂}
-use Rattle.std.proofs.lemmas.Bool.{ltb-true, cases_lt}
+use Rattle.std.proofs.Common.{◌≡◌, ℕ, ◌+◌, ◌*◌, ◌<◌, ◌≤◌, Bool, true, false, refl, sym, ap, ◌∙◌, subst, arith, List, [], ◌∷◌, inl, inr}
+use Rattle.std.specs.Prelude.{filter, ◌&&◌}
 use Rattle.dd_cards.specs.declared.seat.Seat.{Seat}
 use Rattle.dd_cards.specs.declared.suit.Suit.{Suit}
-use Rattle.dd_cards.specs.declared.strain.Strain.{Strain}
-use Rattle.dd_cards.specs.declared.strain.Strain.TheVariants.{Trump, Notrump}
 use Rattle.dd_cards.specs.PlayingCard.{PlayingCard}
-use Rattle.dd_cards.specs.Cards.{card_of, is_of, has_card, without}
+use Rattle.dd_cards.specs.Cards.{is_of, has_card, without}
 use Rattle.dd_cards.specs.Hands.{times}
-use Rattle.dd_cards.specs.Seats.{seat_code, seat_after}
+use Rattle.dd_cards.specs.Seats.{seat_after}
 use Rattle.dd_cards.specs.Sides.{side_of, is_side}
-use Rattle.dd_cards.proofs.CallerLemmas.{and-left, and-right, else-false, is-same}
-use Rattle.dd_play.specs.Board.{Board, IsBoard, cards_at, left}
+use Rattle.dd_cards.proofs.CallerLemmas.{and-left, and-right, is-same}
+use Rattle.dd_play.specs.Board.{Board, IsBoard, cards_at}
 use Rattle.dd_play.specs.Tricks.{is_trump, or_else}
 use Rattle.dd_play.specs.Play.{following}
 use Rattle.dd_play.specs.Covers.{count_of}
 use Rattle.dd_play.specs.Reach.{TakesBy, reach}
 use Rattle.dd_play.specs.Won.{won}
-use Rattle.dd_play.proofs.CallerLemmas.{after-code, code-lt, count, count-has, count-some, count-without, flag_of, legal-in, legal-out, Obeys, of-suit', once-in, suit-of, times-has, turn-turn}
-use Rattle.dd_quick.specs.QuickTricks.{RestsOnTrumps, beats, is_unbeaten, is_winner, joint_trumps, length_at, run, trumps_at, unbeaten}
+use Rattle.dd_play.proofs.CallerLemmas.{count, count-has, count-some, count-without, flag_of, legal-out, Obeys, of-suit', once-in, suit-of, times-has, turn-turn}
 use Rattle.dd_quick.specs.SecondHand.{IsBeforeLead, unled}
 use Rattle.dd_quick.proofs.Claims.{IsSure}
-use Rattle.dd_quick.proofs.Cashing.{AllLetCash, Aims, FollowsSuit, HasCards, IsLater, IsMaster, LetsCash, Only, cashed-all, follows-on, hand_on, is_plain, less, lets-lead, no_cards, one_card, one-total, played-on, same-trump, spare-card, sure_of, total, total-less, yields-on}
-use Rattle.dd_quick.proofs.Hands.{IsOpposed, no-higher}
+use Rattle.dd_quick.proofs.Cashing.{AllLetCash, Aims, FollowsSuit, HasCards, IsLater, LetsCash, Only, cashed-all, hand_on, less, lets-lead, no_cards, one_card, played-on, same-trump, spare-card, sure_of, total, total-less}
+use Rattle.dd_quick.proofs.Hands.{IsOpposed}
 use Rattle.dd_quick.proofs.LeadBack.{answered, board-back, cover-back, led-back}
-use Rattle.dd_quick.proofs.Plays.{count-where}
-use Rattle.dd_quick.proofs.Plans.{IsPlan, planned}
-use Rattle.dd_quick.proofs.TakenTrick.{Allows, IsLed, IsMidway, IsQuiet, IsTaken, nobody, one-three, three-one, trick-taken}
-use Rattle.dd_quick.proofs.Sound.{CanTake, can-let, joint-later, keeping_trumps, leaders_aims, own-side, partners-side, plain-left, side-spared, take-plan}
-use Rattle.dd_quick.proofs.Covered.{IsJoint, RestsOnTops, can-covered, left-same, length-same, run-covered, some-card, trumps-same}
+use Rattle.dd_quick.proofs.Plans.{IsPlan}
+use Rattle.dd_quick.proofs.TakenTrick.{Allows, IsLed, IsMidway, nobody, one-three, three-one, trick-taken}
+use Rattle.dd_quick.proofs.Sound.{CanTake, leaders_aims, own-side, take-plan}
+use Rattle.dd_quick.proofs.Covered.{IsJoint, RestsOnTops, can-covered}
 
 -- ---- what h could cash before the lead
 
@@ -171,6 +164,12 @@ module _ (p : Board) (c : PlayingCard) (h : Seat) (i : ℕ) (aims : Aims) (n : S
               let few = one-of u (is_of u m) refl in
               omega (arith, t, e, all, few));
           plain = λ u d k e. plan.cards.plain u d (omega (arith, k)) e;
+          most = λ u. (
+              let t = lost (is_of u) in
+              let e : count_of u (cards_at q q.first) ≡ count_of u kept = ap (count_of u) hand in
+              let all = plan.cards.most u in
+              let few = one-of u (is_of u m) refl in
+              omega (arith, t, e, all, few));
         }
           where
             and-yes : (x y : Bool) → y ≡ true → (x && y) ≡ x
@@ -216,4 +215,3 @@ second-claim p c before cards n m ready sure some = elim ready.seat [ inl at ↦
     go i opposed at =
         second-by (reach cards) p c before.first i n m ready.led opposed at (λ valid. subst (λ o. CanTake o n m) ready.was (sure.can (subst IsBoard (sym ready.was) valid))) some
         (subst (λ o. RestsOnTops (reach cards) o n) ready.was sure.tops) (subst (λ (o : Board). IsJoint o.strain (reach cards) o 0 m) ready.was sure.joint)
-

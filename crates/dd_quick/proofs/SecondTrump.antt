@@ -1,7 +1,7 @@
 -- Second hand wins a trump that is led. It takes a trick for each of its trumps that no other hand can beat, and what it could
 -- cash in side suits before the lead, where its partner has a card more to throw.
-use Rattle.std.proofs.Common.{◌≡◌, ◌≢◌, ℕ, ◌+◌, ◌-◌, ◌*◌, ◌<◌, ◌≤◌, Bool, true, false, refl, sym, ap, ◌∙◌, subst, arith, List, [], ◌∷◌, inl, inr, zero-le}
-use Rattle.std.specs.Prelude.{filter, nat_lt, min, ◌&&◌, ◌||◌, ◌⊎◌}
+use Rattle.std.proofs.Common.{◌≡◌, ◌≢◌, ℕ, ◌+◌, ◌-◌, ◌<◌, ◌≤◌, Bool, true, false, refl, sym, ap, ◌∙◌, subst, arith, List, [], ◌∷◌, inl, inr, zero-le}
+use Rattle.std.specs.Prelude.{nat_lt, min, ◌&&◌, ◌||◌, ◌⊎◌}
 use mathlib.Core.Bool.{not}
 use mathlib.Core.Path.{ap₂}
 use Rattle.std.proofs.lemmas.Bool.{ltb-true, cases_lt}
@@ -11,28 +11,26 @@ use Rattle.dd_cards.specs.declared.strain.Strain.{Strain}
 use Rattle.dd_cards.specs.declared.strain.Strain.TheVariants.{Trump, Notrump}
 use Rattle.dd_cards.specs.PlayingCard.{PlayingCard}
 use Rattle.dd_cards.specs.Cards.{card_of, is_of, has_card, without}
-use Rattle.dd_cards.specs.Hands.{times}
 use Rattle.dd_cards.specs.Seats.{seat_code, seat_after}
 use Rattle.dd_cards.specs.Sides.{side_of, is_side}
 use Rattle.dd_cards.proofs.CallerLemmas.{and-left, and-right, else-false, is-same}
 use Rattle.dd_play.specs.Board.{Board, IsBoard, cards_at, left}
-use Rattle.dd_play.specs.Tricks.{is_trump, or_else}
+use Rattle.dd_play.specs.Tricks.{is_trump}
 use Rattle.dd_play.specs.Play.{following}
 use Rattle.dd_play.specs.Covers.{count_of}
 use Rattle.dd_play.specs.Reach.{TakesBy, reach}
 use Rattle.dd_play.specs.Won.{won}
-use Rattle.dd_play.proofs.CallerLemmas.{after-code, code-lt, count, count-has, count-some, count-without, flag_of, legal-in, legal-out, Obeys, of-suit', once-in, suit-of, times-has, turn-turn}
-use Rattle.dd_quick.specs.QuickTricks.{RestsOnTrumps, beats, is_unbeaten, is_winner, joint_trumps, length_at, run, trumps_at, unbeaten}
+use Rattle.dd_play.proofs.CallerLemmas.{after-code, code-lt, count, count-has, count-some, flag_of, legal-in, of-suit', suit-of, turn-turn}
+use Rattle.dd_quick.specs.QuickTricks.{RestsOnTrumps, beats, is_unbeaten, is_winner, joint_trumps, run, trumps_at, unbeaten}
 use Rattle.dd_quick.specs.SecondHand.{IsBeforeLead, unled}
 use Rattle.dd_quick.proofs.Claims.{IsSure}
-use Rattle.dd_quick.proofs.Cashing.{AllLetCash, Aims, FollowsSuit, HasCards, IsLater, IsMaster, LetsCash, Only, cashed-all, follows-on, hand_on, is_plain, less, lets-lead, no_cards, one_card, one-total, played-on, same-trump, spare-card, sure_of, total, total-less, yields-on}
+use Rattle.dd_quick.proofs.Cashing.{AllLetCash, Aims, FollowsSuit, HasCards, IsLater, IsMaster, LetsCash, cashed-all, follows-on, hand_on, is_plain, no_cards, one_card, one-total, same-trump, sure_of, total, yields-on}
 use Rattle.dd_quick.proofs.Hands.{IsOpposed, no-higher}
-use Rattle.dd_quick.proofs.LeadBack.{answered, board-back, cover-back, led-back}
+use Rattle.dd_quick.proofs.LeadBack.{answered, board-back, cover-back}
 use Rattle.dd_quick.proofs.Plays.{count-where}
-use Rattle.dd_quick.proofs.Plans.{IsPlan, planned}
 use Rattle.dd_quick.proofs.SecondHand.{count-lost, follows-led, waiting}
-use Rattle.dd_quick.proofs.TakenTrick.{Allows, IsLed, IsMidway, IsQuiet, IsTaken, nobody, one-three, three-one, trick-taken}
-use Rattle.dd_quick.proofs.Sound.{CanTake, can-let, joint-later, keeping_trumps, leaders_aims, own-side, partners-side, plain-left, side-spared, take-plan}
+use Rattle.dd_quick.proofs.TakenTrick.{Allows, IsLed, IsMidway, IsTaken, nobody, trick-taken}
+use Rattle.dd_quick.proofs.Sound.{CanTake, can-let, joint-later, keeping_trumps, leaders_aims, length-left, own-side, partners-side, plain-left, side-spared}
 use Rattle.dd_quick.proofs.Covered.{IsJoint, RestsOnTops, can-covered, left-same, length-same, run-covered, some-card, trumps-same}
 
 -- The hand that is i places after h lets n cards of each suit be cashed, and e more that are led first, where its partner
@@ -43,9 +41,9 @@ record LetsWin (strain : Strain) (sure : PlayingCard → Bool) (n e : Suit → �
   throws : i ≡ 2 → total e + total n ≤ count (is_plain strain) his
 
 -- where none is led first such a hand lets cards be cashed
-lets-cash : (strain : Strain) (sure : PlayingCard → Bool) (all : List PlayingCard) (n : Suit → ℕ) (i : ℕ) (own his : List PlayingCard) → ((u : Suit) → 1 ≤ n u → is_trump strain (card_of u 0) ≡ false)
-    → LetsWin strain sure n no_cards i own his → LetsCash strain (keeping_trumps strain sure all) n no_cards i own his
-lets-cash strain sure all n i own his plain lets = record { yields = lets.yields; follows = lets.follows; spares = λ two. side-spared strain n his plain; throws = lets.throws }
+lets-cash : (strain : Strain) (sure : PlayingCard → Bool) (all : List PlayingCard) (most : ℕ) (n : Suit → ℕ) (i : ℕ) (own his : List PlayingCard) → ((u : Suit) → 1 ≤ n u → is_trump strain (card_of u 0) ≡ false) → ((u : Suit) → count_of u his ≤ most)
+    → LetsWin strain sure n no_cards i own his → LetsCash strain (keeping_trumps strain sure all most) n no_cards i own his
+lets-cash strain sure all most n i own his plain few lets = record { yields = lets.yields; follows = lets.follows; spares = λ two. side-spared strain n his plain; throws = lets.throws; leaves = λ other u. (let k = few u in omega (arith, k)) }
 
 -- a hand that plays a card c to such a lead lets the others be cashed
 played-too : (strain : Strain) (sure : PlayingCard → Bool) (n : Suit → ℕ) (i : ℕ) (own his rest : List PlayingCard) (m c : PlayingCard) → LetsWin strain sure n (one_card m) i own his → IsTaken c his rest → FollowsSuit m his c
@@ -166,13 +164,13 @@ module _ (p : Board) (c : PlayingCard) (h : Seat) (i : ℕ) (n : Suit → ℕ) (
     }
 
     next : (q : Board) → IsMidway p.strain before lets-trump (without (cards_at before h) m) nobody q → q.trick ≡ [] → q.first ≡ h → total n + (k - 1) ≤ won (side_of h) q
-    next q now empty first = cashed-all (total n) (k - 1) p.strain q aims n (side_of h) q (λ r x over still left none. rest r over still) tops refl empty later cards lets
+    next q now empty first = cashed-all (total n) (k - 1) p.strain q aims n (side_of h) q (λ r x over still left_over lets none. rest r over still) tops refl empty later cards lets
       where
         hand : cards_at q q.first ≡ without (cards_at before h) m
         hand = ap (cards_at q) first ∙ now.mine
 
         aims : Aims
-        aims = keeping_trumps p.strain sure_trump (cards_at q q.first)
+        aims = keeping_trumps p.strain sure_trump (cards_at q q.first) (left q)
 
         later : IsLater p.strain aims q (side_of h) q
         later = record { trumps = λ d e. e; valid = now.valid; same = now.same; ours = ap (is_side (side_of h)) first ∙ own-side h; first = refl; part = λ x d has. has; mine = λ test only. refl; partners = λ test only. refl }
@@ -182,7 +180,7 @@ module _ (p : Board) (c : PlayingCard) (h : Seat) (i : ℕ) (n : Suit → ℕ) (
             masters d (now.part h d (ap (λ y. has_card (cards_at q y) d) (sym first) ∙ mine)) wins x e (λ z. away (z ∙ sym (ap seat_code first))) (now.part x e his) suits
 
         cards : HasCards p.strain aims n q
-        cards = record { tops = λ u. omega arith; held = λ u. (let x = held u (is_of u m) refl in omega (arith, x)); plain = λ u d some e. same-trump p.strain d (card_of u 0) e ∙ can.plain u some }
+        cards = record { tops = λ u. omega arith; held = λ u. (let x = held u (is_of u m) refl in omega (arith, x)); plain = λ u d some e. same-trump p.strain d (card_of u 0) e ∙ can.plain u some; most = λ u. (let k = length-left q 0 u now.valid empty (omega arith) in omega (arith, k)) }
           where
             held : (u : Suit) (x : Bool) → is_of u m ≡ x → n u ≤ count_of u (cards_at q q.first)
             held u true e = (let z = none-cashed u e in omega (arith, z))
@@ -190,7 +188,7 @@ module _ (p : Board) (c : PlayingCard) (h : Seat) (i : ℕ) (n : Suit → ℕ) (
 
         lets : AllLetCash p.strain aims n q
         lets j l b = subst (λ x. LetsCash p.strain aims n no_cards j (cards_at q x) (cards_at q (seat_after x j))) (sym first)
-            (lets-cash p.strain sure_trump (cards_at q q.first) n j (cards_at q h) (cards_at q (seat_after h j)) can.plain
+            (lets-cash p.strain sure_trump (cards_at q q.first) (left q) n j (cards_at q h) (cards_at q (seat_after h j)) can.plain (λ u. subst (λ x. count_of u (cards_at q (seat_after x j)) ≤ left q) first (length-left q j u now.valid empty b))
             (subst (λ mine. LetsWin p.strain sure_trump n no_cards j mine (cards_at q (seat_after h j))) (sym now.mine) (now.lets_be j l b)))
 
         -- its other winners among the trumps are beaten by no opponent later

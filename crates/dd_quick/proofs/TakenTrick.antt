@@ -1,35 +1,34 @@
 -- A trick that second or fourth hand wins. A card of a suit is led whose highest card an opponent h of the leader holds: h wins
 -- the trick with that card whatever comes, and has the lead; the other hands have followed as they would have to its lead.
 use Rattle.std.proofs.Common.{◌≡◌, ◌≢◌, ℕ, zero, suc, ◌+◌, ◌<◌, ◌≤◌, Bool, true, false, refl, sym, ap, ◌∙◌, subst, arith, List, [], ◌∷◌, ◌++◌, length, inl, inr}
-use Rattle.std.specs.Prelude.{filter, min, nat_le, nat_lt, ◌&&◌, ◌==◌, ◌⊎◌}
+use Rattle.std.specs.Prelude.{filter, nat_le, nat_lt, ◌&&◌, ◌==◌, ◌⊎◌}
 use Rattle.std.specs.List.{list_all, position_or_len}
 use mathlib.Core.Bool.{not}
 use mathlib.Core.Path.{ap₂}
-use Rattle.std.proofs.lemmas.Bool.{leb-true, lt-ltb, cases_lt}
+use Rattle.std.proofs.lemmas.Bool.{leb-true, lt-ltb}
 use Rattle.std.proofs.lemmas.Bool.Decides.{eqb_tells}
 use Rattle.dd_cards.specs.declared.seat.Seat.{Seat}
 use Rattle.dd_cards.specs.declared.seat.Seat.TheVariants.{North, East, South, West}
-use Rattle.dd_cards.specs.declared.suit.Suit.{Suit}
 use Rattle.dd_cards.specs.declared.strain.Strain.{Strain}
 use Rattle.dd_cards.specs.declared.strain.Strain.TheVariants.{Trump, Notrump}
 use Rattle.dd_cards.specs.PlayingCard.{PlayingCard}
-use Rattle.dd_cards.specs.Cards.{card_of, is_of, same_card, has_card, without}
+use Rattle.dd_cards.specs.Cards.{is_of, same_card, has_card, without}
 use Rattle.dd_cards.specs.Seats.{seat_code, seat_after}
 use Rattle.dd_cards.specs.Sides.{side_of, is_side}
-use Rattle.dd_cards.proofs.CallerLemmas.{and-left, and-right, else-false, not-true, passes, same_card-eq}
+use Rattle.dd_cards.proofs.CallerLemmas.{and-left, and-right, else-false, passes, same_card-eq}
 use Rattle.dd_play.specs.Board.{Board, IsBoard, cards_at, left, mover}
 use Rattle.dd_play.specs.Tricks.{deciding, is_highest_of, is_trump, or_else, winner_of, winning_place}
 use Rattle.dd_play.specs.Play.{after, completes, following, trick_with}
 use Rattle.dd_play.specs.Simulations.{IsLegal}
-use Rattle.dd_play.specs.Covers.{count_of}
 use Rattle.dd_play.specs.Won.{point, won}
-use Rattle.dd_play.proofs.CallerLemmas.{Obeys, after-code, can, code-lt, count, count-has, count-some, filter-has, filter-passes, flag_of, hand-others, hand-own, has-first, in-push, in-rest, legal-in, legal-leads, legal-out, of-suit', own-card, strain-after, suit-of, trick-after, trick-closed, was-in, won_with}
+use Rattle.dd_play.proofs.CallerLemmas.{Obeys, after-code, can, code-lt, count, count-some, filter-has, filter-passes, flag_of, hand-others, hand-own, has-first, in-push, in-rest, legal-in, legal-leads, legal-out, of-suit', own-card, strain-after, suit-of, trick-after, trick-closed, was-in, won_with}
 use Rattle.dd_quick.specs.SecondHand.{unled}
-use Rattle.dd_quick.proofs.Cashing.{FollowsSuit, IsMaster, LetsCash, OnlyTrumps, follows-on, hand_on, is_plain, no_cards, no-trump, none-higher, one_card, one-total, same-trump, sure_of, total, yields-on}
+use Rattle.dd_quick.proofs.FirstCard.{no-trump, none-higher}
+use Rattle.dd_quick.proofs.Cashing.{FollowsSuit, IsMaster, hand_on, same-trump}
 use Rattle.dd_quick.proofs.Hands.{IsOpposed}
 use Rattle.dd_quick.proofs.LeadBack.{count-back, is-back, leaders-back, led-back, others-back}
 use Rattle.dd_quick.proofs.Plays.{count-own, whoever}
-use Rattle.dd_quick.proofs.Sound.{keeping_trumps, own-side, partners-side, side-spared}
+use Rattle.dd_quick.proofs.Sound.{own-side, partners-side}
 
 -- ---- the card that wins the trick
 

@@ -96,9 +96,20 @@ is_next p c = is_unbeaten p (seat_after p.first 2) c && not (is_under_low p c)
 abbrev pub next_run : Board → Suit → ℕ
 next_run p suit = length (filter (λ c. is_of suit c && is_next p c) (cards_at p (seat_after p.first 2)))
 
--- What the partner takes in a suit once the leader has cashed its run: it follows suit to that with other cards.
+-- the greatest length of the suit in the hands beside the partner's
+abbrev pub longest_beside : Board → Suit → ℕ
+longest_beside p suit = max (length_at p p.first suit) (max (length_at p (seat_after p.first 1) suit) (length_at p (seat_after p.first 3) suit))
+
+-- A long suit of the partner's: the leader's run and its own cards next below are as many as any other hand has cards of the
+-- suit, so no other hand has one after them.
+abbrev pub is_partners_long : Board → Suit → Bool
+is_partners_long p suit = nat_le (longest_beside p suit) (run p p.first suit + next_run p suit)
+
+-- What the partner takes in a suit once the leader has cashed its run, to which it follows suit with other cards: all that are
+-- left in a long suit, else those next below the run.
 abbrev pub partners_tricks : Board → Suit → ℕ
-partners_tricks p suit = min (next_run p suit) (length_at p (seat_after p.first 2) suit - run p p.first suit)
+partners_tricks p suit = (if is_partners_long p suit then length_at p (seat_after p.first 2) suit - run p p.first suit
+    else min (next_run p suit) (length_at p (seat_after p.first 2) suit - run p p.first suit))
 
 -- can the leader cross in the suit: has it a card beside its run to lead to a winner of its partner's?
 abbrev pub is_entry : Board → Suit → Bool

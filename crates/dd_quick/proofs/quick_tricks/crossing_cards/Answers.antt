@@ -1,9 +1,9 @@
-use Rattle.std.proofs.Common.{ℕ, arith, ◌-◌, ◌+◌, ◌≤◌, ◌≡◌, subst}
+use Rattle.std.proofs.Common.{ℕ, arith, min, ◌-◌, ◌+◌, ◌≤◌, ◌≡◌, subst}
 use Rattle.dd_cards.specs.declared.suit.Suit.{Suit}
 use Rattle.dd_cards.specs.declared.suit.Suit.TheVariants.{Spades, Hearts, Diamonds, Clubs}
 use Rattle.dd_cards.specs.Sides.{side_of}
 use Rattle.dd_play.specs.Reach.{TakesBy, reach}
-use Rattle.dd_quick.specs.QuickTricks.{cashed}
+use Rattle.dd_quick.specs.QuickTricks.{cashed, next_run}
 use Rattle.dd_quick.specs.Sharing.{shares}
 use Rattle.dd_quick.proofs.Across.{RestsAcross, across-by}
 use Rattle.dd_quick.proofs.Cashing.{total}
@@ -29,7 +29,7 @@ cashed-own c Clubs h = (let e = c.requires.clubs.0 in omega (arith, e, h))
 -- the cards are those on which crossing rests
 record Rests (c : After-with_partners) : Type 0 where
   entry : Suit
-  across : RestsAcross (reach c.with_partners.result) c.args.position.now (own c) (his c) entry
+  across : RestsAcross (reach c.with_partners.result) c.args.position.now (own c) (λ u. min (his c u) (next_run c.args.position.now u)) (his c) entry
   sum : total (own c) + total (his c) ≡ c.args.need
 
 rests : (c : After-with_partners) → Rests c
@@ -84,10 +84,10 @@ pub returns-clause-leads : goal.returns-clause-leads
 returns-clause-leads c =
     let k = rests (goal.at.returns-clause-leads c).After-with_partners in
     let p = c.args.position.now in
-    subst (λ n. TakesBy (reach c.with_partners.result) (side_of p.first) p n) k.sum (across-by (reach c.with_partners.result) p _ _ k.entry c.requires.start (λ valid. k.across))
+    subst (λ n. TakesBy (reach c.with_partners.result) (side_of p.first) p n) k.sum (across-by (reach c.with_partners.result) p _ _ _ k.entry c.requires.start k.across)
 
 pub returns-clause-after_a_lead : goal.returns-clause-after_a_lead
 returns-clause-after_a_lead c p led ready some =
     let k = rests (goal.at.returns-clause-after_a_lead c).After-with_partners in
     subst (λ n. TakesBy (reach c.with_partners.result) (side_of c.args.position.now.first) p n) k.sum
-    (second-across (reach c.with_partners.result) p led c.args.position.now _ _ k.entry ready k.across (cashed-own (goal.at.returns-clause-after_a_lead c).After-with_partners led.suit some))
+    (second-across (reach c.with_partners.result) p led c.args.position.now _ _ _ k.entry ready k.across (cashed-own (goal.at.returns-clause-after_a_lead c).After-with_partners led.suit some))
