@@ -10,7 +10,9 @@ pub const LONG_SUITS: u32 = 2;
 pub const JOINT_TRUMPS: u32 = 4;
 /// Without trumps, the partner's winners next below the leader's, once the leader has crossed.
 pub const CROSSING: u32 = 8;
-pub const ALL: u32 = RUNS | LONG_SUITS | JOINT_TRUMPS | CROSSING;
+/// All cards of a long suit of the partner's, once the leader has crossed.
+pub const PARTNERS_LONG_SUITS: u32 = 1024;
+pub const ALL: u32 = RUNS | LONG_SUITS | JOINT_TRUMPS | CROSSING | PARTNERS_LONG_SUITS;
 
 // Wrong forms, which `cases/rules.rs` has to find wrong.
 /// An opponent with trumps follows suit as long as it is led.
@@ -25,6 +27,11 @@ pub const AT_THIRD_HAND: u32 = 128;
 pub const NO_WINNER_FALLS: u32 = 256;
 /// The leader crosses without a card to lead to its partner.
 pub const CROSSES_WITHOUT_A_CARD: u32 = 512;
+
+/// A suit of the partner's is long whatever the leader has of it.
+pub const LONG_BEFORE_THE_LEADER: u32 = 2048;
+/// A suit of the partner's is long whatever the opponents have of it.
+pub const LONG_BEFORE_THE_OPPONENTS: u32 = 4096;
 
 // The cards of a holding above all of these others.
 fn above_all(own: u16, others: u16) -> u16 {
@@ -166,11 +173,20 @@ fn next_run(position: &Position, suit: Suit) -> u16 {
 
 // What the partner takes in a suit once the leader has crossed, and whether the leader can cross there.
 fn next<const RULES: u32>(position: &Position, suit: Suit) -> Offer {
+    let [left, partner, right] = others(position.first);
     let run = winners(position, position.first, suit).count_ones() as u8;
-    let spare = length(position, position.first.next().next(), suit).saturating_sub(run);
     let next = next_run(position, suit).count_ones() as u8;
-    let tricks = if RULES & NO_WINNER_FALLS == 0 { next.min(spare) } else { next };
-    let card = RULES & CROSSES_WITHOUT_A_CARD != 0 || run < length(position, position.first, suit);
+    let own = length(position, position.first, suit);
+    let spare = length(position, partner, suit).saturating_sub(run);
+    let theirs = length(position, left, suit).max(length(position, right, suit));
+    let long = (own <= run + next || RULES & LONG_BEFORE_THE_LEADER != 0)
+        && (theirs <= run + next || RULES & LONG_BEFORE_THE_OPPONENTS != 0);
+    let tricks = match () {
+        () if RULES & PARTNERS_LONG_SUITS != 0 && long => spare,
+        () if RULES & NO_WINNER_FALLS == 0 => next.min(spare),
+        () => next,
+    };
+    let card = RULES & CROSSES_WITHOUT_A_CARD != 0 || run < own;
     Offer { tricks, first: tricks > 0 && card }
 }
 

@@ -289,23 +289,24 @@ across-rests p few cards s h di cl t u v w a b c d none s_is h_is d_is c_is sp h
         tops = λ x. (let r = run-cashed p x none in let e = all x in omega (arith, r, e));
         winners = λ x i l m. shared-tops p x cards (n x) i (own x) l m;
         has = λ x. (let r = (his x).rests in omega (arith, r));
-      of_all = λ x. omega arith;
-      alone = λ x. elim (cases_lt (next_run p x) (y x)) [
-        | inl over ↦ inr (λ i l other. (
-            let few = less x in
-            let cashed_run = run-cashed p x none in
-            let own_is = all x in
-            let one = in-beside p x i l other in
-            elim (partners-long p x) [ inl next ↦ absurd (omega (arith, over, few, next)) | inr long ↦ omega (arith, over, cashed_run, own_is, one, long) ]))
-        | inr under ↦ inl (omega (arith, under))
-      ];
-      room = λ x. elim (cases_lt 0 (y x)) [ inl some ↦ inr (let l = less x in let spare = partners-le p x in let r = short x (omega (arith, l, some)) in omega (arith, l, spare, r, some)) | inr nothing ↦ inl (omega (arith, nothing)) ];
-      entry = (
-          let entry : is_entry p e ≡ true = sym same ∙ k.0 in
-          let y_e = k.1 in
-          let l = less e in
-          let over : run p p.first e < length_at p p.first e = ltb-true (run p p.first e) (length_at p p.first e) (and-right (nat_lt 0 (partners_tricks p e)) (nat_lt (run p p.first e) (length_at p p.first e)) entry) in
-          let one = in-beside p e 0 (omega arith) (λ z. omega (arith, z)) in
-          elim (partners-long p e) [ inl next ↦ omega (arith, y_e, l, next) | inr long ↦ omega (arith, y_e, over, one, long) ]);
-      few = room;
-    })
+        of_all = λ x. omega arith;
+        alone = λ x. elim (cases_lt (next_run p x) (y x)) [
+          | inl over ↦ inr (λ i l other. (
+              let few = less x in
+              let cashed_run = run-cashed p x none in
+              let own_is = all x in
+              let one = in-beside p x i l other in
+              elim (partners-long p x) [ inl next ↦ absurd (omega (arith, over, few, next)) | inr long ↦ omega (arith, over, cashed_run, own_is, one, long) ]))
+          | inr under ↦ inl (omega (arith, under))
+        ];
+        room = λ x. elim (cases_lt 0 (y x)) [ inl some ↦ inr (let l = less x in let spare = partners-le p x in let r = short x (omega (arith, l, some)) in omega (arith, l, spare, r, some)) | inr nothing ↦ inl (omega (arith, nothing)) ];
+        entry = (
+            let entry : is_entry p e ≡ true = sym same ∙ k.0 in
+            let y_e = k.1 in
+            let l = less e in
+            let over : run p p.first e < length_at p p.first e = ltb-true (run p p.first e) (length_at p p.first e) (and-right (nat_lt 0 (partners_tricks p e)) (nat_lt (run p p.first e) (length_at p p.first e)) entry) in
+            let one = in-beside p e 0 (omega arith) (λ z. omega (arith, z)) in
+            elim (partners-long p e) [ inl next ↦ omega (arith, y_e, l, next) | inr long ↦ omega (arith, y_e, over, one, long) ]);
+        few = room;
+      },
+    )

@@ -331,6 +331,27 @@ fn without_trumps_the_leader_crosses_to_its_partner(rt: HostRuntime) {
             "the partner cashes another suit",
         ),
         (
+            ["32.3..", "54.4..", "AK6...", "87.5.."],
+            notrump,
+            (3, 3),
+            [2, 0, 0, 0],
+            "the six takes a trick after the ace and the king",
+        ),
+        (
+            ["32.3..", "54.4..", "AK6...", "987..."],
+            notrump,
+            (2, 3),
+            [2, 0, 0, 0],
+            "West has a spade more",
+        ),
+        (
+            ["T32...", "5.43..", "AK6...", "7.65.."],
+            notrump,
+            (2, 3),
+            [2, 0, 0, 0],
+            "so has the leader",
+        ),
+        (
             ["AT2...", "876...", "K93...", "54.2.."],
             notrump,
             (2, 3),

@@ -86,11 +86,18 @@ fn the_highest_card_of_the_suit_led_wins_and_more_are_cashed(rt: HostRuntime) {
             "one of them is asked for of fourth hand",
         ),
         (
-            ["2.32..", "A...54", "3.76..", "4.AK.."],
+            ["2.3..9", "A...54", "3.76..", "4.AK.."],
             notrump,
             2,
             None,
             "it has no card to lead to its partner",
+        ),
+        (
+            ["2.32.2.", "A.54.3.", "3.87.4.", ".AK6.5."],
+            notrump,
+            4,
+            Some([1, 2, 0, 0]),
+            "and a third with a low card of its long suit",
         ),
         (
             ["2.3.2.", "A..54.", "3.2.3.", "4..AK."],
