@@ -22,3 +22,4 @@ pub mod TakenTrick
 pub mod SecondHand
 pub mod SecondTrump
 pub mod SecondAcross
+pub mod LaterTrick

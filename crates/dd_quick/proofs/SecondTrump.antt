@@ -64,7 +64,7 @@ played-too strain sure n i own his rest m c lets taken suits = record {
     flag-one false = omega arith
 
 -- a hand with a card that is no trump has a card to play to the lead of m's suit
-any-card : (strain : Strain) (m : PlayingCard) (trick hand : List PlayingCard) → IsLed m trick → 1 ≤ count (is_plain strain) hand → (d : PlayingCard) × (has_card (following trick hand) d ≡ true)
+pub any-card : (strain : Strain) (m : PlayingCard) (trick hand : List PlayingCard) → IsLed m trick → 1 ≤ count (is_plain strain) hand → (d : PlayingCard) × (has_card (following trick hand) d ≡ true)
 any-card strain m trick hand first some = elim (cases_lt 0 (count_of m.suit hand)) [
   | inl l ↦ (
       let d = count-some (is_of m.suit) hand l in
