@@ -42,6 +42,17 @@ pub record RestsAcross (top : PlayingCard → Bool) (p : Board) (n z y : Suit �
   pub entry : 1 ≤ z e
   pub few : total n + total y ≤ left p
 
+-- a position that is covered has no trumps where the one that covers it has none
+pub plain-covered : (top : PlayingCard → Bool) (k : ℕ) (to from : PlayingCard → PlayingCard) (s : Side) (p : Board) (t : Side) (q : Board) → IsCover top k to from s p t q → ((i : ℕ) → i < 4 → trumps_at p.strain p (seat_after p.first i) ≡ 0) → NoTrumps q
+plain-covered top k to from s p t q r plain x c has = else-false (is_trump q.strain c) (λ h.
+    let at = place-of q.first x in
+    let none = plain at.0 at.1 in
+    let same = trumps-same top k to from s p t q r p.strain at.0 in
+    let strain = ap (λ z. trumps_at z q (seat_after q.first at.0)) r.strain in
+    let counted = trumps-count q.strain q (seat_after q.first at.0) in
+    let one = count-has (is_trump q.strain) (cards_at q (seat_after q.first at.0)) c (subst (λ z. has_card (cards_at q z) c ≡ true) at.2 has) h in
+    omega (arith, none, same, strain, counted, one))
+
 -- a position that is covered
 module _ (top : PlayingCard → Bool) (k : ℕ) (to from : PlayingCard → PlayingCard) (s : Side) (p : Board) (t : Side) (q : Board) (r : IsCover top k to from s p t q) (n z y : Suit → ℕ) (e : Suit)
     (start : p.trick ≡ []) (rests : RestsAcross top p n z y e) where
@@ -59,14 +70,7 @@ module _ (top : PlayingCard → Bool) (k : ℕ) (to from : PlayingCard → Playi
 
   -- no hand has a trump
   plain : NoTrumps q
-  plain x c has = else-false (is_trump q.strain c) (λ h.
-      let at = place-of q.first x in
-      let none = rests.plain at.0 at.1 in
-      let same = trumps-same top k to from s p t q r p.strain at.0 in
-      let strain = ap (λ z. trumps_at z q (seat_after q.first at.0)) r.strain in
-      let counted = trumps-count q.strain q (seat_after q.first at.0) in
-      let one = count-has (is_trump q.strain) (cards_at q (seat_after q.first at.0)) c (subst (λ z. has_card (cards_at q z) c ≡ true) at.2 has) h in
-      omega (arith, none, same, strain, counted, one))
+  plain = plain-covered top k to from s p t q r rests.plain
 
   -- a card of a hand of q that is the image of a top card
   came-from : (i : ℕ) (d : PlayingCard) → has_card (hand_on q i) d ≡ true → top (from d) ≡ true → (has_card (hand_on p i) (from d) ≡ true) × (to (from d) ≡ d)

@@ -389,7 +389,7 @@ around-partner f (suc (suc (suc zero))) l k = (1, omega arith, λ e. omega (arit
 around-partner f (suc (suc (suc (suc i)))) l k = absurd (omega (arith, k))
 
 -- cards chosen suit by suit, as many of each suit
-chosen-many : (hand : List PlayingCard) (test : Suit → PlayingCard → Bool) (k : Suit → ℕ) (chosen : (u : Suit) → Chosen (λ c. is_of u c && test u c) hand (k u)) (u : Suit) → sure_of (λ c. (chosen c.suit).kept c) u hand ≡ k u
+pub chosen-many : (hand : List PlayingCard) (test : Suit → PlayingCard → Bool) (k : Suit → ℕ) (chosen : (u : Suit) → Chosen (λ c. is_of u c && test u c) hand (k u)) (u : Suit) → sure_of (λ c. (chosen c.suit).kept c) u hand ≡ k u
 chosen-many hand test k chosen u = count-same (λ c. is_of u c && (chosen c.suit).kept c) (chosen u).kept hand (λ c has. agree c (is_of u c) refl) ∙ (chosen u).many
   where
     agree : (c : PlayingCard) → (b : Bool) → is_of u c ≡ b → (is_of u c && (chosen c.suit).kept c) ≡ (chosen u).kept c

@@ -4,7 +4,7 @@
 -- longer holdings of the suits that the leader's side heads, with the cards that an opponent keeps, are no more than the tricks
 -- left, the leader's side comes to lead a suit that an opponent heads.
 use Rattle.std.proofs.Common.{◌≡◌, ◌≢◌, ℕ, zero, suc, ◌+◌, ◌<◌, ◌≤◌, Bool, true, false, refl, sym, ap, ◌∙◌, subst, arith, List, [], ◌∷◌, ◌++◌, length, length-append, inl, inr, max}
-use Rattle.std.specs.Prelude.{filter, nat_lt, ◌&&◌, ◌==◌, ◌⊎◌, if◌then◌else◌}
+use Rattle.std.specs.Prelude.{nat_lt, ◌&&◌, ◌==◌, ◌⊎◌, if◌then◌else◌}
 use mathlib.Core.Bool.{not}
 use mathlib.Core.Path.{ap₂}
 use Rattle.std.proofs.lemmas.Bool.{cases_lt, eqb-true, lt-ltb}
@@ -16,7 +16,7 @@ use Rattle.dd_cards.specs.declared.suit.Suit.TheVariants.{Spades, Hearts, Diamon
 use Rattle.dd_cards.specs.declared.side.Side.{Side}
 use Rattle.dd_cards.specs.declared.strain.Strain.{Strain}
 use Rattle.dd_cards.specs.PlayingCard.{PlayingCard}
-use Rattle.dd_cards.specs.Cards.{is_of, same_card, has_card, without}
+use Rattle.dd_cards.specs.Cards.{is_of, same_card, has_card}
 use Rattle.dd_cards.specs.Seats.{seat_code, seat_after}
 use Rattle.dd_cards.specs.Sides.{side_of, other_side, is_side}
 use Rattle.dd_cards.proofs.CallerLemmas.{else-false, filter-true, has_card-without, is-same, not-true, same_card-eq, seat_code-injective}
@@ -26,19 +26,19 @@ use Rattle.dd_play.specs.Play.{after, completes, following, trick_with}
 use Rattle.dd_play.specs.Simulations.{IsLegal}
 use Rattle.dd_play.specs.Covers.{count_of}
 use Rattle.dd_play.specs.Won.{point, won}
-use Rattle.dd_play.proofs.CallerLemmas.{Obeys, after-code, can, code-lt, count, count-has, count-some, flag_of, hand-others, hand-own, has-first, in-following, in-rest, legal-in, legal-leads, legal-out, of-suit', own-card, same-or, strain-after, suit-of, trick-after, trick-closed, was-in, won_with}
+use Rattle.dd_play.proofs.CallerLemmas.{Obeys, after-code, can, code-lt, count, count-has, count-some, flag_of, hand-others, hand-own, in-following, legal-in, legal-leads, legal-out, of-suit', own-card, same-or, strain-after, suit-of, trick-after, trick-closed, was-in, won_with}
 use Rattle.dd_quick.specs.SecondHand.{unled}
-use Rattle.dd_quick.proofs.Cashing.{FollowsSuit, IsMaster, hand_on, is_plain, total}
+use Rattle.dd_quick.proofs.Cashing.{IsMaster, hand_on, is_plain, total}
 use Rattle.dd_quick.proofs.Chosen.{count-never, count-split}
 use Rattle.dd_quick.proofs.Crossings.{HasFollowed, NoTrumps}
-use Rattle.dd_quick.proofs.Hands.{IsOpposed, one-hand}
+use Rattle.dd_quick.proofs.Hands.{IsOpposed}
 use Rattle.dd_quick.proofs.JointPlans.{trumps-plain}
 use Rattle.dd_quick.proofs.JointTrumps.{place-of}
 use Rattle.dd_quick.proofs.LeadBack.{board-back, is-back, was-back}
 use Rattle.dd_quick.proofs.Plays.{count-own, whoever}
 use Rattle.dd_quick.proofs.SecondTrump.{any-card}
 use Rattle.dd_quick.proofs.Sound.{opponents-side}
-use Rattle.dd_quick.proofs.TakenTrick.{Allows, IsMidway, IsTaken, nobody, trick-taken}
+use Rattle.dd_quick.proofs.TakenTrick.{Allows, trick-taken}
 
 -- ---- sides
 
@@ -49,8 +49,15 @@ two-same t East = refl
 two-same t South = refl
 two-same t West = refl
 
+-- a seat is not on the other side
+pub leaders-side : (f : Seat) → is_side (other_side (side_of f)) f ≡ false
+leaders-side North = refl
+leaders-side East = refl
+leaders-side South = refl
+leaders-side West = refl
+
 -- a seat of the other side is an opponent
-opposite : (t : Side) (f x : Seat) → is_side t f ≡ false → is_side t x ≡ true → (i : ℕ) × IsOpposed i × (x ≡ seat_after f i)
+pub opposite : (t : Side) (f x : Seat) → is_side t f ≡ false → is_side t x ≡ true → (i : ℕ) × IsOpposed i × (x ≡ seat_after f i)
 opposite t f x away on = by (place-of f x)
   where
     by : (i : ℕ) × (i < 4) × (x ≡ seat_after f i) → (i : ℕ) × IsOpposed i × (x ≡ seat_after f i)
@@ -503,10 +510,4 @@ module _ (o : Board) (guard : PlayingCard → Bool) (headed : Suit → Bool) (ho
 
   -- where that holds at first
   pub one-later : IsBoard o → o.trick ≡ [] → total (rounds o) + 1 ≤ left o → ((x : Seat) → is_side t x ≡ true → total (rounds o) + count guard (cards_at o x) ≤ left o) → 1 ≤ won t o
-  one-later valid start few room = comes-in (left o) o refl (record { valid = valid; same = refl; start = start; theirs = other-side o.first; part = λ x c h. h; keeps = λ x c on keep h. h; few = few; room = room })
-    where
-      other-side : (f : Seat) → is_side (other_side (side_of f)) f ≡ false
-      other-side North = refl
-      other-side East = refl
-      other-side South = refl
-      other-side West = refl
+  one-later valid start few room = comes-in (left o) o refl (record { valid = valid; same = refl; start = start; theirs = leaders-side o.first; part = λ x c h. h; keeps = λ x c on keep h. h; few = few; room = room })

@@ -23,3 +23,4 @@ pub mod SecondHand
 pub mod SecondTrump
 pub mod SecondAcross
 pub mod LaterTrick
+pub mod LaterClaims

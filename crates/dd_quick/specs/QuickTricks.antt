@@ -1,5 +1,5 @@
 -- Quick tricks: the tricks that a side is sure to take, counted without search.
-use Rattle.std.specs.Prelude.{◌≡◌, ◌≤◌, ◌⊎◌, List, ℕ, ◌+◌, ◌-◌, Bool, ◌&&◌, ◌||◌, ◌==◌, length, filter, min, max, nat_le, nat_lt, if◌then◌else◌}
+use Rattle.std.specs.Prelude.{◌≡◌, ◌≤◌, ◌⊎◌, List, ℕ, ◌+◌, ◌-◌, Bool, true, ◌&&◌, ◌||◌, ◌==◌, length, filter, min, max, nat_le, nat_lt, if◌then◌else◌}
 use Rattle.std.specs.List.{list_any}
 use mathlib.Core.Bool.{not}
 use Rattle.dd_cards.specs.declared.seat.Seat.{Seat}
@@ -128,6 +128,33 @@ crossed p =
     then min (partners_tricks p Spades + partners_tricks p Hearts + partners_tricks p Diamonds + partners_tricks p Clubs) (left p - side_tricks p)
     else 0)
 
+-- ---- one later trick
+
+-- the longer holding of the leader's side in the suit
+abbrev pub longer : Board → Suit → ℕ
+longer p suit = max (length_at p p.first suit) (length_at p (seat_after p.first 2) suit)
+
+-- does the seat that is i places after the leader hold the highest card left of the suit, where the leader's side has one?
+abbrev pub heads : Board → ℕ → Suit → Bool
+heads p i suit = nat_lt 0 (run p (seat_after p.first i) suit) && nat_lt 0 (longer p suit)
+
+-- how often the leader's side can lead a suit that no opponent heads
+abbrev pub rounds : Board → Suit → ℕ
+rounds p suit = (if heads p 1 suit || heads p 3 suit then 0 else longer p suit)
+
+-- and such suits in all
+abbrev pub all_rounds : Board → ℕ
+all_rounds p = rounds p Spades + rounds p Hearts + rounds p Diamonds + rounds p Clubs
+
+-- how many suits the seat heads
+abbrev pub headed : Board → ℕ → ℕ
+headed p i = (if heads p i Spades then 1 else 0) + (if heads p i Hearts then 1 else 0) + (if heads p i Diamonds then 1 else 0) + (if heads p i Clubs then 1 else 0)
+
+-- The leader's side has to lead a suit that an opponent heads: it has not so many rounds of the others as tricks are left, and
+-- neither opponent has to throw the card with which it heads a suit.
+unfoldable pub has_later_trick : Board → Bool
+has_later_trick p = no_trumps p && (nat_lt (all_rounds p) (left p) && (nat_le (all_rounds p + headed p 1) (left p) && nat_le (all_rounds p + headed p 3) (left p)))
+
 -- ---- both
 
 -- the side of the leader takes at least this number
@@ -136,7 +163,7 @@ quick_lo p = side_tricks p + joint_trumps p.strain p p.first + crossed p
 
 -- and no more than this
 unfoldable pub quick_hi : Board → ℕ
-quick_hi p = left p - joint_trumps p.strain p (seat_after p.first 1)
+quick_hi p = left p - max (joint_trumps p.strain p (seat_after p.first 1)) (if has_later_trick p then 1 else 0)
 
 -- the tricks that the leader cashes in a suit, and the number of cards on which they rest, if there are any
 abbrev pub IsCash : Board → Suit → ℕ → ℕ → Type 0
@@ -166,3 +193,7 @@ RestsOnTrumps Notrump p seat cards n = Unit {0}
 RestsOnTrumps (Trump trump) p seat cards n =
     (min n (unbeaten p seat trump + unbeaten p (seat_after seat 2) trump) ≤ unbeaten_reached cards p seat trump + unbeaten_reached cards p (seat_after seat 2) trump)
     ⊎ ((length_at p (seat_after seat 1) trump ≡ 0) × (length_at p (seat_after seat 3) trump ≡ 0))
+
+-- the card with which the seat heads the suit is reached by these cards
+abbrev pub RestsOnHead : Board → ℕ → Suit → List PlayingCard → Type 0
+RestsOnHead p i suit cards = heads p i suit ≡ true → 1 ≤ length (filter (λ c. (is_of suit c && is_winner p (seat_after p.first i) c) && reach cards c) (cards_at p (seat_after p.first i)))

@@ -74,8 +74,8 @@ pub(crate) fn crossing(position: &Position, side: u8) -> Partners
     }
 }
 
-// Has a hand a trump?
-fn has_trumps(position: &Position) -> bool
+/// Has a hand a trump?
+pub(crate) fn has_trumps(position: &Position) -> bool
     ensures { result ≡ not (no_trumps position.now) }
 {
     let leader = position.first();
