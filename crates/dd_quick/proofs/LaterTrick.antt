@@ -122,8 +122,7 @@ head-wins q m g h i valid none empty has opposed at own suit high =
         λ trump. absurd (let some = count-has (is_trump (after q m).strain) his d mine trump in let z = now.0 in omega (arith, some, z)),
       );
       partner = λ his trick on now. (
-          let d = any-card (after q m).strain g trick his on (now.1 refl) in
-          (
+          let d = any-card (after q m).strain g trick his on (now.1 refl) in (
             d.0,
             d.1,
             λ trump. absurd (let some = count-has (is_trump (after q m).strain) his d.0 (in-hand trick his d.0 d.1) trump in let z = now.0 in omega (arith, some, z)),
@@ -501,11 +500,11 @@ module _ (o : Board) (guard : PlayingCard → Bool) (headed : Suit → Bool) (ho
             ];
             followed = λ i l. subst (λ n. HasFollowed m.suit p (after p m) (seat_after p.first n)) (let k : 0 ≡ i = omega (arith, l, one) in k) (inr (let l = lost (is_of m.suit) in let f : flag_of (is_of m.suit m) ≡ 1 = ap flag_of (of-suit' m.suit m refl) in omega (arith, l, f)));
             paid = (
-              let l = lost (λ c. true) in
-              let a = ap length (filter-true (cards_at (after p m) p.first)) in
-              let b = ap length (filter-true (cards_at p p.first)) in
-              let n = hand-left p was.valid was.start p.first in
-              omega (arith, l, a, b, n));
+                let l = lost (λ c. true) in
+                let a = ap length (filter-true (cards_at (after p m) p.first)) in
+                let b = ap length (filter-true (cards_at p p.first)) in
+                let n = hand-left p was.valid was.start p.first in
+                omega (arith, l, a, b, n));
           }
 
   -- where that holds at first
