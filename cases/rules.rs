@@ -10,9 +10,11 @@ mod search;
 mod deals;
 
 use deals::{Chance, Played, code, dealt_anew, random_deal, start, turned, written};
-use search::quick::{ALL, CROSSING, JOINT_TRUMPS, LONG_SUITS, RUNS, against_leader, for_leader, for_second_hand};
-use search::quick::{AT_THIRD_HAND, CROSSES_WITHOUT_A_CARD, NOBODY_RUFFS};
-use search::quick::{NO_WINNER_FALLS, THE_LEAD_IS_NOT_RUFFED, TRUMPS_ARE_DRAWN};
+use search::quick::{ALL, CROSSING, JOINT_TRUMPS, LATER_TRICK, LONG_SUITS, PARTNERS_LONG_SUITS, RUNS};
+use search::quick::{against_leader, for_leader, for_second_hand};
+use search::quick::{AT_THIRD_HAND, CROSSES_WITHOUT_A_CARD, LONG_BEFORE_THE_LEADER, LONG_BEFORE_THE_OPPONENTS};
+use search::quick::{A_ROUND_FOR_EACH_TRICK, ROUNDS_OF_THE_SHORTER};
+use search::quick::{NOBODY_RUFFS, NO_WINNER_FALLS, THE_LEAD_IS_NOT_RUFFED, TRUMPS_ARE_DRAWN};
 use search::{Card, Position, Strain, Suit, depths_of};
 use std::process::ExitCode;
 
@@ -50,31 +52,44 @@ const fn others(name: &'static str, played: usize, claim: fn(&Position, u8) -> O
 }
 
 // A rule that is added to the quick tricks gets a line here, and where it has parts a line for each.
-const RIGHT: [Rule; 16] = [
+const RIGHT: [Rule; 22] = [
     leaders("side suits without long ones", for_leader::<RUNS>),
     leaders("long suits", for_leader::<LONG_SUITS>),
     leaders("side suits with long ones", for_leader::<{ RUNS | LONG_SUITS }>),
     leaders("joint trumps of the leader's side", for_leader::<JOINT_TRUMPS>),
     others("joint trumps of the other side", 0, against_leader::<JOINT_TRUMPS>),
+    others("the other side's later trick", 0, against_leader::<LATER_TRICK>),
+    others("all of the other side", 0, against_leader::<ALL>),
     leaders("crossing to the partner", for_leader::<CROSSING>),
     leaders("crossing after side suits without long ones", crossed::<{ RUNS | CROSSING }>),
+    leaders("crossing to the partner's long suits", long_crossed::<{ RUNS | CROSSING | PARTNERS_LONG_SUITS }>),
     leaders("crossing after side suits", crossed::<ALL>),
     leaders("all of the leader's side", for_leader::<ALL>),
     others("second hand: side suits without long ones", 1, side_suit_led::<RUNS>),
     others("second hand: long suits", 1, side_suit_led::<LONG_SUITS>),
     others("second hand: side suits and joint trumps", 1, side_suit_led::<{ RUNS | JOINT_TRUMPS }>),
+    others("second hand: crossing after side suits without long ones", 1, second_crossed::<{ RUNS | CROSSING }>),
+    others("second hand: crossing to its partner's long suits", 1, second_long::<ALL>),
+    others("second hand: crossing after side suits", 1, second_crossed::<ALL>),
     others("second hand: all after the lead of a side suit", 1, side_suit_led::<ALL>),
     others("second hand: the trump led", 1, trump_led::<0>),
     others("second hand: the trump led and side suits", 1, trump_led::<RUNS>),
     others("second hand: all after the lead of a trump", 1, trump_led::<ALL>),
 ];
 
-const WRONG: [Rule; 6] = [
+const WRONG: [Rule; 13] = [
     leaders("joint trumps added after a draw", for_leader::<{ ALL | TRUMPS_ARE_DRAWN }>),
     leaders("long suits that opponents with trumps can't follow", for_leader::<{ LONG_SUITS | NOBODY_RUFFS }>),
     leaders("crossing to winners that fall", crossed::<{ ALL | NO_WINNER_FALLS }>),
     leaders("crossing without a card to lead", crossed::<{ ALL | CROSSES_WITHOUT_A_CARD }>),
+    leaders("crossing to a suit that the leader is long in", long_crossed::<{ ALL | LONG_BEFORE_THE_LEADER }>),
+    leaders("crossing to a suit that opponents are long in", long_crossed::<{ ALL | LONG_BEFORE_THE_OPPONENTS }>),
+    others("second hand: crossing to a suit that opponents are long in", 1, second_long::<{ ALL | LONG_BEFORE_THE_OPPONENTS }>),
+    others("a later trick where there is a round for each trick", 0, against_leader::<{ LATER_TRICK | A_ROUND_FOR_EACH_TRICK }>),
+    others("a later trick by the shorter holdings", 0, against_leader::<{ LATER_TRICK | ROUNDS_OF_THE_SHORTER }>),
     others("second hand: a lead that third hand ruffs", 1, side_suit_led::<{ ALL | THE_LEAD_IS_NOT_RUFFED }>),
+    others("second hand: crossing to winners that fall", 1, second_crossed::<{ ALL | NO_WINNER_FALLS }>),
+    others("second hand: crossing without a card to lead", 1, second_crossed::<{ ALL | CROSSES_WITHOUT_A_CARD }>),
     others("second hand's winners at third hand", 2, third_hand),
 ];
 
@@ -86,12 +101,35 @@ fn crossed<const RULES: u32>(position: &Position, need: u8) -> Option<u64> {
     }
 }
 
+// Only what the partner's long suits add.
+fn long_crossed<const RULES: u32>(position: &Position, need: u8) -> Option<u64> {
+    match for_leader::<{ RUNS | LONG_SUITS | JOINT_TRUMPS | CROSSING }>(position, need) {
+        Some(_) => None,
+        None => for_leader::<RULES>(position, need),
+    }
+}
+
+fn second_long<const RULES: u32>(position: &Position, need: u8) -> Option<u64> {
+    match side_suit_led::<{ RUNS | LONG_SUITS | JOINT_TRUMPS | CROSSING }>(position, need) {
+        Some(_) => None,
+        None => side_suit_led::<RULES>(position, need),
+    }
+}
+
 fn is_trump(position: &Position, card: Card) -> bool {
     position.strain == Strain::Trump(card.suit)
 }
 
 fn side_suit_led<const RULES: u32>(position: &Position, need: u8) -> Option<u64> {
     if is_trump(position, position.trick[0]) { None } else { for_second_hand::<RULES>(position, need) }
+}
+
+// Only what second hand's own tricks don't answer.
+fn second_crossed<const RULES: u32>(position: &Position, need: u8) -> Option<u64> {
+    match side_suit_led::<{ RUNS | LONG_SUITS | JOINT_TRUMPS }>(position, need) {
+        Some(_) => None,
+        None => side_suit_led::<RULES>(position, need),
+    }
 }
 
 fn trump_led<const RULES: u32>(position: &Position, need: u8) -> Option<u64> {

@@ -10,7 +10,11 @@ pub const LONG_SUITS: u32 = 2;
 pub const JOINT_TRUMPS: u32 = 4;
 /// Without trumps, the partner's winners next below the leader's, once the leader has crossed.
 pub const CROSSING: u32 = 8;
-pub const ALL: u32 = RUNS | LONG_SUITS | JOINT_TRUMPS | CROSSING;
+/// All cards of a long suit of the partner's, once the leader has crossed.
+pub const PARTNERS_LONG_SUITS: u32 = 1024;
+/// Without trumps, one trick where the leader's side has to lead a suit that an opponent heads.
+pub const LATER_TRICK: u32 = 8192;
+pub const ALL: u32 = RUNS | LONG_SUITS | JOINT_TRUMPS | CROSSING | PARTNERS_LONG_SUITS | LATER_TRICK;
 
 // Wrong forms, which `cases/rules.rs` has to find wrong.
 /// An opponent with trumps follows suit as long as it is led.
@@ -25,6 +29,16 @@ pub const AT_THIRD_HAND: u32 = 128;
 pub const NO_WINNER_FALLS: u32 = 256;
 /// The leader crosses without a card to lead to its partner.
 pub const CROSSES_WITHOUT_A_CARD: u32 = 512;
+
+/// A suit of the partner's is long whatever the leader has of it.
+pub const LONG_BEFORE_THE_LEADER: u32 = 2048;
+/// A suit of the partner's is long whatever the opponents have of it.
+pub const LONG_BEFORE_THE_OPPONENTS: u32 = 4096;
+
+/// The leader's side may have a round of its own suits for each trick left.
+pub const A_ROUND_FOR_EACH_TRICK: u32 = 16384;
+/// Of a suit that it heads the leader's side has as many rounds as its shorter holding.
+pub const ROUNDS_OF_THE_SHORTER: u32 = 32768;
 
 // The cards of a holding above all of these others.
 fn above_all(own: u16, others: u16) -> u16 {
@@ -166,11 +180,20 @@ fn next_run(position: &Position, suit: Suit) -> u16 {
 
 // What the partner takes in a suit once the leader has crossed, and whether the leader can cross there.
 fn next<const RULES: u32>(position: &Position, suit: Suit) -> Offer {
+    let [left, partner, right] = others(position.first);
     let run = winners(position, position.first, suit).count_ones() as u8;
-    let spare = length(position, position.first.next().next(), suit).saturating_sub(run);
     let next = next_run(position, suit).count_ones() as u8;
-    let tricks = if RULES & NO_WINNER_FALLS == 0 { next.min(spare) } else { next };
-    let card = RULES & CROSSES_WITHOUT_A_CARD != 0 || run < length(position, position.first, suit);
+    let own = length(position, position.first, suit);
+    let spare = length(position, partner, suit).saturating_sub(run);
+    let theirs = length(position, left, suit).max(length(position, right, suit));
+    let long = (own <= run + next || RULES & LONG_BEFORE_THE_LEADER != 0)
+        && (theirs <= run + next || RULES & LONG_BEFORE_THE_OPPONENTS != 0);
+    let tricks = match () {
+        () if RULES & PARTNERS_LONG_SUITS != 0 && long => spare,
+        () if RULES & NO_WINNER_FALLS == 0 => next.min(spare),
+        () => next,
+    };
+    let card = RULES & CROSSES_WITHOUT_A_CARD != 0 || run < own;
     Offer { tricks, first: tricks > 0 && card }
 }
 
@@ -199,7 +222,7 @@ fn leaders<const RULES: u32>(position: &Position) -> ([Cash; 4], u8, u8) {
 pub fn bounds<const RULES: u32>(position: &Position) -> Interval {
     let (_, side, trumps) = leaders::<RULES>(position);
     let (_, crossed) = crossing::<RULES>(position, side);
-    let theirs = joint_trumps::<RULES>(position, position.first.next());
+    let theirs = joint_trumps::<RULES>(position, position.first.next()).max(later_trick::<RULES>(position) as u8);
     Interval { lo: side + trumps + crossed, hi: position.tricks_left() - theirs }
 }
 
@@ -244,7 +267,48 @@ fn crossing_cards<const RULES: u32>(position: &Position, cash: [Cash; 4], side: 
 /// At a start of a trick: the cards on which it rests that the other side takes at least `need` tricks.
 pub fn against_leader<const RULES: u32>(position: &Position, need: u8) -> Option<u64> {
     let left = position.first.next();
-    if need <= joint_trumps::<RULES>(position, left) { Some(with_trumps(position, left, 0, need)) } else { None }
+    if need <= joint_trumps::<RULES>(position, left) {
+        return Some(with_trumps(position, left, 0, need));
+    }
+    if need == 1 && later_trick::<RULES>(position) { Some(later_cards(position)) } else { None }
+}
+
+// Of a suit: the longer holding of the leader's side, or the shorter, and whether an opponent heads it.
+fn led<const RULES: u32>(position: &Position, suit: Suit) -> (u8, bool, bool) {
+    let [left, partner, right] = others(position.first);
+    let (own, his) = (length(position, position.first, suit), length(position, partner, suit));
+    let heads = |seat| winners(position, seat, suit) != 0 && own.max(his) > 0;
+    let rounds = if RULES & ROUNDS_OF_THE_SHORTER != 0 { own.min(his) } else { own.max(his) };
+    (rounds, heads(left), heads(right))
+}
+
+// Has the leader's side to lead a suit that an opponent heads?
+fn later_trick<const RULES: u32>(position: &Position) -> bool {
+    let [left, partner, right] = others(position.first);
+    let seats = [position.first, left, partner, right];
+    if RULES & LATER_TRICK == 0 || seats.into_iter().any(|seat| trumps(position, seat) > 0) {
+        return false;
+    }
+    let led = SUITS.map(|suit| led::<RULES>(position, suit));
+    let rounds: u8 = led.iter().map(|&(rounds, left, right)| if left || right { 0 } else { rounds }).sum();
+    let left = led.iter().filter(|led| led.1).count() as u8;
+    let right = led.iter().filter(|led| led.2).count() as u8;
+    let tricks = position.tricks_left();
+    let rounds_left = if RULES & A_ROUND_FOR_EACH_TRICK != 0 { tricks } else { tricks - 1 };
+    rounds <= rounds_left && rounds + left <= tricks && rounds + right <= tricks
+}
+
+// The cards with which opponents head suits.
+fn later_cards(position: &Position) -> u64 {
+    let [left, partner, right] = others(position.first);
+    let mut cards = 0;
+    for suit in SUITS {
+        let longer = length(position, position.first, suit).max(length(position, partner, suit));
+        for seat in [left, right] {
+            cards = with_highest(cards, suit, winners(position, seat, suit), longer.min(1));
+        }
+    }
+    cards
 }
 
 // The opponent of the leader with the highest card left of the suit led, where an opponent has it.
@@ -290,8 +354,11 @@ fn after_a_side_suit<const RULES: u32>(before: &Position, suit: Suit, need: u8) 
     if RULES & THE_LEAD_IS_NOT_RUFFED != 0 {
         cash[suit as usize].tricks = cash[suit as usize].tricks.max(1);
     }
-    if need == 0 || cash[suit as usize].tricks == 0 || side == 0 || need > side + trumps {
+    if need == 0 || cash[suit as usize].tricks == 0 || side == 0 {
         return None;
+    }
+    if need > side + trumps {
+        return crossing_cards::<RULES>(before, cash, side, trumps, need);
     }
     let side = need.min(side);
     let mut fewer = cash;

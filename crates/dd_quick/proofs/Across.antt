@@ -12,7 +12,7 @@ use Rattle.dd_cards.specs.Cards.{is_of, card_of, has_card}
 use Rattle.dd_cards.specs.Seats.{seat_code, seat_after}
 use Rattle.dd_cards.specs.Sides.{side_of, is_side}
 use Rattle.dd_cards.proofs.CallerLemmas.{and-left, and-right, else-false, is-same, not-true, same-self}
-use Rattle.dd_play.specs.Board.{Board, IsBoard, cards_at, left}
+use Rattle.dd_play.specs.Board.{Board, cards_at, left}
 use Rattle.dd_play.specs.Tricks.{is_trump}
 use Rattle.dd_play.specs.Won.{won}
 use Rattle.dd_play.specs.Covers.{IsCover}
@@ -27,21 +27,35 @@ use Rattle.dd_quick.proofs.Covered.{RestsOnTops, count-image, left-same, length-
 use Rattle.dd_quick.proofs.Crossings.{CanCross, NoTrumps, crossed-all}
 
 -- What crossing rests on: no hand has a trump; the leader has n cards of each suit to cash, its whole run, on top cards; its
--- partner has y winners next below, top cards too, and beside them a card for each lead; a suit to cross in.
-pub record RestsAcross (top : PlayingCard → Bool) (p : Board) (n y : Suit → ℕ) (e : Suit) : Type 0 where
+-- partner has y cards beside one for each lead, z of them winners next below, top cards too, which are all or as many as leave
+-- no other hand one; a suit to cross in.
+pub record RestsAcross (top : PlayingCard → Bool) (p : Board) (n z y : Suit → ℕ) (e : Suit) : Type 0 where
   pub plain : (i : ℕ) → i < 4 → trumps_at p.strain p (seat_after p.first i) ≡ 0
   pub held : (u : Suit) → n u ≤ length_at p p.first u
   pub low : n e + 1 ≤ length_at p p.first e
   pub tops : (u : Suit) → run p p.first u ≤ n u
   pub winners : RestsOnTops top p n
-  pub has : (u : Suit) → y u ≤ count (λ c. (is_of u c && is_next p c) && top c) (hand_on p 2)
+  pub has : (u : Suit) → z u ≤ count (λ c. (is_of u c && is_next p c) && top c) (hand_on p 2)
+  pub of_all : (u : Suit) → z u ≤ y u
   pub room : (u : Suit) → (y u ≡ 0) ⊎ (n u + y u ≤ length_at p (seat_after p.first 2) u)
-  pub entry : 1 ≤ y e
+  pub alone : (u : Suit) → (y u ≡ z u) ⊎ ((i : ℕ) → i < 4 → i ≢ 2 → length_at p (seat_after p.first i) u ≤ n u + z u)
+  pub entry : 1 ≤ z e
   pub few : total n + total y ≤ left p
 
+-- a position that is covered has no trumps where the one that covers it has none
+pub plain-covered : (top : PlayingCard → Bool) (k : ℕ) (to from : PlayingCard → PlayingCard) (s : Side) (p : Board) (t : Side) (q : Board) → IsCover top k to from s p t q → ((i : ℕ) → i < 4 → trumps_at p.strain p (seat_after p.first i) ≡ 0) → NoTrumps q
+plain-covered top k to from s p t q r plain x c has = else-false (is_trump q.strain c) (λ h.
+    let at = place-of q.first x in
+    let none = plain at.0 at.1 in
+    let same = trumps-same top k to from s p t q r p.strain at.0 in
+    let strain = ap (λ z. trumps_at z q (seat_after q.first at.0)) r.strain in
+    let counted = trumps-count q.strain q (seat_after q.first at.0) in
+    let one = count-has (is_trump q.strain) (cards_at q (seat_after q.first at.0)) c (subst (λ z. has_card (cards_at q z) c ≡ true) at.2 has) h in
+    omega (arith, none, same, strain, counted, one))
+
 -- a position that is covered
-module _ (top : PlayingCard → Bool) (k : ℕ) (to from : PlayingCard → PlayingCard) (s : Side) (p : Board) (t : Side) (q : Board) (r : IsCover top k to from s p t q) (n y : Suit → ℕ) (e : Suit)
-    (start : p.trick ≡ []) (rests : RestsAcross top p n y e) where
+module _ (top : PlayingCard → Bool) (k : ℕ) (to from : PlayingCard → PlayingCard) (s : Side) (p : Board) (t : Side) (q : Board) (r : IsCover top k to from s p t q) (n z y : Suit → ℕ) (e : Suit)
+    (start : p.trick ≡ []) (rests : RestsAcross top p n z y e) where
   -- the images of the leader's winners that are top cards
   abbrev sure : PlayingCard → Bool
   sure d = is_winner p p.first (from d) && top (from d)
@@ -56,14 +70,7 @@ module _ (top : PlayingCard → Bool) (k : ℕ) (to from : PlayingCard → Playi
 
   -- no hand has a trump
   plain : NoTrumps q
-  plain x c has = else-false (is_trump q.strain c) (λ h.
-      let at = place-of q.first x in
-      let none = rests.plain at.0 at.1 in
-      let same = trumps-same top k to from s p t q r p.strain at.0 in
-      let strain = ap (λ z. trumps_at z q (seat_after q.first at.0)) r.strain in
-      let counted = trumps-count q.strain q (seat_after q.first at.0) in
-      let one = count-has (is_trump q.strain) (cards_at q (seat_after q.first at.0)) c (subst (λ z. has_card (cards_at q z) c ≡ true) at.2 has) h in
-      omega (arith, none, same, strain, counted, one))
+  plain = plain-covered top k to from s p t q r rests.plain
 
   -- a card of a hand of q that is the image of a top card
   came-from : (i : ℕ) (d : PlayingCard) → has_card (hand_on q i) d ≡ true → top (from d) ≡ true → (has_card (hand_on p i) (from d) ≡ true) × (to (from d) ≡ d)
@@ -167,7 +174,7 @@ module _ (top : PlayingCard → Bool) (k : ℕ) (to from : PlayingCard → Playi
       (ap (λ z. is_next p z && top z) back ∙ both-pass (and-right (is_of u c) (is_next p c) pass) tc)))
 
   -- so the leader's side can cross there
-  pub crosses-there : q.trick ≡ [] → CanCross q sure next n y e
+  pub crosses-there : q.trick ≡ [] → CanCross q sure next n z y e
   crosses-there empty =
       let same = λ (i : ℕ) (u : Suit). length-same top k to from s p t q r i u in
       let lefts = left-same p q start empty (λ u. same 0 u) in
@@ -180,17 +187,18 @@ module _ (top : PlayingCard → Bool) (k : ℕ) (to from : PlayingCard → Playi
         tops = tops;
         yields = λ u i l h. (let w = rests.winners u i l h in let g = sure-image u in let m = same i u in omega (arith, w, g, m));
         has = λ u. (let h = rests.has u in let g = next-image u in omega (arith, h, g));
+        of_all = rests.of_all;
+        alone = λ u. elim (rests.alone u) [ inl all ↦ inl all | inr h ↦ inr (λ i l other. (let w = h i l other in let m = same i u in omega (arith, w, m))) ];
         room = λ u. elim (rests.room u) [ inl none ↦ inl none | inr h ↦ inr (let m = same 2 u in omega (arith, h, m)) ];
         entry = rests.entry;
         few = (let h = rests.few in omega (arith, h, lefts));
       }
 
 -- crossing is a claim by the cards on which it rests
-pub across-by : (top : PlayingCard → Bool) (p : Board) (n y : Suit → ℕ) (e : Suit) → p.trick ≡ [] → (IsBoard p → RestsAcross top p n y e) → TakesBy top (side_of p.first) p (total n + total y)
-across-by top p n y e start may k to from t q r strict =
-    let rests = may r.valid_p in
+pub across-by : (top : PlayingCard → Bool) (p : Board) (n z y : Suit → ℕ) (e : Suit) → p.trick ≡ [] → RestsAcross top p n z y e → TakesBy top (side_of p.first) p (total n + total y)
+across-by top p n z y e start rests k to from t q r strict =
     let empty = no-trick to from top p.trick q.trick start r.trick in
-    let can = crosses-there top k to from (side_of p.first) p t q r n y e start rests empty in
-    let taken = crossed-all (side_of q.first) q _ _ n y e r.valid_q empty (own-side q.first) can in
+    let can = crosses-there top k to from (side_of p.first) p t q r n z y e start rests empty in
+    let taken = crossed-all (side_of q.first) q _ _ n z y e r.valid_q empty (own-side q.first) can in
     let side = is-same (side_of q.first) t (ap (is_side t) r.first ∙ r.sides p.first ∙ same-self (side_of p.first)) in
     subst (λ z. total n + total y ≤ won z q) side taken

@@ -4,10 +4,9 @@
 -- leader has as many winners as any other hand has cards, these winners leave the others without the suit, since each follows
 -- suit as long as it can: then the leader's low cards are winners too.
 use Rattle.std.proofs.Common.{◌≡◌, ◌≢◌, ℕ, zero, suc, ◌+◌, ◌-◌, ◌<◌, ◌≤◌, Bool, true, false, refl, sym, ap, ◌∙◌, subst, arith, List, [], ◌∷◌, ◌++◌, length, length-append, inl, inr}
-use Rattle.std.specs.Prelude.{filter, nat_le, nat_lt, min, ◌&&◌, ◌==◌, ◌⊎◌}
-use Rattle.std.specs.List.{list_all}
+use Rattle.std.specs.Prelude.{nat_lt, min, ◌&&◌, ◌==◌, ◌⊎◌}
 use mathlib.Core.Path.{ap₂}
-use Rattle.std.proofs.lemmas.Bool.{le-leb, lt-ltb, eqb-true, cases_lt}
+use Rattle.std.proofs.lemmas.Bool.{lt-ltb, eqb-true, cases_lt}
 use Rattle.std.proofs.lemmas.Bool.Decides.{eqb_tells}
 use Rattle.dd_cards.specs.declared.seat.Seat.{Seat}
 use Rattle.dd_cards.specs.declared.seat.Seat.TheVariants.{North, East, South, West}
@@ -17,63 +16,22 @@ use Rattle.dd_cards.specs.declared.strain.Strain.{Strain}
 use Rattle.dd_cards.specs.declared.strain.Strain.TheVariants.{Trump, Notrump}
 use Rattle.dd_cards.specs.PlayingCard.{PlayingCard}
 use Rattle.dd_cards.specs.Suits.{suit_code}
-use Rattle.dd_cards.specs.Cards.{is_of, same_card, has_card}
+use Rattle.dd_cards.specs.Cards.{is_of, has_card}
 use Rattle.dd_cards.specs.Seats.{seat_code, seat_after}
 use mathlib.Core.Bool.{not}
-use Rattle.dd_cards.proofs.CallerLemmas.{and-left, and-right, else-false, not-true, same_card-eq}
+use Rattle.dd_cards.proofs.CallerLemmas.{and-left, and-right, else-false, not-true}
 use Rattle.dd_cards.specs.Sides.{is_side}
 use Rattle.dd_cards.specs.declared.side.Side.{Side}
 use Rattle.dd_play.specs.Board.{Board, IsBoard, cards_at, mover, left}
-use Rattle.dd_play.specs.Tricks.{is_trump, deciding, is_highest_of, winning_place, winner_of, or_else}
+use Rattle.dd_play.specs.Tricks.{is_trump, winning_place, winner_of}
 use Rattle.dd_play.specs.Play.{completes, trick_with, after, following}
 use Rattle.dd_play.specs.Simulations.{IsLegal}
 use Rattle.dd_play.specs.Covers.{count_of}
 use Rattle.dd_play.specs.Won.{won, point}
-use Rattle.dd_play.proofs.CallerLemmas.{Obeys, after-code, can, code-lt, count, count-cons, count-has, count-some, filter-has, flag_of, hand-others, has-first, in-push, in-rest, legal-in, legal-leads, legal-out, of-suit', own-card, strain-after, suit-of, trick-after, trick-closed, was-in, won_with}
+use Rattle.dd_play.proofs.CallerLemmas.{Obeys, after-code, can, code-lt, count, count-cons, count-has, count-some, flag_of, hand-others, in-push, legal-in, legal-leads, legal-out, of-suit', own-card, strain-after, suit-of, trick-after, trick-closed, was-in, won_with}
 use Rattle.dd_quick.proofs.Plays.{whoever, count-own}
+use Rattle.dd_quick.proofs.FirstCard.{IsWeaker, first-wins}
 use Rattle.dd_quick.proofs.Hands.{places-on}
-
--- ---- the card led wins
-
--- no card of the list is a trump
-pub no-trump : (strain : Strain) (cards : List PlayingCard) → ((e : PlayingCard) → has_card cards e ≡ true → is_trump strain e ≡ false) → filter (is_trump strain) cards ≡ []
-no-trump strain [] each = refl
-no-trump strain (c ∷ cards) each = rw (each c (has-first c cards)) (no-trump strain cards (λ e h. each e (in-rest c e cards h)))
-
--- no card of the suit is higher
-pub none-higher : (m : PlayingCard) (cards : List PlayingCard) → ((e : PlayingCard) → has_card cards e ≡ true → e.suit ≡ m.suit → e.rank ≤ m.rank) → list_all (λ e. nat_le e.rank m.rank) (filter (is_of m.suit) cards) ≡ true
-none-higher m [] each = refl
-none-higher m (c ∷ cards) each = go (is_of m.suit c) refl (none-higher m cards (λ e h. each e (in-rest c e cards h)))
-  where
-    go : (b : Bool) → is_of m.suit c ≡ b → list_all (λ e. nat_le e.rank m.rank) (filter (is_of m.suit) cards) ≡ true → list_all (λ e. nat_le e.rank m.rank) (filter (is_of m.suit) (c ∷ cards)) ≡ true
-    go true e rest =
-        let here : nat_le c.rank m.rank ≡ true = le-leb c.rank m.rank (each c (has-first c cards) (suit-of m.suit c e)) in
-        rw (e, here, rest) refl
-    go false e rest = rw e rest
-
--- it is no trump, and no higher card of the suit led
-abbrev pub IsWeaker : Strain → PlayingCard → PlayingCard → Type 0
-IsWeaker strain m e = (is_trump strain e ≡ false) × (e.suit ≡ m.suit → e.rank < m.rank)
-
--- a card led that is no trump wins the trick from weaker cards
-first-wins : (strain : Strain) (m : PlayingCard) (rest : List PlayingCard) → is_trump strain m ≡ false → ((e : PlayingCard) → has_card rest e ≡ true → IsWeaker strain m e) → winning_place strain (m ∷ rest) ≡ 0
-first-wins strain m rest plain each = rw highest refl
-  where
-    split : (e : PlayingCard) → has_card (m ∷ rest) e ≡ true → (is_trump strain e ≡ false) × (e.suit ≡ m.suit → e.rank ≤ m.rank)
-    split e h = go (same_card m e) refl
-      where
-        go : (b : Bool) → same_card m e ≡ b → (is_trump strain e ≡ false) × (e.suit ≡ m.suit → e.rank ≤ m.rank)
-        go true f = subst (λ y. (is_trump strain y ≡ false) × (y.suit ≡ m.suit → y.rank ≤ m.rank)) (same_card-eq m e f) (plain, λ s. omega arith)
-        go false f = (let w = each e (rw f at h) in (w.0, λ s. (let k = w.1 s in omega (arith, k))))
-
-    decide : deciding strain (m ∷ rest) ≡ filter (is_of m.suit) (m ∷ rest)
-    decide = ap (λ trumps. or_else trumps (filter (is_of m.suit) (m ∷ rest))) (no-trump strain (m ∷ rest) (λ e h. (split e h).0))
-
-    there : has_card (filter (is_of m.suit) (m ∷ rest)) m ≡ true
-    there = filter-has (is_of m.suit) (m ∷ rest) m (has-first m rest) (of-suit' m.suit m refl)
-
-    highest : is_highest_of (deciding strain (m ∷ rest)) m ≡ true
-    highest = ap (λ cards. is_highest_of cards m) decide ∙ ap₂ (λ a b. a && b) there (none-higher m (m ∷ rest) (λ e h. (split e h).1))
 
 -- ---- what there is to cash
 
@@ -109,13 +67,14 @@ Only kept test = (c : PlayingCard) → kept c ≡ false → test c ≡ false
 abbrev pub OnlyTrumps : Strain → (PlayingCard → Bool) → Type 0
 OnlyTrumps strain test = Only (is_trump strain) test
 
--- By what is cashed: which cards are sure, and which ones the partner keeps; of each suit how many cards the leader keeps, and
--- how many sure ones it may leave.
+-- By what is cashed: which cards are sure, and which ones the partner keeps; of each suit how many cards the leader keeps, how
+-- many sure ones it may leave, and how many cards the hands but the partner's have at most when all is cashed.
 pub record Aims : Type 0 where
   pub sure : PlayingCard → Bool
   pub kept : PlayingCard → Bool
   pub low : Suit → ℕ
   pub over : Suit → ℕ
+  pub rest : Suit → ℕ
 
 -- How it came from a first position: the leader is the same, the hands only lost cards, the leader lost no trumps, and its
 -- partner none of the cards that it keeps.
@@ -143,16 +102,18 @@ pub record HasCards (strain : Strain) (aims : Aims) (n : Suit → ℕ) (p : Boar
   pub held : (u : Suit) → n u + aims.low u ≤ count_of u (cards_at p p.first)
   pub tops : (u : Suit) → sure_of aims.sure u (cards_at p p.first) ≤ n u + aims.over u
   pub plain : (u : Suit) (c : PlayingCard) → 1 ≤ n u → c.suit ≡ u → is_trump strain c ≡ false
+  pub most : (u : Suit) → count_of u (cards_at p p.first) ≤ n u + aims.rest u
 
 -- The hand that is i places after the leader lets n cards of each suit be cashed, and e more that are led first: it has no
 -- more cards of a suit than the leader has sure ones, where these are too few; an opponent without trumps can't ruff, and
 -- one with trumps has to follow suit to all; the partner has a card to spare for each, and of each suit as many as it has to
--- follow suit.
+-- follow suit; another hand than the partner's has no more left than it may have then.
 pub record LetsCash (strain : Strain) (aims : Aims) (n e : Suit → ℕ) (i : ℕ) (own his : List PlayingCard) : Type 0 where
   pub yields : (u : Suit) → min (e u + n u) (count_of u his) ≤ e u + sure_of aims.sure u own
   pub follows : i ≢ 2 → (count (is_trump strain) his ≡ 0) ⊎ ((u : Suit) → e u + n u ≤ count_of u his)
   pub spares : i ≡ 2 → (u : Suit) → min (e u + n u) (count_of u his) ≤ spare_of aims.kept u his
   pub throws : i ≡ 2 → total e + total n ≤ count (λ c. not (aims.kept c)) his
+  pub leaves : i ≢ 2 → (u : Suit) → count_of u his ≤ e u + n u + aims.rest u
 
 -- so does each hand that does not lead
 abbrev pub AllLetCash : Strain → Aims → (Suit → ℕ) → Board → Type 0
@@ -190,7 +151,7 @@ abbrev pub FollowsSuit : PlayingCard → List PlayingCard → PlayingCard → Ty
 FollowsSuit m hand c = 1 ≤ count_of m.suit hand → c.suit ≡ m.suit
 
 -- the partner spares the card: it follows suit, or has more of the suit to spare than are to be cashed
-abbrev Throws : Aims → (Suit → ℕ) → PlayingCard → List PlayingCard → PlayingCard → Type 0
+abbrev pub Throws : Aims → (Suit → ℕ) → PlayingCard → List PlayingCard → PlayingCard → Type 0
 Throws aims n m his c = (aims.kept c ≡ false) × ((c.suit ≡ m.suit) ⊎ (n c.suit + 1 ≤ spare_of aims.kept c.suit his))
 
 -- a hand plays a card c to the lead of m
@@ -239,6 +200,23 @@ module _ (strain : Strain) (sure : PlayingCard → Bool) (n : Suit → ℕ) (i :
           let before = each u in
           let t = taken (is_of u) in
           omega (arith, before, t, other)
+
+  -- it has no more of a suit than were to be left to it
+  leaves-on : (most : Suit → ℕ) → ((u : Suit) → count_of u his ≤ one_card m u + n u + most u) → (u : Suit) → count_of u rest ≤ no_cards u + n u + most u
+  leaves-on most leaves u = go (is_of u m) refl
+    where
+      go : (b : Bool) → is_of u m ≡ b → count_of u rest ≤ no_cards u + n u + most u
+      go true e =
+          let one : one_card m u ≡ 1 = ap flag_of e in
+          let before = leaves u in
+          elim (cases_lt 0 (count_of u his)) [
+            | inl l ↦ (
+                let same = suit-of u m e in
+                let fewer : count_of u rest + 1 ≡ count_of u his = subst (λ v. count_of v rest + 1 ≡ count_of v his) same (one-fewer (subst (λ v. 1 ≤ count_of v his) (sym same) l)) in
+                omega (arith, one, before, fewer))
+            | inr l ↦ (let t = taken (is_of u) in omega (arith, t, l))
+          ]
+      go false e = (let none : one_card m u ≡ 0 = ap flag_of e in let before = leaves u in let t = taken (is_of u) in omega (arith, none, before, t))
 
 -- such a hand lets the others be cashed
 module _ (strain : Strain) (aims : Aims) (n : Suit → ℕ) (i : ℕ) (own his rest : List PlayingCard) (m c : PlayingCard)
@@ -289,12 +267,13 @@ module _ (strain : Strain) (aims : Aims) (n : Suit → ℕ) (i : ℕ) (own his r
       omega (arith, before, one, plain, t)
 
   -- in one
-  played-on : LetsCash strain aims n no_cards i own rest
+  pub played-on : LetsCash strain aims n no_cards i own rest
   played-on = record {
     yields = yields-on strain aims.sure n i own his rest m c taken suits lets.yields;
     follows = follows-on strain aims.sure n i own his rest m c taken suits lets.follows;
     spares = spares-on;
     throws = throws-on;
+    leaves = λ other. leaves-on strain aims.sure n i own his rest m c taken suits aims.rest (lets.leaves other);
   }
 
 -- a card c is played to such a trick, the partner's one that it spares
@@ -404,6 +383,7 @@ module _ (strain : Strain) (o : Board) (aims : Aims) (n : Suit → ℕ) (s : Sid
     held = λ u. subst (λ cards. n u + aims.low u ≤ count_of u cards) (sym leaders-hand) (now.cards.held u);
     tops = λ u. subst (λ cards. sure_of aims.sure u cards ≤ n u + aims.over u) (sym leaders-hand) (now.cards.tops u);
     plain = now.cards.plain;
+    most = λ u. subst (λ cards. count_of u cards ≤ n u + aims.rest u) (sym leaders-hand) (now.cards.most u);
   }
 
   -- the card led is a master as before
@@ -486,7 +466,7 @@ more-somewhere a b h = elim (cases_lt (a Spades) (b Spades)) [
 ]
 
 -- the partner has a card to spare
-spare-card : (strain : Strain) (aims : Aims) (n : Suit → ℕ) (m : PlayingCard) (own rest hand : List PlayingCard) → LetsCash strain aims n (one_card m) 2 own hand
+pub spare-card : (strain : Strain) (aims : Aims) (n : Suit → ℕ) (m : PlayingCard) (own rest hand : List PlayingCard) → LetsCash strain aims n (one_card m) 2 own hand
     → (c : PlayingCard) × (has_card (following (m ∷ rest) hand) c ≡ true) × Throws aims n m hand c
 spare-card strain aims n m own rest hand lets = elim (cases_lt 0 (count_of m.suit hand)) [
   | inl l ↦ (
@@ -591,6 +571,7 @@ lets-lead strain aims n i own rest his m lets some_m taken good = record {
   follows = λ other. elim (lets.follows other) [ inl none ↦ inl none | inr each ↦ inr (λ u. let k = each u in let e = splits u in omega (arith, k, e)) ];
   spares = λ two u. (let k = lets.spares two u in let e = splits u in omega (arith, k, e));
   throws = λ two. (let k = lets.throws two in let one = one-total m in let fewer = total-less n m some_m in omega (arith, k, one, fewer));
+  leaves = λ other u. (let k = lets.leaves other u in let e = splits u in omega (arith, k, e));
 }
   where
     splits : (u : Suit) → one_card m u + less n m u ≡ n u
@@ -707,6 +688,7 @@ module _ (strain : Strain) (o : Board) (aims : Aims) (n : Suit → ℕ) (s : Sid
     held = λ u. (let before = now.held u in let taken = count-led (is_of u) in let some : flag_of (is_of u m) ≤ n u = one-of u in omega (arith, before, taken, some));
     tops = tops-led;
     plain = λ u c h e. now.plain u c (omega (arith, h)) e;
+    most = λ u. (let before = now.most u in let taken = count-led (is_of u) in let some : flag_of (is_of u m) ≤ n u = one-of u in omega (arith, before, taken, some));
   }
 
   -- the card led is on the trick
@@ -778,9 +760,9 @@ to-lead strain o aims n s p u some masters from now lets = elim (cases_lt 0 (sur
 ]
 
 -- the leader's side takes a trick for each card to cash, and then what is left to it
-pub cashed-all : (k b : ℕ) (strain : Strain) (o : Board) (aims : Aims) (n : Suit → ℕ) (s : Side) (p : Board) → ((q : Board) (r : Suit → ℕ) → q.trick ≡ [] → IsLater strain aims o s q → HasCards strain aims r q → total r ≡ 0 → b ≤ won s q)
+pub cashed-all : (k b : ℕ) (strain : Strain) (o : Board) (aims : Aims) (n : Suit → ℕ) (s : Side) (p : Board) → ((q : Board) (r : Suit → ℕ) → q.trick ≡ [] → IsLater strain aims o s q → HasCards strain aims r q → AllLetCash strain aims r q → total r ≡ 0 → b ≤ won s q)
     → ((c : PlayingCard) → has_card (cards_at o o.first) c ≡ true → aims.sure c ≡ true → IsMaster o c) → total n ≡ k → p.trick ≡ [] → IsLater strain aims o s p → HasCards strain aims n p → AllLetCash strain aims n p → k + b ≤ won s p
-cashed-all zero b strain o aims n s p rest masters size start from now lets = (let k = rest p n start from now size in omega (arith, k))
+cashed-all zero b strain o aims n s p rest masters size start from now lets = (let k = rest p n start from now lets size in omega (arith, k))
 cashed-all (suc k) b strain o aims n s p rest masters size start from now lets =
     let suit = some-suit n (omega (arith, size)) in
     let m = to-lead strain o aims n s p suit.0 suit.1 masters from now lets in

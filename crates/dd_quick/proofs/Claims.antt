@@ -1,6 +1,6 @@
 -- from what the code counts, and the cards that it puts together, to the claims that rest on them
-use Rattle.std.proofs.Common.{◌≡◌, ℕ, zero, suc, ◌+◌, ◌-◌, ◌<◌, ◌≤◌, Bool, true, false, refl, sym, ap, ◌∙◌, subst, arith, List, [], length, inl, inr, min, zero-le}
-use Rattle.std.specs.Prelude.{max, nat_le, nat_lt, ◌&&◌, ◌==◌, ◌⊎◌, if◌then◌else◌}
+use Rattle.std.proofs.Common.{◌≡◌, ℕ, zero, suc, ◌+◌, ◌-◌, ◌<◌, ◌≤◌, Bool, true, false, refl, sym, ap, ◌∙◌, subst, arith, List, [], inl, inr, min, zero-le}
+use Rattle.std.specs.Prelude.{max, nat_le, ◌&&◌, ◌==◌, ◌⊎◌, if◌then◌else◌}
 use mathlib.Core.Path.{ap₂}
 use Rattle.std.proofs.lemmas.Bool.{cases_lt, leb-true}
 use Rattle.std.proofs.lemmas.Bool.Decides.{eqb_tells, nat_tests}
@@ -13,16 +13,16 @@ use Rattle.dd_cards.specs.PlayingCard.{PlayingCard}
 use Rattle.dd_cards.specs.Cards.{is_of, card_of, has_card}
 use Rattle.dd_cards.specs.Seats.{seat_after}
 use Rattle.dd_cards.specs.Sides.{side_of}
-use Rattle.dd_cards.proofs.CallerLemmas.{and-left, and-right, length-filter-le}
+use Rattle.dd_cards.proofs.CallerLemmas.{and-left, and-right}
 use Rattle.dd_play.specs.Board.{Board, IsBoard, cards_at, left}
 use Rattle.dd_play.specs.Tricks.{is_trump}
 use Rattle.dd_play.specs.Reach.{TakesBy, reach}
-use Rattle.dd_play.proofs.CallerLemmas.{count, flag_of, reach-within}
+use Rattle.dd_play.proofs.CallerLemmas.{count, reach-within}
 use Rattle.dd_quick.specs.QuickTricks.{IsCash, RestsOn, RestsOnTrumps, cashed, is_long, is_winner, joint_trumps, length_at, longest, run, suit_tricks, trumps_at, unbeaten, unruffed}
 use Rattle.dd_quick.specs.Sharing.{shares}
 use Rattle.dd_quick.proofs.Hands.{IsOpposed}
 use Rattle.dd_quick.proofs.Plays.{count-where}
-use Rattle.dd_quick.proofs.Sound.{CanTake}
+use Rattle.dd_quick.proofs.Sound.{CanTake, length-left}
 use Rattle.dd_quick.proofs.Covered.{IsJoint, RestsOnTops, leader-by}
 
 -- joint trumps that the cards reach are top cards
@@ -32,19 +32,7 @@ joint-rests (Trump t) p i cards m few rests = elim rests [ inl tops ↦ inl (ome
 
 -- ---- no more than is left
 
--- before a trick a hand has no more cards of a suit than tricks are left
-length-left : (p : Board) (i : ℕ) (u : Suit) → IsBoard p → p.trick ≡ [] → i < 4 → length_at p (seat_after p.first i) u ≤ left p
-length-left p i u valid start less =
-    let part = length-filter-le (is_of u) (cards_at p (seat_after p.first i)) in
-    let even = valid.even i less in
-    let none : length p.trick ≡ 0 = ap length start in
-    let flag : flag_of (nat_lt i (length p.trick)) ≡ 0 = ap flag_of (not-under i (length p.trick) none) in
-    omega (arith, part, even, flag)
-  where
-    not-under : (a b : ℕ) → b ≡ 0 → nat_lt a b ≡ false
-    not-under a b h = grind (arith, nat_tests)
-
--- nor trumps
+-- before a trick a hand has no more trumps than tricks are left
 pub trumps-left : (strain : Strain) (p : Board) (i : ℕ) → IsBoard p → p.trick ≡ [] → i < 4 → trumps_at strain p (seat_after p.first i) ≤ left p
 trumps-left Notrump p i valid start less = zero-le
 trumps-left (Trump t) p i valid start less = length-left p i t valid start less

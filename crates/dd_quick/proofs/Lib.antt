@@ -2,7 +2,9 @@ pub mod Hands
 pub mod Plays
 pub mod JointPlans
 pub mod JointTrumps
+pub mod FirstCard
 pub mod Cashing
+pub mod Plans
 pub mod Sound
 pub mod Runs
 pub mod Covered
@@ -18,3 +20,7 @@ pub mod Next
 pub mod LeadBack
 pub mod TakenTrick
 pub mod SecondHand
+pub mod SecondTrump
+pub mod SecondAcross
+pub mod LaterTrick
+pub mod LaterClaims

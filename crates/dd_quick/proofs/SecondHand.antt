@@ -1,41 +1,36 @@
 -- Second hand wins. A card of a suit is led whose highest card an opponent h of the leader holds, who has not played yet. What
 -- h could take with the lead in the position before, with that card as the first of its tricks, its side takes now.
-use Rattle.std.proofs.Common.{◌≡◌, ◌≢◌, ℕ, ◌+◌, ◌-◌, ◌*◌, ◌<◌, ◌≤◌, Bool, true, false, refl, sym, ap, ◌∙◌, subst, arith, List, [], ◌∷◌, inl, inr, zero-le}
-use Rattle.std.specs.Prelude.{nat_lt, min, ◌&&◌, ◌||◌}
-use mathlib.Core.Bool.{not}
-use mathlib.Core.Path.{ap₂}
-use Rattle.std.proofs.lemmas.Bool.{ltb-true, cases_lt}
+use Rattle.std.proofs.Common.{◌≡◌, ℕ, ◌+◌, ◌*◌, ◌<◌, ◌≤◌, Bool, true, false, refl, sym, ap, ◌∙◌, subst, arith, List, [], ◌∷◌, inl, inr}
+use Rattle.std.specs.Prelude.{filter, ◌&&◌}
 use Rattle.dd_cards.specs.declared.seat.Seat.{Seat}
 use Rattle.dd_cards.specs.declared.suit.Suit.{Suit}
-use Rattle.dd_cards.specs.declared.strain.Strain.{Strain}
-use Rattle.dd_cards.specs.declared.strain.Strain.TheVariants.{Trump, Notrump}
 use Rattle.dd_cards.specs.PlayingCard.{PlayingCard}
-use Rattle.dd_cards.specs.Cards.{card_of, is_of, has_card, without}
+use Rattle.dd_cards.specs.Cards.{is_of, has_card, without}
 use Rattle.dd_cards.specs.Hands.{times}
-use Rattle.dd_cards.specs.Seats.{seat_code, seat_after}
+use Rattle.dd_cards.specs.Seats.{seat_after}
 use Rattle.dd_cards.specs.Sides.{side_of, is_side}
-use Rattle.dd_cards.proofs.CallerLemmas.{and-left, and-right, else-false, is-same}
-use Rattle.dd_play.specs.Board.{Board, IsBoard, cards_at, left}
-use Rattle.dd_play.specs.Tricks.{is_trump}
+use Rattle.dd_cards.proofs.CallerLemmas.{and-left, and-right, is-same}
+use Rattle.dd_play.specs.Board.{Board, IsBoard, cards_at}
+use Rattle.dd_play.specs.Tricks.{is_trump, or_else}
+use Rattle.dd_play.specs.Play.{following}
 use Rattle.dd_play.specs.Covers.{count_of}
 use Rattle.dd_play.specs.Reach.{TakesBy, reach}
 use Rattle.dd_play.specs.Won.{won}
-use Rattle.dd_play.proofs.CallerLemmas.{after-code, code-lt, count, count-has, count-some, count-without, flag_of, of-suit', once-in, suit-of, times-has, turn-turn}
-use Rattle.dd_quick.specs.QuickTricks.{RestsOnTrumps, beats, is_unbeaten, is_winner, joint_trumps, length_at, run, trumps_at, unbeaten}
+use Rattle.dd_play.proofs.CallerLemmas.{count, count-has, count-some, count-without, flag_of, legal-out, Obeys, of-suit', once-in, suit-of, times-has, turn-turn}
 use Rattle.dd_quick.specs.SecondHand.{IsBeforeLead, unled}
 use Rattle.dd_quick.proofs.Claims.{IsSure}
-use Rattle.dd_quick.proofs.Cashing.{AllLetCash, Aims, HasCards, IsLater, IsMaster, LetsCash, cashed-all, hand_on, is_plain, less, lets-lead, no_cards, one_card, one-total, same-trump, sure_of, total, total-less}
-use Rattle.dd_quick.proofs.Hands.{IsOpposed, no-higher}
+use Rattle.dd_quick.proofs.Cashing.{AllLetCash, Aims, FollowsSuit, HasCards, IsLater, LetsCash, Only, cashed-all, hand_on, less, lets-lead, no_cards, one_card, played-on, same-trump, spare-card, sure_of, total, total-less}
+use Rattle.dd_quick.proofs.Hands.{IsOpposed}
 use Rattle.dd_quick.proofs.LeadBack.{answered, board-back, cover-back, led-back}
-use Rattle.dd_quick.proofs.Plays.{count-where}
-use Rattle.dd_quick.proofs.TakenTrick.{IsMidway, LetsWin, lets-cash, lets-win, nobody, one-three, three-one, trick-taken}
-use Rattle.dd_quick.proofs.Sound.{CanTake, can-let, joint-later, joint-on, keeping_trumps, leaders_aims, own-side, partners-side, plain-left}
-use Rattle.dd_quick.proofs.Covered.{IsJoint, RestsOnTops, can-covered, left-same, length-same, run-covered, some-card, trumps-same}
+use Rattle.dd_quick.proofs.Plans.{IsPlan}
+use Rattle.dd_quick.proofs.TakenTrick.{Allows, IsLed, IsMidway, nobody, one-three, three-one, trick-taken}
+use Rattle.dd_quick.proofs.Sound.{CanTake, leaders_aims, own-side, take-plan}
+use Rattle.dd_quick.proofs.Covered.{IsJoint, RestsOnTops, can-covered}
 
 -- ---- what h could cash before the lead
 
 -- a hand without a card that it had
-count-lost : (test : PlayingCard → Bool) (p : Board) (x : Seat) (m : PlayingCard) → IsBoard p → has_card (cards_at p x) m ≡ true → count test (without (cards_at p x) m) + flag_of (test m) ≡ count test (cards_at p x)
+pub count-lost : (test : PlayingCard → Bool) (p : Board) (x : Seat) (m : PlayingCard) → IsBoard p → has_card (cards_at p x) m ≡ true → count test (without (cards_at p x) m) + flag_of (test m) ≡ count test (cards_at p x)
 count-lost test p x m valid own =
     let most = once-in p valid x m in
     let some = times-has (cards_at p x) m own in
@@ -51,95 +46,154 @@ leaders-place f h i opposed at = elim opposed [
   | inr e ↦ (1, omega arith, omega arith, sym (one-three f) ∙ ap (λ x. seat_after x 1) (sym (at ∙ ap (seat_after f) e)))
 ]
 
--- What an opponent of the leader can take with the lead in the position before, in a side suit that was led among others, it
--- takes after the lead.
-pub second-takes : (p : Board) (c : PlayingCard) (h : Seat) (i : ℕ) (n : Suit → ℕ) (k : ℕ) → IsBoard p → p.trick ≡ c ∷ [] → IsOpposed i → h ≡ seat_after p.first i → CanTake (unled p c h) n k → 1 ≤ n c.suit
-    → total n + k ≤ won (side_of h) p
-second-takes p c h i n k valid led opposed at can some =
-    let all = trick-taken p c h sure (less n m) m (total (less n m) + k) valid led own suit master start next i opposed at in
-    let fewer = total-less n m some_m in
-    omega (arith, all, fewer)
-  where
-    o : Board
-    o = unled p c h
+-- a legal card follows the suit led
+pub follows-led : (m : PlayingCard) (his trick : List PlayingCard) (d : PlayingCard) → IsLed m trick → has_card (following trick his) d ≡ true → FollowsSuit m his d
+follows-led m his trick d first has some =
+    let card = count-some (is_of m.suit) his some in
+    let obeys : Obeys (first.0 ∷ first.1) his d = legal-out (first.0 ∷ first.1) his d (ap (λ t. has_card (following t his) d) (sym first.2) ∙ has) in
+    obeys card.0 card.1 (suit-of m.suit card.0 card.2 ∙ sym first.3) ∙ first.3
 
-    valid_o : IsBoard o
-    valid_o = board-back p c valid led h
+-- the cards that are led first at a hand that waits to play to the trick
+abbrev pub waiting : Bool → PlayingCard → Suit → ℕ
+waiting true m = one_card m
+waiting false m = no_cards
 
-    sure : PlayingCard → Bool
-    sure d = is_winner o h d
+-- The leader's card c is of a suit among those that h plans to cash, with the lead, in the position before: h wins the trick with
+-- its highest card of the suit, and its side takes what is planned.
+module _ (p : Board) (c : PlayingCard) (h : Seat) (i : ℕ) (aims : Aims) (n : Suit → ℕ) (b : ℕ) (valid : IsBoard p) (led : p.trick ≡ c ∷ []) (opposed : IsOpposed i) (at : h ≡ seat_after p.first i)
+    (plan : IsPlan p.strain (unled p c h) (side_of h) aims n b) (some : 1 ≤ n c.suit) where
+  abbrev o : Board
+  o = unled p c h
 
-    place : (j : ℕ) × (1 ≤ j) × (j < 4) × (p.first ≡ seat_after h j)
-    place = leaders-place p.first h i opposed at
+  place : (j : ℕ) × (1 ≤ j) × (j < 4) × (p.first ≡ seat_after h j)
+  place = leaders-place p.first h i opposed at
 
-    -- h has a winner in the suit led
-    top : (d : PlayingCard) × (has_card (cards_at o h) d ≡ true) × ((is_of c.suit d && is_winner o h d) ≡ true)
-    top =
-        let his : has_card (cards_at o (seat_after h place.0)) c ≡ true = ap (λ x. has_card (cards_at o x) c) (sym place.3) ∙ led-back p c valid led h in
-        let long : 1 ≤ length_at o (seat_after h place.0) c.suit = count-has (is_of c.suit) (cards_at o (seat_after h place.0)) c his (of-suit' c.suit c refl) in
-        let yields = can.yields c.suit place.0 place.1 place.2 in
-        count-some (λ d. is_of c.suit d && is_winner o h d) (cards_at o h) (omega (arith, yields, long, some))
+  -- h has a sure card of the suit led
+  top : (d : PlayingCard) × (has_card (cards_at o h) d ≡ true) × ((is_of c.suit d && aims.sure d) ≡ true)
+  top =
+      let his : has_card (cards_at o (seat_after h place.0)) c ≡ true = ap (λ x. has_card (cards_at o x) c) (sym place.3) ∙ led-back p c valid led h in
+      let long : 1 ≤ count_of c.suit (hand_on o place.0) = count-has (is_of c.suit) (hand_on o place.0) c his (of-suit' c.suit c refl) in
+      let yields = (plan.lets place.0 place.1 place.2).yields c.suit in
+      count-some (λ d. is_of c.suit d && aims.sure d) (cards_at o h) (omega (arith, yields, long, some))
 
-    m : PlayingCard
-    m = top.0
-
-    own : has_card (cards_at o h) m ≡ true
-    own = top.1
-
-    suit : c.suit ≡ m.suit
-    suit = sym (suit-of c.suit m (and-left (is_of c.suit m) (is_winner o h m) top.2))
-
-    winner : is_winner o h m ≡ true
-    winner = and-right (is_of c.suit m) (is_winner o h m) top.2
-
-    masters : (d : PlayingCard) → has_card (cards_at o h) d ≡ true → sure d ≡ true → IsMaster o d
-    masters d mine wins x e away his suits = no-higher o valid_o h x d e away wins mine his suits
-
-    master : IsMaster o m
-    master = masters m own winner
+  -- the trick
+  module _ (m : PlayingCard) (own : has_card (cards_at (unled p c h) h) m ≡ true) (suit : c.suit ≡ m.suit) (sure_m : aims.sure m ≡ true) where
+    abbrev kept : List PlayingCard
+    kept = without (cards_at o h) m
 
     some_m : 1 ≤ n m.suit
     some_m = subst (λ u. 1 ≤ n u) suit some
 
     plain_m : is_trump p.strain m ≡ false
-    plain_m = same-trump p.strain m (card_of c.suit 0) (sym suit) ∙ can.plain c.suit some
+    plain_m = plan.cards.plain m.suit m some_m refl
 
-    lost : (test : PlayingCard → Bool) → count test (without (cards_at o h) m) + flag_of (test m) ≡ count test (cards_at o h)
-    lost test = count-lost test o h m valid_o own
+    lost : (test : PlayingCard → Bool) → count test kept + flag_of (test m) ≡ count test (cards_at o h)
+    lost test = count-lost test o h m (board-back p c valid led h) own
 
-    start : (j : ℕ) → 1 ≤ j → j < 4 → LetsWin p.strain sure (less n m) (one_card m) j (without (cards_at o h) m) (hand_on o j)
-    start j l b = lets-win p.strain sure (cards_at o h) (less n m) (one_card m) j (without (cards_at o h) m) (hand_on o j)
-        (lets-lead p.strain (leaders_aims o) n j (cards_at o h) (without (cards_at o h) m) (hand_on o j) m (can-let o n k valid_o refl can j l b) some_m (λ u. lost (λ d. is_of u d && sure d)) (inl winner))
+    -- what is known of another hand: it lets cards be cashed, and the partner has lost none of those that it keeps
+    abbrev lets : Bool → ℕ → List PlayingCard → Type 0
+    lets waits j his = LetsCash p.strain aims (less n m) (waiting waits m) j kept his × (j ≡ 2 → (test : PlayingCard → Bool) → Only aims.kept test → count test his ≡ count test (hand_on o 2))
 
-    next : (q : Board) → IsMidway p.strain o sure (less n m) m (without (cards_at o h) m) (without (cards_at o h) m) nobody q → q.trick ≡ [] → q.first ≡ h → total (less n m) + k ≤ won (side_of h) q
-    next q now empty first = cashed-all (total (less n m)) k p.strain o (leaders_aims o) (less n m) (side_of h) q (λ r x over still left none. joint-on o n k valid_o can r over still) masters refl empty later cards lets
+    allows : Allows p.strain m lets
+    allows = record {
+      opponents = λ j his rest d other now mine follows taken. (
+        (played-on p.strain aims (less n m) j kept his rest m d now.0 taken follows (λ two. absurd (other two)), λ two. absurd (other two)),
+        λ trump. elim (now.0.follows other) [
+          | inl none ↦ absurd (let one = count-has (is_trump p.strain) his d mine trump in omega (arith, none, one))
+          | inr each ↦ (
+              let one : one_card m m.suit ≡ 1 = ap flag_of (of-suit' m.suit m refl) in
+              let all = each m.suit in
+              sym (same-trump p.strain d m (follows (omega (arith, one, all)))) ∙ trump)
+        ],
+      );
+      partner = λ his trick first now. (
+          let d = spare-card p.strain aims (less n m) m kept first.1 his now.0 in
+          let has : has_card (following trick his) d.0 ≡ true = ap (λ t. has_card (following t his) d.0) first.2 ∙ ap (λ u. has_card (or_else (filter (is_of u) his) his) d.0) first.3 ∙ d.1 in (
+            d.0,
+            has,
+            λ trump. absurd (let keep = plan.begins.trumps d.0 trump in let free = d.2.0 in cc),
+            λ rest taken. (
+              played-on p.strain aims (less n m) 2 kept his rest m d.0 now.0 taken (follows-led m his trick d.0 first has) (λ two. d.2),
+              λ two test only. (let t = taken test in let z : flag_of (test d.0) ≡ 0 = ap flag_of (only d.0 d.2.0) in let e = now.1 refl test only in omega (arith, t, z, e)),
+            ),
+          ));
+    }
+
+    start : (j : ℕ) → 1 ≤ j → j < 4 → lets true j (hand_on o j)
+    start j l k = (
+      lets-lead p.strain aims n j (cards_at o h) kept (hand_on o j) m (plan.lets j l k) some_m (λ u. lost (λ d. is_of u d && aims.sure d)) (inl sure_m),
+      λ two test only. ap (λ x. count test (hand_on o x)) two,
+    )
+
+    next : (q : Board) → IsMidway p.strain o lets kept nobody q → q.trick ≡ [] → q.first ≡ h → total (less n m) + b ≤ won (side_of h) q
+    next q now empty first = cashed-all (total (less n m)) b p.strain o aims (less n m) (side_of h) q plan.beyond plan.masters refl empty later cards lets-then
       where
-        hand : cards_at q q.first ≡ without (cards_at o h) m
+        hand : cards_at q q.first ≡ kept
         hand = ap (cards_at q) first ∙ now.mine
 
-        later : IsLater p.strain (leaders_aims o) o (side_of h) q
+        later : IsLater p.strain aims o (side_of h) q
         later = record {
           valid = now.valid;
           same = now.same;
           ours = ap (is_side (side_of h)) first ∙ own-side h;
           first = first;
           part = now.part;
-          mine = λ test only. (let t = lost test in let z : flag_of (test m) ≡ 0 = ap flag_of (only m plain_m) in let e : count test (cards_at q q.first) ≡ count test (without (cards_at o h) m) = ap (count test) hand in omega (arith, t, z, e));
-          partners = λ test only. ap (λ x. count test (cards_at q (seat_after x 2))) first ∙ now.partners plain_m test only;
-          trumps = λ d e. e;
+          mine = λ test only. (let t = lost test in let z : flag_of (test m) ≡ 0 = ap flag_of (only m plain_m) in let e : count test (cards_at q q.first) ≡ count test kept = ap (count test) hand in omega (arith, t, z, e));
+          partners = λ test only. ap (λ x. count test (cards_at q (seat_after x 2))) first ∙ (now.lets_be 2 (omega arith) (omega arith)).1 refl test only;
+          trumps = plan.begins.trumps;
         }
 
-        cards : HasCards p.strain (leaders_aims o) (less n m) q
+        -- of a suit there are some to cash, where it is that of the card that wins
+        one-of : (u : Suit) (x : Bool) → is_of u m ≡ x → flag_of (is_of u m) ≤ n u
+        one-of u true e = (let one : flag_of (is_of u m) ≡ 1 = ap flag_of e in let k : 1 ≤ n u = subst (λ v. 1 ≤ n v) (suit-of u m e) some_m in omega (arith, one, k))
+        one-of u false e = (let none : flag_of (is_of u m) ≡ 0 = ap flag_of e in omega (arith, none))
+
+        cards : HasCards p.strain aims (less n m) q
         cards = record {
-          tops = λ u. (let t = lost (λ d. is_of u d && sure d) in let e : sure_of sure u (cards_at q q.first) ≡ sure_of sure u (without (cards_at o h) m) = ap (sure_of sure u) hand in omega (arith, t, e));
-          held = λ u. (let t = lost (is_of u) in let e : count_of u (cards_at q q.first) ≡ count_of u (without (cards_at o h) m) = ap (count_of u) hand in let b = can.held u in omega (arith, t, e, b));
-          plain = λ u d some e. same-trump p.strain d (card_of u 0) e ∙ can.plain u (omega (arith, some));
+          tops = λ u. (
+              let t = lost (λ d. is_of u d && aims.sure d) in
+              let e : sure_of aims.sure u (cards_at q q.first) ≡ sure_of aims.sure u kept = ap (sure_of aims.sure u) hand in
+              let one : flag_of (is_of u m && aims.sure m) ≡ flag_of (is_of u m) = ap flag_of (and-yes (is_of u m) (aims.sure m) sure_m) in
+              let all = plan.cards.tops u in
+              let few = one-of u (is_of u m) refl in
+              omega (arith, t, e, one, all, few));
+          held = λ u. (
+              let t = lost (is_of u) in
+              let e : count_of u (cards_at q q.first) ≡ count_of u kept = ap (count_of u) hand in
+              let all = plan.cards.held u in
+              let few = one-of u (is_of u m) refl in
+              omega (arith, t, e, all, few));
+          plain = λ u d k e. plan.cards.plain u d (omega (arith, k)) e;
+          most = λ u. (
+              let t = lost (is_of u) in
+              let e : count_of u (cards_at q q.first) ≡ count_of u kept = ap (count_of u) hand in
+              let all = plan.cards.most u in
+              let few = one-of u (is_of u m) refl in
+              omega (arith, t, e, all, few));
         }
+          where
+            and-yes : (x y : Bool) → y ≡ true → (x && y) ≡ x
+            and-yes true y e = e
+            and-yes false y e = refl
 
-        lets : AllLetCash p.strain (leaders_aims o) (less n m) q
-        lets j l b = subst (λ x. LetsCash p.strain (leaders_aims o) (less n m) no_cards j (cards_at q x) (cards_at q (seat_after x j))) (sym first)
-            (lets-cash p.strain sure (cards_at o h) (less n m) j (cards_at q h) (cards_at q (seat_after h j)) (λ u some. can.plain u (omega (arith, some)))
-            (subst (λ own. LetsWin p.strain sure (less n m) no_cards j own (cards_at q (seat_after h j))) (sym now.mine) (now.lets j l b)))
+        lets-then : AllLetCash p.strain aims (less n m) q
+        lets-then j l k = subst (λ x. LetsCash p.strain aims (less n m) no_cards j (cards_at q x) (cards_at q (seat_after x j))) (sym first)
+            (subst (λ mine. LetsCash p.strain aims (less n m) no_cards j mine (cards_at q (seat_after h j))) (sym now.mine) (now.lets_be j l k).0)
+
+    takes-planned : total n + b ≤ won (side_of h) p
+    takes-planned =
+        let all = trick-taken p c h lets m (total (less n m) + b) valid led own suit (plan.masters m own sure_m) allows start next i opposed at in
+        let fewer = total-less n m some_m in
+        omega (arith, all, fewer)
+
+  pub second-planned : total n + b ≤ won (side_of h) p
+  second-planned = takes-planned top.0 top.1 (sym (suit-of c.suit top.0 (and-left (is_of c.suit top.0) (aims.sure top.0) top.2))) (and-right (is_of c.suit top.0) (aims.sure top.0) top.2)
+
+-- What an opponent of the leader can take with the lead in the position before, in a side suit that was led among others, it
+-- takes after the lead.
+second-takes : (p : Board) (c : PlayingCard) (h : Seat) (i : ℕ) (n : Suit → ℕ) (k : ℕ) → IsBoard p → p.trick ≡ c ∷ [] → IsOpposed i → h ≡ seat_after p.first i → CanTake (unled p c h) n k → 1 ≤ n c.suit
+    → total n + k ≤ won (side_of h) p
+second-takes p c h i n k valid led opposed at can some = second-planned p c h i (leaders_aims (unled p c h)) n k valid led opposed at (take-plan (unled p c h) n k (board-back p c valid led h) refl can) some
 
 -- so it is a claim by the cards on which that rests
 pub second-by : (top : PlayingCard → Bool) (p : Board) (c : PlayingCard) (h : Seat) (i : ℕ) (n : Suit → ℕ) (m : ℕ) → p.trick ≡ c ∷ [] → IsOpposed i → h ≡ seat_after p.first i → (IsBoard (unled p c h) → CanTake (unled p c h) n m) → 1 ≤ n c.suit
@@ -153,177 +207,6 @@ second-by top p c h i n m led opposed at may some winners joint k to from t q r 
     let side = is-same (side_of (seat_after h k)) t (r.sides h ∙ own-side h) in
     subst (λ z. total n + m ≤ won z q) side taken
 
--- ---- where a trump is led
-
--- What h can cash in side suits, where its partner has a card more to throw, it takes after a trump is led whose highest card
--- it holds, and with it a trick for each of its trumps that no other hand can beat.
-module _ (p : Board) (c : PlayingCard) (h : Seat) (i : ℕ) (n : Suit → ℕ) (k : ℕ) (valid : IsBoard p) (led : p.trick ≡ c ∷ []) (opposed : IsOpposed i) (at : h ≡ seat_after p.first i)
-    (can : CanTake (unled p c h) n 0) (trump : is_trump p.strain c ≡ true) (some : 1 ≤ k) (few : k ≤ run (unled p c h) h c.suit)
-    (spare : total n + 1 + trumps_at p.strain (unled p c h) (seat_after h 2) ≤ left (unled p c h)) where
-  abbrev before : Board
-  before = unled p c h
-
-  valid_before : IsBoard before
-  valid_before = board-back p c valid led h
-
-  abbrev sure_trump : PlayingCard → Bool
-  sure_trump d = is_winner (unled p c h) h d
-
-  -- its highest trump
-  top : (m : PlayingCard) × (has_card (cards_at before h) m ≡ true) × ((is_of c.suit m && is_winner before h m) ≡ true)
-  top = count-some (λ d. is_of c.suit d && is_winner before h d) (cards_at before h) (omega (arith, some, few))
-
-  module _ (m : PlayingCard) (own : has_card (cards_at (unled p c h) h) m ≡ true) (suit : c.suit ≡ m.suit) (winner : is_winner (unled p c h) h m ≡ true) where
-    masters : (d : PlayingCard) → has_card (cards_at before h) d ≡ true → is_winner before h d ≡ true → IsMaster before d
-    masters d mine wins x e away his suits = no-higher before valid_before h x d e away wins mine his suits
-
-    lost : (test : PlayingCard → Bool) → count test (without (cards_at before h) m) + flag_of (test m) ≡ count test (cards_at before h)
-    lost test = count-lost test before h m valid_before own
-
-    is-trump-m : is_trump p.strain m ≡ true
-    is-trump-m = sym (same-trump p.strain c m suit) ∙ trump
-
-    -- none of its trumps are among those that are cashed
-    none-cashed : (u : Suit) → is_of u m ≡ true → n u ≡ 0
-    none-cashed u e = elim (cases_lt 0 (n u)) [
-      | inl l ↦ absurd (let plain = can.plain u l in let k : false ≡ true = sym plain ∙ same-trump p.strain (card_of u 0) m (sym (suit-of u m e)) ∙ is-trump-m in cc)
-      | inr l ↦ omega (arith, l)
-    ]
-
-    -- the trumps of a hand are its cards of m's suit
-    trumps-suit : (cards : List PlayingCard) → count (is_trump p.strain) cards ≡ count_of m.suit cards
-    trumps-suit cards = go p.strain is-trump-m
-      where
-        go : (s : Strain) → is_trump s m ≡ true → count (is_trump s) cards ≡ count_of m.suit cards
-        go (Trump t) e = ap (λ u. count_of u cards) (sym (suit-of t m e))
-        go Notrump e = absurd (cc)
-
-    start : (j : ℕ) → 1 ≤ j → j < 4 → LetsWin p.strain sure_trump n (one_card m) j (without (cards_at before h) m) (hand_on before j)
-    start j l b = record {
-      yields = λ u. yields u (is_of u m) refl;
-      follows = λ other. elim (lets.follows other) [
-        | inl none ↦ inl none
-        | inr each ↦ elim (cases_lt 0 (count (is_trump p.strain) (hand_on before j))) [ inl some ↦ inr (λ u. follows each some u (is_of u m) refl) | inr none ↦ inl (omega (arith, none)) ]
-      ];
-      throws = λ two. subst (λ y. total (one_card m) + total n ≤ count (is_plain p.strain) (hand_on before y)) (sym two)
-          (let one = one-total m in let all = plain-left before (total n + 1) valid_before refl spare in omega (arith, one, all));
-    }
-      where
-        lets : LetsCash p.strain (leaders_aims before) n no_cards j (cards_at before h) (hand_on before j)
-        lets = can-let before n 0 valid_before refl can j l b
-
-        yields : (u : Suit) (x : Bool) → is_of u m ≡ x → min (one_card m u + n u) (count_of u (hand_on before j)) ≤ one_card m u + sure_of sure_trump u (without (cards_at before h) m)
-        yields u true e = (let one : one_card m u ≡ 1 = ap flag_of e in let z = none-cashed u e in omega (arith, one, z))
-        yields u false e =
-            let one : one_card m u ≡ 0 = ap flag_of e in
-            let t = lost (λ d. is_of u d && sure_trump d) in
-            let z : flag_of (is_of u m && sure_trump m) ≡ 0 = ap (λ x. flag_of (x && sure_trump m)) e in
-            let y = lets.yields u in
-            omega (arith, one, t, z, y)
-
-        follows : ((u : Suit) → no_cards u + n u ≤ count_of u (hand_on before j)) → 1 ≤ count (is_trump p.strain) (hand_on before j) → (u : Suit) (x : Bool) → is_of u m ≡ x → one_card m u + n u ≤ count_of u (hand_on before j)
-        follows each some u true e =
-            let one : one_card m u ≡ 1 = ap flag_of e in
-            let z = none-cashed u e in
-            let t = trumps-suit (hand_on before j) in
-            let same : count_of m.suit (hand_on before j) ≡ count_of u (hand_on before j) = ap (λ v. count_of v (hand_on before j)) (suit-of u m e) in
-            omega (arith, one, z, t, same, some)
-        follows each some u false e = (let one : one_card m u ≡ 0 = ap flag_of e in let y = each u in omega (arith, one, y))
-
-    next : (q : Board) → IsMidway p.strain before sure_trump n m (without (cards_at before h) m) (without (cards_at before h) m) nobody q → q.trick ≡ [] → q.first ≡ h → total n + (k - 1) ≤ won (side_of h) q
-    next q now empty first = cashed-all (total n) (k - 1) p.strain q aims n (side_of h) q (λ r x over still left none. rest r over still) tops refl empty later cards lets
-      where
-        hand : cards_at q q.first ≡ without (cards_at before h) m
-        hand = ap (cards_at q) first ∙ now.mine
-
-        aims : Aims
-        aims = keeping_trumps p.strain sure_trump (cards_at q q.first)
-
-        later : IsLater p.strain aims q (side_of h) q
-        later = record { trumps = λ d e. e; valid = now.valid; same = now.same; ours = ap (is_side (side_of h)) first ∙ own-side h; first = refl; part = λ x d has. has; mine = λ test only. refl; partners = λ test only. refl }
-
-        tops : (d : PlayingCard) → has_card (cards_at q q.first) d ≡ true → sure_trump d ≡ true → IsMaster q d
-        tops d mine wins x e away his suits =
-            masters d (now.part h d (ap (λ y. has_card (cards_at q y) d) (sym first) ∙ mine)) wins x e (λ z. away (z ∙ sym (ap seat_code first))) (now.part x e his) suits
-
-        cards : HasCards p.strain aims n q
-        cards = record { tops = λ u. omega arith; held = λ u. (let x = held u (is_of u m) refl in omega (arith, x)); plain = λ u d some e. same-trump p.strain d (card_of u 0) e ∙ can.plain u some }
-          where
-            held : (u : Suit) (x : Bool) → is_of u m ≡ x → n u ≤ count_of u (cards_at q q.first)
-            held u true e = (let z = none-cashed u e in omega (arith, z))
-            held u false e = (let t = lost (is_of u) in let z : flag_of (is_of u m) ≡ 0 = ap flag_of e in let y : count_of u (cards_at q q.first) ≡ count_of u (without (cards_at before h) m) = ap (count_of u) hand in let b = can.held u in omega (arith, t, z, y, b))
-
-        lets : AllLetCash p.strain aims n q
-        lets j l b = subst (λ x. LetsCash p.strain aims n no_cards j (cards_at q x) (cards_at q (seat_after x j))) (sym first)
-            (lets-cash p.strain sure_trump (cards_at q q.first) n j (cards_at q h) (cards_at q (seat_after h j)) can.plain
-            (subst (λ mine. LetsWin p.strain sure_trump n no_cards j mine (cards_at q (seat_after h j))) (sym now.mine) (now.lets j l b)))
-
-        -- its other winners among the trumps are beaten by no opponent later
-        unbeaten-on : k - 1 ≤ unbeaten q h c.suit
-        unbeaten-on =
-            let all = lost (λ d. is_of c.suit d && is_winner before h d) in
-            let one : flag_of (is_of c.suit m && is_winner before h m) ≡ 1 = ap₂ (λ x y. flag_of (x && y)) (of-suit' c.suit m (sym suit)) winner in
-            let more = count-where (λ d. is_of c.suit d && is_winner before h d) (λ d. is_of c.suit d && is_unbeaten q h d) (cards_at q h) (λ d has pass. ap₂ (λ x y. x && y) (and-left (is_of c.suit d) (is_winner before h d) pass) (free d has (and-right (is_of c.suit d) (is_winner before h d) pass))) in
-            let same : count (λ d. is_of c.suit d && is_winner before h d) (cards_at q h) ≡ count (λ d. is_of c.suit d && is_winner before h d) (without (cards_at before h) m) = ap (count (λ d. is_of c.suit d && is_winner before h d)) now.mine in
-            omega (arith, all, one, more, same, few)
-          where
-            none : (d : PlayingCard) (x : Seat) → seat_code x ≢ seat_code h → has_card (cards_at q h) d ≡ true → is_winner before h d ≡ true → beats q x d ≡ false
-            none d x away has wins = else-false (beats q x d) (λ b.
-                let e = some-card (λ y. is_of d.suit y && nat_lt d.rank y.rank) (cards_at q x) b in
-                let under = masters d (now.part h d has) wins x e.0 away (now.part x e.0 e.1) (suit-of d.suit e.0 (and-left (is_of d.suit e.0) (nat_lt d.rank e.0.rank) e.2)) in
-                let over = ltb-true d.rank e.0.rank (and-right (is_of d.suit e.0) (nat_lt d.rank e.0.rank) e.2) in
-                omega (arith, under, over))
-
-            both : {a b : Bool} → a ≡ false → b ≡ false → not (a || b) ≡ true
-            both e f = rw (e, f) refl
-
-            free : (d : PlayingCard) → has_card (cards_at q h) d ≡ true → is_winner before h d ≡ true → is_unbeaten q h d ≡ true
-            free d has wins = both (none d (seat_after h 1) (let a = after-code h 1 in let b = code-lt h in λ e. omega (arith, a, b, e)) has wins) (none d (seat_after h 3) (let a = after-code h 3 in let b = code-lt h in λ e. omega (arith, a, b, e)) has wins)
-
-        joint : (s : Strain) → is_trump s c ≡ true → k - 1 ≤ joint_trumps s q h
-        joint (Trump t) e =
-            let free = subst (λ u. k - 1 ≤ unbeaten q h u) (suit-of t c e) unbeaten-on in
-            let long = count-where (λ d. is_of t d && is_unbeaten q h d) (is_of t) (cards_at q h) (λ d has pass. and-left (is_of t d) (is_unbeaten q h d) pass) in
-            omega (arith, free, long)
-        joint Notrump e = absurd (cc)
-
-        rest : (r : Board) → r.trick ≡ [] → IsLater p.strain aims q (side_of h) r → k - 1 ≤ won (side_of h) r
-        rest r over still =
-            joint-later p.strain q r h (side_of h) (k - 1) now.valid still.valid still.same over (own-side h) (partners-side h) (joint p.strain trump) still.part
-            (λ test only. ap (λ x. count test (cards_at r x)) (sym (still.first ∙ first)) ∙ still.mine test only ∙ ap (λ x. count test (cards_at q x)) first)
-            (λ test only. ap (λ x. count test (cards_at r (seat_after x 2))) (sym (still.first ∙ first)) ∙ still.partners test only ∙ ap (λ x. count test (cards_at q (seat_after x 2))) first)
-
-    takes-after : total n + k ≤ won (side_of h) p
-    takes-after =
-        let all = trick-taken p c h sure_trump n m (total n + (k - 1)) valid led own suit (masters m own winner) start next i opposed at in
-        omega (arith, all, some)
-
-  pub second-trumps : total n + k ≤ won (side_of h) p
-  second-trumps = takes-after top.0 top.1 (sym (suit-of c.suit top.0 (and-left (is_of c.suit top.0) (is_winner before h top.0) top.2))) (and-right (is_of c.suit top.0) (is_winner before h top.0) top.2)
-
--- so it is a claim by the cards on which that rests
-pub trumps-by : (top : PlayingCard → Bool) (p : Board) (c : PlayingCard) (h : Seat) (i : ℕ) (n : Suit → ℕ) (m : ℕ) → p.trick ≡ c ∷ [] → IsOpposed i → h ≡ seat_after p.first i → (IsBoard (unled p c h) → CanTake (unled p c h) n 0) → is_trump p.strain c ≡ true → 1 ≤ m
-    → RestsOnTops top (unled p c h) n → m ≤ count (λ d. (is_of c.suit d && is_winner (unled p c h) h d) && top d) (cards_at (unled p c h) h) → total n + 1 + trumps_at p.strain (unled p c h) (seat_after h 2) ≤ left (unled p c h)
-    → TakesBy top (side_of h) p (total n + m)
-trumps-by top p c h i n m led opposed at may trump some winners tops spare k to from t q r strict =
-    let answer = answered to from top p.trick q.trick c led r.trick in
-    let cover = cover-back top k to from (side_of h) p t q c answer.0 h led answer.1 answer.2 r in
-    let can = can-covered top k to from (side_of h) (unled p c h) t (unled q answer.0 (seat_after h k)) cover n 0 refl refl (may cover.valid_p) winners (none p.strain) in
-    let seat : seat_after h k ≡ seat_after q.first i = ap (λ x. seat_after x k) at ∙ turn-turn p.first i k ∙ ap (λ x. seat_after x i) (sym r.first) in
-    let high = run-covered top k to from (side_of h) (unled p c h) t (unled q answer.0 (seat_after h k)) cover h c.suit in
-    let long = ap (run (unled q answer.0 (seat_after h k)) (seat_after h k)) answer.2.suit in
-    let lefts = left-same (unled p c h) (unled q answer.0 (seat_after h k)) refl refl (λ u. length-same top k to from (side_of h) (unled p c h) t (unled q answer.0 (seat_after h k)) cover 0 u) in
-    let his = trumps-same top k to from (side_of h) (unled p c h) t (unled q answer.0 (seat_after h k)) cover p.strain 2 in
-    let kind : is_trump q.strain answer.0 ≡ true = ap (λ s. is_trump s answer.0) r.strain ∙ same-trump p.strain answer.0 c answer.2.suit ∙ trump in
-    let strains : trumps_at q.strain (unled q answer.0 (seat_after h k)) (seat_after (seat_after h k) 2) ≡ trumps_at p.strain (unled q answer.0 (seat_after h k)) (seat_after (seat_after h k) 2) = ap (λ s. trumps_at s (unled q answer.0 (seat_after h k)) (seat_after (seat_after h k) 2)) r.strain in
-    let taken = second-trumps q answer.0 (seat_after h k) i n m r.valid_q answer.1 opposed seat can kind some (omega (arith, tops, high, long)) (omega (arith, spare, lefts, his, strains)) in
-    let side = is-same (side_of (seat_after h k)) t (r.sides h ∙ own-side h) in
-    subst (λ z. total n + m ≤ won z q) side taken
-  where
-    none : (s : Strain) → IsJoint s top (unled p c h) 0 0
-    none Notrump = tt
-    none (Trump u) = inl zero-le
-
 -- so is what is counted in the position before the lead
 pub second-claim : (p : Board) (c : PlayingCard) (before : Board) (cards : List PlayingCard) (n : Suit → ℕ) (m : ℕ) → IsBeforeLead p c before → IsSure before cards n m → 1 ≤ n c.suit → TakesBy (reach cards) (side_of before.first) p (total n + m)
 second-claim p c before cards n m ready sure some = elim ready.seat [ inl at ↦ go 1 (inl refl) at | inr at ↦ go 3 (inr refl) at ]
@@ -332,21 +215,3 @@ second-claim p c before cards n m ready sure some = elim ready.seat [ inl at ↦
     go i opposed at =
         second-by (reach cards) p c before.first i n m ready.led opposed at (λ valid. subst (λ o. CanTake o n m) ready.was (sure.can (subst IsBoard (sym ready.was) valid))) some
         (subst (λ o. RestsOnTops (reach cards) o n) ready.was sure.tops) (subst (λ (o : Board). IsJoint o.strain (reach cards) o 0 m) ready.was sure.joint)
-
--- and what is counted there where a trump was led
-pub trump-claim : (p : Board) (c : PlayingCard) (before : Board) (cards : List PlayingCard) (n : Suit → ℕ) (m : ℕ) → IsBeforeLead p c before → IsSure before cards n 0 → is_trump p.strain c ≡ true → 1 ≤ m
-    → m ≤ count (λ d. (is_of c.suit d && is_winner before before.first d) && reach cards d) (cards_at before before.first) → total n + 1 + trumps_at before.strain before (seat_after before.first 2) ≤ left before
-    → TakesBy (reach cards) (side_of before.first) p (total n + m)
-trump-claim p c before cards n m ready sure trump some tops spare = elim ready.seat [ inl at ↦ go 1 (inl refl) at | inr at ↦ go 3 (inr refl) at ]
-  where
-    go : (i : ℕ) → IsOpposed i → before.first ≡ seat_after p.first i → TakesBy (reach cards) (side_of before.first) p (total n + m)
-    go i opposed at =
-        trumps-by (reach cards) p c before.first i n m ready.led opposed at (λ valid. subst (λ o. CanTake o n 0) ready.was (sure.can (subst IsBoard (sym ready.was) valid))) trump some
-        (subst (λ o. RestsOnTops (reach cards) o n) ready.was sure.tops)
-        (subst (λ (o : Board). m ≤ count (λ d. (is_of c.suit d && is_winner o before.first d) && reach cards d) (cards_at o before.first)) ready.was tops)
-        (subst (λ (o : Board). total n + 1 + trumps_at o.strain o (seat_after before.first 2) ≤ left o) ready.was spare)
-
--- no joint trumps rest on any cards
-pub none-rest : (strain : Strain) (p : Board) (seat : Seat) (cards : List PlayingCard) → RestsOnTrumps strain p seat cards 0
-none-rest Notrump p seat cards = tt
-none-rest (Trump t) p seat cards = inl (omega arith)

@@ -4,6 +4,7 @@ use Rattle.std.specs.Prelude.{filter, nat_le, nat_lt, ◌&&◌, ◌⊎◌}
 use mathlib.Core.Bool.{not}
 use mathlib.Core.Path.{ap₂}
 use Rattle.std.proofs.lemmas.Bool.{leb-true, le-leb, cases_lt}
+use Rattle.std.proofs.lemmas.Bool.Decides.{nat_tests}
 use Rattle.dd_cards.specs.declared.seat.Seat.{Seat}
 use Rattle.dd_cards.specs.declared.seat.Seat.TheVariants.{North, East, South, West}
 use Rattle.dd_cards.specs.declared.suit.Suit.{Suit}
@@ -12,7 +13,7 @@ use Rattle.dd_cards.specs.declared.strain.Strain.TheVariants.{Trump, Notrump}
 use Rattle.dd_cards.specs.PlayingCard.{PlayingCard}
 use Rattle.dd_cards.specs.Cards.{is_of, same_card, card_of, has_card}
 use Rattle.dd_cards.specs.Seats.{seat_code, seat_after}
-use Rattle.dd_cards.proofs.CallerLemmas.{and-left, and-right, any-filter, same_card-eq}
+use Rattle.dd_cards.proofs.CallerLemmas.{and-left, and-right, any-filter, length-filter-le, same_card-eq}
 use Rattle.dd_cards.specs.Sides.{side_of, other_side, is_side}
 use Rattle.dd_cards.specs.declared.side.Side.{Side}
 use Rattle.dd_play.specs.Board.{Board, IsBoard, cards_at, left}
@@ -25,7 +26,8 @@ use Rattle.dd_quick.proofs.Hands.{IsOpposed, no-higher, none-over}
 use Rattle.dd_quick.proofs.Plays.{count-where}
 use Rattle.dd_quick.proofs.JointPlans.{is_top, trumps-plain}
 use Rattle.dd_quick.proofs.JointTrumps.{joint-taken, place-of}
-use Rattle.dd_quick.proofs.Cashing.{Aims, AllLetCash, IsLater, OnlyTrumps, cashed-all, hand_on, is_plain, no_cards, same-trump, spare_of, sure_of, total}
+use Rattle.dd_quick.proofs.Plans.{IsPlan, planned}
+use Rattle.dd_quick.proofs.Cashing.{Aims, AllLetCash, IsLater, OnlyTrumps, hand_on, is_plain, no_cards, same-trump, spare_of, sure_of, total}
 
 -- ---- two lists
 
@@ -253,13 +255,25 @@ plain-left p x valid start few =
     let flag : flag_of (nat_lt 2 (length p.trick)) ≡ 0 = ap (λ trick. flag_of (nat_lt 2 (length trick))) start in
     omega (arith, all, trumps, even, flag, few)
 
+-- before a trick a hand has no more cards of a suit than tricks are left
+pub length-left : (p : Board) (i : ℕ) (u : Suit) → IsBoard p → p.trick ≡ [] → i < 4 → length_at p (seat_after p.first i) u ≤ left p
+length-left p i u valid start less =
+    let part = length-filter-le (is_of u) (cards_at p (seat_after p.first i)) in
+    let even = valid.even i less in
+    let none : length p.trick ≡ 0 = ap length start in
+    let flag : flag_of (nat_lt i (length p.trick)) ≡ 0 = ap flag_of (not-under i (length p.trick) none) in
+    omega (arith, part, even, flag)
+  where
+    not-under : (a b : ℕ) → b ≡ 0 → nat_lt a b ≡ false
+    not-under a b h = grind (arith, nat_tests)
+
 -- these cards of the leader's are sure, and the partner keeps its trumps
-abbrev pub keeping_trumps : Strain → (PlayingCard → Bool) → List PlayingCard → Aims
-keeping_trumps strain sure own = record { sure = sure; kept = is_trump strain; low = no_cards; over = λ u. sure_of sure u own }
+abbrev pub keeping_trumps : Strain → (PlayingCard → Bool) → List PlayingCard → ℕ → Aims
+keeping_trumps strain sure own most = record { sure = sure; kept = is_trump strain; low = no_cards; over = λ u. sure_of sure u own; rest = λ u. most }
 
 -- so the winners of the leader at this position
 abbrev pub leaders_aims : Board → Aims
-leaders_aims p = keeping_trumps p.strain (is_winner p p.first) (cards_at p p.first)
+leaders_aims p = keeping_trumps p.strain (is_winner p p.first) (cards_at p p.first) (left p)
 
 -- of side suits a hand may spare all cards where it keeps its trumps
 pub side-spared : (strain : Strain) (n : Suit → ℕ) (hand : List PlayingCard) → ((u : Suit) → 1 ≤ n u → is_trump strain (card_of u 0) ≡ false) → (u : Suit) → min (no_cards u + n u) (count_of u hand) ≤ spare_of (is_trump strain) u hand
@@ -281,6 +295,7 @@ can-let p n k valid start can i l m = record {
   ];
   spares = λ two. side-spared p.strain n (hand_on p i) can.plain;
   throws = λ two. subst (λ j. total no_cards + total n ≤ count (is_plain p.strain) (hand_on p j)) (sym two) (let k = plain-left p (total n) valid start can.throws in omega (arith, k));
+  leaves = λ other u. (let k = length-left p i u valid start m in omega (arith, k));
 }
   where
     opponent : (i : ℕ) → 1 ≤ i → i < 4 → i ≢ 2 → IsOpposed i
@@ -291,15 +306,22 @@ can-let p n k valid start can i l m = record {
     opponent (suc (suc (suc (suc i)))) l k other = absurd (omega (arith, k))
 
 -- later, where it has lost no trumps, its side still takes its joint trumps
-pub joint-on : (p : Board) (n : Suit → ℕ) (k : ℕ) → IsBoard p → CanTake p n k → (q : Board) → q.trick ≡ [] → IsLater p.strain (leaders_aims p) p (side_of p.first) q → k ≤ won (side_of p.first) q
+joint-on : (p : Board) (n : Suit → ℕ) (k : ℕ) → IsBoard p → CanTake p n k → (q : Board) → q.trick ≡ [] → IsLater p.strain (leaders_aims p) p (side_of p.first) q → k ≤ won (side_of p.first) q
 joint-on p n k valid can q empty later =
     joint-later p.strain p q p.first (side_of p.first) k valid later.valid later.same empty (own-side p.first) (partners-side p.first) can.joint later.part
     (λ test only. ap (λ x. count test (cards_at q x)) (sym later.first) ∙ later.mine test only)
     (λ test only. ap (λ x. count test (cards_at q (seat_after x 2))) (sym later.first) ∙ later.partners test only)
 
--- then it takes so many tricks
+-- so it is a plan to cash them
+pub take-plan : (p : Board) (n : Suit → ℕ) (k : ℕ) → IsBoard p → p.trick ≡ [] → CanTake p n k → IsPlan p.strain p (side_of p.first) (leaders_aims p) n k
+take-plan p n k valid start can = record {
+  masters = λ c own winner x e away his suits. no-higher p valid p.first x c e away winner own his suits;
+  begins = record { valid = valid; same = refl; ours = own-side p.first; first = refl; part = λ x c h. h; mine = λ test only. refl; partners = λ test only. refl; trumps = λ c e. e };
+  cards = record { held = λ u. (let h = can.held u in omega (arith, h)); tops = λ u. omega arith; plain = λ u c some e. same-trump p.strain c (card_of u 0) e ∙ can.plain u some; most = λ u. (let k = length-left p 0 u valid start (omega arith) in omega (arith, k)) };
+  lets = can-let p n k valid start can;
+  beyond = λ q r empty later cards lets none. joint-on p n k valid can q empty later;
+}
+
+-- and it takes so many tricks
 pub can-take : (p : Board) (n : Suit → ℕ) (k : ℕ) → IsBoard p → p.trick ≡ [] → CanTake p n k → total n + k ≤ won (side_of p.first) p
-can-take p n k valid start can =
-    cashed-all (total n) k p.strain p (leaders_aims p) n (side_of p.first) p (λ q r empty later cards none. joint-on p n k valid can q empty later) (λ c own winner x e away his suits. no-higher p valid p.first x c e away winner own his suits) refl start
-    (record { valid = valid; same = refl; ours = own-side p.first; first = refl; part = λ x c h. h; mine = λ test only. refl; partners = λ test only. refl; trumps = λ c e. e })
-    (record { held = λ u. (let h = can.held u in omega (arith, h)); tops = λ u. omega arith; plain = λ u c some e. same-trump p.strain c (card_of u 0) e ∙ can.plain u some }) (can-let p n k valid start can)
+can-take p n k valid start can = planned p.strain p (side_of p.first) (leaders_aims p) n k start (take-plan p n k valid start can)

@@ -1,35 +1,34 @@
 -- A trick that second or fourth hand wins. A card of a suit is led whose highest card an opponent h of the leader holds: h wins
 -- the trick with that card whatever comes, and has the lead; the other hands have followed as they would have to its lead.
 use Rattle.std.proofs.Common.{◌≡◌, ◌≢◌, ℕ, zero, suc, ◌+◌, ◌<◌, ◌≤◌, Bool, true, false, refl, sym, ap, ◌∙◌, subst, arith, List, [], ◌∷◌, ◌++◌, length, inl, inr}
-use Rattle.std.specs.Prelude.{filter, min, nat_le, nat_lt, ◌&&◌, ◌==◌, ◌⊎◌}
+use Rattle.std.specs.Prelude.{filter, nat_le, nat_lt, ◌&&◌, ◌==◌, ◌⊎◌}
 use Rattle.std.specs.List.{list_all, position_or_len}
 use mathlib.Core.Bool.{not}
 use mathlib.Core.Path.{ap₂}
-use Rattle.std.proofs.lemmas.Bool.{leb-true, lt-ltb, cases_lt}
+use Rattle.std.proofs.lemmas.Bool.{leb-true, lt-ltb}
 use Rattle.std.proofs.lemmas.Bool.Decides.{eqb_tells}
 use Rattle.dd_cards.specs.declared.seat.Seat.{Seat}
 use Rattle.dd_cards.specs.declared.seat.Seat.TheVariants.{North, East, South, West}
-use Rattle.dd_cards.specs.declared.suit.Suit.{Suit}
 use Rattle.dd_cards.specs.declared.strain.Strain.{Strain}
 use Rattle.dd_cards.specs.declared.strain.Strain.TheVariants.{Trump, Notrump}
 use Rattle.dd_cards.specs.PlayingCard.{PlayingCard}
-use Rattle.dd_cards.specs.Cards.{card_of, is_of, same_card, has_card, without}
+use Rattle.dd_cards.specs.Cards.{is_of, same_card, has_card, without}
 use Rattle.dd_cards.specs.Seats.{seat_code, seat_after}
 use Rattle.dd_cards.specs.Sides.{side_of, is_side}
-use Rattle.dd_cards.proofs.CallerLemmas.{and-left, and-right, else-false, not-true, passes, same_card-eq}
+use Rattle.dd_cards.proofs.CallerLemmas.{and-left, and-right, else-false, passes, same_card-eq}
 use Rattle.dd_play.specs.Board.{Board, IsBoard, cards_at, left, mover}
 use Rattle.dd_play.specs.Tricks.{deciding, is_highest_of, is_trump, or_else, winner_of, winning_place}
 use Rattle.dd_play.specs.Play.{after, completes, following, trick_with}
 use Rattle.dd_play.specs.Simulations.{IsLegal}
-use Rattle.dd_play.specs.Covers.{count_of}
 use Rattle.dd_play.specs.Won.{point, won}
-use Rattle.dd_play.proofs.CallerLemmas.{Obeys, after-code, can, code-lt, count, count-has, count-some, filter-has, filter-passes, flag_of, hand-others, hand-own, has-first, in-push, in-rest, legal-in, legal-leads, legal-out, of-suit', own-card, strain-after, suit-of, trick-after, trick-closed, was-in, won_with}
+use Rattle.dd_play.proofs.CallerLemmas.{Obeys, after-code, can, code-lt, count, count-some, filter-has, filter-passes, flag_of, hand-others, hand-own, has-first, in-push, in-rest, legal-in, legal-leads, legal-out, of-suit', own-card, strain-after, suit-of, trick-after, trick-closed, was-in, won_with}
 use Rattle.dd_quick.specs.SecondHand.{unled}
-use Rattle.dd_quick.proofs.Cashing.{FollowsSuit, IsMaster, LetsCash, OnlyTrumps, follows-on, hand_on, is_plain, no_cards, no-trump, none-higher, one_card, one-total, same-trump, sure_of, total, yields-on}
+use Rattle.dd_quick.proofs.FirstCard.{no-trump, none-higher}
+use Rattle.dd_quick.proofs.Cashing.{FollowsSuit, IsMaster, hand_on, same-trump}
 use Rattle.dd_quick.proofs.Hands.{IsOpposed}
 use Rattle.dd_quick.proofs.LeadBack.{count-back, is-back, leaders-back, led-back, others-back}
 use Rattle.dd_quick.proofs.Plays.{count-own, whoever}
-use Rattle.dd_quick.proofs.Sound.{keeping_trumps, own-side, partners-side, side-spared}
+use Rattle.dd_quick.proofs.Sound.{own-side, partners-side}
 
 -- ---- the card that wins the trick
 
@@ -111,73 +110,49 @@ wins-at strain m c before behind suit low later = first-at (is_highest_of (decid
 
 -- ---- the trick
 
--- The hand that is i places after h lets n cards of each suit be cashed, and e more that are led first, where its partner
--- keeps its trumps: as `LetsCash`, but a trump that is led asks for no card that the partner may spare of its suit.
-pub record LetsWin (strain : Strain) (sure : PlayingCard → Bool) (n e : Suit → ℕ) (i : ℕ) (own his : List PlayingCard) : Type 0 where
-  pub yields : (u : Suit) → min (e u + n u) (count_of u his) ≤ e u + sure_of sure u own
-  pub follows : i ≢ 2 → (count (is_trump strain) his ≡ 0) ⊎ ((u : Suit) → e u + n u ≤ count_of u his)
-  pub throws : i ≡ 2 → total e + total n ≤ count (is_plain strain) his
+-- of m's suit the first card is
+abbrev pub IsLed : PlayingCard → List PlayingCard → Type 0
+IsLed m trick = (c : PlayingCard) × (tail : List PlayingCard) × (trick ≡ c ∷ tail) × (c.suit ≡ m.suit)
 
--- a hand that lets cards be cashed does so
-pub lets-win : (strain : Strain) (sure : PlayingCard → Bool) (all : List PlayingCard) (n e : Suit → ℕ) (i : ℕ) (own his : List PlayingCard) → LetsCash strain (keeping_trumps strain sure all) n e i own his → LetsWin strain sure n e i own his
-lets-win strain sure all n e i own his lets = record { yields = lets.yields; follows = lets.follows; throws = lets.throws }
+-- one hand has lost the card d of another
+abbrev pub IsTaken : PlayingCard → List PlayingCard → List PlayingCard → Type 0
+IsTaken d his rest = (test : PlayingCard → Bool) → count test rest + flag_of (test d) ≡ count test his
 
--- and the other way round where none is led first
-pub lets-cash : (strain : Strain) (sure : PlayingCard → Bool) (all : List PlayingCard) (n : Suit → ℕ) (i : ℕ) (own his : List PlayingCard) → ((u : Suit) → 1 ≤ n u → is_trump strain (card_of u 0) ≡ false)
-    → LetsWin strain sure n no_cards i own his → LetsCash strain (keeping_trumps strain sure all) n no_cards i own his
-lets-cash strain sure all n i own his plain lets = record { yields = lets.yields; follows = lets.follows; spares = λ two. side-spared strain n his plain; throws = lets.throws }
+-- it does not ruff, unless m is a trump
+abbrev pub IsQuiet : Strain → PlayingCard → PlayingCard → Type 0
+IsQuiet strain m d = is_trump strain d ≡ true → is_trump strain m ≡ true
 
--- a hand that plays a card c to such a lead lets the others be cashed
-played-too : (strain : Strain) (sure : PlayingCard → Bool) (n : Suit → ℕ) (i : ℕ) (own his rest : List PlayingCard) (m c : PlayingCard) → LetsWin strain sure n (one_card m) i own his → ((test : PlayingCard → Bool) → count test rest + flag_of (test c) ≡ count test his) → FollowsSuit m his c
-    → LetsWin strain sure n no_cards i own rest
-played-too strain sure n i own his rest m c lets taken suits = record {
-  yields = yields-on strain sure n i own his rest m c taken suits lets.yields;
-  follows = follows-on strain sure n i own his rest m c taken suits lets.follows;
-  throws = λ two. (
-      let before = lets.throws two in
-      let one = one-total m in
-      let most : flag_of (is_plain strain c) ≤ 1 = flag-one (is_plain strain c) in
-      let t = taken (is_plain strain) in
-      omega (arith, before, one, most, t));
-}
-  where
-    flag-one : (b : Bool) → flag_of b ≤ 1
-    flag-one true = omega arith
-    flag-one false = omega arith
+-- What is known of the hand that is i places after h, where it waits to play to the trick that m is to win, and where it has
+-- played: of an opponent whatever it plays, of the partner by a card that it has.
+pub record Allows (strain : Strain) (m : PlayingCard) (lets : Bool → ℕ → List PlayingCard → Type 0) : Type 0 where
+  pub opponents : (i : ℕ) (his rest : List PlayingCard) (d : PlayingCard) → i ≢ 2 → lets true i his → has_card his d ≡ true → FollowsSuit m his d → IsTaken d his rest → lets false i rest × IsQuiet strain m d
+  pub partner : (his trick : List PlayingCard) → IsLed m trick → lets true 2 his → (d : PlayingCard) × (has_card (following trick his) d ≡ true) × IsQuiet strain m d × ((rest : List PlayingCard) → IsTaken d his rest → lets false 2 rest)
 
--- the cards that are led first at a hand that waits to play to the trick
-abbrev pub waiting : Bool → PlayingCard → Suit → ℕ
-waiting true m = one_card m
-waiting false m = no_cards
-
--- In the middle of the trick, by the position o before the lead, in which h was given the lead: m is h's card for the trick,
--- `kept` its other cards, `own` what it has now; the hands i places after h that wait to play let n cards of each suit be
--- cashed after m, and the others n cards.
-pub record IsMidway (strain : Strain) (o : Board) (sure : PlayingCard → Bool) (n : Suit → ℕ) (m : PlayingCard) (kept own : List PlayingCard) (waits : ℕ → Bool) (p : Board) : Type 0 where
+-- In the middle of the trick, by the position o before the lead, in which h was given the lead: `own` is what h has now, and
+-- of each other hand it is known what it allows.
+pub record IsMidway (strain : Strain) (o : Board) (lets : Bool → ℕ → List PlayingCard → Type 0) (own : List PlayingCard) (waits : ℕ → Bool) (p : Board) : Type 0 where
   pub valid : IsBoard p
   pub same : p.strain ≡ strain
   pub part : (x : Seat) (d : PlayingCard) → has_card (cards_at p x) d ≡ true → has_card (cards_at o x) d ≡ true
   pub mine : cards_at p o.first ≡ own
-  pub partners : is_trump strain m ≡ false → (test : PlayingCard → Bool) → OnlyTrumps strain test → count test (cards_at p (seat_after o.first 2)) ≡ count test (hand_on o 2)
-  pub lets : (i : ℕ) → 1 ≤ i → i < 4 → LetsWin strain sure n (waiting (waits i) m) i kept (cards_at p (seat_after o.first i))
+  pub lets_be : (i : ℕ) → 1 ≤ i → i < 4 → lets (waits i) i (cards_at p (seat_after o.first i))
 
 -- all but one of those that waited
 abbrev pub but : ℕ → (ℕ → Bool) → ℕ → Bool
 but i waits j = waits j && not (j == i)
 
--- of m's suit the first card is
-abbrev IsLed : PlayingCard → List PlayingCard → Type 0
-IsLed m trick = (c : PlayingCard) × (tail : List PlayingCard) × (trick ≡ c ∷ tail) × (c.suit ≡ m.suit)
-
 -- another hand than h's, i places after it, plays d to the trick
-module _ (strain : Strain) (o : Board) (sure : PlayingCard → Bool) (n : Suit → ℕ) (m : PlayingCard) (kept own : List PlayingCard) (waits : ℕ → Bool) (p : Board) (i : ℕ) (d : PlayingCard)
-    (now : IsMidway strain o sure n m kept own waits p) (low : 1 ≤ i) (high : i < 4) (turn : mover p ≡ seat_after o.first i) (wait : waits i ≡ true) (led : IsLed m p.trick) (has : IsLegal p d) where
+module _ (strain : Strain) (o : Board) (lets : Bool → ℕ → List PlayingCard → Type 0) (m : PlayingCard) (own : List PlayingCard) (waits : ℕ → Bool) (p : Board) (i : ℕ) (d : PlayingCard)
+    (now : IsMidway strain o lets own waits p) (low : 1 ≤ i) (high : i < 4) (turn : mover p ≡ seat_after o.first i) (wait : waits i ≡ true) (led : IsLed m p.trick) (has : IsLegal p d) where
   abbrev hand : List PlayingCard
   hand = cards_at p (seat_after o.first i)
 
-  -- it lets the cards be cashed after m
-  lets-now : LetsWin strain sure n (one_card m) i kept hand
-  lets-now = subst (λ b. LetsWin strain sure n (waiting b m) i kept hand) wait (now.lets i low high)
+  abbrev rest : List PlayingCard
+  rest = cards_at (after p d) (seat_after o.first i)
+
+  -- what is known of it
+  lets-now : lets true i hand
+  lets-now = subst (λ b. lets b i hand) wait (now.lets_be i low high)
 
   -- the card is one of its own
   own-played : has_card hand d ≡ true
@@ -190,22 +165,12 @@ module _ (strain : Strain) (o : Board) (sure : PlayingCard → Bool) (n : Suit �
       let obeys : Obeys (led.0 ∷ led.1) (cards_at p (mover p)) d = subst (λ trick. Obeys trick (cards_at p (mover p)) d) led.2 (legal-out p.trick (cards_at p (mover p)) d has) in
       obeys card.0 (ap (λ x. has_card (cards_at p x) card.0) turn ∙ card.1) (suit-of m.suit card.0 card.2 ∙ sym led.3) ∙ led.3
 
-  -- an opponent does not ruff
-  unruffed : i ≢ 2 → is_trump strain d ≡ true → is_trump strain m ≡ true
-  unruffed other trump = elim (lets-now.follows other) [
-    | inl none ↦ absurd (let some = count-has (is_trump strain) hand d own-played trump in omega (arith, none, some))
-    | inr each ↦ (
-        let one : one_card m m.suit ≡ 1 = ap flag_of (of-suit' m.suit m refl) in
-        let some = each m.suit in
-        sym (same-trump strain d m (suited (omega (arith, one, some)))) ∙ trump)
-  ]
-
   -- it is another seat than h
   apart : seat_code (seat_after o.first i) ≢ seat_code o.first
   apart = (let a = after-code o.first i in let b = code-lt o.first in λ e. omega (arith, a, b, e, low, high))
 
   -- where it does not ruff it does not beat m
-  beaten : IsMaster o m → (is_trump strain d ≡ true → is_trump strain m ≡ true) → IsBeaten strain m d
+  beaten : IsMaster o m → IsQuiet strain m d → IsBeaten strain m d
   beaten master plain = (plain, λ e. master (seat_after o.first i) d apart (now.part (seat_after o.first i) d own-played) e)
 
   -- each other hand is as it was
@@ -213,79 +178,50 @@ module _ (strain : Strain) (o : Board) (sure : PlayingCard → Bool) (n : Suit �
   stays x differs = hand-others p d x (λ e. differs (e ∙ ap seat_code turn))
 
   -- and its own has lost the card
-  taken : (test : PlayingCard → Bool) → count test (cards_at (after p d) (seat_after o.first i)) + flag_of (test d) ≡ count test hand
+  taken : IsTaken d hand rest
   taken test = subst (λ x. count test (cards_at (after p d) x) + flag_of (test d) ≡ count test (cards_at p x)) turn (count-own test p d now.valid has)
+
+  -- an opponent plays as it has to
+  played : Allows strain m lets → i ≢ 2 → lets false i rest × IsQuiet strain m d
+  played allows other = allows.opponents i hand rest d other lets-now own-played suited taken
 
   -- two places after h are two seats
   two-places : (j : ℕ) → j < 4 → j ≢ i → seat_code (seat_after o.first j) ≢ seat_code (seat_after o.first i)
   two-places j l differs = (let a = after-code o.first i in let b = after-code o.first j in let c = code-lt o.first in λ e. omega (arith, a, b, c, e, l, high, differs))
 
-  lets-after : (j : ℕ) → 1 ≤ j → j < 4 → LetsWin strain sure n (waiting (but i waits j) m) j kept (cards_at (after p d) (seat_after o.first j))
-  lets-after j l k = elim (eqb_tells j i) [
-    | inl r ↦ subst (λ b. LetsWin strain sure n (waiting b m) j kept (cards_at (after p d) (seat_after o.first j))) (sym (ap₂ (λ a b. a && not b) (ap waits r.1 ∙ wait) r.0))
-        (subst (λ y. LetsWin strain sure n no_cards y kept (cards_at (after p d) (seat_after o.first y))) (sym r.1) (played-too strain sure n i kept hand (cards_at (after p d) (seat_after o.first i)) m d lets-now taken suited))
-    | inr r ↦ subst (λ b. LetsWin strain sure n (waiting b m) j kept (cards_at (after p d) (seat_after o.first j))) (sym (ap (λ b. waits j && not b) r.0 ∙ and-yes (waits j)))
-        (subst (λ cards. LetsWin strain sure n (waiting (waits j) m) j kept cards) (sym (stays (seat_after o.first j) (two-places j k r.1))) (now.lets j l k))
+  lets-after : lets false i rest → (j : ℕ) → 1 ≤ j → j < 4 → lets (but i waits j) j (cards_at (after p d) (seat_after o.first j))
+  lets-after done j l k = elim (eqb_tells j i) [
+    | inl r ↦ subst (λ b. lets b j (cards_at (after p d) (seat_after o.first j))) (sym (ap₂ (λ a b. a && not b) (ap waits r.1 ∙ wait) r.0)) (subst (λ y. lets false y (cards_at (after p d) (seat_after o.first y))) (sym r.1) done)
+    | inr r ↦ subst (λ b. lets b j (cards_at (after p d) (seat_after o.first j))) (sym (ap (λ b. waits j && not b) r.0 ∙ and-yes (waits j)))
+        (subst (λ cards. lets (waits j) j cards) (sym (stays (seat_after o.first j) (two-places j k r.1))) (now.lets_be j l k))
   ]
     where
       and-yes : (b : Bool) → (b && true) ≡ b
       and-yes true = refl
       and-yes false = refl
 
-  -- the partner keeps its trumps, where m is none
-  partners-after : (is_trump strain d ≡ true → is_trump strain m ≡ true) → is_trump strain m ≡ false → (test : PlayingCard → Bool) → OnlyTrumps strain test → count test (cards_at (after p d) (seat_after o.first 2)) ≡ count test (hand_on o 2)
-  partners-after plain none test only = elim (eqb_tells 2 i) [
-    | inl r ↦ (
-        let t = taken test in
-        let z : flag_of (test d) ≡ 0 = ap flag_of (only d (else-false (is_trump strain d) (λ e. let k : false ≡ true = sym none ∙ plain e in cc))) in
-        let a : count test (cards_at (after p d) (seat_after o.first 2)) ≡ count test (cards_at (after p d) (seat_after o.first i)) = ap (λ j. count test (cards_at (after p d) (seat_after o.first j))) r.1 in
-        let b : count test (cards_at p (seat_after o.first 2)) ≡ count test hand = ap (λ j. count test (cards_at p (seat_after o.first j))) r.1 in
-        let e = now.partners none test only in
-        omega (arith, t, z, a, b, e))
-    | inr r ↦ ap (count test) (stays (seat_after o.first 2) (two-places 2 (omega arith) r.1)) ∙ now.partners none test only
-  ]
-
   -- so the trick goes on
-  goes-on : (is_trump strain d ≡ true → is_trump strain m ≡ true) → IsMidway strain o sure n m kept own (but i waits) (after p d)
-  goes-on plain = record {
+  goes-on : lets false i rest → IsMidway strain o lets own (but i waits) (after p d)
+  goes-on done = record {
     valid = (legal-leads p d now.valid has).valid;
     same = strain-after p d ∙ now.same;
     part = λ x e h. now.part x e (was-in p d now.valid x e h);
     mine = stays o.first (λ e. apart (sym e)) ∙ now.mine;
-    partners = partners-after plain;
-    lets = lets-after;
+    lets_be = lets-after done;
   }
 
 -- h plays m
-takes-over : (strain : Strain) (o : Board) (sure : PlayingCard → Bool) (n : Suit → ℕ) (m : PlayingCard) (kept own : List PlayingCard) (waits : ℕ → Bool) (p : Board) → IsMidway strain o sure n m kept own waits p → mover p ≡ o.first → IsLegal p m
-    → IsMidway strain o sure n m kept (without own m) waits (after p m)
-takes-over strain o sure n m kept own waits p now turn has = record {
+takes-over : (strain : Strain) (o : Board) (lets : Bool → ℕ → List PlayingCard → Type 0) (m : PlayingCard) (own : List PlayingCard) (waits : ℕ → Bool) (p : Board) → IsMidway strain o lets own waits p → mover p ≡ o.first → IsLegal p m → IsMidway strain o lets (without own m) waits (after p m)
+takes-over strain o lets m own waits p now turn has = record {
   valid = (legal-leads p m now.valid has).valid;
   same = strain-after p m ∙ now.same;
   part = λ x e h. now.part x e (was-in p m now.valid x e h);
   mine = ap (cards_at (after p m)) (sym turn) ∙ hand-own p m now.valid ∙ ap (λ cards. without cards m) (ap (cards_at p) turn ∙ now.mine);
-  partners = λ none test only. ap (count test) (stays 2 (omega arith) (omega arith)) ∙ now.partners none test only;
-  lets = λ j l k. subst (λ cards. LetsWin strain sure n (waiting (waits j) m) j kept cards) (sym (stays j l k)) (now.lets j l k);
+  lets_be = λ j l k. subst (λ cards. lets (waits j) j cards) (sym (stays j l k)) (now.lets_be j l k);
 }
   where
     stays : (j : ℕ) → 1 ≤ j → j < 4 → cards_at (after p m) (seat_after o.first j) ≡ cards_at p (seat_after o.first j)
     stays j l k = hand-others p m (seat_after o.first j) (let a = after-code o.first j in let b = code-lt o.first in let t : seat_code (mover p) ≡ seat_code o.first = ap seat_code turn in λ e. omega (arith, a, b, t, e, l, k))
-
--- a hand with a card that is no trump has a card to play to the trick that does not ruff
-quiet-card : (strain : Strain) (m : PlayingCard) (trick hand : List PlayingCard) → IsLed m trick → 1 ≤ count (is_plain strain) hand
-    → (d : PlayingCard) × (has_card (following trick hand) d ≡ true) × (is_trump strain d ≡ true → is_trump strain m ≡ true)
-quiet-card strain m trick hand led some = subst (λ cards. (d : PlayingCard) × (has_card (following cards hand) d ≡ true) × (is_trump strain d ≡ true → is_trump strain m ≡ true)) (sym led.2) (elim (cases_lt 0 (count_of m.suit hand)) [
-  | inl l ↦ (
-      let d = count-some (is_of m.suit) hand l in
-      let suit = suit-of m.suit d.0 d.2 in
-      (d.0, legal-in (led.0 ∷ led.1) hand d.0 d.1 (λ e own suits. suit ∙ sym led.3), λ t. sym (same-trump strain d.0 m suit) ∙ t))
-  | inr l ↦ (
-      let d = count-some (is_plain strain) hand some in (
-        d.0,
-        legal-in (led.0 ∷ led.1) hand d.0 d.1 (λ e own suits. absurd (let k = count-has (is_of m.suit) hand e own (of-suit' m.suit e (suits ∙ led.3)) in omega (arith, k, l))),
-        λ t. absurd (let k = not-true (is_trump strain d.0) d.2 in cc),
-      ))
-])
 
 -- where a card lies on the trick, one more is to come
 some-left : (p : Board) → IsBoard p → 1 ≤ length p.trick → 1 ≤ left p
@@ -302,15 +238,13 @@ abbrev pub nobody : ℕ → Bool
 nobody i = false
 
 -- where none of the three waits, the trick is over
-all-played : (strain : Strain) (o : Board) (sure : PlayingCard → Bool) (n : Suit → ℕ) (m : PlayingCard) (kept own : List PlayingCard) (waits : ℕ → Bool) (q : Board) → ((i : ℕ) → 1 ≤ i → i < 4 → waits i ≡ false) → IsMidway strain o sure n m kept own waits q
-    → IsMidway strain o sure n m kept own nobody q
-all-played strain o sure n m kept own waits q none now = record {
+all-played : (strain : Strain) (o : Board) (lets : Bool → ℕ → List PlayingCard → Type 0) (own : List PlayingCard) (waits : ℕ → Bool) (q : Board) → ((i : ℕ) → 1 ≤ i → i < 4 → waits i ≡ false) → IsMidway strain o lets own waits q → IsMidway strain o lets own nobody q
+all-played strain o lets own waits q none now = record {
   valid = now.valid;
   same = now.same;
   part = now.part;
   mine = now.mine;
-  partners = now.partners;
-  lets = λ i l k. subst (λ b. LetsWin strain sure n (waiting b m) i kept (cards_at q (seat_after o.first i))) (none i l k) (now.lets i l k);
+  lets_be = λ i l k. subst (λ b. lets b i (cards_at q (seat_after o.first i))) (none i l k) (now.lets_be i l k);
 }
 
 -- a card that follows suit is legal
@@ -343,12 +277,12 @@ three-three East = refl
 three-three South = refl
 three-three West = refl
 
--- The card c was led, and h, the next hand or the last, has m, the highest card of the suit, and lets n cards be cashed after
--- it; b is what its side takes then.
-module _ (p : Board) (c : PlayingCard) (h : Seat) (sure : PlayingCard → Bool) (n : Suit → ℕ) (m : PlayingCard) (b : ℕ) (valid : IsBoard p) (led : p.trick ≡ c ∷ [])
-    (own : has_card (cards_at (unled p c h) h) m ≡ true) (suit : c.suit ≡ m.suit) (master : IsMaster (unled p c h) m)
-    (start : (i : ℕ) → 1 ≤ i → i < 4 → LetsWin p.strain sure n (one_card m) i (without (cards_at (unled p c h) h) m) (hand_on (unled p c h) i))
-    (next : (q : Board) → IsMidway p.strain (unled p c h) sure n m (without (cards_at (unled p c h) h) m) (without (cards_at (unled p c h) h) m) nobody q → q.trick ≡ [] → q.first ≡ h → b ≤ won (side_of h) q) where
+-- The card c was led, and h, the next hand or the last, has m, the highest card of the suit, to win the trick with; b is what
+-- its side takes then.
+module _ (p : Board) (c : PlayingCard) (h : Seat) (lets : Bool → ℕ → List PlayingCard → Type 0) (m : PlayingCard) (b : ℕ) (valid : IsBoard p) (led : p.trick ≡ c ∷ [])
+    (own : has_card (cards_at (unled p c h) h) m ≡ true) (suit : c.suit ≡ m.suit) (master : IsMaster (unled p c h) m) (allows : Allows p.strain m lets)
+    (start : (i : ℕ) → 1 ≤ i → i < 4 → lets true i (hand_on (unled p c h) i))
+    (next : (q : Board) → IsMidway p.strain (unled p c h) lets (without (cards_at (unled p c h) h) m) nobody q → q.trick ≡ [] → q.first ≡ h → b ≤ won (side_of h) q) where
   abbrev o : Board
   o = unled p c h
 
@@ -360,28 +294,29 @@ module _ (p : Board) (c : PlayingCard) (h : Seat) (sure : PlayingCard → Bool) 
   beaten-led apart = (λ t. sym (same-trump p.strain c m suit) ∙ t, λ e. master p.first c apart (led-back p c valid led h) e)
 
   -- the leader alone has played
-  begins : (j : ℕ) → 1 ≤ j → j < 4 → j ≢ 2 → p.first ≡ seat_after h j → IsMidway p.strain o sure n m kept (cards_at o h) (but j everybody) p
+  begins : (j : ℕ) → 1 ≤ j → j < 4 → j ≢ 2 → p.first ≡ seat_after h j → IsMidway p.strain o lets (cards_at o h) (but j everybody) p
   begins j low high other at = record {
     valid = valid;
     same = refl;
     part = is-back p c valid led h;
     mine = sym (others-back p c valid led h h (λ e. away 0 (omega arith) (λ z. omega (arith, z, low)) e));
-    partners = λ none test only. ap (count test) (sym (others-back p c valid led h (seat_after h 2) (away 2 (omega arith) (λ z. other (sym z)))));
-    lets = lets;
+    lets_be = lets-then;
   }
     where
       away : (i : ℕ) → i < 4 → i ≢ j → seat_code (seat_after h i) ≢ seat_code p.first
       away i l differs = (let a = after-code h i in let d = after-code h j in let k = code-lt h in let e : seat_code p.first ≡ seat_code (seat_after h j) = ap seat_code at in λ z. omega (arith, a, d, k, e, z, l, high, differs))
 
-      taken : (test : PlayingCard → Bool) → count test (cards_at p (seat_after h j)) + flag_of (test c) ≡ count test (hand_on o j)
-      taken test = subst (λ x. count test (cards_at p x) + flag_of (test c) ≡ count test (cards_at o x)) at (sym (ap (count test) (leaders-back p c valid led h) ∙ count-back p c valid led test))
+      taken-led : IsTaken c (hand_on o j) (cards_at p (seat_after h j))
+      taken-led test = subst (λ x. count test (cards_at p x) + flag_of (test c) ≡ count test (cards_at o x)) at (sym (ap (count test) (leaders-back p c valid led h) ∙ count-back p c valid led test))
 
-      lets : (i : ℕ) → 1 ≤ i → i < 4 → LetsWin p.strain sure n (waiting (but j everybody i) m) i kept (cards_at p (seat_after h i))
-      lets i l k = elim (eqb_tells i j) [
-        | inl r ↦ subst (λ x. LetsWin p.strain sure n (waiting x m) i kept (cards_at p (seat_after h i))) (sym (ap not r.0))
-            (subst (λ y. LetsWin p.strain sure n no_cards y kept (cards_at p (seat_after h y))) (sym r.1) (played-too p.strain sure n j kept (hand_on o j) (cards_at p (seat_after h j)) m c (start j low high) taken (λ some. suit)))
-        | inr r ↦ subst (λ x. LetsWin p.strain sure n (waiting x m) i kept (cards_at p (seat_after h i))) (sym (ap not r.0))
-            (subst (λ cards. LetsWin p.strain sure n (one_card m) i kept cards) (others-back p c valid led h (seat_after h i) (away i k r.1)) (start i l k))
+      own-led : has_card (hand_on o j) c ≡ true
+      own-led = ap (λ x. has_card (cards_at o x) c) (sym at) ∙ led-back p c valid led h
+
+      lets-then : (i : ℕ) → 1 ≤ i → i < 4 → lets (but j everybody i) i (cards_at p (seat_after h i))
+      lets-then i l k = elim (eqb_tells i j) [
+        | inl r ↦ subst (λ x. lets x i (cards_at p (seat_after h i))) (sym (ap not r.0))
+            (subst (λ y. lets false y (cards_at p (seat_after h y))) (sym r.1) (allows.opponents j (hand_on o j) (cards_at p (seat_after h j)) c other (start j low high) own-led (λ some. suit) taken-led).0)
+        | inr r ↦ subst (λ x. lets x i (cards_at p (seat_after h i))) (sym (ap not r.0)) (subst (λ cards. lets true i cards) (others-back p c valid led h (seat_after h i) (away i k r.1)) (start i l k))
       ]
 
   -- where the last card is played and h wins, its side has one trick more
@@ -390,13 +325,9 @@ module _ (p : Board) (c : PlayingCard) (h : Seat) (sure : PlayingCard → Bool) 
       let one : point (side_of h) p2 d ≡ 1 = ap₂ (λ x y. flag_of (x && y)) full (ap (is_side (side_of h)) wins ∙ own-side h) in
       omega (arith, one, later)
 
-  -- a hand that waits two places after h has a card that is no trump
-  some-plain : (own_now : List PlayingCard) (waits : ℕ → Bool) (q : Board) → IsMidway p.strain o sure n m kept own_now waits q → waits 2 ≡ true → 1 ≤ count (is_plain p.strain) (cards_at q (seat_after h 2))
-  some-plain own_now waits q now wait =
-      let lets : LetsWin p.strain sure n (one_card m) 2 kept (cards_at q (seat_after h 2)) = subst (λ x. LetsWin p.strain sure n (waiting x m) 2 kept (cards_at q (seat_after h 2))) wait (now.lets 2 (omega arith) (omega arith)) in
-      let many = lets.throws refl in
-      let one = one-total m in
-      omega (arith, many, one)
+  -- a card of the partner's
+  abbrev Partners : List PlayingCard → List PlayingCard → Type 0
+  Partners his trick = (d : PlayingCard) × (has_card (following trick his) d ≡ true) × IsQuiet p.strain m d × ((rest : List PlayingCard) → IsTaken d his rest → lets false 2 rest)
 
   -- h is second hand
   second-hand : h ≡ seat_after p.first 1 → b + 1 ≤ won (side_of h) p
@@ -411,7 +342,7 @@ module _ (p : Board) (c : PlayingCard) (h : Seat) (sure : PlayingCard → Bool) 
       leader : p.first ≡ seat_after h 3
       leader = sym (three-one p.first) ∙ ap (λ x. seat_after x 3) (sym at)
 
-      now0 : IsMidway p.strain o sure n m kept (cards_at o h) (but 3 everybody) p
+      now0 : IsMidway p.strain o lets (cards_at o h) (but 3 everybody) p
       now0 = begins 3 (omega arith) (omega arith) (λ e. omega (arith, e)) leader
 
       has : IsLegal p m
@@ -420,8 +351,8 @@ module _ (p : Board) (c : PlayingCard) (h : Seat) (sure : PlayingCard → Bool) 
       goes_on : completes p ≡ false
       goes_on = ap (λ trick. length trick == 3) led
 
-      now1 : IsMidway p.strain o sure n m kept kept (but 3 everybody) (after p m)
-      now1 = takes-over p.strain o sure n m kept (cards_at o h) (but 3 everybody) p now0 turn has
+      now1 : IsMidway p.strain o lets kept (but 3 everybody) (after p m)
+      now1 = takes-over p.strain o lets m (cards_at o h) (but 3 everybody) p now0 turn has
 
       trick1 : (after p m).trick ≡ c ∷ m ∷ []
       trick1 = (trick-after p m goes_on).0 ∙ ap (λ trick. trick ++ m ∷ []) led
@@ -446,14 +377,14 @@ module _ (p : Board) (c : PlayingCard) (h : Seat) (sure : PlayingCard → Bool) 
           led1 : IsLed m (after p m).trick
           led1 = (c, m ∷ [], trick1, suit)
 
-          quiet : is_trump p.strain d ≡ true → is_trump p.strain m ≡ true
-          quiet = unruffed p.strain o sure n m kept kept (but 3 everybody) (after p m) 1 d now1 (omega arith) (omega arith) turn1 refl led1 legal (λ e. omega (arith, e))
+          plays : lets false 1 (cards_at p2 (seat_after h 1)) × IsQuiet p.strain m d
+          plays = played p.strain o lets m kept (but 3 everybody) (after p m) 1 d now1 (omega arith) (omega arith) turn1 refl led1 legal allows (λ e. omega (arith, e))
 
-          now2 : IsMidway p.strain o sure n m kept kept (but 1 (but 3 everybody)) p2
-          now2 = goes-on p.strain o sure n m kept kept (but 3 everybody) (after p m) 1 d now1 (omega arith) (omega arith) turn1 refl led1 legal quiet
+          now2 : IsMidway p.strain o lets kept (but 1 (but 3 everybody)) p2
+          now2 = goes-on p.strain o lets m kept (but 3 everybody) (after p m) 1 d now1 (omega arith) (omega arith) turn1 refl led1 legal plays.0
 
           low_d : IsBeaten p.strain m d
-          low_d = beaten p.strain o sure n m kept kept (but 3 everybody) (after p m) 1 d now1 (omega arith) (omega arith) turn1 refl led1 legal master quiet
+          low_d = beaten p.strain o lets m kept (but 3 everybody) (after p m) 1 d now1 (omega arith) (omega arith) turn1 refl led1 legal master plays.1
 
           goes_on1 : completes (after p m) ≡ false
           goes_on1 = ap (λ trick. length trick == 3) trick1
@@ -470,14 +401,14 @@ module _ (p : Board) (c : PlayingCard) (h : Seat) (sure : PlayingCard → Bool) 
           led2 : IsLed m p2.trick
           led2 = (c, m ∷ d ∷ [], trick2, suit)
 
-          card : (e : PlayingCard) × (has_card (following p2.trick (cards_at p2 (seat_after h 2))) e ≡ true) × (is_trump p.strain e ≡ true → is_trump p.strain m ≡ true)
-          card = quiet-card p.strain m p2.trick (cards_at p2 (seat_after h 2)) led2 (some-plain kept (but 1 (but 3 everybody)) p2 now2 refl)
+          card : Partners (cards_at p2 (seat_after h 2)) p2.trick
+          card = allows.partner (cards_at p2 (seat_after h 2)) p2.trick led2 (now2.lets_be 2 (omega arith) (omega arith))
 
           legal2 : IsLegal p2 card.0
           legal2 = ap (λ x. has_card (following p2.trick (cards_at p2 x)) card.0) turn2 ∙ card.1
 
           low_e : IsBeaten p.strain m card.0
-          low_e = beaten p.strain o sure n m kept kept (but 1 (but 3 everybody)) p2 2 card.0 now2 (omega arith) (omega arith) turn2 refl led2 legal2 master card.2
+          low_e = beaten p.strain o lets m kept (but 1 (but 3 everybody)) p2 2 card.0 now2 (omega arith) (omega arith) turn2 refl led2 legal2 master card.2
 
           full : completes p2 ≡ true
           full = ap (λ trick. length trick == 3) trick2
@@ -491,8 +422,8 @@ module _ (p : Board) (c : PlayingCard) (h : Seat) (sure : PlayingCard → Bool) 
           wins : winner_of (trick_with p2 card.0) p2.first p2.strain ≡ h
           wins = ap₂ seat_after first2 (ap₂ winning_place now2.same (ap (λ trick. trick ++ card.0 ∷ []) trick2) ∙ wins-at p.strain m c [] (d ∷ card.0 ∷ []) suit before behind) ∙ sym at
 
-          now3 : IsMidway p.strain o sure n m kept kept nobody (after p2 card.0)
-          now3 = all-played p.strain o sure n m kept kept (but 2 (but 1 (but 3 everybody))) (after p2 card.0) over (goes-on p.strain o sure n m kept kept (but 1 (but 3 everybody)) p2 2 card.0 now2 (omega arith) (omega arith) turn2 refl led2 legal2 card.2)
+          now3 : IsMidway p.strain o lets kept nobody (after p2 card.0)
+          now3 = all-played p.strain o lets kept (but 2 (but 1 (but 3 everybody))) (after p2 card.0) over (goes-on p.strain o lets m kept (but 1 (but 3 everybody)) p2 2 card.0 now2 (omega arith) (omega arith) turn2 refl led2 legal2 (card.3 (cards_at (after p2 card.0) (seat_after h 2)) (taken p.strain o lets m kept (but 1 (but 3 everybody)) p2 2 card.0 now2 (omega arith) (omega arith) turn2 refl led2 legal2)))
             where
               over : (i : ℕ) → 1 ≤ i → i < 4 → but 2 (but 1 (but 3 everybody)) i ≡ false
               over zero l k = absurd (omega (arith, l))
@@ -521,14 +452,14 @@ module _ (p : Board) (c : PlayingCard) (h : Seat) (sure : PlayingCard → Bool) 
       leader : p.first ≡ seat_after h 1
       leader = sym (one-three p.first) ∙ ap (λ x. seat_after x 1) (sym at)
 
-      now0 : IsMidway p.strain o sure n m kept (cards_at o h) (but 1 everybody) p
+      now0 : IsMidway p.strain o lets (cards_at o h) (but 1 everybody) p
       now0 = begins 1 (omega arith) (omega arith) (λ e. omega (arith, e)) leader
 
       led0 : IsLed m p.trick
       led0 = (c, [], led, suit)
 
-      card : (e : PlayingCard) × (has_card (following p.trick (cards_at p (seat_after h 2))) e ≡ true) × (is_trump p.strain e ≡ true → is_trump p.strain m ≡ true)
-      card = quiet-card p.strain m p.trick (cards_at p (seat_after h 2)) led0 (some-plain (cards_at o h) (but 1 everybody) p now0 refl)
+      card : Partners (cards_at p (seat_after h 2)) p.trick
+      card = allows.partner (cards_at p (seat_after h 2)) p.trick led0 (now0.lets_be 2 (omega arith) (omega arith))
 
       legal : IsLegal p card.0
       legal = ap (λ x. has_card (following p.trick (cards_at p x)) card.0) turn ∙ card.1
@@ -539,11 +470,11 @@ module _ (p : Board) (c : PlayingCard) (h : Seat) (sure : PlayingCard → Bool) 
       goes_on : completes p ≡ false
       goes_on = ap (λ trick. length trick == 3) led
 
-      now1 : IsMidway p.strain o sure n m kept (cards_at o h) (but 2 (but 1 everybody)) p1
-      now1 = goes-on p.strain o sure n m kept (cards_at o h) (but 1 everybody) p 2 card.0 now0 (omega arith) (omega arith) turn refl led0 legal card.2
+      now1 : IsMidway p.strain o lets (cards_at o h) (but 2 (but 1 everybody)) p1
+      now1 = goes-on p.strain o lets m (cards_at o h) (but 1 everybody) p 2 card.0 now0 (omega arith) (omega arith) turn refl led0 legal (card.3 (cards_at p1 (seat_after h 2)) (taken p.strain o lets m (cards_at o h) (but 1 everybody) p 2 card.0 now0 (omega arith) (omega arith) turn refl led0 legal))
 
       low_card : IsBeaten p.strain m card.0
-      low_card = beaten p.strain o sure n m kept (cards_at o h) (but 1 everybody) p 2 card.0 now0 (omega arith) (omega arith) turn refl led0 legal master card.2
+      low_card = beaten p.strain o lets m (cards_at o h) (but 1 everybody) p 2 card.0 now0 (omega arith) (omega arith) turn refl led0 legal master card.2
 
       trick1 : p1.trick ≡ c ∷ card.0 ∷ []
       trick1 = (trick-after p card.0 goes_on).0 ∙ ap (λ trick. trick ++ card.0 ∷ []) led
@@ -568,14 +499,14 @@ module _ (p : Board) (c : PlayingCard) (h : Seat) (sure : PlayingCard → Bool) 
           led1 : IsLed m p1.trick
           led1 = (c, card.0 ∷ [], trick1, suit)
 
-          quiet : is_trump p.strain d ≡ true → is_trump p.strain m ≡ true
-          quiet = unruffed p.strain o sure n m kept (cards_at o h) (but 2 (but 1 everybody)) p1 3 d now1 (omega arith) (omega arith) turn1 refl led1 may (λ e. omega (arith, e))
+          plays : lets false 3 (cards_at p2 (seat_after h 3)) × IsQuiet p.strain m d
+          plays = played p.strain o lets m (cards_at o h) (but 2 (but 1 everybody)) p1 3 d now1 (omega arith) (omega arith) turn1 refl led1 may allows (λ e. omega (arith, e))
 
-          now2 : IsMidway p.strain o sure n m kept (cards_at o h) (but 3 (but 2 (but 1 everybody))) p2
-          now2 = goes-on p.strain o sure n m kept (cards_at o h) (but 2 (but 1 everybody)) p1 3 d now1 (omega arith) (omega arith) turn1 refl led1 may quiet
+          now2 : IsMidway p.strain o lets (cards_at o h) (but 3 (but 2 (but 1 everybody))) p2
+          now2 = goes-on p.strain o lets m (cards_at o h) (but 2 (but 1 everybody)) p1 3 d now1 (omega arith) (omega arith) turn1 refl led1 may plays.0
 
           low_d : IsBeaten p.strain m d
-          low_d = beaten p.strain o sure n m kept (cards_at o h) (but 2 (but 1 everybody)) p1 3 d now1 (omega arith) (omega arith) turn1 refl led1 may master quiet
+          low_d = beaten p.strain o lets m (cards_at o h) (but 2 (but 1 everybody)) p1 3 d now1 (omega arith) (omega arith) turn1 refl led1 may master plays.1
 
           goes_on1 : completes p1 ≡ false
           goes_on1 = ap (λ trick. length trick == 3) trick1
@@ -604,8 +535,8 @@ module _ (p : Board) (c : PlayingCard) (h : Seat) (sure : PlayingCard → Bool) 
           wins : winner_of (trick_with p2 m) p2.first p2.strain ≡ h
           wins = ap₂ seat_after first2 (ap₂ winning_place now2.same (ap (λ trick. trick ++ m ∷ []) trick2) ∙ wins-at p.strain m c (card.0 ∷ d ∷ []) [] suit before (λ e there. absurd (cc))) ∙ sym at
 
-          now3 : IsMidway p.strain o sure n m kept kept nobody (after p2 m)
-          now3 = all-played p.strain o sure n m kept kept (but 3 (but 2 (but 1 everybody))) (after p2 m) over (takes-over p.strain o sure n m kept (cards_at o h) (but 3 (but 2 (but 1 everybody))) p2 now2 turn2 has)
+          now3 : IsMidway p.strain o lets kept nobody (after p2 m)
+          now3 = all-played p.strain o lets kept (but 3 (but 2 (but 1 everybody))) (after p2 m) over (takes-over p.strain o lets m (cards_at o h) (but 3 (but 2 (but 1 everybody))) p2 now2 turn2 has)
             where
               over : (i : ℕ) → 1 ≤ i → i < 4 → but 3 (but 2 (but 1 everybody)) i ≡ false
               over zero l k = absurd (omega (arith, l))

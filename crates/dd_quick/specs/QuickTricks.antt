@@ -1,5 +1,5 @@
 -- Quick tricks: the tricks that a side is sure to take, counted without search.
-use Rattle.std.specs.Prelude.{◌≡◌, ◌≤◌, ◌⊎◌, List, ℕ, ◌+◌, ◌-◌, Bool, ◌&&◌, ◌||◌, ◌==◌, length, filter, min, max, nat_le, nat_lt, if◌then◌else◌}
+use Rattle.std.specs.Prelude.{◌≡◌, ◌≤◌, ◌⊎◌, List, ℕ, ◌+◌, ◌-◌, Bool, true, ◌&&◌, ◌||◌, ◌==◌, length, filter, min, max, nat_le, nat_lt, if◌then◌else◌}
 use Rattle.std.specs.List.{list_any}
 use mathlib.Core.Bool.{not}
 use Rattle.dd_cards.specs.declared.seat.Seat.{Seat}
@@ -96,9 +96,20 @@ is_next p c = is_unbeaten p (seat_after p.first 2) c && not (is_under_low p c)
 abbrev pub next_run : Board → Suit → ℕ
 next_run p suit = length (filter (λ c. is_of suit c && is_next p c) (cards_at p (seat_after p.first 2)))
 
--- What the partner takes in a suit once the leader has cashed its run: it follows suit to that with other cards.
+-- the greatest length of the suit in the hands beside the partner's
+abbrev pub longest_beside : Board → Suit → ℕ
+longest_beside p suit = max (length_at p p.first suit) (max (length_at p (seat_after p.first 1) suit) (length_at p (seat_after p.first 3) suit))
+
+-- A long suit of the partner's: the leader's run and its own cards next below are as many as any other hand has cards of the
+-- suit, so no other hand has one after them.
+abbrev pub is_partners_long : Board → Suit → Bool
+is_partners_long p suit = nat_le (longest_beside p suit) (run p p.first suit + next_run p suit)
+
+-- What the partner takes in a suit once the leader has cashed its run, to which it follows suit with other cards: all that are
+-- left in a long suit, else those next below the run.
 abbrev pub partners_tricks : Board → Suit → ℕ
-partners_tricks p suit = min (next_run p suit) (length_at p (seat_after p.first 2) suit - run p p.first suit)
+partners_tricks p suit = (if is_partners_long p suit then length_at p (seat_after p.first 2) suit - run p p.first suit
+    else min (next_run p suit) (length_at p (seat_after p.first 2) suit - run p p.first suit))
 
 -- can the leader cross in the suit: has it a card beside its run to lead to a winner of its partner's?
 abbrev pub is_entry : Board → Suit → Bool
@@ -117,6 +128,33 @@ crossed p =
     then min (partners_tricks p Spades + partners_tricks p Hearts + partners_tricks p Diamonds + partners_tricks p Clubs) (left p - side_tricks p)
     else 0)
 
+-- ---- one later trick
+
+-- the longer holding of the leader's side in the suit
+abbrev pub longer : Board → Suit → ℕ
+longer p suit = max (length_at p p.first suit) (length_at p (seat_after p.first 2) suit)
+
+-- does the seat that is i places after the leader hold the highest card left of the suit, where the leader's side has one?
+abbrev pub heads : Board → ℕ → Suit → Bool
+heads p i suit = nat_lt 0 (run p (seat_after p.first i) suit) && nat_lt 0 (longer p suit)
+
+-- how often the leader's side can lead a suit that no opponent heads
+abbrev pub rounds : Board → Suit → ℕ
+rounds p suit = (if heads p 1 suit || heads p 3 suit then 0 else longer p suit)
+
+-- and such suits in all
+abbrev pub all_rounds : Board → ℕ
+all_rounds p = rounds p Spades + rounds p Hearts + rounds p Diamonds + rounds p Clubs
+
+-- how many suits the seat heads
+abbrev pub headed : Board → ℕ → ℕ
+headed p i = (if heads p i Spades then 1 else 0) + (if heads p i Hearts then 1 else 0) + (if heads p i Diamonds then 1 else 0) + (if heads p i Clubs then 1 else 0)
+
+-- The leader's side has to lead a suit that an opponent heads: it has not so many rounds of the others as tricks are left, and
+-- neither opponent has to throw the card with which it heads a suit.
+unfoldable pub has_later_trick : Board → Bool
+has_later_trick p = no_trumps p && (nat_lt (all_rounds p) (left p) && (nat_le (all_rounds p + headed p 1) (left p) && nat_le (all_rounds p + headed p 3) (left p)))
+
 -- ---- both
 
 -- the side of the leader takes at least this number
@@ -125,7 +163,7 @@ quick_lo p = side_tricks p + joint_trumps p.strain p p.first + crossed p
 
 -- and no more than this
 unfoldable pub quick_hi : Board → ℕ
-quick_hi p = left p - joint_trumps p.strain p (seat_after p.first 1)
+quick_hi p = left p - max (joint_trumps p.strain p (seat_after p.first 1)) (if has_later_trick p then 1 else 0)
 
 -- the tricks that the leader cashes in a suit, and the number of cards on which they rest, if there are any
 abbrev pub IsCash : Board → Suit → ℕ → ℕ → Type 0
@@ -155,3 +193,7 @@ RestsOnTrumps Notrump p seat cards n = Unit {0}
 RestsOnTrumps (Trump trump) p seat cards n =
     (min n (unbeaten p seat trump + unbeaten p (seat_after seat 2) trump) ≤ unbeaten_reached cards p seat trump + unbeaten_reached cards p (seat_after seat 2) trump)
     ⊎ ((length_at p (seat_after seat 1) trump ≡ 0) × (length_at p (seat_after seat 3) trump ≡ 0))
+
+-- the card with which the seat heads the suit is reached by these cards
+abbrev pub RestsOnHead : Board → ℕ → Suit → List PlayingCard → Type 0
+RestsOnHead p i suit cards = heads p i suit ≡ true → 1 ≤ length (filter (λ c. (is_of suit c && is_winner p (seat_after p.first i) c) && reach cards c) (cards_at p (seat_after p.first i)))

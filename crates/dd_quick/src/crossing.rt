@@ -3,7 +3,7 @@
 //! a suit it follows with another card of the suit, since of its cards there no more are counted than the leader's run leaves
 //! it, and it has enough others to throw, since no more tricks are counted than are left. Without that first condition a
 //! winner of the partner's would be counted that falls under the leader's own.
-ghost use Rattle.std.specs.Prelude.{◌≡◌, ◌≤◌, ◌&&◌, ◌||◌, ◌==◌, [], true};
+ghost use Rattle.std.specs.Prelude.{◌≡◌, ◌≤◌, ◌+◌, ◌&&◌, ◌||◌, ◌==◌, [], true, min, nat_le, if◌then◌else◌};
 ghost use mathlib.Core.Bool.{not};
 ghost use Rattle.dd_cards.specs.declared.suit.Suit.TheVariants.{Spades, Hearts, Diamonds, Clubs};
 ghost use Rattle.dd_cards.specs.PlayingCard.{PlayingCard};
@@ -74,8 +74,8 @@ pub(crate) fn crossing(position: &Position, side: u8) -> Partners
     }
 }
 
-// Has a hand a trump?
-fn has_trumps(position: &Position) -> bool
+/// Has a hand a trump?
+pub(crate) fn has_trumps(position: &Position) -> bool
     ensures { result ≡ not (no_trumps position.now) }
 {
     let leader = position.first();
@@ -98,15 +98,32 @@ fn next(position: &Position, suit: Suit) -> Offer
     ensures bound { result.tricks ≤ 13 }
 {
     let leader = position.first();
+    let left = leader.left();
     let partner = leader.partner();
+    let right = leader.right();
     let run = run(position, leader, suit).len();
-    let his = length(position, partner, suit);
-    let spare = his.saturating_sub(run);
-    let tricks = next_run(position, suit).len().min(spare);
-    let low = run < length(position, leader, suit);
+    let next = next_run(position, suit).len();
+    let own = length(position, leader, suit);
+    let longest = own.max(length(position, left, suit).max(length(position, right, suit)));
+    let spare = length(position, partner, suit).saturating_sub(run);
+    let tricks = taken(longest, run, next, spare);
+    let low = run < own;
     Offer {
         tricks,
         first: tricks > 0 && low,
+    }
+}
+
+// Of its spare cards the partner takes a trick with each in a long suit, else with those next below the leader's run.
+#[inline]
+fn taken(longest: u8, run: u8, next: u8, spare: u8) -> u8
+    requires { (run ≤ 13) × (next ≤ 13) }
+    ensures { result ≡ (if nat_le longest (run + next) then spare else min next spare) }
+{
+    if longest <= run + next {
+        spare
+    } else {
+        next.min(spare)
     }
 }
 

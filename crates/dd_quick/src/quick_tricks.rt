@@ -1,9 +1,10 @@
 //! Quick tricks. The leader cashes side suits, and its side keeps its joint trumps; without trumps it crosses to its partner,
-//! which cashes too; the other side has joint trumps. So a side's quick tricks are no more than it takes, and they rest on
+//! which cashes too; the other side has joint trumps, or wins a later trick. So a side's quick tricks are no more than it takes, and they rest on
 //! winners alone: it takes as many where the lower cards are others.
-ghost use Rattle.std.specs.Prelude.{◌≡◌, ◌<◌, ◌≤◌, ◌+◌, ◌-◌, IsSome, ℕ, [], IfSome, true};
+ghost use Rattle.std.specs.Prelude.{◌≡◌, ◌<◌, ◌≤◌, ◌+◌, ◌-◌, IsSome, ℕ, [], IfSome, true, max, if◌then◌else◌};
 ghost use Rattle.dd_cards.specs.declared.suit.Suit.{Suit as SuitOf};
 ghost use Rattle.dd_cards.specs.declared.suit.Suit.TheVariants.{Spades, Hearts, Diamonds, Clubs};
+ghost use Rattle.dd_cards.specs.PlayingCard.{PlayingCard};
 ghost use Rattle.dd_cards.specs.Sides.{side_of, other_side};
 ghost use Rattle.dd_cards.specs.Seats.{seat_after};
 ghost use Rattle.dd_play.specs.Board.{Board, IsBoard, left};
@@ -11,11 +12,13 @@ ghost use Rattle.dd_play.specs.Covers.{count_of};
 ghost use Rattle.dd_play.specs.Intervals.{Holds};
 ghost use Rattle.dd_play.specs.Reach.{reach, TakesBy};
 ghost use Rattle.dd_play.specs.Value.{lead};
-ghost use Rattle.dd_quick.specs.QuickTricks.{IsCash, IsNext, crossed, no_trumps, quick_lo, quick_hi, side_tricks, joint_trumps};
+ghost use Rattle.dd_quick.specs.QuickTricks.{IsCash, IsNext, cashed, crossed, has_later_trick, no_trumps, quick_lo, quick_hi, side_tricks, joint_trumps};
+ghost use Rattle.dd_quick.specs.SecondHand.{IsBeforeLead};
 ghost use Rattle.dd_rank.specs.Depths.{all_cards, depth_in, Covers};
 
 use crate::crossing::{Partners, crossing, with_partners};
 use crate::joint_trumps::{joint_trumps, with_trumps};
+use crate::later_trick::{later_cards, later_trick};
 use crate::long_suit::{Cashes, cashed, offers, with_shares};
 use crate::sharing::{Shares, share_out};
 use crate::winners::trumps;
@@ -37,12 +40,12 @@ pub fn bounds(start: &TrickStart) -> (Interval, Depths)
     let ours = leaders(position);
     let partners = crossing(position, ours.side);
     let lo = ours.side + ours.trumps + partners.tricks;
-    let theirs = others(position);
+    let theirs = all_others(position);
     let interval = Interval {
         lo,
         hi: position.tricks_left() - theirs,
     };
-    let cards = sure_cards(position, ours, partners, lo).union(others_cards(position, theirs));
+    let cards = sure_cards(position, ours, partners, lo).union(all_others_cards(position, theirs));
     (interval, Depths::of_cards(start, cards))
 }
 
@@ -75,7 +78,10 @@ pub fn against_leader(start: &TrickStart, need: u8) -> Option<Hand>
 {
     let position = start.position();
     if need <= others(position) {
-        Some(others_cards(position, need))
+        return Some(others_cards(position, need));
+    }
+    if need == 1 && later_trick(position) {
+        Some(later_cards(position))
     } else {
         None
     }
@@ -142,9 +148,9 @@ fn leaders_cards(position: &Position, ours: Sure, need: u8) -> Hand
     with_trumps(position, position.first(), cards, need - side)
 }
 
-// The winners on which so many tricks of the leader's side rest where the leader crosses to its partner: all that it cashes,
-// and of its partner's as many as are needed beside.
-fn crossing_cards(position: &Position, ours: Sure, partners: Partners, need: u8) -> Hand
+/// The winners on which so many tricks of the leader's side rest where the leader crosses to its partner: all that it cashes,
+/// and of its partner's as many as are needed beside. The same holds after another hand's lead that it wins.
+pub(crate) fn crossing_cards(position: &Position, ours: Sure, partners: Partners, need: u8) -> Hand
     requires start { position.now.trick ≡ [] }
     requires spades { IsCash position.now Spades
         ours.cashed.spades.tricks ours.cashed.spades.depth }
@@ -169,7 +175,10 @@ fn crossing_cards(position: &Position, ours: Sure, partners: Partners, need: u8)
         + joint_trumps position.now.strain position.now position.now.first < need }
     requires few { need ≤ side_tricks position.now
         + joint_trumps position.now.strain position.now position.now.first + crossed position.now }
-    ensures { TakesBy (reach result) (side_of position.now.first) position.now need }
+    ensures leads { TakesBy (reach result) (side_of position.now.first) position.now need }
+    ensures after_a_lead { (p : Board) (led : PlayingCard) → IsBeforeLead p led position.now
+        → 1 ≤ cashed position.now.strain position.now led.suit
+        → TakesBy (reach result) (side_of position.now.first) p need }
 {
     let cashed = ours.cashed;
     let all = Shares {
@@ -220,7 +229,7 @@ fn sure_cards(position: &Position, ours: Sure, partners: Partners, need: u8) -> 
     }
 }
 
-// What the other side is sure of: its joint trumps.
+// What the other side is sure of at once: its joint trumps.
 fn others(position: &Position) -> u8
     ensures tricks { result ≡ joint_trumps position.now.strain position.now
         (seat_after position.now.first 1) }
@@ -229,7 +238,7 @@ fn others(position: &Position) -> u8
     joint_trumps(position, position.first().left())
 }
 
-// The winners on which so many tricks of the other side rest.
+// The winners on which so many tricks of these rest.
 fn others_cards(position: &Position, need: u8) -> Hand
     requires start { position.now.trick ≡ [] }
     requires few { need ≤ joint_trumps position.now.strain position.now
@@ -237,4 +246,34 @@ fn others_cards(position: &Position, need: u8) -> Hand
     ensures { TakesBy (reach result) (other_side (side_of position.now.first)) position.now need }
 {
     with_trumps(position, position.first().left(), Hand::new(), need)
+}
+
+// What the other side is sure of in all: its joint trumps, or one later trick.
+fn all_others(position: &Position) -> u8
+    ensures tricks { result ≡ max
+        (joint_trumps position.now.strain position.now (seat_after position.now.first 1))
+        (if has_later_trick position.now then 1 else 0) }
+    ensures bound { result ≤ 13 }
+{
+    let trumps = others(position);
+    if trumps == 0 && later_trick(position) {
+        1
+    } else {
+        trumps
+    }
+}
+
+// The winners on which so many tricks of the other side rest.
+fn all_others_cards(position: &Position, need: u8) -> Hand
+    requires start { position.now.trick ≡ [] }
+    requires few { need ≤ max
+        (joint_trumps position.now.strain position.now (seat_after position.now.first 1))
+        (if has_later_trick position.now then 1 else 0) }
+    ensures { TakesBy (reach result) (other_side (side_of position.now.first)) position.now need }
+{
+    if need <= others(position) {
+        others_cards(position, need)
+    } else {
+        later_cards(position)
+    }
 }

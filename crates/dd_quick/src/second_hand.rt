@@ -12,9 +12,10 @@ ghost use Rattle.dd_quick.specs.QuickTricks.{IsCash, side_tricks, joint_trumps};
 ghost use Rattle.dd_quick.specs.SecondHand.{IsBeforeLead, Opposes, unled};
 ghost use Rattle.dd_quick.specs.Sharing.{shares};
 
+use crate::crossing::crossing;
 use crate::joint_trumps::with_trumps;
 use crate::long_suit::{Cash, Cashes, offers, with_shares, with_winners};
-use crate::quick_tricks::{Sure, leaders};
+use crate::quick_tricks::{Sure, crossing_cards, leaders};
 use crate::sharing::{Shares, share_out};
 use crate::winners::{run, trumps};
 use dd_cards::{Card, Hand, Holding, Seat, Strain, Suit};
@@ -47,10 +48,18 @@ fn after_a_side_suit(position: &Position, before: &Position, led: Card, need: u8
 {
     let sure = leaders(before);
     let first = tricks_in(sure.cashed, led.suit);
-    if need == 0 || first == 0 || sure.side == 0 || need > sure.side + sure.trumps {
+    if need == 0 || first == 0 || sure.side == 0 {
         return None;
     }
-    Some(winners_of(position, before, led, sure, need))
+    if need <= sure.side + sure.trumps {
+        return Some(winners_of(position, before, led, sure, need));
+    }
+    let partners = crossing(before, sure.side);
+    if need <= sure.side + sure.trumps + partners.tricks {
+        Some(crossing_cards(before, sure, partners, need))
+    } else {
+        None
+    }
 }
 
 // The same where a trump was led: the seat's trumps that no other hand can beat, and what is cashed in side suits while the

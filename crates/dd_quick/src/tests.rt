@@ -265,8 +265,8 @@ fn a_winner_counts_at_notrump(rt: HostRuntime) {
         ),
         (
             ["32...", "A4...", "KQ...", "65..."],
-            (0, 2),
-            [0, 0, 0, 0],
+            (0, 1),
+            [1, 0, 0, 0],
             "East has the ace",
         ),
     ];
@@ -331,6 +331,27 @@ fn without_trumps_the_leader_crosses_to_its_partner(rt: HostRuntime) {
             "the partner cashes another suit",
         ),
         (
+            ["32.3..", "54.4..", "AK6...", "87.5.."],
+            notrump,
+            (3, 3),
+            [2, 0, 0, 0],
+            "the six takes a trick after the ace and the king",
+        ),
+        (
+            ["32.3..", "54.4..", "AK6...", "987..."],
+            notrump,
+            (2, 3),
+            [2, 0, 0, 0],
+            "West has a spade more",
+        ),
+        (
+            ["T32...", "5.43..", "AK6...", "7.65.."],
+            notrump,
+            (2, 3),
+            [2, 0, 0, 0],
+            "so has the leader",
+        ),
+        (
             ["AT2...", "876...", "K93...", "54.2.."],
             notrump,
             (2, 3),
@@ -348,6 +369,64 @@ fn without_trumps_the_leader_crosses_to_its_partner(rt: HostRuntime) {
     for (hands, strain, interval, depths, what) in table {
         let start = start(hands, strain, Seat::North).expect(&rt, "even hands");
         assert_eq!(rt; found(&start), (interval, depths), "{what}");
+    }
+}
+
+// North leads, and East and West come in with the highest card of a suit, or may not.
+#[test]
+fn the_leaders_side_comes_to_a_suit_that_an_opponent_heads(rt: HostRuntime) {
+    let notrump = Strain::Notrump;
+    let hearts = Strain::Trump(Suit::Hearts);
+    let table = [
+        (
+            ["AK.2..", "32.A..", "54.3..", "76.K.."],
+            notrump,
+            (2, 2),
+            [2, 1, 0, 0],
+            "two rounds of spades, then a heart",
+        ),
+        (
+            ["AK.2..", "32.A..", "Q54...", "76.K.."],
+            notrump,
+            (2, 3),
+            [2, 0, 0, 0],
+            "three rounds of spades",
+        ),
+        (
+            ["AK.2..", "32.A..", "54..2.", "76..A."],
+            notrump,
+            (2, 2),
+            [2, 1, 1, 0],
+            "each of them has an ace",
+        ),
+        (
+            ["AK.2..", "2.A.A.", "54..2.", "763..."],
+            notrump,
+            (2, 3),
+            [2, 0, 0, 0],
+            "East may have to throw an ace",
+        ),
+        (
+            ["AK..2.", "32..A.", "54..3.", "76..K."],
+            hearts,
+            (2, 2),
+            [2, 0, 1, 0],
+            "no hand has a trump",
+        ),
+        (
+            ["AK..2.", "32..A.", "54.3..", "76..K."],
+            hearts,
+            (3, 3),
+            [2, 0, 0, 0],
+            "the partner has one",
+        ),
+    ];
+    for (hands, strain, interval, depths, what) in table {
+        let start = start(hands, strain, Seat::North).expect(&rt, "even hands");
+        assert_eq!(rt; found(&start), (interval, depths), "{what}");
+        let one = against_leader(&start, 1).is_some();
+        let two = against_leader(&start, 2).is_some();
+        assert_eq!(rt; (one, two), (interval.1 == 2, false), "{what}");
     }
 }
 

@@ -1,11 +1,39 @@
-use Rattle.std.proofs.Common.{arith, ◌-◌, ◌+◌, ◌≤◌, ◌≡◌, subst}
+use Rattle.std.proofs.Common.{ℕ, arith, min, ◌-◌, ◌+◌, ◌≤◌, ◌≡◌, subst}
+use Rattle.dd_cards.specs.declared.suit.Suit.{Suit}
+use Rattle.dd_cards.specs.declared.suit.Suit.TheVariants.{Spades, Hearts, Diamonds, Clubs}
 use Rattle.dd_cards.specs.Sides.{side_of}
 use Rattle.dd_play.specs.Reach.{TakesBy, reach}
-use Rattle.dd_quick.proofs.AcrossClaims.{across-claim, crossed-most, no-joint, no-trumps-at, some-entry}
+use Rattle.dd_quick.specs.QuickTricks.{cashed, next_run}
+use Rattle.dd_quick.specs.Sharing.{shares}
+use Rattle.dd_quick.proofs.Across.{RestsAcross, across-by}
+use Rattle.dd_quick.proofs.Cashing.{total}
+use Rattle.dd_quick.proofs.SecondAcross.{second-across}
+use Rattle.dd_quick.proofs.AcrossClaims.{across-rests, crossed-most, no-joint, no-trumps-at, some-entry}
 use Rattle.dd_quick.proofs.quick_tricks.crossing_cards.Goals as goal
+use Rattle.dd_quick.proofs.quick_tricks.crossing_cards.Goals.{After-with_partners}
 
-pub returns : goal.returns
-returns c =
+-- what the leader cashes of each suit, and the partner's share
+abbrev own : After-with_partners → Suit → ℕ
+own c = shares c.args.ours.cashed.spades.tricks c.args.ours.cashed.hearts.tricks c.args.ours.cashed.diamonds.tricks c.args.ours.cashed.clubs.tricks
+
+abbrev his : After-with_partners → Suit → ℕ
+his c = shares c.share_out-shares.result.spades c.share_out-shares.result.hearts c.share_out-shares.result.diamonds c.share_out-shares.result.clubs
+
+-- the first is what it cashes
+cashed-own : (c : After-with_partners) (u : Suit) → 1 ≤ cashed c.args.position.now.strain c.args.position.now u → 1 ≤ own c u
+cashed-own c Spades h = (let e = c.requires.spades.0 in omega (arith, e, h))
+cashed-own c Hearts h = (let e = c.requires.hearts.0 in omega (arith, e, h))
+cashed-own c Diamonds h = (let e = c.requires.diamonds.0 in omega (arith, e, h))
+cashed-own c Clubs h = (let e = c.requires.clubs.0 in omega (arith, e, h))
+
+-- the cards are those on which crossing rests
+record Rests (c : After-with_partners) : Type 0 where
+  entry : Suit
+  across : RestsAcross (reach c.with_partners.result) c.args.position.now (own c) (λ u. min (his c u) (next_run c.args.position.now u)) (his c) entry
+  sum : total (own c) + total (his c) ≡ c.args.need
+
+rests : (c : After-with_partners) → Rests c
+rests c =
     let p = c.args.position.now in
     let of = c.args.ours.cashed in
     let next = c.args.partners.next in
@@ -37,8 +65,8 @@ returns c =
     let tc = nc.0 in
     let shared : y.spades + y.hearts + y.diamonds + y.clubs ≡ c.args.need - c.args.ours.side = omega (arith, sum, few, joint, side, of_all, ts, th, td, tc) in
     let all : of.spades.tricks + of.hearts.tricks + of.diamonds.tricks + of.clubs.tricks ≡ c.args.ours.side = omega (arith, side, many, few, joint, partner, of_left, s, h, d, k) in
-    let claim = across-claim p c.with_shares-cards.result cards of.spades.tricks of.hearts.tricks of.diamonds.tricks of.clubs.tricks y.spades y.hearts y.diamonds y.clubs next.spades.first next.hearts.first next.diamonds.first next.clubs.first
-    c.requires.start plain s h d k
+    let across = across-rests p c.with_shares-cards.result cards of.spades.tricks of.hearts.tricks of.diamonds.tricks of.clubs.tricks y.spades y.hearts y.diamonds y.clubs next.spades.first next.hearts.first next.diamonds.first next.clubs.first
+    plain s h d k
     (record { tricks = of.spades.tricks; cards_of = of.spades.depth; cash = c.requires.spades; few = omega arith; rests = c.with_shares-cards.ensures.spades })
     (record { tricks = of.hearts.tricks; cards_of = of.hearts.depth; cash = c.requires.hearts; few = omega arith; rests = c.with_shares-cards.ensures.hearts })
     (record { tricks = of.diamonds.tricks; cards_of = of.diamonds.depth; cash = c.requires.diamonds; few = omega arith; rests = c.with_shares-cards.ensures.diamonds })
@@ -50,4 +78,16 @@ returns c =
     (record { tricks = next.clubs.tricks; next = nc; few = c.share_out-shares.ensures.clubs; rests = c.with_partners.ensures.clubs })
     (c.share_out-shares.ensures.first (omega (arith, many, joint, side)) (some-entry p next.spades.tricks next.hearts.tricks next.diamonds.tricks next.clubs.tricks next.spades.first next.hearts.first next.diamonds.first next.clubs.first ns nh nd nc (omega (arith, tricks, some))))
     (omega (arith, shared, all, few, joint, side, many, of_left)) in
-    subst (λ n. TakesBy (reach cards) (side_of p.first) p n) (omega (arith, shared, all, side, many, joint)) claim
+    record { entry = across.0; across = across.1; sum = omega (arith, shared, all, side, many, joint) }
+
+pub returns-clause-leads : goal.returns-clause-leads
+returns-clause-leads c =
+    let k = rests (goal.at.returns-clause-leads c).After-with_partners in
+    let p = c.args.position.now in
+    subst (λ n. TakesBy (reach c.with_partners.result) (side_of p.first) p n) k.sum (across-by (reach c.with_partners.result) p _ _ _ k.entry c.requires.start k.across)
+
+pub returns-clause-after_a_lead : goal.returns-clause-after_a_lead
+returns-clause-after_a_lead c p led ready some =
+    let k = rests (goal.at.returns-clause-after_a_lead c).After-with_partners in
+    subst (λ n. TakesBy (reach c.with_partners.result) (side_of c.args.position.now.first) p n) k.sum
+    (second-across (reach c.with_partners.result) p led c.args.position.now _ _ _ k.entry ready k.across (cashed-own (goal.at.returns-clause-after_a_lead c).After-with_partners led.suit some))

@@ -11,7 +11,7 @@ use Rattle.dd_quick.specs.QuickTricks.{is_winner, trumps_at}
 use Rattle.dd_quick.specs.Sharing.{shares}
 use Rattle.dd_quick.proofs.Claims.{leader-sure, rests-more}
 use Rattle.dd_quick.proofs.Reached.{length-of}
-use Rattle.dd_quick.proofs.SecondHand.{none-rest, trump-claim}
+use Rattle.dd_quick.proofs.SecondTrump.{none-rest, trump-claim}
 use Rattle.dd_quick.proofs.second_hand.after_a_trump.Goals as goal
 
 pub returns : goal.returns
