@@ -142,3 +142,10 @@ pub use Rattle.dd_cards.proofs.SideLaws.{next-side}
 -- ---- which ranks the mask of some ranks has
 -- the mask of a set of ranks has these ranks
 pub use Rattle.dd_cards.proofs.MaskRanks.{in_mask-mask_of}
+-- ---- the bits of one suit of a hand
+-- a lane of a hand's mask is the mask of a holding
+pub use Rattle.dd_cards.proofs.SuitBits.{lane-valid}
+-- a hand has as many cards of a suit as bits are set in its lane
+pub use Rattle.dd_cards.proofs.SuitBits.{suit-ones}
+-- a hand has a card where the bit of its rank is set in the lane of its suit
+pub use Rattle.dd_cards.proofs.SuitBits.{card-bit}

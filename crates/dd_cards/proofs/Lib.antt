@@ -14,4 +14,5 @@ pub mod Lowest
 pub mod SideLaws
 pub mod MaskRanks
 pub mod General
+pub mod SuitBits
 pub mod CallerLemmas

@@ -81,6 +81,15 @@ impl Hand {
         }
     }
 
+    /// The mask of the cards: sixteen bits for each suit, the spades on top, and in them bit r for the rank r.
+    #[inline]
+    pub fn mask(self) -> u64
+        ensures cards { cards_of result ≡ self }
+        ensures mask { IsHandMask result }
+    {
+        self.mask // stored in this very form
+    }
+
     /// The ranks of this suit.
     #[inline]
     pub fn holding(self, suit: Suit) -> Holding

@@ -15,10 +15,14 @@ pub mod Fulls
 pub mod Standing
 pub mod Lengths
 pub mod Agreed
-pub mod Walked
 pub mod Suited
 pub mod Seated
 pub mod Packed
 pub mod Alikes
 pub mod FirstBits
+pub mod Gaps
+pub mod FourLanes
+pub mod Spread
+pub mod Fields
+pub mod Masked
 pub mod CallerLemmas

@@ -5,3 +5,4 @@ pub mod Strings
 pub mod Cover
 pub mod Tops
 pub mod FirstOwners
+pub mod Lanes

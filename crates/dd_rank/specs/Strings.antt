@@ -1,6 +1,6 @@
 -- The owner strings of a start of a trick: who holds the cards that are left, suit by suit, with the seats counted from the leader.
 use Rattle.std.proofs.Common.{refl, eqb-true}
-use Rattle.std.specs.Prelude.{◌≡◌, ◌&&◌, true, false, ℕ, ◌+◌, ◌-◌, ◌*◌, ◌/◌, ◌%◌, ◌^◌, bit_xor, nat_eq, ◌==◌, Bool, if◌then◌else◌, List, [], ◌∷◌, map}
+use Rattle.std.specs.Prelude.{◌≡◌, ◌&&◌, true, false, ℕ, ◌+◌, ◌-◌, ◌*◌, ◌/◌, ◌%◌, ◌^◌, bit_xor, nat_eq, ◌==◌, Bool, List, [], ◌∷◌, map}
 use Rattle.std.specs.Cmp.{IsEquivalence, IsPartialEquivalence, partial_equiv_from_equiv, and_equiv, on_equiv, nat_eq_equiv}
 use Rattle.std.specs.Hash.{u64}
 use Rattle.std.specs.Ordering.{on, eq_of_both}
@@ -8,7 +8,6 @@ use Rattle.dd_cards.specs.declared.seat.Seat.{Seat}
 use Rattle.dd_cards.specs.declared.strain.Strain.{Strain}
 use Rattle.dd_cards.specs.declared.suit.Suit.{Suit}
 use Rattle.dd_cards.specs.declared.suit.Suit.TheVariants.{Spades, Hearts, Diamonds, Clubs}
-use Rattle.dd_cards.specs.Ranks.{has_rank}
 use Rattle.dd_cards.specs.Seats.{seat_code, seat_after}
 use Rattle.dd_cards.specs.Strains.{strain_code}
 use Rattle.dd_play.specs.Board.{Board, cards_at}
@@ -95,10 +94,6 @@ mixing_number_of s = mix (mix 0 (strain_code s.strain)) s.lengths
 -- the mixing number of strings
 abbrev pub mixing_number_in : Strings → ℕ
 mixing_number_in s = mix (mix (mixing_number_of (shape_in s)) (s.spades + 2 ^ 32 * s.hearts)) (s.diamonds + 2 ^ 32 * s.clubs)
-
--- the place of a rank's holder, told by two sets of ranks: those of the second and fourth hand, and those of the third and fourth
-abbrev pub place_by : List ℕ → List ℕ → ℕ → ℕ
-place_by odd far r = (if has_rank odd r then 1 else 0) + 2 * (if has_rank far r then 1 else 0)
 
 -- are strain, lengths and owners the same?
 abbrev pub same_strings : Strings → Strings → Bool

@@ -7,6 +7,7 @@ mod cover;
 mod covering;
 mod depths;
 mod first_owners;
+mod lanes;
 mod laws;
 mod likeness;
 mod owner_strings;

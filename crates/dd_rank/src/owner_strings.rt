@@ -1,15 +1,11 @@
 //! Who holds the cards that are left, as one number a suit.
 
-ghost use Rattle.std.specs.Prelude.{◌≡◌, ◌<◌, ◌^◌, [], ◌∷◌, map, filter};
-ghost use Rattle.dd_cards.specs.Hands.{dealt, AreHands};
-ghost use Rattle.dd_cards.specs.Seats.{seat_code};
-ghost use Rattle.dd_cards.specs.Ranks.{all_ranks, has_rank};
-ghost use Rattle.dd_play.specs.Covers.{count_of};
-ghost use Rattle.dd_rank.specs.Owners.{owners_in};
-ghost use Rattle.dd_rank.specs.Strings.{strings_of, shape_in, mixing_number_in, number_of, place_by, same_strings, same-strings, same-strings-partial, string_in};
+ghost use Rattle.std.specs.Prelude.{◌≡◌};
+ghost use Rattle.dd_rank.specs.Strings.{strings_of, shape_in, mixing_number_in, same_strings, same-strings, same-strings-partial, string_in};
 
+use crate::lanes::{Places, suit_lengths};
 use crate::shape::{Shape, mix};
-use dd_cards::{Hand, Holding, Strain, Suit};
+use dd_cards::{Strain, Suit};
 use dd_play::TrickStart;
 use std::marker::Model;
 
@@ -85,20 +81,20 @@ impl OwnerStrings {
         let second = hands.hand(second_seat);
         let third = hands.hand(third_seat);
         let fourth = hands.hand(fourth_seat);
-        let spades = suit_string(leader, second, third, fourth, Suit::Spades);
-        let hearts = suit_string(leader, second, third, fourth, Suit::Hearts);
-        let diamonds = suit_string(leader, second, third, fourth, Suit::Diamonds);
-        let clubs = suit_string(leader, second, third, fourth, Suit::Clubs);
+        let odd = second.union(fourth);
+        let far = third.union(fourth);
+        let left = leader.union(third).union(odd);
+        let places = Places::close_up(odd.mask(), far.mask(), !left.mask());
         OwnerStrings {
             strain: position.strain(),
-            lengths: clubs.lengths
-                + diamonds.lengths * 0x1_0000
-                + hearts.lengths * 0x1_0000_0000
-                + spades.lengths * 0x1_0000_0000_0000,
-            spades: spades.owners,
-            hearts: hearts.owners,
-            diamonds: diamonds.owners,
-            clubs: clubs.owners,
+            lengths: suit_lengths(leader.mask())
+                + suit_lengths(second.mask()) * 0x10
+                + suit_lengths(third.mask()) * 0x100
+                + suit_lengths(fourth.mask()) * 0x1000,
+            spades: places.owners(Suit::Spades),
+            hearts: places.owners(Suit::Hearts),
+            diamonds: places.owners(Suit::Diamonds),
+            clubs: places.owners(Suit::Clubs),
         }
     }
 
@@ -132,49 +128,4 @@ impl OwnerStrings {
             Suit::Clubs => self.clubs,
         }
     }
-}
-
-// One suit's lengths, four bits each, and its owners, two bits each.
-#[derive(Clone, Copy)]
-struct SuitString {
-    lengths: u64,
-    owners: u32,
-}
-
-// What four hands hold of a suit, in the order in which they play.
-fn suit_string(leader: Hand, second: Hand, third: Hand, fourth: Hand, suit: Suit) -> SuitString
-    requires { AreHands (dealt leader second third fourth) }
-    ensures lengths { result.lengths ≡ number_of 16 (count_of suit leader ∷ count_of suit second
-        ∷ count_of suit third ∷ count_of suit fourth ∷ []) }
-    ensures bound { result.lengths < 2 ^ 16 }
-    ensures owners { result.owners ≡ number_of 4
-        (map seat_code (owners_in (dealt leader second third fourth) suit)) }
-{
-    let leader = leader.holding(suit);
-    let second = second.holding(suit);
-    let third = third.holding(suit);
-    let fourth = fourth.holding(suit);
-    let odd = second.union(fourth);
-    let far = third.union(fourth);
-    SuitString {
-        lengths: leader.len() as u64
-            + second.len() as u64 * 0x10
-            + third.len() as u64 * 0x100
-            + fourth.len() as u64 * 0x1000,
-        owners: owners_number(leader.union(third).union(odd), odd, far),
-    }
-}
-
-// The places of the holders of these ranks as one number: `odd` has those of the second and fourth hand, `far` those of the
-// third and fourth.
-fn owners_number(all: Holding, odd: Holding, far: Holding) -> u32
-    requires { filter (has_rank all) all_ranks ≡ all }
-    ensures { result ≡ number_of 4 (map (place_by odd far) all) }
-{
-    let mut left = all;
-    let mut number = 0;
-    while let Some(rank) = left.pop_lowest() {
-        number = number * 4 + (odd.has(rank) as u32 + 2 * far.has(rank) as u32);
-    }
-    number
 }
