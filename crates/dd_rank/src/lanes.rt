@@ -28,8 +28,8 @@ static SPREAD: [u16; 128] = [
     0x0055, 0x1055, 0x0455, 0x1455, 0x0155, 0x1155, 0x0555, 0x1555,
 ];
 
-/// The cards of the second and fourth hand, and those of the third and fourth, in each suit moved up so that the cards left
-/// of the suit have no gaps between them.
+/// The cards of the second and fourth hand, and those of the third and fourth, in each suit moved up so that the cards
+/// left of the suit have no gaps between them.
 #[derive(Clone, Copy)]
 pub(crate) struct Places {
     pub(crate) odd: u64,
@@ -38,7 +38,7 @@ pub(crate) struct Places {
 
 impl Places {
     /// These cards without the gaps of those that are gone.
-    // From the lowest rank up: where a card is gone, all below it move up by one. Four suits in one go, without a branch.
+    // From the lowest rank up: where a card is gone, all below it move up by one. Four suits at once, without a branch.
     #[inline]
     pub(crate) fn close_up(odd: u64, far: u64, gone: u64) -> Places
         requires odd { (u : SuitOf) → IsMask (lane odd u) }
