@@ -2,7 +2,9 @@
 //! partner's, and the partner cashes what it holds next below the leader's runs. It can keep so many winners: to each lead of
 //! a suit it follows with another card of the suit, since of its cards there no more are counted than the leader's run leaves
 //! it, and it has enough others to throw, since no more tricks are counted than are left. Without that first condition a
-//! winner of the partner's would be counted that falls under the leader's own.
+//! winner of the partner's would be counted that falls under the leader's own. Where these winners, with the leader's run, are
+//! as many as the leader and each opponent has cards of the suit, nobody else has one after them: then the partner's low cards
+//! of this long suit take tricks too.
 ghost use Rattle.std.specs.Prelude.{◌≡◌, ◌≤◌, ◌+◌, ◌&&◌, ◌||◌, ◌==◌, [], true, min, nat_le, if◌then◌else◌};
 ghost use mathlib.Core.Bool.{not};
 ghost use Rattle.dd_cards.specs.declared.suit.Suit.TheVariants.{Spades, Hearts, Diamonds, Clubs};

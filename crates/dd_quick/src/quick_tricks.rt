@@ -1,6 +1,6 @@
 //! Quick tricks. The leader cashes side suits, and its side keeps its joint trumps; without trumps it crosses to its partner,
-//! which cashes too; the other side has joint trumps, or wins a later trick. So a side's quick tricks are no more than it takes, and they rest on
-//! winners alone: it takes as many where the lower cards are others.
+//! which cashes too; the other side has joint trumps, or without trumps wins a later trick. So a side's quick tricks are no
+//! more than it takes, and they rest on winners alone: it takes as many where the lower cards are others.
 ghost use Rattle.std.specs.Prelude.{◌≡◌, ◌<◌, ◌≤◌, ◌+◌, ◌-◌, IsSome, ℕ, [], IfSome, true, max, if◌then◌else◌};
 ghost use Rattle.dd_cards.specs.declared.suit.Suit.{Suit as SuitOf};
 ghost use Rattle.dd_cards.specs.declared.suit.Suit.TheVariants.{Spades, Hearts, Diamonds, Clubs};
@@ -12,7 +12,8 @@ ghost use Rattle.dd_play.specs.Covers.{count_of};
 ghost use Rattle.dd_play.specs.Intervals.{Holds};
 ghost use Rattle.dd_play.specs.Reach.{reach, TakesBy};
 ghost use Rattle.dd_play.specs.Value.{lead};
-ghost use Rattle.dd_quick.specs.QuickTricks.{IsCash, IsNext, cashed, crossed, has_later_trick, no_trumps, quick_lo, quick_hi, side_tricks, joint_trumps};
+ghost use Rattle.dd_quick.specs.QuickTricks.{IsCash, IsNext, cashed, crossed, has_later_trick, joint_trumps, no_trumps};
+ghost use Rattle.dd_quick.specs.QuickTricks.{quick_hi, quick_lo, side_tricks};
 ghost use Rattle.dd_quick.specs.SecondHand.{IsBeforeLead};
 ghost use Rattle.dd_rank.specs.Depths.{all_cards, depth_in, Covers};
 

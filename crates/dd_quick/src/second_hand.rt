@@ -1,8 +1,8 @@
 //! Second hand wins. An opponent of the leader, the second hand or the fourth, holds the highest card left of the suit that is
 //! led. What it could cash with the lead in the position before, with that card as the first of its tricks, it takes now:
 //! it wins this trick with that card whatever comes, and the other hands have followed as they would have to its lead. Its
-//! partner has not played yet, so it can keep what the count rests on; where third hand is to play it has, and the same is
-//! not sound. An opponent that could ruff the first trick leaves nothing to cash in the suit.
+//! partner has not played yet, so it can keep what the count rests on, winners to which the seat crosses too; where third hand
+//! is to play it has, and the same is not sound. An opponent that could ruff the first trick leaves nothing to cash in the suit.
 ghost use Rattle.std.specs.Prelude.{◌≡◌, ◌≤◌, ◌+◌, ◌∷◌, [], true, min, IfSome};
 ghost use Rattle.dd_cards.specs.declared.suit.Suit.TheVariants.{Spades, Hearts, Diamonds, Clubs};
 ghost use Rattle.dd_cards.specs.Sides.{side_of, other_side};

@@ -105,6 +105,14 @@ const BEHIND: [Holdings; 4] = [
     [&[13, 4], &[], &[], &[]],
 ];
 
+// `BEHIND` with a heart more in each hand, the highest North's.
+const BEHIND_AN_ACE: [Holdings; 4] = [
+    [&[3, 2], &[14], &[], &[]],
+    [&[6, 5], &[4], &[], &[]],
+    [&[14, 12], &[3], &[], &[]],
+    [&[13, 4], &[2], &[], &[]],
+];
+
 const ONE_EACH: [Holdings; 4] = [
     [&[14], &[], &[], &[]],
     [&[13], &[], &[], &[]],

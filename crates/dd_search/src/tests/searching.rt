@@ -2,8 +2,8 @@
 //!
 //! The deal is `BEHIND` at notrump, North on lead: spades 3 2, 6 5, A Q, K 4. In each position the search ticks once, then
 //! asks the quick tricks and looks if a trick starts there, then plays. Quick tricks settle that North and South take one
-//! trick, and no more: North crosses to the ace, and no other leader or partner has a highest card. After a lead they do in
-//! the second trick, where West's king is the highest card left.
+//! trick, and no more: North crosses to the ace, and no other leader or partner has a highest card. In the second trick they
+//! settle that West's king takes it.
 ghost use Rattle.std.specs.Prelude.{◌≤◌, IfSome};
 ghost use Rattle.dd_cards.specs.declared.suit.Suit.{Suit as SuitOf};
 ghost use Rattle.dd_play.specs.Board.{Board, IsBoard};
@@ -12,7 +12,7 @@ ghost use Rattle.dd_play.specs.Value.{lead};
 ghost use Rattle.dd_play.specs.Intervals.{Holds};
 ghost use Rattle.dd_rank.specs.Depths.{all_cards, depth_in, Covers};
 
-use super::{BEHIND, position_of, start_of};
+use super::{BEHIND, BEHIND_AN_ACE, position_of, start_of};
 use crate::meter::{Budget, Endless, Halt, Meter};
 use crate::start::start_value;
 use crate::table::{Bounds, NoTable};
@@ -127,10 +127,9 @@ fn a_quick_trick_settles_it_before_a_look(rt: HostRuntime) {
 
 // Two tricks are not had. North's 3 and East's 6 have equals below them, so there is one card to try in each hand. South
 // tries the ace, the surest winner, and it wins before West's 4; the king is spared, since the ace takes it too. So a
-// position is come to before each of four cards. Then South leads the queen: one position at that start of a trick, and
-// one after the lead, where West, second hand, has the king; so West's 4 was enough. South tries the queen in the first
-// trick too, which the ace's failure, by the king, doesn't spare: one position more, West's, where the king settles it by
-// counting. That is seven.
+// position is come to before each of four cards. Then South has the queen to lead, the fifth position, where quick tricks
+// settle that West's king takes it; so West's 4 was enough. South tries the queen in the first trick too, which the ace's
+// failure, by the king, doesn't spare: one position more, West's, where the king settles it by counting. That is six.
 #[test]
 fn each_position_is_one_tick_where_two_tricks_are_asked_for(rt: HostRuntime) {
     let position = position_of(&BEHIND, Seat::North, &[]).expect(&rt, "two cards a hand");
@@ -138,18 +137,12 @@ fn each_position_is_one_tick_where_two_tricks_are_asked_for(rt: HostRuntime) {
     let mut budget = Budget::new(100);
     let answer = asked(&position, 2, &mut log, &mut budget);
     assert_eq!(rt; answer, Some(Ok(false)));
-    assert_eq!(rt; budget.ticks(), 7);
-    // What is noted at each start of a trick is the answer there, whatever was asked for.
+    assert_eq!(rt; budget.ticks(), 6);
+    // What is noted at the start of the trick that was played is the answer there.
     assert_eq!(rt;
         log.events.as_slice(),
         [
             Event::Look { left: 2 },
-            Event::Look { left: 1 },
-            Event::Note {
-                left: 1,
-                lo: 0,
-                hi: 0,
-            },
             Event::Note {
                 left: 2,
                 lo: 0,
@@ -175,17 +168,11 @@ fn each_position_is_one_tick_where_the_other_side_asks(rt: HostRuntime) {
     let mut budget = Budget::new(100);
     let answer = asked(&position, 1, &mut log, &mut budget);
     assert_eq!(rt; answer, Some(Ok(true)));
-    assert_eq!(rt; budget.ticks(), 7);
+    assert_eq!(rt; budget.ticks(), 6);
     assert_eq!(rt;
         log.events.as_slice(),
         [
             Event::Look { left: 2 },
-            Event::Look { left: 1 },
-            Event::Note {
-                left: 1,
-                lo: 0,
-                hi: 0,
-            },
             Event::Note {
                 left: 2,
                 lo: 0,
@@ -218,24 +205,25 @@ fn a_look_that_settles_it_is_the_end(rt: HostRuntime) {
     }
 }
 
-// Of the seven positions the one after the queen's lead is not come to, and nothing is noted of that trick.
+// With a heart more in each hand, North's the ace, three tricks are not had. North leads the ace, and at the second trick is
+// where it was in `BEHIND`: the look there settles that two tricks are not had. A spade first leads to a start of a trick that
+// quick tricks settle, since West has the king.
 #[test]
 fn a_look_at_the_second_trick_saves_its_positions(rt: HostRuntime) {
-    let position = position_of(&BEHIND, Seat::North, &[]).expect(&rt, "two cards a hand");
-    let mut log = Log::knowing(1);
+    let position = position_of(&BEHIND_AN_ACE, Seat::North, &[]).expect(&rt, "three cards a hand");
+    let mut log = Log::knowing(2);
     let mut budget = Budget::new(100);
-    let answer = asked(&position, 2, &mut log, &mut budget);
+    let answer = asked(&position, 3, &mut log, &mut budget);
     assert_eq!(rt; answer, Some(Ok(false)));
-    assert_eq!(rt; budget.ticks(), 6);
     assert_eq!(rt;
         log.events.as_slice(),
         [
+            Event::Look { left: 3 },
             Event::Look { left: 2 },
-            Event::Look { left: 1 },
             Event::Note {
-                left: 2,
+                left: 3,
                 lo: 0,
-                hi: 1,
+                hi: 2,
             },
         ]
         .as_slice()
@@ -245,20 +233,20 @@ fn a_look_at_the_second_trick_saves_its_positions(rt: HostRuntime) {
 // The second start of a trick is the fifth position.
 #[test]
 fn a_search_ticks_before_it_looks(rt: HostRuntime) {
-    let position = position_of(&BEHIND, Seat::North, &[]).expect(&rt, "two cards a hand");
+    let position = position_of(&BEHIND_AN_ACE, Seat::North, &[]).expect(&rt, "three cards a hand");
     let table = [
         (0, [].as_slice(), "no tick"),
-        (4, [Event::Look { left: 2 }].as_slice(), "four ticks"),
+        (4, [Event::Look { left: 3 }].as_slice(), "four ticks"),
         (
             5,
-            [Event::Look { left: 2 }, Event::Look { left: 1 }].as_slice(),
+            [Event::Look { left: 3 }, Event::Look { left: 2 }].as_slice(),
             "five ticks",
         ),
     ];
     for (ticks, want, what) in table {
         let mut log = Log::knowing(NONE);
         let mut budget = Budget::new(ticks);
-        let answer = asked(&position, 2, &mut log, &mut budget);
+        let answer = asked(&position, 3, &mut log, &mut budget);
         assert_eq!(rt; answer, Some(Err(Halt::Spent)), "{what}");
         assert_eq!(rt; log.events.as_slice(), want, "{what}");
     }
