@@ -1,6 +1,5 @@
 -- A history one event longer.
-use Rattle.std.proofs.Common.{◌≡◌, ◌≤◌, ℕ, ◌+◌, List, [], ◌∷◌, ◌++◌, refl, sym, ap, ◌∙◌, arith, map}
-use Rattle.dd_book.specs.declared.call.Call.{Call}
+use Rattle.std.proofs.Common.{◌≡◌, List, [], ◌∷◌, ◌++◌, refl, sym, ap, ◌∙◌, map}
 use Rattle.dd_book.specs.Limits.{LimitsOf}
 use Rattle.dd_book.specs.Calls.{BookOf, after, empty_book, reply_of, run, replies}
 use Rattle.dd_book.proofs.CallerLemmas.{run-more, replies-more}

@@ -48,8 +48,10 @@ AllTheirs journal ps =
 abbrev pub InOrder : ℕ → List ℕ → Type 0
 InOrder n ks = (k : ℕ) → k < n → slice_index_or ks k 0 ≡ k + 1
 
--- a number from 1 to that of the passes given, which none of these passes has
+-- none of these passes has this number
+abbrev pub Lacks : List PassOf → ℕ → Type 0
+Lacks ps number = (k : ℕ) → k < length ps → slice_index_or (numbers_of ps) k 0 ≢ number
+
+-- a number from 1 to that of the passes given, which none of these has
 abbrev pub IsMissing : ℕ → ℕ → List PassOf → Type 0
-IsMissing number given ps =
-    (0 < number) × (number ≤ given)
-    × ((k : ℕ) → k < length ps → slice_index_or (numbers_of ps) k 0 ≢ number)
+IsMissing number given ps = (0 < number) × (number ≤ given) × Lacks ps number

@@ -1,5 +1,5 @@
 -- What a call at a desk tells its caller.
-use Rattle.std.specs.Prelude.{◌≡◌, ℕ, List, [], ◌∷◌, ◌++◌, length, Result, MatchResult}
+use Rattle.std.specs.Prelude.{◌≡◌, List, [], ◌∷◌, ◌++◌, length, Result, MatchResult}
 use Rattle.dd_book.specs.declared.call.Call.{Call}
 use Rattle.dd_book.specs.declared.call.Reply.{Reply}
 use Rattle.dd_book.specs.declared.call.Reply.TheVariants.{Submitted, Claimed, ClaimedPart, NothingWaits, Closing, Recorded, Stale, Cancelled, State, Shut, Fault}

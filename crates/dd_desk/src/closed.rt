@@ -1,9 +1,9 @@
 //! What is left of a desk.
-ghost use Rattle.std.specs.Prelude.{◌≡◌, ℕ, ◌<◌, ◌≢◌, true, vec_len, slice_index_or, IfOk, IfErr};
+ghost use Rattle.std.specs.Prelude.{◌≡◌, ◌<◌, true, IfOk, IfErr};
 ghost use Rattle.std.specs.List.Sorted.{IsPermutation};
 ghost use Rattle.dd_desk.specs.declared.closed.CloseFault.TheVariants.{Missing, Memory};
 ghost use Rattle.dd_desk.specs.Events.{IsLegal, replay};
-ghost use Rattle.dd_desk.specs.Closing.{numbers_of, by_these, AllTheirs};
+ghost use Rattle.dd_desk.specs.Closing.{numbers_of, by_these, AllTheirs, Lacks};
 
 use crate::closing::{put_in_order, settle};
 use crate::desk::Desk;
@@ -45,8 +45,7 @@ impl<J: Naming> Desk<J> {
             by_these (numbers_of c.passes.items) c.history.journal.items ≡ true) }
         ensures passes { IfOk result (λ c. IsPermutation passes.items c.passes.items) }
         ensures missing { IfErr result (λ e. elim e [
-          | Missing m d ps ↦ (0 < m) × ((k : ℕ) → k < vec_len ps
-              → slice_index_or (numbers_of ps.items) k 0 ≢ m)
+          | Missing m d ps ↦ (0 < m) × Lacks ps.items m
           | Memory d ps ↦ Unit {0}
         ]) }
         ensures back { IfErr result (λ e. elim e [
