@@ -53,6 +53,10 @@ impl<J: Naming> Desk<J> {
           | Memory d ps ↦ IsPermutation passes.items ps.items
         ]) }
     {
+        let mut sheets = VecDeque::new(self.alloc);
+        if sheets.reserve(passes.len()).is_err() {
+            return Err(CloseFault::Memory(self, passes));
+        }
         let Desk {
             row,
             kept,
@@ -69,16 +73,6 @@ impl<J: Naming> Desk<J> {
                 changed,
             };
             return Err(CloseFault::Missing(number, desk, passes));
-        }
-        let mut sheets = VecDeque::new(alloc);
-        if sheets.reserve(passes.len()).is_err() {
-            let desk = Desk {
-                row,
-                kept: Mutex::new(kept),
-                alloc,
-                changed,
-            };
-            return Err(CloseFault::Memory(desk, passes));
         }
         Ok(settle(kept, passes, sheets))
     }

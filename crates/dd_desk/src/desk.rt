@@ -17,7 +17,7 @@ use dd_book::{Call, Outcome, Reply};
 use dd_reply::Asked;
 use once_cell::race::OnceBox;
 use std::alloc::Global;
-use std::sync::{Condvar, Mutex, Wait};
+use std::sync::{Condvar, Mutex, MutexGuard, Wait};
 
 /// The job book that threads share, over the row that `J` names. Each answered call is one event of
 /// its journal, and leaves one receipt in the pass that made it; a refused one leaves nothing.
@@ -143,11 +143,7 @@ impl<J: Naming> Desk<J> {
             |k: &mut Kept<J>| k.keeps_waiting(),
         );
         let reply = answer_claim(rt, self.alloc, &mut kept, &self.row, pass);
-        let wakes = !kept.keeps_waiting();
-        drop(kept);
-        if wakes {
-            self.changed.notify_all();
-        }
+        self.unlock(kept);
         reply
     }
 
@@ -158,11 +154,16 @@ impl<J: Naming> Desk<J> {
     {
         let mut kept = self.kept.lock(rt);
         let reply = answer(rt, self.alloc, &mut kept, &self.row, pass, call);
+        self.unlock(kept);
+        reply
+    }
+
+    // Lets go of the lock, and wakes the claims that wait if they need not.
+    fn unlock(&self, kept: MutexGuard<'_, Kept<J>>) {
         let wakes = !kept.keeps_waiting();
         drop(kept);
         if wakes {
             self.changed.notify_all();
         }
-        reply
     }
 }

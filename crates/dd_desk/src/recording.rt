@@ -20,7 +20,7 @@ use std::alloc::Global;
 use std::sync::Wait;
 
 // Never returns.
-fn stop<R: Wait>(rt: &R) -> ! {
+fn wait_forever<R: Wait>(rt: &R) -> ! {
     for _ in rt.forever() {}
     unreachable!()
 }
@@ -41,7 +41,7 @@ fn mark<R: Wait>(
     let cell = &row[place];
     let mut note = cell.note();
     if cell.set_as(made, &mut note).is_err() {
-        stop(rt)
+        wait_forever(rt)
     }
     note
 }
@@ -106,10 +106,10 @@ fn record_held<J: Naming, R: Wait>(
     }
     let place = history.len();
     if (place as u64) < *next {
-        stop(rt)
+        wait_forever(rt)
     }
     let Some(all_places) = places.checked_add(place as u64) else {
-        stop(rt)
+        wait_forever(rt)
     };
     // The box comes before the book's step, and takes the event after it.
     let blank = Event {
