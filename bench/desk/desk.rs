@@ -1,6 +1,8 @@
 // A job book behind one lock, as plain Rust has it: a map of jobs, the numbers that wait, open jobs by owner, and the journal
 // as a list; each caller keeps a list of its receipts. For the words `threads rounds` it writes the nanoseconds that the calls
 // took, how many events there were, and 0.
+#![allow(dead_code)]
+
 use std::collections::{BTreeSet, HashMap};
 use std::sync::Mutex;
 use std::time::Instant;
@@ -46,14 +48,12 @@ enum Reply {
     Fault(u8),
 }
 
-#[allow(dead_code)]
 struct Event {
     caller: u64,
     call: Call,
     reply: Reply,
 }
 
-#[allow(dead_code)]
 struct Receipt {
     place: u64,
     call: Call,

@@ -29,21 +29,27 @@ fi
 rustc -C opt-level=3 -C target-cpu=x86-64-v2 --edition 2021 -o "$work/plain" "$here/desk.rs"
 
 python3 - "$runs" "$work/crates/desk/out/desk" "$work/plain" <<'PY'
-import os
 import subprocess
 import sys
 
 runs, desk, plain = int(sys.argv[1]), sys.argv[2], sys.argv[3]
+# Rounds after which the journal is full.
+FULL = 262_144
 
 
-# What the program wrote, and the most memory that it had, in bytes.
+# What the program wrote, and the most memory that it was seen to have, in bytes. (What the system counts for a child that
+# has ended is no less than this program's own.)
 def run(program, threads, rounds):
     child = subprocess.Popen([program, str(threads), str(rounds)], stdout=subprocess.PIPE, text=True)
-    words = [int(word) for word in child.stdout.read().split()]
-    _, status, used = os.wait4(child.pid, 0)
-    if status != 0 or len(words) != 3:
-        sys.exit(f"bench/desk: {program} with {threads} threads ended with {status}")
-    return words, used.ru_maxrss * 1024
+    most = 0
+    while rounds in (0, FULL) and child.poll() is None:
+        with open(f"/proc/{child.pid}/status") as status:
+            seen = [int(line.split()[1]) for line in status if line.startswith("VmHWM")]
+        most = max([most] + seen)
+    words = [int(word) for word in child.communicate()[0].split()]
+    if child.returncode != 0 or len(words) != 3:
+        sys.exit(f"bench/desk: {program} with {threads} threads ended with {child.returncode}")
+    return words, most * 1024
 
 
 print("threads     calls  desk s  plain s  desk M/s  plain M/s  rate  closing s")
@@ -57,7 +63,7 @@ for threads in (1, 2, 4):
     mine, other = a[1] / a[0] * 1e3, b[1] / b[0] * 1e3
     closing = min(words[2] for words in ours) / 1e9
     print(f"{threads:7} {a[1]:>9}  {a[0] / 1e9:6.3f} {b[0] / 1e9:8.3f}  {mine:8.2f} {other:10.2f}  {mine / other:4.2f}  {closing:9.3f}", flush=True)
-for rounds, what in ((0, "at the start"), (262_144, "full")):
+for rounds, what in ((0, "at the start"), (FULL, "full")):
     (words, bytes), (_, others) = run(desk, 1, rounds), run(plain, 1, rounds)
     print(f"memory {what}, {words[1]} events: desk {bytes / 1e6:.0f} MB, plain {others / 1e6:.0f} MB")
 PY
