@@ -3,13 +3,12 @@
 
 pub mod drawn;
 pub mod made;
-pub mod words;
-
 #[cfg(test)]
 mod refused;
 #[cfg(test)]
 mod second;
 #[cfg(test)]
 mod seeded;
+pub mod words;
 #[cfg(test)]
 mod worked;

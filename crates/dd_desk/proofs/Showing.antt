@@ -8,15 +8,19 @@ use Rattle.dd_desk.specs.declared.event.Event.{Event}
 use Rattle.dd_desk.specs.declared.event.Receipt.{Receipt}
 use Rattle.dd_desk.specs.Receipts.{told_by}
 
+-- an element of a map
 pub at_map : {A B : Type 0} (f : A → B) (xs : List A) (i : ℕ) (x : A) → slice_get xs i ≡ Some x → slice_get (map f xs) i ≡ Some (f x)
 at_map f xs i x is = slice_get-map f xs i ∙ ap (option_map f) is
 
-some_is : {A : Type 0} (x y : A) → Some x ≡ Some y → x ≡ y
+-- what two that are one hold is one
+pub some_is : {A : Type 0} (x y : A) → Some x ≡ Some y → x ≡ y
 some_is x y e = cc
 
+-- the receipt at i tells of the event at its place
 abbrev pub TellsAt : List Event → ℕ → List Receipt → ℕ → Type 0
 TellsAt js k rs i = (r : Receipt) → slice_get rs i ≡ Some r → r.place < length js → slice_get js r.place ≡ Some (told_by k r)
 
+-- an element that was read by its index
 pub read : (rs : List Receipt) (i : ℕ) (x : Receipt) → i < length rs → x ≡ get_or rs i x → slice_get rs i ≡ Some x
 read rs i x in' is = slice_get-get_or rs i x in' ∙ ap Some (sym is)
 
