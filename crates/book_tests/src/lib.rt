@@ -1,13 +1,14 @@
-//! Tests of the job book, by its public surface.
+//! Tests of the job book, by its public surface, and the plain forms of its calls and replies.
 #![tactic(auto)]
 
-#[cfg(test)]
-mod made;
+pub mod drawn;
+pub mod made;
 #[cfg(test)]
 mod refused;
 #[cfg(test)]
 mod second;
 #[cfg(test)]
 mod seeded;
+pub mod words;
 #[cfg(test)]
 mod worked;

@@ -1,4 +1,5 @@
 //! 100,000 calls from a fixed seed, through the book and through a second one.
+use crate::drawn::draw;
 use crate::made::{Asks, Ends, Made, Shows, Step, Told, make, plain};
 use crate::second::Second;
 use dd_book::{Book, Call, Limits, run_calls};
@@ -11,14 +12,6 @@ const BATCHES: u64 = 200;
 
 // A book has eight batches.
 const BATCHES_A_BOOK: u64 = 8;
-
-// A linear congruence with Knuth's numbers, of which the high half is taken.
-fn draw(seed: &mut u64) -> u64 {
-    *seed = seed
-        .wrapping_mul(6_364_136_223_846_793_005)
-        .wrapping_add(1_442_695_040_888_963_407);
-    *seed >> 32
-}
 
 // One of the last sixteen jobs, or the number after them.
 fn recent(seed: &mut u64, second: &Second) -> u64 {

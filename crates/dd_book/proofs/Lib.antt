@@ -1,3 +1,4 @@
+pub mod CallerLemmas
 pub mod Finishes
 pub mod Indexed
 pub mod Lists

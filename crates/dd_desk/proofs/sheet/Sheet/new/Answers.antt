@@ -1,0 +1,18 @@
+use Rattle.std.proofs.Common.{◌≡◌, [], map, Some, sym, ap, ◌∙◌}
+use Rattle.std.specs.Prelude.{slice_index_or, sum_by}
+use Rattle.dd_desk.specs.declared.event.Receipt.{Receipt}
+use Rattle.dd_desk.specs.Receipts.{told_by, rises, next_of}
+use Rattle.dd_desk.proofs.sheet.Sheet.new.Goals as goal
+
+pub invariant_of-result : goal.invariant_of-result
+unfolding rises next_of
+invariant_of-result g c =
+    let receipts : c.new.result.items ≡ [] = c.new.ensures.items in
+    let marks : c.new-2.result.items ≡ [] = c.new-2.ensures.items in
+    record {
+      marked = ap (map (λ n. n.cell)) marks ∙ sym (ap (map (λ (r : Receipt). slice_index_or g.J.Naming.cells r.place 0)) receipts);
+      knows = ap (map (λ n. n.known)) marks ∙ sym (ap (map (λ (r : Receipt). Some (told_by c.args.number r))) receipts);
+      rising = ap (rises 0) receipts;
+      next_is = sym (ap (next_of 0) receipts);
+      places_is = sym (ap (sum_by (λ (r : Receipt). r.place)) receipts);
+    }
