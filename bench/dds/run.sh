@@ -1,10 +1,11 @@
 #!/usr/bin/env bash
 # `ddserve solve` beside DDS (package libdds-dev; SolveBoard, target -1, mode 1, one thread) over the same request lines,
 # with the scores of all leads. First deals of 6, 8 and 9 cards a hand: the least time of several runs of each over all
-# lines, taken in turns, and their ratio. Then full deals, 8 of each strain, line by line through a pipe to each program in
-# one run, over a table of 65,536 entries: the time of each reply, and of these the mean, the geometric mean and the
-# slowest. Then in the same way the twenty results of full deals, beside DDS's CalcDDtable. Deals are from fixed seeds; it
-# says whether the replies agree, and ends with status 1 where some don't.
+# lines, taken in turns, and their ratio. Then full deals, as many of each strain, line by line through a pipe to each
+# program in one run, over a table of 65,536 entries: the least time of each reply in three such runs at most, and of these
+# the mean, the geometric mean and the slowest. Then in the same way one best lead of each deal, where the replies agree
+# that have one score, and the twenty results, beside DDS's CalcDDtable. Deals are from fixed seeds; it says whether the
+# replies agree, and ends with status 1 where some don't.
 # Words: the number of runs (5), of full deals (40), and the seed of the full deals (1013).
 set -eu
 here=$(cd -- "$(dirname -- "$0")" && pwd)
@@ -26,9 +27,11 @@ for cards in 6 8 9; do
     python3 "$top/bench/deals.py" "$cards" 40 --seed $((1000 + cards)) --requests > "$work/$cards.jsonl"
 done
 python3 "$top/bench/deals.py" 13 "$full" --seed "$seed" --requests > "$work/13.jsonl"
+sed 's/"solutions":3/"solutions":1/' "$work/13.jsonl" > "$work/one.jsonl"
 sed 's/"do":"solve"/"do":"table"/; s/,"trump".*}$/}/' "$work/13.jsonl" > "$work/tables.jsonl"
 
 python3 - "$runs" "$top/crates/ddserve/out/ddserve" "$work" <<'PY'
+import json
 import math
 import subprocess
 import sys
@@ -39,9 +42,9 @@ commands = {"ddserve": [ours, "solve", "--entries", "65536"], "DDS": [f"{work}/d
 differing = 0
 
 
-def both(replies):
+def both(replies, seen=str):
     global differing
-    same = replies["ddserve"] == replies["DDS"]
+    same = seen(replies["ddserve"]) == seen(replies["DDS"])
     differing += not same
     return "agree" if same else "DIFFER"
 
@@ -76,26 +79,31 @@ def geometric_mean(numbers):
     return math.exp(sum(map(math.log, numbers)) / len(numbers))
 
 
-def one_by_one(title, lines, strains):
+def one_run(lines):
     programs = {name: subprocess.Popen(command, stdin=subprocess.PIPE, stdout=subprocess.PIPE, text=True) for name, command in commands.items()}
     # One card a hand first, so that no deal waits for a program to start.
     for program in programs.values():
         answer(program, '{"do":"solve","deal":"N:A... K... Q... J...","trump":4,"first":0,"solutions":3}\n')
-    times, agreed = {name: [] for name in commands}, 0
-    print(f"\n{title}: {len(lines)} full deals, one by one, milliseconds")
-    print("deal  strain  ddserve ms    DDS ms  ratio  replies")
-    for number, line in enumerate(lines):
-        replies = {}
-        for name, program in programs.items():
-            taken, replies[name] = answer(program, line)
-            times[name].append(1000 * taken)
-        a, b = times["ddserve"][-1], times["DDS"][-1]
-        agreed += replies["ddserve"] == replies["DDS"]
-        print(f"{number + 1:>4}  {strains[number % len(strains)]:>6}  {a:10.1f}  {b:8.1f}  {a / b:5.2f}  {both(replies)}", flush=True)
+    answers = [{name: answer(program, line) for name, program in programs.items()} for line in lines]
     for program in programs.values():
         program.stdin.close()
         if program.wait() != 0:
             sys.exit(f"bench/dds: {program.args[0]} ended with status {program.returncode}")
+    return answers
+
+
+def one_by_one(title, lines, strains, seen=str):
+    answers = [one_run(lines) for _ in range(min(runs, 3))]
+    times, agreed = {name: [] for name in commands}, 0
+    print(f"\n{title}: {len(lines)} full deals, one by one, milliseconds, least of {len(answers)} runs")
+    print("deal  strain  ddserve ms    DDS ms  ratio  replies")
+    for number in range(len(lines)):
+        for name in commands:
+            times[name].append(1000 * min(run[number][name][0] for run in answers))
+        a, b = times["ddserve"][-1], times["DDS"][-1]
+        found = {both({name: run[number][name][1] for name in commands}, seen) for run in answers}
+        agreed += found == {"agree"}
+        print(f"{number + 1:>4}  {strains[number % len(strains)]:>6}  {a:10.1f}  {b:8.1f}  {a / b:5.2f}  {'agree' if found == {'agree'} else 'DIFFER'}", flush=True)
 
     ratios = [a / b for a, b in zip(times["ddserve"], times["DDS"])]
     print(f"\n{'':15}  {'mean':>8}  {'geom. mean':>10}  {'slowest':>8}")
@@ -107,6 +115,8 @@ def one_by_one(title, lines, strains):
 
 with open(f"{work}/13.jsonl") as file:
     one_by_one("all leads", file.readlines(), "SHDCN")
+with open(f"{work}/one.jsonl") as file:
+    one_by_one("one best lead", file.readlines(), "SHDCN", lambda reply: [card["score"] for card in json.loads(reply)["cards"]])
 with open(f"{work}/tables.jsonl") as file:
     one_by_one("twenty results", file.readlines(), ["all"])
 sys.exit(1 if differing else 0)

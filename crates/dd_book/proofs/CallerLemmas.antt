@@ -5,7 +5,6 @@
 pub use Rattle.dd_book.proofs.Runs.{run-more}
 -- what it is told
 pub use Rattle.dd_book.proofs.Runs.{replies-more}
-
 -- ---- Claim numbers.
 -- no call gives more than one
 pub use Rattle.dd_book.proofs.Runs.{claims-after}
