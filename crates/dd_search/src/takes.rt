@@ -43,11 +43,12 @@ pub(crate) fn takes<B: Bounds, M: Meter>(
         }
         return answer_by_play(position, need, table, meter);
     };
-    if let Some(answer) = quick_answer(&start, need) {
-        return Ok(answer);
-    }
+    // A look settles most, and where it doesn't the quick tricks do a tenth.
     let strings = OwnerStrings::of(&start);
     if let Some(answer) = told_answer(&start, &strings, need, table) {
+        return Ok(answer);
+    }
+    if let Some(answer) = quick_answer(&start, need) {
         return Ok(answer);
     }
     let answer = answer_by_play(position, need, table, meter)?;
