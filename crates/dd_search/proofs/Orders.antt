@@ -20,6 +20,18 @@ use Rattle.dd_equal.specs.EqualCards.{is_top, tops}
 pub top-legal : (p : Board) (c : PlayingCard) → has_card (tops p) c ≡ true → IsLegal p c
 top-legal p c has = any-filter (λ d. same_card d c) (is_top p) (legal p) has
 
+-- ---- a list of one card
+
+pub has-only : (c : PlayingCard) → has_card (c ∷ []) c ≡ true
+has-only c = rw (same_card-self c) refl
+
+pub is-only : (d c : PlayingCard) → has_card (c ∷ []) d ≡ true → d ≡ c
+is-only d c has = go (same_card c d) refl has
+  where
+    go : (b : Bool) → same_card c d ≡ b → has_card (c ∷ []) d ≡ true → d ≡ c
+    go true e h = sym (same_card-eq c d e)
+    go false e h = absurd (let no : false ≡ true = rw e at h in cc)
+
 -- ---- a choice is one of the cards
 
 -- what holds of what there is, in other words

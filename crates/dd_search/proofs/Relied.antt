@@ -29,17 +29,12 @@ use Rattle.dd_equal.specs.EqualCards.{tops, IsWhole}
 use Rattle.dd_equal.proofs.CallerLemmas.{each-class-whole, with-new, with-which}
 use Rattle.dd_rank.proofs.CallerLemmas.{first-there, itself, noted}
 use Rattle.dd_rank.specs.Depths.{all_cards, Covers, depths_of}
-use Rattle.dd_search.specs.ClaimsBy.{IsAnswer, IsAnswerBy, AnswerBy, ClaimBy, IsClaimBy, IsWindow}
+use Rattle.dd_search.specs.ClaimsBy.{IsAnswer, IsAnswerBy, IsAnswerAfter, AnswerBy, ClaimBy, IsClaimBy, IsWindow, claimant, claimed}
 use Rattle.dd_search.proofs.Orders.{IsTold}
 
 -- these cards are among those
 abbrev pub Within : List PlayingCard → List PlayingCard → Type 0
 Within few many = (c : PlayingCard) → has_card few c ≡ true → has_card many c ≡ true
-
--- the side that claims with this answer: with yes North and South, with no East and West
-abbrev pub claimant : Bool → Side
-claimant true = NorthSouth
-claimant false = EastWest
 
 -- the side of a seat, by whether it is North or South
 pub claimant-of : (b : Bool) (x : Seat) → b ≡ is_north_south x → claimant b ≡ side_of x
@@ -48,11 +43,6 @@ claimant-of b x e = ap claimant e ∙ back (side_of x)
     back : (a : Side) → claimant (same_side a NorthSouth) ≡ a
     back NorthSouth = refl
     back EastWest = refl
-
--- how many tricks the side claims that answers so
-abbrev claimed : Bool → Board → ℕ → ℕ
-claimed true p need = need
-claimed false p need = left p + 1 - need
 
 claim : (said : Bool) (p : Board) (need : ℕ) (cards : List PlayingCard) → IsAnswerBy p need cards said → TakesBy (reach cards) (claimant said) p (claimed said p need)
 claim true p need cards h = h
@@ -76,13 +66,9 @@ claimed-after false p c need rest valid has some e =
     let one = one-point NorthSouth p c in
     omega (arith, e, tricks, one, some)
 
--- a card gives the side its answer, by these cards
-abbrev pub Leads : Board → ℕ → PlayingCard → List PlayingCard → Bool → Type 0
-Leads p need c cards said = IsWorth (reach cards) (claimant said) p c (claimed said p need)
-
 -- what is found after a legal card that is settled
 pub leads : (p q : Board) (need rest : ℕ) (c : PlayingCard) (later by : List PlayingCard) (said : Bool) → IsBoard p → IsLegal p c → 1 ≤ need → q ≡ after p c → rest + point NorthSouth p c ≡ need
-    → IsAnswerBy q rest later said → Within later by → IsSettled (reach by) p c → Leads p need c by said
+    → IsAnswerBy q rest later said → Within later by → IsSettled (reach by) p c → IsAnswerAfter p need c by said
 leads p q need rest c later by said valid has some next same answer within settled =
     let here : TakesBy (reach later) (claimant said) (after p c) (claimed said (after p c) rest) = claim said (after p c) rest later (subst (λ (r : Board). IsAnswerBy r rest later said) next answer) in
     worth-fewer (reach by) (claimant said) p c (claimed said (after p c) rest + point (claimant said) p c) (claimed said p need)
@@ -91,11 +77,11 @@ leads p q need rest c later by said valid has some next same answer within settl
     (claimed-after said p c need rest valid has some same)
 
 -- by more cards too
-pub leads-wider : (p : Board) (need : ℕ) (c : PlayingCard) (few many : List PlayingCard) (said : Bool) → Within few many → Leads p need c few said → Leads p need c many said
+pub leads-wider : (p : Board) (need : ℕ) (c : PlayingCard) (few many : List PlayingCard) (said : Bool) → Within few many → IsAnswerAfter p need c few said → IsAnswerAfter p need c many said
 leads-wider p need c few many said within h = worth-more (reach few) (reach many) (claimant said) p c (claimed said p need) (reach-within few many within) (reach-upward few) h
 
 -- a low card for another
-pub leads-low : (p : Board) (need : ℕ) (c d : PlayingCard) (cards : List PlayingCard) (said : Bool) → reach cards c ≡ false → reach cards d ≡ false → d.suit ≡ c.suit → Leads p need c cards said → Leads p need d cards said
+pub leads-low : (p : Board) (need : ℕ) (c d : PlayingCard) (cards : List PlayingCard) (said : Bool) → reach cards c ≡ false → reach cards d ≡ false → d.suit ≡ c.suit → IsAnswerAfter p need c cards said → IsAnswerAfter p need d cards said
 leads-low p need c d cards said low low' suits h = worth-low (reach cards) (claimant said) p c d (claimed said p need) low low' suits h
 
 -- the mover's side claims where the answer is the mover's
@@ -113,12 +99,12 @@ turn-not true EastWest e = refl
 turn-not false NorthSouth e = refl
 
 -- one card is enough for the side that plays it
-pub one-settles : (p : Board) (need : ℕ) (c : PlayingCard) (cards : List PlayingCard) (said : Bool) → said ≡ is_north_south (mover p) → IsLegal p c → Leads p need c cards said → IsAnswerBy p need cards said
+pub one-settles : (p : Board) (need : ℕ) (c : PlayingCard) (cards : List PlayingCard) (said : Bool) → said ≡ is_north_south (mover p) → IsLegal p c → IsAnswerAfter p need c cards said → IsAnswerBy p need cards said
 one-settles p need c cards said side has h = answers said p need cards (by-one (reach cards) (claimant said) p c (claimed said p need) (turn said (side_of (mover p)) side) has h)
 
 -- where no card of the side to play is enough, the other side has it
 pub none-settles : (p : Board) (need : ℕ) (cards : List PlayingCard) (said : Bool) → IsBoard p → said ≡ not (is_north_south (mover p)) → 1 ≤ need → need ≤ left p → IsWhole (reach cards) p
-    → ((c : PlayingCard) → has_card (tops p) c ≡ true → Leads p need c cards said) → IsAnswerBy p need cards said
+    → ((c : PlayingCard) → has_card (tops p) c ≡ true → IsAnswerAfter p need c cards said) → IsAnswerBy p need cards said
 none-settles p need cards said valid side some most whole each =
     answers said p need cards (each-class-whole (reach cards) (claimant said) p (claimed said p need) (reach-upward cards) valid (turn-not said (side_of (mover p)) side) (omega (arith, some, most)) whole each)
 
@@ -126,20 +112,20 @@ none-settles p need cards said valid side some most whole each =
 
 -- of each class the highest card is still to be tried, or gives the other side its answer
 abbrev pub AllLead : Board → ℕ → List PlayingCard → List PlayingCard → Bool → Type 0
-AllLead p need untried cards said = (c : PlayingCard) → has_card (tops p) c ≡ true → (has_card untried c ≡ true) ⊎ Leads p need c cards said
+AllLead p need untried cards said = (c : PlayingCard) → has_card (tops p) c ≡ true → (has_card untried c ≡ true) ⊎ IsAnswerAfter p need c cards said
 
 -- what is still to be tried may be played
 abbrev pub AllLegal : Board → List PlayingCard → Type 0
 AllLegal p untried = (c : PlayingCard) → has_card untried c ≡ true → IsLegal p c
 
 -- one card more is tried
-pub one-more : (p : Board) (need : ℕ) (card : PlayingCard) (old new by cards all : List PlayingCard) (said : Bool) → IsTold old card by new → Within cards all → Within by all → Leads p need card by said
+pub one-more : (p : Board) (need : ℕ) (card : PlayingCard) (old new by cards all : List PlayingCard) (said : Bool) → IsTold old card by new → Within cards all → Within by all → IsAnswerAfter p need card by said
     → AllLead p need old cards said → AllLead p need new all said
 one-more p need card old new by cards all said told a b here each c has = elim (each c has) [
   | inl before ↦ elim (told c before) [
     | inl still ↦ inl still
     | inr gone ↦ inr (leads-wider p need c by all said b (elim gone [
-      | inl same ↦ subst (λ (x : PlayingCard). Leads p need x by said) (sym same) here
+      | inl same ↦ subst (λ (x : PlayingCard). IsAnswerAfter p need x by said) (sym same) here
       | inr low ↦ leads-low p need card c by said low.2 low.1 low.0 here
     ]))
   ]
@@ -208,17 +194,13 @@ differ-beq true false h = refl
 differ-beq false true h = refl
 differ-beq false false h = absurd (cc)
 
--- a card against the side to play
-pub leads-against : (p q : Board) (need rest : ℕ) (c : PlayingCard) (later by : List PlayingCard) (b said : Bool) → IsBoard p → IsLegal p c → 1 ≤ need → q ≡ after p c → rest + point NorthSouth p c ≡ need
-    → IsAnswerBy q rest later said → beq said b ≡ false → Within later by → IsSettled (reach by) p c → Leads p need c by (not b)
-leads-against p q need rest c later by b said valid has some next same answer against within settled =
-    leads p q need rest c later by (not b) valid has some next same (subst (λ (x : Bool). IsAnswerBy q rest later x) (differ-beq said b against) answer) within settled
+-- what is answered after a card against the side to play
+pub answered-against : (p : Board) (need : ℕ) (c : PlayingCard) (by : List PlayingCard) (b said : Bool) → IsAnswerAfter p need c by said → beq said b ≡ false → IsAnswerAfter p need c by (not b)
+answered-against p need c by b said h against = subst (λ (x : Bool). IsAnswerAfter p need c by x) (differ-beq said b against) h
 
--- a card for it
-pub settled-answer : (p q : Board) (need rest : ℕ) (c : PlayingCard) (later by : List PlayingCard) (b said : Bool) → IsBoard p → b ≡ is_north_south (mover p) → IsLegal p c → 1 ≤ need → q ≡ after p c → rest + point NorthSouth p c ≡ need
-    → IsAnswerBy q rest later said → beq said b ≡ true → Within later by → IsSettled (reach by) p c → IsAnswerBy p need by b
-settled-answer p q need rest c later by b said valid side has some next same answer wanted within settled =
-    one-settles p need c by b side has (leads p q need rest c later by b valid has some next same (subst (λ (x : Bool). IsAnswerBy q rest later x) (same-beq said b wanted) answer) within settled)
+-- and for it
+pub answered-for : (p : Board) (need : ℕ) (c : PlayingCard) (by : List PlayingCard) (b said : Bool) → IsLegal p c → b ≡ is_north_south (mover p) → IsAnswerAfter p need c by said → beq said b ≡ true → IsAnswerBy p need by said
+answered-for p need c by b said has side h wanted = one-settles p need c by said (same-beq said b wanted ∙ side) has h
 
 -- no card was enough for the side to play, so the other side has its answer
 pub all-tried : (p : Board) (need : ℕ) (untried cards all : List PlayingCard) (b : Bool) → IsBoard p → b ≡ is_north_south (mover p)

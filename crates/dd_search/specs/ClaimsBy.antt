@@ -7,7 +7,7 @@ use Rattle.dd_cards.specs.declared.side.Side.{Side}
 use Rattle.dd_cards.specs.declared.side.Side.TheVariants.{NorthSouth, EastWest}
 use Rattle.dd_play.specs.Board.{Board, left}
 use Rattle.dd_play.specs.Claims.{Takes}
-use Rattle.dd_play.specs.Reach.{reach, TakesBy}
+use Rattle.dd_play.specs.Reach.{reach, TakesBy, IsWorth}
 
 -- yes: they take them; no: East and West take so many that they cannot
 abbrev pub IsAnswer : Board → ℕ → Bool → Type 0
@@ -18,6 +18,20 @@ IsAnswer p need false = Takes EastWest p (left p + 1 - need)
 abbrev pub IsAnswerBy : Board → ℕ → List PlayingCard → Bool → Type 0
 IsAnswerBy p need cards true = TakesBy (reach cards) NorthSouth p need
 IsAnswerBy p need cards false = TakesBy (reach cards) EastWest p (left p + 1 - need)
+
+-- the side that takes its tricks where this is the answer
+abbrev pub claimant : Bool → Side
+claimant true = NorthSouth
+claimant false = EastWest
+
+-- and how many these are
+abbrev pub claimed : Bool → Board → ℕ → ℕ
+claimed true p need = need
+claimed false p need = left p + 1 - need
+
+-- when this card is played that is the answer, by claims that rest on these cards and higher ones alone
+abbrev pub IsAnswerAfter : Board → ℕ → PlayingCard → List PlayingCard → Bool → Type 0
+IsAnswerAfter p need c cards said = IsWorth (reach cards) (claimant said) p c (claimed said p need)
 
 -- an answer, and the cards that it rests on
 pub record AnswerBy : Type 0 where

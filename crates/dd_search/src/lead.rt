@@ -4,7 +4,7 @@ ghost use Rattle.dd_cards.specs.Cards.{has_card};
 
 use crate::holdings::code_of_highest;
 use arrayvec::ArrayVec;
-use dd_cards::{Card, Hand, Holding, Rank, Seat, Strain, Suit};
+use dd_cards::{Card, Hand, Holding, Rank, Strain, Suit};
 use dd_play::Position;
 use std::marker::Model;
 
@@ -123,10 +123,11 @@ const BEST_OF_ITS_SUIT: u16 = 30;
 
 /// Puts these cards of the mover into an empty list, with no card on the trick.
 pub(crate) fn weigh(position: &Position, choices: Hand, leads: &mut Leads) {
-    weigh_suit(position, Suit::Spades, choices, leads);
-    weigh_suit(position, Suit::Hearts, choices, leads);
-    weigh_suit(position, Suit::Diamonds, choices, leads);
-    weigh_suit(position, Suit::Clubs, choices, leads);
+    let ruffs = Ruffs::of(position);
+    weigh_suit(position, &ruffs, Suit::Spades, choices, leads);
+    weigh_suit(position, &ruffs, Suit::Hearts, choices, leads);
+    weigh_suit(position, &ruffs, Suit::Diamonds, choices, leads);
+    weigh_suit(position, &ruffs, Suit::Clubs, choices, leads);
 }
 
 /// The best lead that was not tried yet.
@@ -147,12 +148,14 @@ pub(crate) fn best_lead(leads: &Leads, untried: Hand) -> Option<Card>
 }
 
 // Adds the choices of this suit.
-fn weigh_suit(position: &Position, suit: Suit, choices: Hand, leads: &mut Leads) {
+fn weigh_suit(position: &Position, ruffs: &Ruffs, suit: Suit, choices: Hand, leads: &mut Leads)
+    requires { ruffs.now.tricks ≤ 13 }
+{
     let mut rest = choices.holding(suit);
     let Some(lowest) = rest.pop_lowest() else {
         return;
     };
-    let view = suit_view(position, suit);
+    let view = suit_view(position, ruffs, suit);
     let mut best = weighed(&view, suit, lowest);
     'ranks: while let Some(rank) = rest.pop_lowest() {
         let new = weighed(&view, suit, rank);
@@ -226,6 +229,7 @@ enum Owner {
     Nobody,
 }
 
+#[inline]
 fn four_holdings(position: &Position, suit: Suit) -> FourHoldings {
     let hands = position.hands();
     let leader = position.first();
@@ -250,7 +254,10 @@ fn owner_of(holdings: &FourHoldings, rank: Option<Rank>) -> Owner {
     }
 }
 
-fn suit_view(position: &Position, suit: Suit) -> SuitView {
+#[inline]
+fn suit_view(position: &Position, ruffs: &Ruffs, suit: Suit) -> SuitView
+    requires { ruffs.now.tricks ≤ 13 }
+{
     let holdings = four_holdings(position, suit);
     let theirs = holdings.left.union(holdings.right);
     let all = holdings.own.union(holdings.partner).union(theirs);
@@ -264,15 +271,22 @@ fn suit_view(position: &Position, suit: Suit) -> SuitView {
     let lone = top_owner == Owner::Left && holdings.left.len() == 1
         || top_owner == Owner::Right && holdings.right.len() == 1;
     let (worth, special) = worths(top_owner, second_owner, lone);
-    let ruffed = is_ruffed(position, suit, &holdings);
-    let partner_ruffs = ruffs(position, position.first().next().next(), suit);
-    let weight = suit_weight(position, suit, &holdings, top_owner, second_owner);
+    let side = ruffs.trump != Some(suit);
+    let ruffed = side && ruffs.opponents(&holdings);
+    let weight = suit_weight(ruffs.tricks, &holdings, top_owner, second_owner);
+    let weight = if ruffed {
+        weight - OPPONENT_RUFFS
+    } else {
+        weight
+    };
+    let single = holdings.own.len() == 1 && holdings.partner.len() > 1;
+    let weight = if single && top_owner == Owner::Partner && side && ruffs.leader {
+        weight.saturating_add(SINGLETON_TO_TOP)
+    } else {
+        weight
+    };
     SuitView {
-        weight: if ruffed {
-            weight - OPPONENT_RUFFS
-        } else {
-            weight
-        },
+        weight,
         worth,
         special,
         own_top: if top_owner == Owner::Leader {
@@ -283,7 +297,7 @@ fn suit_view(position: &Position, suit: Suit) -> SuitView {
         sequence: top_owner != Owner::Leader && second_owner == Owner::Leader,
         own: holdings.own,
         others: theirs.union(holdings.partner),
-        partner: if partner_ruffs {
+        partner: if side && ruffs.partner && holdings.partner.is_empty() {
             RUFF
         } else {
             code_of_highest(holdings.partner)
@@ -297,6 +311,7 @@ fn suit_view(position: &Position, suit: Suit) -> SuitView {
 }
 
 // What the cards of a suit are worth, and what the special ones are.
+#[inline]
 fn worths(top: Owner, second: Owner, lone: bool) -> (Worth, Worth) {
     if lone {
         return (LONE_TOP_CARD, LONE_TOP_CARD);
@@ -310,17 +325,12 @@ fn worths(top: Owner, second: Owner, lone: bool) -> (Worth, Worth) {
     }
 }
 
-// How good the suit looks, but for ruffs of the opponents.
-fn suit_weight(
-    position: &Position,
-    suit: Suit,
-    holdings: &FourHoldings,
-    top: Owner,
-    second: Owner,
-) -> u16
+// How good the suit looks, but for ruffs.
+#[inline]
+fn suit_weight(tricks: u8, holdings: &FourHoldings, top: Owner, second: Owner) -> u16
+    requires { tricks ≤ 13 }
     ensures { 100 ≤ result }
 {
-    let tricks = position.tricks_left();
     let cards = opponents_cards(holdings.left, tricks) + opponents_cards(holdings.right, tricks);
     let mut weight = SUIT - OPPONENTS_CARD * cards;
     if top == Owner::Right {
@@ -331,14 +341,11 @@ fn suit_weight(
     if top == Owner::Left && second == Owner::Partner {
         weight += THROUGH_TOP_TO_SECOND;
     }
-    let single = holdings.own.len() == 1 && holdings.partner.len() > 1;
-    if single && top == Owner::Partner && has_ruffs(position, suit) {
-        weight += SINGLETON_TO_TOP;
-    }
     weight
 }
 
 // The cards of the suit, and where an opponent has none of it all that it has.
+#[inline]
 fn opponents_cards(holding: Holding, tricks: u8) -> u16
     requires { tricks ≤ 13 }
     ensures { result ≤ 13 }
@@ -350,32 +357,46 @@ fn opponents_cards(holding: Holding, tricks: u8) -> u16
     }
 }
 
-// Has the leader a trump, when it has no card of this side suit any more?
-fn has_ruffs(position: &Position, suit: Suit) -> bool {
-    match position.strain() {
-        Strain::Trump(trump) if trump != suit => {
-            !position.hands().holding(position.first(), trump).is_empty()
-        }
-        _ => false,
-    }
+// Which hands have trumps, and how many tricks are left: the same for each suit.
+#[derive(Clone, Copy, Debug)]
+struct Ruffs {
+    trump: Option<Suit>,
+    leader: bool,
+    left: bool,
+    partner: bool,
+    right: bool,
+    tricks: u8,
 }
 
-// Can the seat ruff the suit?
-fn ruffs(position: &Position, seat: Seat, suit: Suit) -> bool {
-    let hands = position.hands();
-    match position.strain() {
-        Strain::Trump(trump) if trump != suit => {
-            hands.holding(seat, suit).is_empty() && !hands.holding(seat, trump).is_empty()
+impl Ruffs {
+    fn of(position: &Position) -> Ruffs
+        ensures { result.tricks ≤ 13 }
+    {
+        let tricks = position.tricks_left();
+        let Strain::Trump(trump) = position.strain() else {
+            return Ruffs {
+                trump: None,
+                leader: false,
+                left: false,
+                partner: false,
+                right: false,
+                tricks,
+            };
+        };
+        let trumps = four_holdings(position, trump);
+        Ruffs {
+            trump: Some(trump),
+            leader: !trumps.own.is_empty(),
+            left: !trumps.left.is_empty(),
+            partner: !trumps.partner.is_empty(),
+            right: !trumps.right.is_empty(),
+            tricks,
         }
-        _ => false,
     }
-}
 
-// Can an opponent of the leader ruff the suit?
-fn is_ruffed(position: &Position, suit: Suit, holdings: &FourHoldings) -> bool {
-    if !holdings.left.is_empty() && !holdings.right.is_empty() {
-        return false;
+    // Can an opponent of the leader ruff a side suit with these holdings?
+    #[inline]
+    fn opponents(&self, holdings: &FourHoldings) -> bool {
+        self.left && holdings.left.is_empty() || self.right && holdings.right.is_empty()
     }
-    let left = position.first().next();
-    ruffs(position, left, suit) || ruffs(position, left.next().next(), suit)
 }

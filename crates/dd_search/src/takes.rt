@@ -1,12 +1,13 @@
 //! The question of the search: do North and South take at least so many of the tricks that are left?
-ghost use Rattle.std.specs.Prelude.{IfSome, [], ◌≡◌, ◌+◌, ◌≤◌, ◌<◌, true, IfOk, OnOk, MatchOption};
+ghost use Rattle.std.specs.Prelude.{IfSome, [], ◌∷◌, ◌≡◌, ◌+◌, ◌≤◌, ◌<◌, true, IfOk, OnOk, MatchOption};
+ghost use Rattle.dd_equal.specs.EqualCards.{tops};
 ghost use Rattle.dd_cards.specs.Cards.{has_card};
 ghost use Rattle.dd_play.specs.Board.{left};
 ghost use Rattle.dd_play.specs.Play.{legal, after};
 ghost use Rattle.dd_play.specs.Value.{point_of};
 ghost use Rattle.dd_play.specs.Won.{point};
 ghost use Rattle.dd_search.specs.Budgets.{EndsAs};
-ghost use Rattle.dd_search.specs.ClaimsBy.{IsAnswer, IsAnswerBy};
+ghost use Rattle.dd_search.specs.ClaimsBy.{IsAnswer, IsAnswerBy, IsAnswerAfter};
 
 use crate::answer::Answer;
 use crate::known::{note_answer, quick_answer, second_hands_answer, told_answer};
@@ -15,7 +16,7 @@ use crate::meter::{Halt, Meter, go_on};
 use crate::order::Outlook;
 use crate::rests::{settled_by, still_untried};
 use crate::table::Bounds;
-use dd_cards::{Hand, Seat};
+use dd_cards::{Card, Hand, Seat};
 use dd_equal::{tops, whole};
 use dd_play::{Position, TrickStart};
 use dd_rank::OwnerStrings;
@@ -72,36 +73,110 @@ fn answer_by_play<B: Bounds, M: Meter>(
     ensures ticked { (m : M) → M.ticked m meter.old → OnOk result (M.ticked m meter.new) }
     ensures ends { EndsAs (M.says meter.new) result }
 {
-    let north_south = position.mover().is_north_south();
     let choices = tops(position);
+    let mut others = choices;
+    match others.pop_first() {
+        Some(card) if others.is_empty() => answer_by_only_choice(
+            position, card, need, table, meter,
+        ),
+        _ => answer_by_choices(position, choices, need, table, meter),
+    }
+}
+
+// The answer where all cards that may be played are equal: half of the positions after the lead are of this kind.
+#[cycle(takes)]
+fn answer_by_only_choice<B: Bounds, M: Meter>(
+    position: &Position,
+    card: Card,
+    need: u8,
+    table: &mut B,
+    meter: &mut M,
+) -> Result<Answer, Halt>
+    requires only { tops position.now ≡ card ∷ [] }
+    requires low { 1 ≤ need }
+    requires high { need ≤ left position.now }
+    ensures answer { IfOk result (λ answer. IsAnswer position.now need answer.yes) }
+    ensures rests { IfOk result (λ answer. IsAnswerBy position.now need answer.cards answer.yes) }
+    ensures ticked { (m : M) → M.ticked m meter.old → OnOk result (M.ticked m meter.new) }
+    ensures ends { EndsAs (M.says meter.new) result }
+{
+    let north_south = position.mover().is_north_south();
+    let found = answer_after(position, card, need, table, meter)?;
+    if found.yes == north_south {
+        return Ok(found);
+    }
+    Ok(Answer {
+        yes: !north_south,
+        cards: whole(position, found.cards),
+    })
+}
+
+// The answer by these choices, the highest card of each class.
+#[cycle(takes)]
+fn answer_by_choices<B: Bounds, M: Meter>(
+    position: &Position,
+    choices: Hand,
+    need: u8,
+    table: &mut B,
+    meter: &mut M,
+) -> Result<Answer, Halt>
+    requires choices { choices ≡ tops position.now }
+    requires low { 1 ≤ need }
+    requires high { need ≤ left position.now }
+    ensures answer { IfOk result (λ answer. IsAnswer position.now need answer.yes) }
+    ensures rests { IfOk result (λ answer. IsAnswerBy position.now need answer.cards answer.yes) }
+    ensures ticked { (m : M) → M.ticked m meter.old → OnOk result (M.ticked m meter.new) }
+    ensures ends { EndsAs (M.says meter.new) result }
+{
+    let north_south = position.mover().is_north_south();
     let mut leads = Leads::new();
     let outlook = Outlook::of(position, choices, &mut leads);
     let mut untried = choices;
     let mut cards = Hand::new();
     'tries: while let Some(card) = outlook.best(position, choices, untried, &leads) {
-        // The position stays where `play` put it: a copy of it would wait for its bytes to be written.
-        let played = position.play(card);
-        let rest = rest_after(need, played.1);
-        let later = match answer_by_counting(&played.0, rest) {
-            Some(yes) => Answer {
-                yes,
-                cards: Hand::new(),
-            },
-            None => takes(&played.0, rest, table, meter)?,
-        };
-        let by = settled_by(position, card, played.1, later.cards);
-        if later.yes == north_south {
-            return Ok(Answer {
-                yes: north_south,
-                cards: by,
-            });
+        let found = answer_after(position, card, need, table, meter)?;
+        if found.yes == north_south {
+            return Ok(found);
         }
-        cards = cards.union(by);
-        untried = still_untried(untried, card, by);
+        cards = cards.union(found.cards);
+        untried = still_untried(untried, card, found.cards);
     }
     Ok(Answer {
         yes: !north_south,
         cards: whole(position, cards),
+    })
+}
+
+// What is answered when this card is played, and the cards on which that rests here, before it is.
+#[cycle(takes)]
+#[inline(always)]
+fn answer_after<B: Bounds, M: Meter>(
+    position: &Position,
+    card: Card,
+    need: u8,
+    table: &mut B,
+    meter: &mut M,
+) -> Result<Answer, Halt>
+    requires legal { has_card (legal position.now) card ≡ true }
+    requires low { 1 ≤ need }
+    ensures found { IfOk result
+        (λ found. IsAnswerAfter position.now need card found.cards found.yes) }
+    ensures ticked { (m : M) → M.ticked m meter.old → OnOk result (M.ticked m meter.new) }
+    ensures ends { EndsAs (M.says meter.new) result }
+{
+    // The position stays where `play` put it: a copy of it would wait for its bytes to be written.
+    let played = position.play(card);
+    let rest = rest_after(need, played.1);
+    let later = match answer_by_counting(&played.0, rest) {
+        Some(yes) => Answer {
+            yes,
+            cards: Hand::new(),
+        },
+        None => takes(&played.0, rest, table, meter)?,
+    };
+    Ok(Answer {
+        yes: later.yes,
+        cards: settled_by(position, card, played.1, later.cards),
     })
 }
 

@@ -1,18 +1,19 @@
-use Rattle.std.proofs.Common.{◌≡◌, ◌+◌, ◌∙◌, ap, sym, subst, arith, List, Some, [], inl}
+use Rattle.std.proofs.Common.{◌≡◌, ◌+◌, ◌∙◌, ap, sym, subst, arith, List, Some, [], ◌∷◌, refl, true, inl, inr}
 use Rattle.std.specs.Prelude.{MatchOption}
 use mathlib.Core.Bool.{not}
 use Rattle.dd_cards.specs.PlayingCard.{PlayingCard}
 use Rattle.dd_cards.specs.Cards.{has_card}
 use Rattle.dd_cards.specs.Seats.{is_north_south}
-use Rattle.dd_play.specs.Board.{Board, cards_left, mover}
+use Rattle.dd_equal.specs.EqualCards.{tops}
+use Rattle.dd_play.specs.Board.{Board, cards_left}
 use Rattle.dd_play.specs.Simulations.{IsLegal}
 use Rattle.dd_play.proofs.CallerLemmas.{cards_left-after}
-use Rattle.dd_search.specs.ClaimsBy.{IsAnswer, IsAnswerBy, AnswerBy}
-use Rattle.dd_search.proofs.Relied.{Leads, answer-here, one-more, leads-against, settled-answer, all-tried}
-use Rattle.dd_search.proofs.Orders.{top-legal}
+use Rattle.dd_search.specs.ClaimsBy.{IsAnswer, IsAnswerBy, IsAnswerAfter, AnswerBy}
+use Rattle.dd_search.proofs.Relied.{answer-here, one-more, answered-against, answered-for, leads, all-tried}
+use Rattle.dd_search.proofs.Orders.{top-legal, has-only, is-only}
 use Rattle.dd_search.proofs.Scores.{needed-after}
 use Rattle.dd_search.proofs.takes.+takes.Goals as goal
-use Rattle.dd_search.proofs.takes.+takes.Goals.{answer_by_play-In-Some, answer_by_play-After-later, answer_by_play-in-Some-answer_by_counting, answer_by_play-in-None+in_ok-later-inside-in-None}
+use Rattle.dd_search.proofs.takes.+takes.Goals.{answer_after-After-later, answer_after-in-Some, answer_after-in-None+in_ok-later-inside-in-None, answer_by_choices-In-Some}
 
 pub takes-answer_by_play-requires : goal.takes-answer_by_play-requires
 takes-answer_by_play-requires g t c κs within = (omega arith, (within.0, (within.1, (c.requires.low, c.requires.high))))
@@ -42,87 +43,137 @@ takes-returns-in-Some-second_hands_answer-clause-answer g t c =
     let answer = c.in-Some-second_hands_answer.answer in
     answer-here c.args.position.now c.args.need answer.cards answer.yes c.second_hands_answer.ensures.board c.in-Some-second_hands_answer.ensures.answer
 
--- the card that is tried may be played
-tried-legal : (g : _) (t : _) (c : answer_by_play-In-Some g t) → IsLegal c.args.position.now c.in-Some.card
-tried-legal g t c = c.tries.invariant.legal c.in-Some.card c.in-Some.ensures
-
--- what was found after it answers what is still needed then
-later-answer : (g : _) (t : _) (c : answer_by_play-After-later g t) → IsAnswerBy c.play-played.result.0 c.rest_after-rest.result c.later.inside.cards c.later.inside.yes
+-- what was found after the card answers what is still needed then
+later-answer : (g : _) (t : _) (c : answer_after-After-later g t) → IsAnswerBy c.play-played.result.0 c.rest_after-rest.result c.later.inside.cards c.later.inside.yes
 later-answer g t c =
     let q = c.play-played.result.0 in
     let rest = c.rest_after-rest.result in
     subst (λ (a : AnswerBy). IsAnswerBy q rest a.cards a.yes) (sym c.later.view_is) (elim c.match-answer_by_counting.branch [
-      | answer_by_play-in-Some-answer_by_counting w ↦ subst (λ (a : AnswerBy). IsAnswerBy q rest a.cards a.yes) (sym w.later-is) (subst (λ (cards : List PlayingCard). IsAnswerBy q rest cards w.in-Some-answer_by_counting.yes) (sym w.new.ensures) w.in-Some-answer_by_counting.ensures.rests)
-      | answer_by_play-in-None+in_ok-later-inside-in-None w ↦ subst (λ (a : AnswerBy). IsAnswerBy q rest a.cards a.yes) (sym w.later-is) w.in_ok-later-inside-in-None.ensures.rests
+      | answer_after-in-Some w ↦ subst (λ (a : AnswerBy). IsAnswerBy q rest a.cards a.yes) (sym w.later-is) (subst (λ (cards : List PlayingCard). IsAnswerBy q rest cards w.in-Some.yes) (sym w.new.ensures) w.in-Some.ensures.rests)
+      | answer_after-in-None+in_ok-later-inside-in-None w ↦ subst (λ (a : AnswerBy). IsAnswerBy q rest a.cards a.yes) (sym w.later-is) w.in_ok-later-inside-in-None.ensures.rests
     ])
 
 -- what had ticked has ticked still
-later-ticked : (g : _) (t : _) (c : answer_by_play-After-later g t) (m : g.row.M.Denot) → g.M.Meter.ticked m c.args.meter.now → g.M.Meter.ticked m c.match-answer_by_counting.meter
+later-ticked : (g : _) (t : _) (c : answer_after-After-later g t) (m : g.row.M.Denot) → g.M.Meter.ticked m c.args.meter.now → g.M.Meter.ticked m c.match-answer_by_counting.meter
 later-ticked g t c m before = elim c.match-answer_by_counting.branch [
-  | answer_by_play-in-Some-answer_by_counting w ↦ subst (λ n. g.M.Meter.ticked m n) (sym w.meter-is) (c.tries.invariant.ticked m before)
-  | answer_by_play-in-None+in_ok-later-inside-in-None w ↦ subst (λ n. g.M.Meter.ticked m n) (sym w.meter-is)
-      (g.met.M.Meter.later m c.tries.meter w.takes.new.meter (c.tries.invariant.ticked m before) w.in_ok-later-inside-in-None.ensures.ticked)
+  | answer_after-in-Some w ↦ subst (λ n. g.M.Meter.ticked m n) (sym w.meter-is) before
+  | answer_after-in-None+in_ok-later-inside-in-None w ↦ subst (λ n. g.M.Meter.ticked m n) (sym w.meter-is)
+      (g.met.M.Meter.later m c.args.meter.now w.takes.new.meter before w.in_ok-later-inside-in-None.ensures.ticked)
 ]
 
-pub answer_by_play-play-played-requires : goal.answer_by_play-play-played-requires
-answer_by_play-play-played-requires g t c = tried-legal g t (goal.at.answer_by_play-play-played-requires g t c).In-Some
-
-pub answer_by_play-takes-requires : goal.answer_by_play-takes-requires
-answer_by_play-takes-requires g t c κs within =
+pub answer_after-takes-requires : goal.answer_after-takes-requires
+answer_after-takes-requires g t c κs within =
     let p = c.args.position.now in
-    let has = tried-legal g t (goal.at.answer_by_play-takes-requires g t c).In-Some in
-    let fewer : cards_left c.play-played.result.0 + 1 ≡ cards_left p = ap (λ q. cards_left q + 1) c.play-played.ensures.next ∙ cards_left-after p c.in-Some.card c.mover.ensures.board has in
+    let fewer : cards_left c.play-played.result.0 + 1 ≡ cards_left p = ap (λ q. cards_left q + 1) c.play-played.ensures.next ∙ cards_left-after p c.args.card c.play-played.ensures.board c.requires.legal in
     (omega (arith, fewer), (within.0, (within.1, (c.in-None.ensures.answer.0, c.in-None.ensures.answer.1))))
 
-pub answer_by_play-settled_by-by-requires-clause-legal : goal.answer_by_play-settled_by-by-requires-clause-legal
-answer_by_play-settled_by-by-requires-clause-legal g t c = tried-legal g t (goal.at.answer_by_play-settled_by-by-requires-clause-legal g t c).In-Some
+pub answer_after-returns-clause-found : goal.answer_after-returns-clause-found
+answer_after-returns-clause-found g t c =
+    let at = goal.at.answer_after-returns-clause-found g t c in
+    let p = c.args.position.now in
+    leads p c.play-played.result.0 c.args.need c.rest_after-rest.result c.args.card c.later.inside.cards c.settled_by.result c.later.inside.yes
+    c.play-played.ensures.board c.requires.legal c.requires.low c.play-played.ensures.next
+    (needed-after p c.args.card _ _ _ c.rest_after-rest.ensures c.play-played.ensures.wins) (later-answer g t at.After-later) c.settled_by.ensures.more c.settled_by.ensures.settled
 
-pub answer_by_play-tries-init : goal.answer_by_play-tries-init
-answer_by_play-tries-init g t c = record {
-  lead = λ d has. inl (ap (λ cards. has_card cards d) c.tops-choices.ensures ∙ has);
-  legal = λ d has. top-legal c.args.position.now d (ap (λ cards. has_card cards d) (sym c.tops-choices.ensures) ∙ has);
+pub answer_after-returns-clause-ticked : goal.answer_after-returns-clause-ticked
+answer_after-returns-clause-ticked g t c = later-ticked g t (goal.at.answer_after-returns-clause-ticked g t c).After-later
+
+-- ---- one choice
+
+pub answer_by_choices-tries-init : goal.answer_by_choices-tries-init
+answer_by_choices-tries-init g t c = record {
+  lead = λ d has. inl (ap (λ cards. has_card cards d) c.requires.choices ∙ has);
+  legal = λ d has. top-legal c.args.position.now d (ap (λ cards. has_card cards d) (sym c.requires.choices) ∙ has);
   ticked = λ m h. h;
 }
 
-pub answer_by_play-tries-preserved : goal.answer_by_play-tries-preserved
-answer_by_play-tries-preserved g t c =
-    let at = goal.at.answer_by_play-tries-preserved g t c in
+-- the card that is tried may be played
+tried-legal : (g : _) (t : _) (c : answer_by_choices-In-Some g t) → IsLegal c.args.position.now c.in-Some.card
+tried-legal g t c = c.tries.invariant.legal c.in-Some.card c.in-Some.ensures
+
+pub answer_by_choices-answer_after-requires : goal.answer_by_choices-answer_after-requires
+answer_by_choices-answer_after-requires g t c κs within =
+    (omega arith, (within.0, (within.1, (tried-legal g t (goal.at.answer_by_choices-answer_after-requires g t c).In-Some, c.requires.low))))
+
+pub answer_by_choices-returns-then-found-north_south-clause-rests : goal.answer_by_choices-returns-then-found-north_south-clause-rests
+answer_by_choices-returns-then-found-north_south-clause-rests g t c =
     let p = c.args.position.now in
+    let need = c.args.need in
+    let found = c.found.inside in
+    let here : IsAnswerAfter p need c.in-Some.card found.cards found.yes = subst (λ (a : AnswerBy). IsAnswerAfter p need c.in-Some.card a.cards a.yes) (sym c.found.view_is) c.in_ok-found.ensures.found in
+    subst (λ (a : AnswerBy). IsAnswerBy p need a.cards a.yes) c.found.view_is
+    (answered-for p need c.in-Some.card found.cards c.is_north_south-north_south.result found.yes
+    (tried-legal g t (goal.at.answer_by_choices-returns-then-found-north_south-clause-rests g t c).In-Some) (c.is_north_south-north_south.ensures ∙ ap is_north_south c.mover.ensures.seat) here c.if-found-north_south.true)
+
+pub answer_by_choices-returns-then-found-north_south-clause-answer : goal.answer_by_choices-returns-then-found-north_south-clause-answer
+answer_by_choices-returns-then-found-north_south-clause-answer g t c =
+    answer-here c.args.position.now c.args.need c.in_ok-found.found.cards c.in_ok-found.found.yes c.mover.ensures.board (answer_by_choices-returns-then-found-north_south-clause-rests g t c)
+
+pub answer_by_choices-tries-preserved : goal.answer_by_choices-tries-preserved
+answer_by_choices-tries-preserved g t c =
+    let p = c.args.position.now in
+    let need = c.args.need in
     let b = c.is_north_south-north_south.result in
-    let here : Leads p c.args.need c.in-Some.card c.settled_by-by.result (not b) = leads-against p c.play-played.result.0 c.args.need c.rest_after-rest.result c.in-Some.card c.later.inside.cards c.settled_by-by.result b c.later.inside.yes
-    c.mover.ensures.board (tried-legal g t at.In-Some) c.requires.low c.play-played.ensures.next
-    (needed-after p c.in-Some.card _ _ _ c.rest_after-rest.ensures c.play-played.ensures.wins) (later-answer g t at.After-later) c.if-later-north_south.false c.settled_by-by.ensures.more c.settled_by-by.ensures.settled in
+    let found = c.found.inside in
+    let here : IsAnswerAfter p need c.in-Some.card found.cards found.yes = subst (λ (a : AnswerBy). IsAnswerAfter p need c.in-Some.card a.cards a.yes) (sym c.found.view_is) c.in_ok-found.ensures.found in
     record {
-      lead = one-more p c.args.need c.in-Some.card c.tries.untried c.still_untried-untried.result c.settled_by-by.result c.tries.cards c.union-cards.result (not b)
-          c.still_untried-untried.ensures.told c.union-cards.ensures.left c.union-cards.ensures.right here c.tries.invariant.lead;
+      lead = one-more p need c.in-Some.card c.tries.untried c.still_untried-untried.result found.cards c.tries.cards c.union-cards.result (not b)
+          c.still_untried-untried.ensures.told c.union-cards.ensures.left c.union-cards.ensures.right
+          (answered-against p need c.in-Some.card found.cards b found.yes here c.if-found-north_south.false) c.tries.invariant.lead;
       legal = λ d has. c.tries.invariant.legal d (c.still_untried-untried.ensures.among d has);
-      ticked = later-ticked g t at.After-later;
+      ticked = λ m before. c.in_ok-found.ensures.ticked m (c.tries.invariant.ticked m before);
     }
 
-pub answer_by_play-returns-then-later-north_south-clause-rests : goal.answer_by_play-returns-then-later-north_south-clause-rests
-answer_by_play-returns-then-later-north_south-clause-rests g t c =
-    let at = goal.at.answer_by_play-returns-then-later-north_south-clause-rests g t c in
-    let p = c.args.position.now in
-    settled-answer p c.play-played.result.0 c.args.need c.rest_after-rest.result c.in-Some.card c.later.inside.cards c.settled_by-by.result c.is_north_south-north_south.result c.later.inside.yes
-    c.mover.ensures.board (c.is_north_south-north_south.ensures ∙ ap is_north_south c.mover.ensures.seat) (tried-legal g t at.In-Some) c.requires.low c.play-played.ensures.next
-    (needed-after p c.in-Some.card _ _ _ c.rest_after-rest.ensures c.play-played.ensures.wins) (later-answer g t at.After-later) c.if-later-north_south.true c.settled_by-by.ensures.more c.settled_by-by.ensures.settled
-
-pub answer_by_play-returns-then-later-north_south-clause-answer : goal.answer_by_play-returns-then-later-north_south-clause-answer
-answer_by_play-returns-then-later-north_south-clause-answer g t c =
-    answer-here c.args.position.now c.args.need c.settled_by-by.result c.is_north_south-north_south.result c.mover.ensures.board (answer_by_play-returns-then-later-north_south-clause-rests g t c)
-
-pub answer_by_play-returns-then-later-north_south-clause-ticked : goal.answer_by_play-returns-then-later-north_south-clause-ticked
-answer_by_play-returns-then-later-north_south-clause-ticked g t c = later-ticked g t (goal.at.answer_by_play-returns-then-later-north_south-clause-ticked g t c).After-later
-
-pub answer_by_play-returns-clause-rests : goal.answer_by_play-returns-clause-rests
-answer_by_play-returns-clause-rests g t c =
+pub answer_by_choices-returns-clause-rests : goal.answer_by_choices-returns-clause-rests
+answer_by_choices-returns-clause-rests g t c =
     all-tried c.args.position.now c.args.need c.tries.untried c.tries.cards c.whole.result c.is_north_south-north_south.result
     c.mover.ensures.board (c.is_north_south-north_south.ensures ∙ ap is_north_south c.mover.ensures.seat) c.requires.low c.requires.high
     c.in_default.ensures c.tries.invariant.lead c.whole.ensures.more c.whole.ensures.whole
 
-pub answer_by_play-returns-clause-answer : goal.answer_by_play-returns-clause-answer
-answer_by_play-returns-clause-answer g t c =
-    answer-here c.args.position.now c.args.need c.whole.result (not c.is_north_south-north_south.result) c.mover.ensures.board (answer_by_play-returns-clause-rests g t c)
+pub answer_by_choices-returns-clause-answer : goal.answer_by_choices-returns-clause-answer
+answer_by_choices-returns-clause-answer g t c =
+    answer-here c.args.position.now c.args.need c.whole.result (not c.is_north_south-north_south.result) c.mover.ensures.board (answer_by_choices-returns-clause-rests g t c)
 
-pub answer_by_play-returns-clause-ticked : goal.answer_by_play-returns-clause-ticked
-answer_by_play-returns-clause-ticked g t c = c.tries.invariant.ticked
+-- ---- where there is one choice
+
+-- it is a highest card
+only-top : (p : Board) (card d : PlayingCard) → tops p ≡ card ∷ [] → has_card (card ∷ []) d ≡ true → has_card (tops p) d ≡ true
+only-top p card d is has = ap (λ cards. has_card cards d) is ∙ has
+
+-- and may be played
+only-legal : (p : Board) (card : PlayingCard) → tops p ≡ card ∷ [] → IsLegal p card
+only-legal p card is = top-legal p card (only-top p card card is (has-only card))
+
+pub answer_by_only_choice-answer_after-requires : goal.answer_by_only_choice-answer_after-requires
+answer_by_only_choice-answer_after-requires g t c κs within =
+    (omega arith, (within.0, (within.1, (only-legal c.args.position.now c.args.card c.requires.only, c.requires.low))))
+
+pub answer_by_only_choice-returns-then-found-north_south-clause-rests : goal.answer_by_only_choice-returns-then-found-north_south-clause-rests
+answer_by_only_choice-returns-then-found-north_south-clause-rests g t c =
+    let p = c.args.position.now in
+    let need = c.args.need in
+    let found = c.found.inside in
+    let here : IsAnswerAfter p need c.args.card found.cards found.yes = subst (λ (a : AnswerBy). IsAnswerAfter p need c.args.card a.cards a.yes) (sym c.found.view_is) c.in_ok-found.ensures.found in
+    subst (λ (a : AnswerBy). IsAnswerBy p need a.cards a.yes) c.found.view_is
+    (answered-for p need c.args.card found.cards c.is_north_south-north_south.result found.yes
+    (only-legal p c.args.card c.requires.only) (c.is_north_south-north_south.ensures ∙ ap is_north_south c.mover.ensures.seat) here c.if-found-north_south.true)
+
+pub answer_by_only_choice-returns-then-found-north_south-clause-answer : goal.answer_by_only_choice-returns-then-found-north_south-clause-answer
+answer_by_only_choice-returns-then-found-north_south-clause-answer g t c =
+    answer-here c.args.position.now c.args.need c.in_ok-found.found.cards c.in_ok-found.found.yes c.mover.ensures.board (answer_by_only_choice-returns-then-found-north_south-clause-rests g t c)
+
+pub answer_by_only_choice-returns-clause-rests : goal.answer_by_only_choice-returns-clause-rests
+answer_by_only_choice-returns-clause-rests g t c =
+    let p = c.args.position.now in
+    let need = c.args.need in
+    let b = c.is_north_south-north_south.result in
+    let found = c.found.inside in
+    let here : IsAnswerAfter p need c.args.card found.cards found.yes = subst (λ (a : AnswerBy). IsAnswerAfter p need c.args.card a.cards a.yes) (sym c.found.view_is) c.in_ok-found.ensures.found in
+    all-tried p need [] found.cards c.whole.result b c.mover.ensures.board (c.is_north_south-north_south.ensures ∙ ap is_north_south c.mover.ensures.seat) c.requires.low c.requires.high refl
+    (λ d has. inr (subst (λ (x : PlayingCard). IsAnswerAfter p need x found.cards (not b)) (sym (is-only d c.args.card (ap (λ cards. has_card cards d) (sym c.requires.only) ∙ has)))
+    (answered-against p need c.args.card found.cards b found.yes here c.if-found-north_south.false)))
+    c.whole.ensures.more c.whole.ensures.whole
+
+pub answer_by_only_choice-returns-clause-answer : goal.answer_by_only_choice-returns-clause-answer
+answer_by_only_choice-returns-clause-answer g t c =
+    answer-here c.args.position.now c.args.need c.whole.result (not c.is_north_south-north_south.result) c.mover.ensures.board (answer_by_only_choice-returns-clause-rests g t c)

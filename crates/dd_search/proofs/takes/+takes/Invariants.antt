@@ -4,20 +4,30 @@ use Rattle.dd_play.specs.Board.{cards_left}
 use Rattle.dd_search.proofs.Relied.{AllLead, AllLegal}
 use Rattle.dd_search.proofs.takes.+takes.Given as goal
 
--- A question comes before the play that answers it, and that before the questions after a card.
+-- A question comes before the play that answers it, that before the choices, these before a card, and that before the
+-- question after the card.
 abbrev pub decreases-takes : goal.decreases-takes
-decreases-takes g l = 2 * cards_left l.position.now + 1
+decreases-takes g l = 4 * cards_left l.position.now + 3
 
 abbrev pub decreases-answer_by_play : goal.decreases-answer_by_play
-decreases-answer_by_play g l = 2 * cards_left l.position.now
+decreases-answer_by_play g l = 4 * cards_left l.position.now + 2
+
+abbrev pub decreases-answer_by_only_choice : goal.decreases-answer_by_only_choice
+decreases-answer_by_only_choice g l = 4 * cards_left l.position.now + 1
+
+abbrev pub decreases-answer_by_choices : goal.decreases-answer_by_choices
+decreases-answer_by_choices g l = 4 * cards_left l.position.now + 1
+
+abbrev pub decreases-answer_after : goal.decreases-answer_after
+decreases-answer_after g l = 4 * cards_left l.position.now
 
 -- Of each class the highest card is still to be tried, or is not enough for the side to play, by these cards.
-abbrev pub invariant-answer_by_play-tries : goal.invariant-answer_by_play-tries
-invariant-answer_by_play-tries g l = record {
+abbrev pub invariant-answer_by_choices-tries : goal.invariant-answer_by_choices-tries
+invariant-answer_by_choices-tries g l = record {
   lead : AllLead l.position l.need l.untried l.cards (not l.north_south);
   legal : AllLegal l.position l.untried;
   ticked : (m : g.row.M.Denot) → g.M.Meter.ticked m l.fn.meter → g.M.Meter.ticked m l.meter;
 }
 
-abbrev pub decreases-answer_by_play-tries : goal.decreases-answer_by_play-tries
-decreases-answer_by_play-tries g l = length l.untried
+abbrev pub decreases-answer_by_choices-tries : goal.decreases-answer_by_choices-tries
+decreases-answer_by_choices-tries g l = length l.untried
