@@ -19,7 +19,7 @@ use crate::table::Bounds;
 use dd_cards::{Card, Hand, Seat};
 use dd_equal::{tops, whole};
 use dd_play::{Position, TrickStart};
-use dd_rank::OwnerStrings;
+use dd_rank::{OwnerStrings, Shape};
 
 /// Do North and South take at least `need` of the tricks left? It ticks first; at a start of a trick a look or the quick
 /// bounds may settle it, after the lead second hand's winners; else play does, and what that taught at a start is noted.
@@ -44,8 +44,11 @@ pub(crate) fn takes<B: Bounds, M: Meter>(
         }
         return answer_by_play(position, need, table, meter);
     };
-    // A look settles most, and where it doesn't the quick tricks do a tenth.
-    let strings = OwnerStrings::of(&start);
+    // A look settles most, and where it doesn't the quick tricks do a tenth. While the owners are read, what is known of the
+    // shape is fetched.
+    let shape = Shape::of(&start);
+    table.expect(shape);
+    let strings = OwnerStrings::of_shape(&start, shape);
     if let Some(answer) = told_answer(&start, &strings, need, table) {
         return Ok(answer);
     }
