@@ -36,8 +36,6 @@ pub struct Cache<B> {
     pages: Vec<Page>,
     // the number of the next page; the first one has the number PAGES
     next: u32,
-    // of the page that was fetched last the one before
-    fetched: u32,
 }
 
 impl<B: Drop> Cache<B> {
@@ -51,7 +49,6 @@ impl<B: Drop> Cache<B> {
             newest,
             pages,
             next: PAGES,
-            fetched: 0,
         })
     }
 }
@@ -134,15 +131,6 @@ impl<B: Bounds> Bounds for Cache<B> {
 
     fn look(&mut self, start: &TrickStart) -> Option<(Interval, Depths)> {
         self.behind.look(start)
-    }
-
-    // The number is of no use: it is there so that the page is read.
-    fn expect(&mut self, shape: Shape) {
-        if let Some(newest) = self.newest.get(place(shape)) {
-            if let Some(page) = self.pages.get((*newest % PAGES) as usize) {
-                self.fetched = page.before();
-            }
-        }
     }
 
     fn settle(

@@ -5,7 +5,7 @@ ghost use Rattle.dd_cache.specs.Told.{IsSound};
 
 use crate::told::Told;
 use arrayvec::ArrayVec;
-use dd_rank::{FirstBrief, OwnerStrings, Shape};
+use dd_rank::{FirstBriefs, OwnerStrings, Shape};
 use std::marker::Model;
 
 /// The bounds that stand together.
@@ -18,7 +18,7 @@ pub(crate) struct Page {
     before: u32,
     // What is seen at once of the bounds, by their places: they stand together, so that most of what doesn't hold of a
     // position is passed over without a look at it.
-    briefs: [FirstBrief; BOUNDS_OF_A_PAGE],
+    briefs: FirstBriefs,
     told: ArrayVec<Told, BOUNDS_OF_A_PAGE>,
 }
 
@@ -37,8 +37,8 @@ impl Page {
     pub(crate) fn new(shape: Shape, before: u32, first: Told) -> Page
         requires { IsSound shape first }
     {
-        let mut briefs = [FirstBrief::default(); BOUNDS_OF_A_PAGE];
-        briefs[0] = first.firsts.brief();
+        let mut briefs = FirstBriefs::default();
+        briefs.put(0, first.firsts.brief());
         let mut told = ArrayVec::new();
         told.push(first);
         Page {
@@ -71,13 +71,15 @@ impl Page {
         ensures settles { IfSome result (λ told. (need ≤ told.now.interval.lo)
             ⊎ (told.now.interval.hi < need)) }
     {
-        let brief = strings.brief();
-        for (place, told) in self.told.as_slice().iter().enumerate() {
-            if self.briefs[place % BOUNDS_OF_A_PAGE].may_be_in(brief)
-                && told.answers(strings, need)
-            {
+        let mut places = self.briefs.may_be_in(strings.brief());
+        for _ in 0..BOUNDS_OF_A_PAGE {
+            // Where none is left the place is none.
+            let place = places.trailing_zeros() as usize;
+            let told = self.told.as_slice().get(place)?;
+            if told.answers(strings, need) {
                 return Some(told);
             }
+            places &= places.wrapping_sub(1);
         }
         None
     }
@@ -91,14 +93,14 @@ impl Page {
     {
         let brief = new.firsts.brief();
         if let Some(place) = needless(self.told.as_slice(), &new) {
-            self.briefs[place % BOUNDS_OF_A_PAGE] = brief;
+            self.briefs.put(place, brief);
             self.told.as_mut_slice()[place] = new;
             return None;
         }
         if self.told.is_full() {
             return Some(new);
         }
-        self.briefs[self.told.len() % BOUNDS_OF_A_PAGE] = brief;
+        self.briefs.put(self.told.len(), brief);
         self.told.push(new);
         None
     }

@@ -17,7 +17,7 @@ use Rattle.dd_play.specs.Board.{Board, cards_at}
 use Rattle.dd_play.specs.Covers.{count_of}
 use Rattle.dd_play.proofs.CallerLemmas.{after-code}
 use Rattle.dd_rank.specs.Owners.{holder, owners_in}
-use Rattle.dd_rank.specs.Strings.{places_after, number_of, owners_number, suit_lengths, all_lengths, ShapeOf, shape_of, Strings, strings_of}
+use Rattle.dd_rank.specs.Strings.{places_after, number_of, owners_number, suit_lengths, all_lengths, Strings, strings_of}
 use Rattle.dd_rank.proofs.Holders.{holder-has, only-holder, no-holder}
 use Rattle.dd_rank.proofs.Turned.{places-lt, after-places}
 
@@ -154,8 +154,3 @@ four-strings p strain a b c d e f g h es sp he di cl =
     strings : (s t : Strain) (n m a i b j c k d l : ℕ) → s ≡ t → n ≡ m → a ≡ i → b ≡ j → c ≡ k → d ≡ l
         → (let r : Strings = record { strain = s; lengths = n; spades = a; hearts = b; diamonds = c; clubs = d } in r) ≡ record { strain = t; lengths = m; spades = i; hearts = j; diamonds = k; clubs = l }
     strings s t n m a i b j c k d l es en ea eb ec ed = rw (es, en, ea, eb, ec, ed) refl
-
--- the owners of each suit make them, where the shape is known
-pub shaped-strings : (p : Board) (shape : ShapeOf) (e f g h : ℕ) → shape ≡ shape_of p → e ≡ owners_number p Spades → f ≡ owners_number p Hearts → g ≡ owners_number p Diamonds → h ≡ owners_number p Clubs
-    → (let r : Strings = record { strain = shape.strain; lengths = shape.lengths; spades = e; hearts = f; diamonds = g; clubs = h } in r) ≡ strings_of p
-shaped-strings p shape e f g h is a b c d = rw (is, a, b, c, d) refl

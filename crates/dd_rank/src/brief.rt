@@ -4,6 +4,8 @@
 use crate::first_owners::FirstOwners;
 use crate::owner_strings::OwnerStrings;
 use dd_cards::Suit;
+use std::simd::cmp::SimdPartialEq;
+use std::simd::u16x8;
 
 /// The owners of the two highest cards of each suit of a start of a trick.
 // Four bits a suit, the spades' the lowest, and in them the highest card's owner.
@@ -19,11 +21,14 @@ pub struct FirstBrief {
     mask: u16,
 }
 
-impl Default for FirstBrief {
-    /// Of no owners.
-    fn default() -> FirstBrief {
-        FirstBrief { owners: 0, mask: 0 }
-    }
+/// How many briefs stand together.
+const TOGETHER: usize = 8;
+
+/// Eight briefs of first owners, which are compared at once.
+#[derive(Clone, Copy, Debug)]
+pub struct FirstBriefs {
+    owners: [u16; TOGETHER],
+    masks: [u16; TOGETHER],
 }
 
 impl OwnerStrings {
@@ -53,11 +58,20 @@ impl FirstOwners {
     }
 }
 
-impl FirstBrief {
-    /// May these first owners be those of the position, by what is seen of both?
+impl FirstBriefs {
+    /// Puts one at this place, 0 to 7; a greater one is taken modulo 8.
     #[inline]
-    pub fn may_be_in(self, position: Brief) -> bool {
-        (self.owners ^ position.owners) & self.mask == 0
+    pub fn put(&mut self, place: usize, brief: FirstBrief) {
+        self.owners[place % TOGETHER] = brief.owners;
+        self.masks[place % TOGETHER] = brief.mask;
+    }
+
+    /// The places of those that may be of the position, by what is seen of both: bit n for place n.
+    #[inline]
+    pub fn may_be_in(&self, position: Brief) -> u64 {
+        let differing = u16x8::from_array(self.owners) ^ u16x8::splat(position.owners);
+        let seen = differing & u16x8::from_array(self.masks);
+        seen.simd_eq(u16x8::splat(0)).to_bitmask()
     }
 }
 

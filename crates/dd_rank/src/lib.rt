@@ -14,7 +14,7 @@ mod owner_strings;
 mod rank_key;
 mod shape;
 
-pub use brief::{Brief, FirstBrief};
+pub use brief::{Brief, FirstBrief, FirstBriefs};
 pub use cover::Cover;
 pub use covering::covers;
 pub use depths::Depths;

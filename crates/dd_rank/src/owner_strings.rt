@@ -1,9 +1,9 @@
 //! Who holds the cards that are left, as one number a suit.
 
 ghost use Rattle.std.specs.Prelude.{◌≡◌};
-ghost use Rattle.dd_rank.specs.Strings.{strings_of, shape_of, shape_in, mixing_number_in, same_strings, same-strings, same-strings-partial, string_in};
+ghost use Rattle.dd_rank.specs.Strings.{strings_of, shape_in, mixing_number_in, same_strings, same-strings, same-strings-partial, string_in};
 
-use crate::lanes::Places;
+use crate::lanes::{Places, suit_lengths};
 use crate::shape::{Shape, mix};
 use dd_cards::{Strain, Suit};
 use dd_play::TrickStart;
@@ -68,16 +68,7 @@ impl Eq for OwnerStrings {
 
 impl OwnerStrings {
     /// The owner strings of a start of a trick.
-    #[inline]
     pub fn of(start: &TrickStart) -> OwnerStrings
-        ensures { result ≡ strings_of start.now }
-    {
-        OwnerStrings::of_shape(start, Shape::of(start))
-    }
-
-    /// The same, where the shape is known.
-    pub fn of_shape(start: &TrickStart, shape: Shape) -> OwnerStrings
-        requires { shape ≡ shape_of start.now }
         ensures { result ≡ strings_of start.now }
     {
         let position = start.position();
@@ -95,8 +86,11 @@ impl OwnerStrings {
         let left = leader.union(third).union(odd);
         let places = Places::close_up(odd.mask(), far.mask(), !left.mask());
         OwnerStrings {
-            strain: shape.strain,
-            lengths: shape.lengths,
+            strain: position.strain(),
+            lengths: suit_lengths(leader.mask())
+                + suit_lengths(second.mask()) * 0x10
+                + suit_lengths(third.mask()) * 0x100
+                + suit_lengths(fourth.mask()) * 0x1000,
             spades: places.owners(Suit::Spades),
             hearts: places.owners(Suit::Hearts),
             diamonds: places.owners(Suit::Diamonds),

@@ -1,10 +1,8 @@
 ghost use Rattle.std.specs.Prelude.{◌≡◌};
 ghost use Rattle.std.specs.Hash as fed;
-ghost use Rattle.dd_rank.specs.Strings.{fed-shape, mix, mixing_number_of, same-shape, same-shape-partial, same_shape, shape_of};
+ghost use Rattle.dd_rank.specs.Strings.{fed-shape, mix, mixing_number_of, same-shape, same-shape-partial, same_shape};
 
-use crate::lanes::suit_lengths;
 use dd_cards::Strain;
-use dd_play::TrickStart;
 use std::hash::{Hash, Hasher};
 use std::marker::Model;
 
@@ -12,8 +10,8 @@ use std::marker::Model;
 // Four bits a length: sixteen bits for each suit, the spades on top, and in them the leader's the lowest.
 #[derive(Clone, Copy, Debug)]
 pub struct Shape {
-    pub(crate) strain: Strain,
-    pub(crate) lengths: u64,
+    strain: Strain,
+    lengths: u64,
 }
 
 impl Model for Shape {
@@ -27,30 +25,6 @@ impl Model for Shape {
 }
 
 impl Shape {
-    /// The shape of a start of a trick.
-    #[inline]
-    pub fn of(start: &TrickStart) -> Shape
-        ensures { result ≡ shape_of start.now }
-    {
-        let position = start.position();
-        let hands = position.hands();
-        let first_seat = position.first();
-        let second_seat = first_seat.next();
-        let third_seat = second_seat.next();
-        let fourth_seat = third_seat.next();
-        let leader = hands.hand(first_seat);
-        let second = hands.hand(second_seat);
-        let third = hands.hand(third_seat);
-        let fourth = hands.hand(fourth_seat);
-        Shape {
-            strain: position.strain(),
-            lengths: suit_lengths(leader.mask())
-                + suit_lengths(second.mask()) * 0x10
-                + suit_lengths(third.mask()) * 0x100
-                + suit_lengths(fourth.mask()) * 0x1000,
-        }
-    }
-
     #[inline]
     pub(crate) fn new(strain: Strain, lengths: u64) -> Shape
         ensures { result ≡ record { strain = strain; lengths = lengths } }

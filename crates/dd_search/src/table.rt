@@ -9,7 +9,7 @@ ghost use Rattle.dd_rank.specs.Depths.{FourDepths, depth_in, all_cards, Covers};
 ghost use Rattle.dd_rank.specs.Strings.{strings_of};
 
 use dd_play::{Interval, TrickStart};
-use dd_rank::{Depths, OwnerStrings, Shape};
+use dd_rank::{Depths, OwnerStrings};
 
 /// Known bounds of the values of positions. A value is the number of tricks, 0 to 13, of the leader's side. Bounds come
 /// with depths, and hold of each position that the one asked covers at these.
@@ -24,9 +24,6 @@ pub trait Bounds {
         ensures told { IfSome result (λ told. tells self.old start.now told.1 told.0) }
         ensures within { IfSome result (λ told. (u : Suit)
             → depth_in told.1 u ≤ count_of u (all_cards start.now)) };
-
-    /// Says that a position of this shape will soon be asked for, so that what is known of the shape is fetched meanwhile.
-    fn expect(&mut self, _shape: Shape) {}
 
     /// Bounds that settle whether the leader's side takes at least `need` tricks, and nothing where none are known. The
     /// strings are those of the start.

@@ -19,7 +19,7 @@ use crate::table::Bounds;
 use dd_cards::{Card, Hand, Seat};
 use dd_equal::{tops, whole};
 use dd_play::{Position, TrickStart};
-use dd_rank::{OwnerStrings, Shape};
+use dd_rank::OwnerStrings;
 
 /// Do North and South take at least `need` of the tricks left? It ticks first; at a start of a trick a look or the quick
 /// bounds may settle it, after the lead second hand's winners; else play does, and what that taught at a start is noted.
@@ -44,19 +44,35 @@ pub(crate) fn takes<B: Bounds, M: Meter>(
         }
         return answer_by_play(position, need, table, meter);
     };
-    // A look settles most, and where it doesn't the quick tricks do a tenth. While the owners are read, what is known of the
-    // shape is fetched.
-    let shape = Shape::of(&start);
-    table.expect(shape);
-    let strings = OwnerStrings::of_shape(&start, shape);
-    if let Some(answer) = told_answer(&start, &strings, need, table) {
+    answer_at_start(&start, need, table, meter)
+}
+
+// The answer at a start of a trick, which is noted where play gave it. A look settles most, and where it doesn't the quick
+// tricks do a tenth.
+#[cycle(takes)]
+fn answer_at_start<B: Bounds, M: Meter>(
+    start: &TrickStart,
+    need: u8,
+    table: &mut B,
+    meter: &mut M,
+) -> Result<Answer, Halt>
+    requires low { 1 ≤ need }
+    requires high { need ≤ left start.now }
+    ensures answer { IfOk result (λ answer. IsAnswer start.now need answer.yes) }
+    ensures rests { IfOk result (λ answer. IsAnswerBy start.now need answer.cards answer.yes) }
+    // What had ticked before has ticked still.
+    ensures ticked { (m : M) → M.ticked m meter.old → OnOk result (M.ticked m meter.new) }
+    ensures ends { EndsAs (M.says meter.new) result }
+{
+    let strings = OwnerStrings::of(start);
+    if let Some(answer) = told_answer(start, &strings, need, table) {
         return Ok(answer);
     }
-    if let Some(answer) = quick_answer(&start, need) {
+    if let Some(answer) = quick_answer(start, need) {
         return Ok(answer);
     }
-    let answer = answer_by_play(position, need, table, meter)?;
-    note_answer(&start, &strings, need, answer, table);
+    let answer = answer_by_play(start.position(), need, table, meter)?;
+    note_answer(start, &strings, need, answer, table);
     Ok(answer)
 }
 
@@ -72,7 +88,6 @@ fn answer_by_play<B: Bounds, M: Meter>(
     requires high { need ≤ left position.now }
     ensures answer { IfOk result (λ answer. IsAnswer position.now need answer.yes) }
     ensures rests { IfOk result (λ answer. IsAnswerBy position.now need answer.cards answer.yes) }
-    // What had ticked before has ticked still.
     ensures ticked { (m : M) → M.ticked m meter.old → OnOk result (M.ticked m meter.new) }
     ensures ends { EndsAs (M.says meter.new) result }
 {

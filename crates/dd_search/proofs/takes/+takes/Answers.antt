@@ -18,24 +18,17 @@ use Rattle.dd_search.proofs.takes.+takes.Goals.{answer_after-After-later, answer
 pub takes-answer_by_play-requires : goal.takes-answer_by_play-requires
 takes-answer_by_play-requires g t c κs within = (omega arith, (within.0, (within.1, (c.requires.low, c.requires.high))))
 
-pub takes-answer_by_play-requires-2 : goal.takes-answer_by_play-requires-2
-takes-answer_by_play-requires-2 g t c κs within = (omega arith, (within.0, (within.1, (c.requires.low, c.requires.high))))
+-- An answer by a look holds at the position.
+pub answer_at_start-returns-in-Some-clause-answer : goal.answer_at_start-returns-in-Some-clause-answer
+answer_at_start-returns-in-Some-clause-answer g t c =
+    let answer = c.in-Some.answer in
+    answer-here c.args.start.now c.args.need answer.cards answer.yes c.told_answer.ensures.board c.in-Some.ensures.answer
 
--- An answer by quick tricks holds at the position, which is the start of the trick.
-pub takes-returns-in-Some-quick_answer-clause-answer : goal.takes-returns-in-Some-quick_answer-clause-answer
-takes-returns-in-Some-quick_answer-clause-answer g t c =
-    let p = c.args.position.now in
+-- So does one by quick tricks.
+pub answer_at_start-returns-in-Some-quick_answer-clause-answer : goal.answer_at_start-returns-in-Some-quick_answer-clause-answer
+answer_at_start-returns-in-Some-quick_answer-clause-answer g t c =
     let answer = c.in-Some-quick_answer.answer in
-    let start : MatchOption (Some c.in-Some.start) (p.trick ≡ [] → ⊥) (λ q. (p.trick ≡ []) × (q ≡ p)) = rw c.in-Some.is at c.of.ensures in
-    subst (λ (q : Board). IsAnswer q c.args.need answer.yes) start.1 (answer-here c.in-Some.start c.args.need answer.cards answer.yes c.quick_answer.ensures.board c.in-Some-quick_answer.ensures.answer)
-
--- So does one that a look gave.
-pub takes-returns-in-Some-told_answer-clause-answer : goal.takes-returns-in-Some-told_answer-clause-answer
-takes-returns-in-Some-told_answer-clause-answer g t c =
-    let p = c.args.position.now in
-    let answer = c.in-Some-told_answer.answer in
-    let start : MatchOption (Some c.in-Some.start) (p.trick ≡ [] → ⊥) (λ q. (p.trick ≡ []) × (q ≡ p)) = rw c.in-Some.is at c.of.ensures in
-    subst (λ (q : Board). IsAnswer q c.args.need answer.yes) start.1 (answer-here c.in-Some.start c.args.need answer.cards answer.yes c.told_answer.ensures.board c.in-Some-told_answer.ensures.answer)
+    answer-here c.args.start.now c.args.need answer.cards answer.yes c.quick_answer.ensures.board c.in-Some-quick_answer.ensures.answer
 
 -- So does one that second hand's winners gave.
 pub takes-returns-in-Some-second_hands_answer-clause-answer : goal.takes-returns-in-Some-second_hands_answer-clause-answer

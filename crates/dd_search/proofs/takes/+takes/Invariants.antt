@@ -4,22 +4,25 @@ use Rattle.dd_play.specs.Board.{cards_left}
 use Rattle.dd_search.proofs.Relied.{AllLead, AllLegal}
 use Rattle.dd_search.proofs.takes.+takes.Given as goal
 
--- A question comes before the play that answers it, that before the choices, these before a card, and that before the
+-- A question comes before a start of a trick, that before the play that answers it, that before the choices, these before a card, and that before the
 -- question after the card.
 abbrev pub decreases-takes : goal.decreases-takes
-decreases-takes g l = 4 * cards_left l.position.now + 3
+decreases-takes g l = 5 * cards_left l.position.now + 4
+
+abbrev pub decreases-answer_at_start : goal.decreases-answer_at_start
+decreases-answer_at_start g l = 5 * cards_left l.start.now + 3
 
 abbrev pub decreases-answer_by_play : goal.decreases-answer_by_play
-decreases-answer_by_play g l = 4 * cards_left l.position.now + 2
+decreases-answer_by_play g l = 5 * cards_left l.position.now + 2
 
 abbrev pub decreases-answer_by_only_choice : goal.decreases-answer_by_only_choice
-decreases-answer_by_only_choice g l = 4 * cards_left l.position.now + 1
+decreases-answer_by_only_choice g l = 5 * cards_left l.position.now + 1
 
 abbrev pub decreases-answer_by_choices : goal.decreases-answer_by_choices
-decreases-answer_by_choices g l = 4 * cards_left l.position.now + 1
+decreases-answer_by_choices g l = 5 * cards_left l.position.now + 1
 
 abbrev pub decreases-answer_after : goal.decreases-answer_after
-decreases-answer_after g l = 4 * cards_left l.position.now
+decreases-answer_after g l = 5 * cards_left l.position.now
 
 -- Of each class the highest card is still to be tried, or is not enough for the side to play, by these cards.
 abbrev pub invariant-answer_by_choices-tries : goal.invariant-answer_by_choices-tries

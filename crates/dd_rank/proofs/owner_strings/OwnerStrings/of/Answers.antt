@@ -9,10 +9,10 @@ use Rattle.dd_cards.specs.Hands.{dealt, AreHands}
 use Rattle.dd_cards.specs.Seats.{next_seat}
 use Rattle.dd_play.specs.Board.{Board}
 use Rattle.dd_cards.proofs.CallerLemmas.{lane-valid}
-use Rattle.dd_rank.proofs.Masked.{AreMasks, gone-apart, masks-told}
-use Rattle.dd_rank.proofs.Seated.{AreSeated, at-seat, seated-four, shaped-strings, suit-string}
-use Rattle.dd_rank.proofs.owner_strings.OwnerStrings.of_shape.Goals as goal
-use Rattle.dd_rank.proofs.owner_strings.OwnerStrings.of_shape.Goals.{After-hand-fourth, After-mask-3}
+use Rattle.dd_rank.proofs.Masked.{AreMasks, AreTogether, all-together, gone-apart, lengths-of, masks-told}
+use Rattle.dd_rank.proofs.Seated.{AreSeated, at-seat, four-strings, seated-four, suit-string}
+use Rattle.dd_rank.proofs.owner_strings.OwnerStrings.of.Goals as goal
+use Rattle.dd_rank.proofs.owner_strings.OwnerStrings.of.Goals.{After-hand-fourth, After-mask-3, After-suit_lengths-4}
 
 -- the hands that the code takes
 taken : (c : After-hand-fourth) → AreSeated c.args.start.now c.hand-leader.result c.hand-second.result c.hand-third.result c.hand-fourth.result
@@ -53,6 +53,22 @@ close_up-places-requires-clause-far c = (masks (goal.at.close_up-places-requires
 pub close_up-places-requires-clause-apart : goal.close_up-places-requires-clause-apart
 close_up-places-requires-clause-apart c = gone-apart _ _ _ _ _ _ _ (masks (goal.at.close_up-places-requires-clause-apart c).After-mask-3)
 
+-- the lengths of the four hands, together
+together : (c : After-suit_lengths-4) → AreHands (dealt c.hand-leader.result c.hand-second.result c.hand-third.result c.hand-fourth.result)
+    → AreTogether c.hand-leader.result c.hand-second.result c.hand-third.result c.hand-fourth.result c.suit_lengths.result c.suit_lengths-2.result c.suit_lengths-3.result c.suit_lengths-4.result
+together c hands =
+    all-together _ _ _ _ _ _ _ _
+    (lengths-of c.mask-4.result c.suit_lengths.result c.hand-leader.result c.mask-4.ensures.cards c.mask-4.ensures.mask (hands.sets North) c.suit_lengths.ensures)
+    (lengths-of c.mask-5.result c.suit_lengths-2.result c.hand-second.result c.mask-5.ensures.cards c.mask-5.ensures.mask (hands.sets East) c.suit_lengths-2.ensures)
+    (lengths-of c.mask-6.result c.suit_lengths-3.result c.hand-third.result c.mask-6.ensures.cards c.mask-6.ensures.mask (hands.sets South) c.suit_lengths-3.ensures)
+    (lengths-of c.mask-7.result c.suit_lengths-4.result c.hand-fourth.result c.mask-7.ensures.cards c.mask-7.ensures.mask (hands.sets West) c.suit_lengths-4.ensures)
+
+pub overflow_mul-result-3 : goal.overflow_mul-result-3
+overflow_mul-result-3 c = (let at = goal.at.overflow_mul-result-3 c in let a = (together at.After-suit_lengths-4 (four at.After-hand-fourth)).last_fits in omega (arith, a))
+
+pub overflow_add-result-3 : goal.overflow_add-result-3
+overflow_add-result-3 c = (let at = goal.at.overflow_add-result-3 c in let a = (together at.After-suit_lengths-4 (four at.After-hand-fourth)).fits in omega (arith, a))
+
 pub returns : goal.returns
 returns c =
     let at = goal.at.returns c in
@@ -65,6 +81,7 @@ returns c =
     let hands = four at.After-hand-fourth in
     let sets = masks at.After-mask-3 in
     let owners = λ (u : Suit). c.close_up-places.ensures u ∙ masks-told l s t f c.mask.result c.mask-2.result c.mask-3.result hands sets u in
-    shaped-strings p (record { strain = c.shape.inside.strain; lengths = c.shape.inside.lengths }) c.owners.result c.owners-2.result c.owners-3.result c.owners-4.result (c.shape.view_is ∙ c.requires)
-    (suit-string p l s t f Spades _ c.owners.result seats refl (c.owners.ensures ∙ owners Spades)).owners_are (suit-string p l s t f Hearts _ c.owners-2.result seats refl (c.owners-2.ensures ∙ owners Hearts)).owners_are
-    (suit-string p l s t f Diamonds _ c.owners-3.result seats refl (c.owners-3.ensures ∙ owners Diamonds)).owners_are (suit-string p l s t f Clubs _ c.owners-4.result seats refl (c.owners-4.ensures ∙ owners Clubs)).owners_are
+    ap (λ (n : ℕ). record { strain = c.strain.result; lengths = n; spades = c.owners.result; hearts = c.owners-2.result; diamonds = c.owners-3.result; clubs = c.owners-4.result }) (together at.After-suit_lengths-4 hands).by_suit
+    ∙ four-strings p c.strain.result _ _ _ _ c.owners.result c.owners-2.result c.owners-3.result c.owners-4.result (c.strain.ensures ∙ ap (λ (b : Board). b.strain) c.position-position.ensures.value)
+    (suit-string p l s t f Spades _ c.owners.result seats refl (c.owners.ensures ∙ owners Spades)) (suit-string p l s t f Hearts _ c.owners-2.result seats refl (c.owners-2.ensures ∙ owners Hearts))
+    (suit-string p l s t f Diamonds _ c.owners-3.result seats refl (c.owners-3.ensures ∙ owners Diamonds)) (suit-string p l s t f Clubs _ c.owners-4.result seats refl (c.owners-4.ensures ∙ owners Clubs))
