@@ -136,8 +136,8 @@ some-entry p t u v w a b c d s h di cl some = by (or-split (is_entry p Spades ||
     at x n e k entry = (
       k.1 ∙ entry,
       let same = k.0 in
-      let l : 0 < partners_cashed p.strain p x = ltb-true 0 (partners_cashed p.strain p x) (and-left (nat_lt 0 (partners_cashed p.strain p x)) (nat_lt (run p p.first x) (length_at p p.first x)) entry) in
-      omega (arith, same, l),
+          let l : 0 < partners_cashed p.strain p x = ltb-true 0 (partners_cashed p.strain p x) (and-left (nat_lt 0 (partners_cashed p.strain p x)) (nat_lt (run p p.first x) (length_at p p.first x)) entry) in
+          omega (arith, same, l),
     )
 
     by : ((is_entry p Spades || is_entry p Hearts) ≡ true) ⊎ ((is_entry p Diamonds || is_entry p Clubs) ≡ true) → SomeOf a b c d t u v w
