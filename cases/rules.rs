@@ -11,9 +11,10 @@ mod deals;
 
 use deals::{Chance, Played, code, dealt_anew, random_deal, start, turned, written};
 use search::quick::{ALL, CROSSING, JOINT_TRUMPS, LATER_TRICK, LONG_SUITS, PARTNERS_LONG_SUITS, RUNS};
-use search::quick::{against_leader, for_leader, for_second_hand};
+use search::quick::{against_leader, for_leader, for_second_hand, others as other_seats};
 use search::quick::{AT_THIRD_HAND, CROSSES_WITHOUT_A_CARD, LONG_BEFORE_THE_LEADER, LONG_BEFORE_THE_OPPONENTS};
 use search::quick::{A_ROUND_FOR_EACH_TRICK, ROUNDS_OF_THE_SHORTER};
+use search::quick::{CROSSING_WITHOUT_TRUMPS, NOBODY_HAS_FOLLOWED, NOBODY_RUFFS_THE_PARTNER};
 use search::quick::{NOBODY_RUFFS, NO_WINNER_FALLS, THE_LEAD_IS_NOT_RUFFED, TRUMPS_ARE_DRAWN};
 use search::{Card, Position, Strain, Suit, depths_of};
 use std::process::ExitCode;
@@ -52,7 +53,7 @@ const fn others(name: &'static str, played: usize, claim: fn(&Position, u8) -> O
 }
 
 // A rule that is added to the quick tricks gets a line here, and where it has parts a line for each.
-const RIGHT: [Rule; 22] = [
+const RIGHT: [Rule; 29] = [
     leaders("side suits without long ones", for_leader::<RUNS>),
     leaders("long suits", for_leader::<LONG_SUITS>),
     leaders("side suits with long ones", for_leader::<{ RUNS | LONG_SUITS }>),
@@ -64,6 +65,11 @@ const RIGHT: [Rule; 22] = [
     leaders("crossing after side suits without long ones", crossed::<{ RUNS | CROSSING }>),
     leaders("crossing to the partner's long suits", long_crossed::<{ RUNS | CROSSING | PARTNERS_LONG_SUITS }>),
     leaders("crossing after side suits", crossed::<ALL>),
+    leaders("crossing beside trumps, no other rule", beside::<CROSSING>),
+    leaders("crossing beside trumps after side suits without long ones", beside::<{ RUNS | CROSSING }>),
+    leaders("crossing beside trumps, to the partner's long suits too", beside::<{ RUNS | CROSSING | PARTNERS_LONG_SUITS }>),
+    leaders("crossing beside trumps after side suits and joint trumps", beside::<ALL>),
+    leaders("crossing beside trumps that the opponents lack", drawn::<ALL>),
     leaders("all of the leader's side", for_leader::<ALL>),
     others("second hand: side suits without long ones", 1, side_suit_led::<RUNS>),
     others("second hand: long suits", 1, side_suit_led::<LONG_SUITS>),
@@ -71,13 +77,15 @@ const RIGHT: [Rule; 22] = [
     others("second hand: crossing after side suits without long ones", 1, second_crossed::<{ RUNS | CROSSING }>),
     others("second hand: crossing to its partner's long suits", 1, second_long::<ALL>),
     others("second hand: crossing after side suits", 1, second_crossed::<ALL>),
+    others("second hand: crossing beside trumps after side suits without long ones", 1, second_beside::<{ RUNS | CROSSING }>),
+    others("second hand: crossing beside trumps", 1, second_beside::<ALL>),
     others("second hand: all after the lead of a side suit", 1, side_suit_led::<ALL>),
     others("second hand: the trump led", 1, trump_led::<0>),
     others("second hand: the trump led and side suits", 1, trump_led::<RUNS>),
     others("second hand: all after the lead of a trump", 1, trump_led::<ALL>),
 ];
 
-const WRONG: [Rule; 13] = [
+const WRONG: [Rule; 21] = [
     leaders("joint trumps added after a draw", for_leader::<{ ALL | TRUMPS_ARE_DRAWN }>),
     leaders("long suits that opponents with trumps can't follow", for_leader::<{ LONG_SUITS | NOBODY_RUFFS }>),
     leaders("crossing to winners that fall", crossed::<{ ALL | NO_WINNER_FALLS }>),
@@ -90,6 +98,14 @@ const WRONG: [Rule; 13] = [
     others("second hand: a lead that third hand ruffs", 1, side_suit_led::<{ ALL | THE_LEAD_IS_NOT_RUFFED }>),
     others("second hand: crossing to winners that fall", 1, second_crossed::<{ ALL | NO_WINNER_FALLS }>),
     others("second hand: crossing without a card to lead", 1, second_crossed::<{ ALL | CROSSES_WITHOUT_A_CARD }>),
+    leaders("crossing beside trumps to winners that opponents ruff", beside::<{ ALL | NOBODY_RUFFS_THE_PARTNER }>),
+    others("second hand: crossing beside trumps to winners that opponents ruff", 1, second_beside::<{ ALL | NOBODY_RUFFS_THE_PARTNER }>),
+    leaders("crossing beside trumps past the leads to which opponents have followed", beside::<{ ALL | NOBODY_HAS_FOLLOWED }>),
+    others("second hand: crossing beside trumps past the leads to which opponents have followed", 1, second_beside::<{ ALL | NOBODY_HAS_FOLLOWED }>),
+    leaders("crossing beside trumps resting on no trumps", beside::<{ ALL | CROSSING_WITHOUT_TRUMPS }>),
+    others("second hand: crossing beside trumps resting on no trumps", 1, second_beside::<{ ALL | CROSSING_WITHOUT_TRUMPS }>),
+    leaders("crossing beside trumps to winners that fall", beside::<{ ALL | NO_WINNER_FALLS }>),
+    others("second hand: crossing beside trumps to winners that fall", 1, second_beside::<{ ALL | NO_WINNER_FALLS }>),
     others("second hand's winners at third hand", 2, third_hand),
 ];
 
@@ -99,6 +115,28 @@ fn crossed<const RULES: u32>(position: &Position, need: u8) -> Option<u64> {
         Some(_) => None,
         None => for_leader::<RULES>(position, need),
     }
+}
+
+// Only where a hand has a trump, and what the leader's own tricks don't answer.
+fn beside<const RULES: u32>(position: &Position, need: u8) -> Option<u64> {
+    if trumps_left(position).iter().any(|&trumps| trumps > 0) { crossed::<RULES>(position, need) } else { None }
+}
+
+// Only where one of the leader's side has a trump, and no opponent.
+fn drawn<const RULES: u32>(position: &Position, need: u8) -> Option<u64> {
+    let trumps = trumps_left(position);
+    if trumps[1] == 0 && trumps[3] == 0 { beside::<RULES>(position, need) } else { None }
+}
+
+fn second_beside<const RULES: u32>(position: &Position, need: u8) -> Option<u64> {
+    if trumps_left(position).iter().any(|&trumps| trumps > 0) { second_crossed::<RULES>(position, need) } else { None }
+}
+
+// The trumps of each hand, the leader's first.
+fn trumps_left(position: &Position) -> [u32; 4] {
+    let Strain::Trump(trump) = position.strain else { return [0; 4] };
+    let [left, partner, right] = other_seats(position.first);
+    [position.first, left, partner, right].map(|seat| (position.hands[seat as usize] & suit_of(Card { suit: trump, rank: 2 })).count_ones())
 }
 
 // Only what the partner's long suits add.

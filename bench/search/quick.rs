@@ -8,7 +8,7 @@ pub const RUNS: u32 = 1;
 pub const LONG_SUITS: u32 = 2;
 /// The highest trumps that two partners hold between them.
 pub const JOINT_TRUMPS: u32 = 4;
-/// Without trumps, the partner's winners next below the leader's, once the leader has crossed.
+/// The partner's winners next below the leader's that nobody ruffs, once the leader has crossed.
 pub const CROSSING: u32 = 8;
 /// All cards of a long suit of the partner's, once the leader has crossed.
 pub const PARTNERS_LONG_SUITS: u32 = 1024;
@@ -35,6 +35,13 @@ pub const LONG_BEFORE_THE_LEADER: u32 = 2048;
 /// A suit of the partner's is long whatever the opponents have of it.
 pub const LONG_BEFORE_THE_OPPONENTS: u32 = 4096;
 
+/// An opponent with trumps follows suit as long as the partner leads it.
+pub const NOBODY_RUFFS_THE_PARTNER: u32 = 1 << 20;
+/// An opponent with trumps still has all its cards of a suit when the partner leads it.
+pub const NOBODY_HAS_FOLLOWED: u32 = 1 << 21;
+/// Crossing rests on no trumps.
+pub const CROSSING_WITHOUT_TRUMPS: u32 = 1 << 22;
+
 /// The leader's side may have a round of its own suits for each trick left.
 pub const A_ROUND_FOR_EACH_TRICK: u32 = 16384;
 /// Of a suit that it heads the leader's side has as many rounds as its shorter holding.
@@ -49,6 +56,11 @@ fn above_all(own: u16, others: u16) -> u16 {
 fn winners(position: &Position, seat: Seat, suit: Suit) -> u16 {
     let [left, partner, right] = others(seat).map(|other| position.holding(other, suit));
     above_all(position.holding(seat, suit), left | partner | right)
+}
+
+// The cards of the suit that the seat holds below its winners.
+fn low_cards(position: &Position, seat: Seat, suit: Suit) -> u16 {
+    position.holding(seat, suit) & !winners(position, seat, suit)
 }
 
 // The cards of the suit that the seat holds and no opponent can beat.
@@ -172,42 +184,72 @@ fn with_trumps(position: &Position, seat: Seat, cards: u64, tricks: u8) -> u64 {
 
 // The cards of the suit that the leader's partner holds next below the leader's run.
 fn next_run(position: &Position, suit: Suit) -> u16 {
-    let [left, partner, right] = others(position.first).map(|other| position.holding(other, suit));
-    let own = position.holding(position.first, suit);
-    let low = own & !above_all(own, left | partner | right);
-    above_all(above_all(partner, left | right), low)
+    above_all(unbeaten(position, position.first.next().next(), suit), low_cards(position, position.first, suit))
 }
 
 // What the partner takes in a suit once the leader has crossed, and whether the leader can cross there.
 fn next<const RULES: u32>(position: &Position, suit: Suit) -> Offer {
-    let [left, partner, right] = others(position.first);
     let run = winners(position, position.first, suit).count_ones() as u8;
-    let next = next_run(position, suit).count_ones() as u8;
-    let own = length(position, position.first, suit);
-    let spare = length(position, partner, suit).saturating_sub(run);
-    let theirs = length(position, left, suit).max(length(position, right, suit));
-    let long = (own <= run + next || RULES & LONG_BEFORE_THE_LEADER != 0)
-        && (theirs <= run + next || RULES & LONG_BEFORE_THE_OPPONENTS != 0);
-    let tricks = match () {
-        () if RULES & PARTNERS_LONG_SUITS != 0 && long => spare,
-        () if RULES & NO_WINNER_FALLS == 0 => next.min(spare),
-        () => next,
-    };
-    let card = RULES & CROSSES_WITHOUT_A_CARD != 0 || run < own;
+    let tricks = partners_cashed::<RULES>(position, suit, run);
+    let card = RULES & CROSSES_WITHOUT_A_CARD != 0 || run < length(position, position.first, suit);
     Offer { tricks, first: tricks > 0 && card }
 }
 
-// What the partner takes in each suit once the leader has crossed, and how many tricks that adds to these.
-fn crossing<const RULES: u32>(position: &Position, side: u8) -> ([Offer; 4], u8) {
+// What the partner takes in a suit after so many leads of the leader's, where nobody ruffs: in trumps none.
+fn partners_cashed<const RULES: u32>(position: &Position, suit: Suit, leads: u8) -> u8 {
+    match position.strain {
+        Strain::Notrump => partners_tricks::<RULES>(position, suit, leads),
+        Strain::Trump(trump) if trump == suit => 0,
+        Strain::Trump(_) => {
+            let [left, _, right] = others(position.first);
+            let follows = |seat| trumps(position, seat) == 0 || RULES & NOBODY_RUFFS_THE_PARTNER != 0;
+            let unruffed = |seat, leads: u8| if follows(seat) { leads } else { leads.min(length(position, seat, suit)) };
+            let before = if RULES & NOBODY_HAS_FOLLOWED != 0 { 0 } else { leads };
+            let all = before + partners_tricks::<RULES>(position, suit, leads);
+            unruffed(left, unruffed(right, all)).saturating_sub(before)
+        }
+    }
+}
+
+// What the partner takes in a suit after so many leads of the leader's.
+fn partners_tricks<const RULES: u32>(position: &Position, suit: Suit, leads: u8) -> u8 {
     let [left, partner, right] = others(position.first);
-    let seats = [position.first, left, partner, right];
-    if RULES & CROSSING == 0 || seats.into_iter().any(|seat| trumps(position, seat) > 0) {
+    let spare = length(position, partner, suit).saturating_sub(leads);
+    if spare == 0 && RULES & NO_WINNER_FALLS == 0 {
+        return 0;
+    }
+    let next = next_run(position, suit).count_ones() as u8;
+    let own = length(position, position.first, suit);
+    let theirs = length(position, left, suit).max(length(position, right, suit));
+    let long = (own <= leads + next || RULES & LONG_BEFORE_THE_LEADER != 0)
+        && (theirs <= leads + next || RULES & LONG_BEFORE_THE_OPPONENTS != 0);
+    match () {
+        () if RULES & PARTNERS_LONG_SUITS != 0 && long => spare,
+        () if RULES & NO_WINNER_FALLS == 0 => next.min(spare),
+        () => next,
+    }
+}
+
+// Has the partner a card of the suit that no opponent can beat, and the leader one beside its run? Mostly not.
+fn may_enter<const RULES: u32>(position: &Position, suit: Suit) -> bool {
+    let partner = position.first.next().next();
+    unbeaten(position, partner, suit) != 0
+        && (RULES & CROSSES_WITHOUT_A_CARD != 0 || low_cards(position, position.first, suit) != 0)
+}
+
+// What the partner takes in each suit once the leader has crossed, and how many tricks that adds to these: no more than both
+// hands have cards beside their trumps.
+fn crossing<const RULES: u32>(position: &Position, side: u8) -> ([Offer; 4], u8) {
+    let (own, his) = (trumps(position, position.first), trumps(position, position.first.next().next()));
+    let most = position.tricks_left().saturating_sub(side + own.max(his));
+    let may_cross = most > 0 && SUITS.into_iter().any(|suit| may_enter::<RULES>(position, suit));
+    if RULES & CROSSING == 0 || !may_cross {
         return ([Offer { tricks: 0, first: false }; 4], 0);
     }
     let next = SUITS.map(|suit| next::<RULES>(position, suit));
     let all: u8 = next.iter().map(|offer| offer.tricks).sum();
     let can = next.iter().any(|offer| offer.first);
-    (next, if can { all.min(position.tricks_left() - side) } else { 0 })
+    (next, if can { all.min(most) } else { 0 })
 }
 
 // What the leader's side is sure of: in each side suit, in all, and its joint trumps.
@@ -258,10 +300,11 @@ fn crossing_cards<const RULES: u32>(position: &Position, cash: [Cash; 4], side: 
         return None;
     }
     let mut cards = with_shares(position, 0, &cash, cash.map(|cash| cash.tricks));
-    for (suit, share) in SUITS.into_iter().zip(shares(next, need - side)) {
+    for (suit, share) in SUITS.into_iter().zip(shares(next, need - side - trumps)) {
         cards = with_highest(cards, suit, next_run(position, suit), share);
     }
-    Some(cards)
+    let joint = if RULES & CROSSING_WITHOUT_TRUMPS != 0 { 0 } else { trumps };
+    Some(with_trumps(position, position.first, cards, joint))
 }
 
 /// At a start of a trick: the cards on which it rests that the other side takes at least `need` tricks.

@@ -18,29 +18,35 @@ use Rattle.dd_play.specs.Won.{won}
 use Rattle.dd_play.specs.Covers.{IsCover}
 use Rattle.dd_play.specs.Reach.{TakesBy}
 use Rattle.dd_play.proofs.CallerLemmas.{after-code, code-lt, count, count-has, inject, of-suit', once-in, suit-of}
-use Rattle.dd_quick.specs.QuickTricks.{is_next, is_under_low, is_unbeaten, is_winner, length_at, run, trumps_at}
+use Rattle.dd_quick.specs.QuickTricks.{is_next, is_under_low, is_unbeaten, is_winner, joint_trumps, length_at, run, trumps_at}
 use Rattle.dd_quick.proofs.Hands.{IsOpposed, and-fails, no-higher, none-of, none-over, one-hand}
 use Rattle.dd_quick.proofs.Cashing.{IsMaster, hand_on, sure_of, total}
 use Rattle.dd_quick.proofs.JointTrumps.{place-of}
 use Rattle.dd_quick.proofs.Sound.{own-side, round, trumps-count}
-use Rattle.dd_quick.proofs.Covered.{RestsOnTops, count-image, left-same, length-same, no-trick, seat-same, trumps-same, unbeaten-image, winner-image}
-use Rattle.dd_quick.proofs.Crossings.{CanCross, NoTrumps, crossed-all}
+use Rattle.dd_quick.proofs.Covered.{IsJoint, RestsOnTops, joint-covered, count-image, left-same, length-same, no-trick, seat-same, trumps-same, unbeaten-image, winner-image}
+use Rattle.dd_quick.proofs.Crossings.{NoTrumps}
+use Rattle.dd_quick.proofs.PartnersPlan.{CanCross, crossed-all}
 
--- What crossing rests on: no hand has a trump; the leader has n cards of each suit to cash, its whole run, on top cards; its
--- partner has y cards beside one for each lead, z of them winners next below, top cards too, which are all or as many as leave
--- no other hand one; a suit to cross in.
-pub record RestsAcross (top : PlayingCard → Bool) (p : Board) (n z y : Suit → ℕ) (e : Suit) : Type 0 where
-  pub plain : (i : ℕ) → i < 4 → trumps_at p.strain p (seat_after p.first i) ≡ 0
+-- What crossing rests on: the leader has n cards of each side suit to cash, on top cards; its partner has y cards beside one for
+-- each lead, z of them winners next below the leader's whole run, top cards too, which are all or as many as leave no other hand
+-- one; a suit to cross in. An opponent with trumps follows suit to all, and the two hands have as many cards beside their
+-- trumps; k joint trumps are top cards, or no opponent has trumps.
+pub record RestsAcross (top : PlayingCard → Bool) (p : Board) (n z y : Suit → ℕ) (e : Suit) (k : ℕ) : Type 0 where
+  pub plain : (u : Suit) → 1 ≤ n u + y u → is_trump p.strain (card_of u 0) ≡ false
+  pub follows : (i : ℕ) → IsOpposed i → (trumps_at p.strain p (seat_after p.first i) ≡ 0) ⊎ ((u : Suit) → n u + y u ≤ length_at p (seat_after p.first i) u)
   pub held : (u : Suit) → n u ≤ length_at p p.first u
   pub low : n e + 1 ≤ length_at p p.first e
-  pub tops : (u : Suit) → run p p.first u ≤ n u
+  pub tops : (u : Suit) → 1 ≤ z u → run p p.first u ≤ n u
   pub winners : RestsOnTops top p n
   pub has : (u : Suit) → z u ≤ count (λ c. (is_of u c && is_next p c) && top c) (hand_on p 2)
   pub of_all : (u : Suit) → z u ≤ y u
   pub room : (u : Suit) → (y u ≡ 0) ⊎ (n u + y u ≤ length_at p (seat_after p.first 2) u)
   pub alone : (u : Suit) → (y u ≡ z u) ⊎ ((i : ℕ) → i < 4 → i ≢ 2 → length_at p (seat_after p.first i) u ≤ n u + z u)
   pub entry : 1 ≤ z e
-  pub few : total n + total y ≤ left p
+  pub mine : total n + total y + trumps_at p.strain p p.first ≤ left p
+  pub his : total n + total y + trumps_at p.strain p (seat_after p.first 2) ≤ left p
+  pub joint : k ≤ joint_trumps p.strain p p.first
+  pub trumps : IsJoint p.strain top p 0 k
 
 -- a position that is covered has no trumps where the one that covers it has none
 pub plain-covered : (top : PlayingCard → Bool) (k : ℕ) (to from : PlayingCard → PlayingCard) (s : Side) (p : Board) (t : Side) (q : Board) → IsCover top k to from s p t q → ((i : ℕ) → i < 4 → trumps_at p.strain p (seat_after p.first i) ≡ 0) → NoTrumps q
@@ -54,8 +60,8 @@ plain-covered top k to from s p t q r plain x c has = else-false (is_trump q.str
     omega (arith, none, same, strain, counted, one))
 
 -- a position that is covered
-module _ (top : PlayingCard → Bool) (k : ℕ) (to from : PlayingCard → PlayingCard) (s : Side) (p : Board) (t : Side) (q : Board) (r : IsCover top k to from s p t q) (n z y : Suit → ℕ) (e : Suit)
-    (start : p.trick ≡ []) (rests : RestsAcross top p n z y e) where
+module _ (top : PlayingCard → Bool) (k : ℕ) (to from : PlayingCard → PlayingCard) (s : Side) (p : Board) (t : Side) (q : Board) (r : IsCover top k to from s p t q) (n z y : Suit → ℕ) (e : Suit) (j : ℕ)
+    (start : p.trick ≡ []) (rests : RestsAcross top p n z y e j) where
   -- the images of the leader's winners that are top cards
   abbrev sure : PlayingCard → Bool
   sure d = is_winner p p.first (from d) && top (from d)
@@ -67,10 +73,6 @@ module _ (top : PlayingCard → Bool) (k : ℕ) (to from : PlayingCard → Playi
   -- of two tests that both pass
   both-pass : {a b : Bool} → a ≡ true → b ≡ true → (a && b) ≡ true
   both-pass h g = rw (h, g) refl
-
-  -- no hand has a trump
-  plain : NoTrumps q
-  plain = plain-covered top k to from s p t q r rests.plain
 
   -- a card of a hand of q that is the image of a top card
   came-from : (i : ℕ) (d : PlayingCard) → has_card (hand_on q i) d ≡ true → top (from d) ≡ true → (has_card (hand_on p i) (from d) ≡ true) × (to (from d) ≡ d)
@@ -147,14 +149,14 @@ module _ (top : PlayingCard → Bool) (k : ℕ) (to from : PlayingCard → Playi
       by (suc (suc (suc zero)), l, at) = inl (opposed 1 (inl refl) at)
       by (suc (suc (suc (suc j))), l, at) = absurd (omega (arith, l))
 
-  -- the leader has no more sure cards than it has to cash
-  tops : (u : Suit) → sure_of sure u (cards_at q q.first) ≤ n u
-  tops u =
+  -- the leader has no more sure cards than it has to cash, where the partner has winners below them
+  tops : (u : Suit) → 1 ≤ z u → sure_of sure u (cards_at q q.first) ≤ n u
+  tops u some =
       let most : sure_of sure u (cards_at q q.first) ≤ run p p.first u = inject from to (λ c. is_of u c && sure c) (λ c. is_of u c && is_winner p p.first c) (cards_at q q.first) (cards_at p p.first) (once-in q r.valid_q q.first) (λ d h pass.
       let sure_d = and-right (is_of u d) (sure d) pass in
       let b = came-from 0 d h (and-right (is_winner p p.first (from d)) (top (from d)) sure_d) in
       (b.0, both-pass (of-suit' u (from d) (r.from_suit d ∙ suit-of u d (and-left (is_of u d) (sure d) pass))) (and-left (is_winner p p.first (from d)) (top (from d)) sure_d), b.1)) in
-      let all = rests.tops u in
+      let all = rests.tops u some in
       omega (arith, most, all)
 
   -- and as many as rest on top cards
@@ -174,12 +176,14 @@ module _ (top : PlayingCard → Bool) (k : ℕ) (to from : PlayingCard → Playi
       (ap (λ z. is_next p z && top z) back ∙ both-pass (and-right (is_of u c) (is_next p c) pass) tc)))
 
   -- so the leader's side can cross there
-  pub crosses-there : q.trick ≡ [] → CanCross q sure next n z y e
+  pub crosses-there : q.trick ≡ [] → CanCross q sure next n z y e j
   crosses-there empty =
       let same = λ (i : ℕ) (u : Suit). length-same top k to from s p t q r i u in
       let lefts = left-same p q start empty (λ u. same 0 u) in
+      let trumps : (i : ℕ) → trumps_at q.strain q (seat_after q.first i) ≡ trumps_at p.strain p (seat_after p.first i) = λ i. ap (λ z. trumps_at z q (seat_after q.first i)) r.strain ∙ trumps-same top k to from s p t q r p.strain i in
       record {
-        plain = plain;
+        plain = λ u some. ap (λ z. is_trump z (card_of u 0)) r.strain ∙ rests.plain u some;
+        follows = λ i opposed. elim (rests.follows i opposed) [ inl none ↦ inl (trumps i ∙ none) | inr each ↦ inr (λ u. (let h = each u in let m = same i u in omega (arith, h, m))) ];
         masters = masters;
         behind = behind;
         held = λ u. (let h = rests.held u in let l = same 0 u in omega (arith, h, l));
@@ -191,14 +195,16 @@ module _ (top : PlayingCard → Bool) (k : ℕ) (to from : PlayingCard → Playi
         alone = λ u. elim (rests.alone u) [ inl all ↦ inl all | inr h ↦ inr (λ i l other. (let w = h i l other in let m = same i u in omega (arith, w, m))) ];
         room = λ u. elim (rests.room u) [ inl none ↦ inl none | inr h ↦ inr (let m = same 2 u in omega (arith, h, m)) ];
         entry = rests.entry;
-        few = (let h = rests.few in omega (arith, h, lefts));
+        mine = (let h = rests.mine in let m = trumps 0 in omega (arith, h, m, lefts));
+        his = (let h = rests.his in let m = trumps 2 in omega (arith, h, m, lefts));
+        joint = subst (λ z. j ≤ joint_trumps z q q.first) (sym r.strain) (joint-covered top k to from s p t q r p.strain 0 j rests.trumps rests.joint);
       }
 
 -- crossing is a claim by the cards on which it rests
-pub across-by : (top : PlayingCard → Bool) (p : Board) (n z y : Suit → ℕ) (e : Suit) → p.trick ≡ [] → RestsAcross top p n z y e → TakesBy top (side_of p.first) p (total n + total y)
-across-by top p n z y e start rests k to from t q r strict =
+pub across-by : (top : PlayingCard → Bool) (p : Board) (n z y : Suit → ℕ) (e : Suit) (j : ℕ) → p.trick ≡ [] → RestsAcross top p n z y e j → TakesBy top (side_of p.first) p (total n + (total y + j))
+across-by top p n z y e j start rests k to from t q r strict =
     let empty = no-trick to from top p.trick q.trick start r.trick in
-    let can = crosses-there top k to from (side_of p.first) p t q r n z y e start rests empty in
-    let taken = crossed-all (side_of q.first) q _ _ n z y e r.valid_q empty (own-side q.first) can in
+    let can = crosses-there top k to from (side_of p.first) p t q r n z y e j start rests empty in
+    let taken = crossed-all (side_of q.first) q _ _ n z y e j r.valid_q empty (own-side q.first) can in
     let side = is-same (side_of q.first) t (ap (is_side t) r.first ∙ r.sides p.first ∙ same-self (side_of p.first)) in
-    subst (λ z. total n + total y ≤ won z q) side taken
+    subst (λ z. total n + (total y + j) ≤ won z q) side taken

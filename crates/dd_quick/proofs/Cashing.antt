@@ -68,13 +68,15 @@ abbrev pub OnlyTrumps : Strain → (PlayingCard → Bool) → Type 0
 OnlyTrumps strain test = Only (is_trump strain) test
 
 -- By what is cashed: which cards are sure, and which ones the partner keeps; of each suit how many cards the leader keeps, how
--- many sure ones it may leave, and how many cards the hands but the partner's have at most when all is cashed.
+-- many sure ones it may leave, how many cards the hands but the partner's have at most when all is cashed, and how many an
+-- opponent with trumps has at least.
 pub record Aims : Type 0 where
   pub sure : PlayingCard → Bool
   pub kept : PlayingCard → Bool
   pub low : Suit → ℕ
   pub over : Suit → ℕ
   pub rest : Suit → ℕ
+  pub least : Suit → ℕ
 
 -- How it came from a first position: the leader is the same, the hands only lost cards, the leader lost no trumps, and its
 -- partner none of the cards that it keeps.
@@ -106,11 +108,11 @@ pub record HasCards (strain : Strain) (aims : Aims) (n : Suit → ℕ) (p : Boar
 
 -- The hand that is i places after the leader lets n cards of each suit be cashed, and e more that are led first: it has no
 -- more cards of a suit than the leader has sure ones, where these are too few; an opponent without trumps can't ruff, and
--- one with trumps has to follow suit to all; the partner has a card to spare for each, and of each suit as many as it has to
+-- one with trumps has to follow suit to all, and to as many as it is to have left; the partner has a card to spare for each, and of each suit as many as it has to
 -- follow suit; another hand than the partner's has no more left than it may have then.
 pub record LetsCash (strain : Strain) (aims : Aims) (n e : Suit → ℕ) (i : ℕ) (own his : List PlayingCard) : Type 0 where
   pub yields : (u : Suit) → min (e u + n u) (count_of u his) ≤ e u + sure_of aims.sure u own
-  pub follows : i ≢ 2 → (count (is_trump strain) his ≡ 0) ⊎ ((u : Suit) → e u + n u ≤ count_of u his)
+  pub follows : i ≢ 2 → (count (is_trump strain) his ≡ 0) ⊎ ((u : Suit) → e u + (n u + aims.least u) ≤ count_of u his)
   pub spares : i ≡ 2 → (u : Suit) → min (e u + n u) (count_of u his) ≤ spare_of aims.kept u his
   pub throws : i ≡ 2 → total e + total n ≤ count (λ c. not (aims.kept c)) his
   pub leaves : i ≢ 2 → (u : Suit) → count_of u his ≤ e u + n u + aims.rest u
@@ -270,7 +272,7 @@ module _ (strain : Strain) (aims : Aims) (n : Suit → ℕ) (i : ℕ) (own his r
   pub played-on : LetsCash strain aims n no_cards i own rest
   played-on = record {
     yields = yields-on strain aims.sure n i own his rest m c taken suits lets.yields;
-    follows = follows-on strain aims.sure n i own his rest m c taken suits lets.follows;
+    follows = follows-on strain aims.sure (λ u. n u + aims.least u) i own his rest m c taken suits lets.follows;
     spares = spares-on;
     throws = throws-on;
     leaves = λ other. leaves-on strain aims.sure n i own his rest m c taken suits aims.rest (lets.leaves other);

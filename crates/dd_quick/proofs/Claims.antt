@@ -50,40 +50,58 @@ pub joint-is : (strain : Strain) (p : Board) (seat : Seat) (t : Suit) (a b c d n
     → n ≡ min (a + b) (max c d) → n ≡ joint_trumps strain p seat
 joint-is strain p seat t a b c d n trump x y z w e = e ∙ rw (x, y, z, w) refl ∙ ap (λ s. joint_trumps s p seat) (sym trump)
 
+-- ---- leads that nobody ruffs
+
+-- of n leads of the suit, those that neither opponent can ruff
+abbrev pub both_unruffed : Strain → Board → Suit → ℕ → ℕ
+both_unruffed strain p u n = unruffed strain p (seat_after p.first 1) u (unruffed strain p (seat_after p.first 3) u n)
+
+-- the opponent's can't ruff more of them than there are
+unruffed-le : (strain : Strain) (p : Board) (u : Suit) (i n : ℕ) → unruffed strain p (seat_after p.first i) u n ≤ n
+unruffed-le strain p u i n = elim (trumps_at strain p (seat_after p.first i) == 0) as (λ b. (if b then n else min n (length_at p (seat_after p.first i) u)) ≤ n) [ true ↦ omega arith | false ↦ omega arith ]
+
+-- with trumps no more than it has cards of the suit
+unruffed-with : (strain : Strain) (p : Board) (u : Suit) (i n : ℕ) → (trumps_at strain p (seat_after p.first i) == 0) ≡ false → unruffed strain p (seat_after p.first i) u n ≤ length_at p (seat_after p.first i) u
+unruffed-with strain p u i n e = (let k : unruffed strain p (seat_after p.first i) u n ≡ min n (length_at p (seat_after p.first i) u) = ap (λ b. if b then n else min n (length_at p (seat_after p.first i) u)) e in omega (arith, k))
+
+-- they are no more
+pub unruffed-most : (strain : Strain) (p : Board) (u : Suit) (n : ℕ) → both_unruffed strain p u n ≤ n
+unruffed-most strain p u n = (let a = unruffed-le strain p u 1 (unruffed strain p (seat_after p.first 3) u n) in let b = unruffed-le strain p u 3 n in omega (arith, a, b))
+
+-- and at most the length of an opponent that has trumps
+pub unruffed-follows : (strain : Strain) (p : Board) (u : Suit) (n i : ℕ) → IsOpposed i → (trumps_at strain p (seat_after p.first i) == 0) ≡ false → both_unruffed strain p u n ≤ length_at p (seat_after p.first i) u
+unruffed-follows strain p u n i opposed some = elim opposed [
+  | inl e ↦ subst (λ j. both_unruffed strain p u n ≤ length_at p (seat_after p.first j) u) (sym e) (unruffed-with strain p u 1 (unruffed strain p (seat_after p.first 3) u n) (ap (λ j. trumps_at strain p (seat_after p.first j) == 0) (sym e) ∙ some))
+  | inr e ↦ subst (λ j. both_unruffed strain p u n ≤ length_at p (seat_after p.first j) u) (sym e)
+      (let a = unruffed-with strain p u 3 n (ap (λ j. trumps_at strain p (seat_after p.first j) == 0) (sym e) ∙ some) in let b = unruffed-le strain p u 1 (unruffed strain p (seat_after p.first 3) u n) in omega (arith, a, b))
+]
+
+-- as many as each opponent that has trumps can follow are among them
+pub unruffed-least : (strain : Strain) (p : Board) (u : Suit) (m n : ℕ) → m ≤ n → ((i : ℕ) → IsOpposed i → (trumps_at strain p (seat_after p.first i) == 0) ≡ false → m ≤ length_at p (seat_after p.first i) u) → m ≤ both_unruffed strain p u n
+unruffed-least strain p u m n few each = one 1 (inl refl) (unruffed strain p (seat_after p.first 3) u n) (one 3 (inr refl) n few)
+  where
+    one : (i : ℕ) → IsOpposed i → (n : ℕ) → m ≤ n → m ≤ unruffed strain p (seat_after p.first i) u n
+    one i opposed n few = go (trumps_at strain p (seat_after p.first i) == 0) refl
+      where
+        go : (b : Bool) → (trumps_at strain p (seat_after p.first i) == 0) ≡ b → m ≤ unruffed strain p (seat_after p.first i) u n
+        go true e = (let k : unruffed strain p (seat_after p.first i) u n ≡ n = ap (λ b. if b then n else min n (length_at p (seat_after p.first i) u)) e in omega (arith, k, few))
+        go false e = (let k : unruffed strain p (seat_after p.first i) u n ≡ min n (length_at p (seat_after p.first i) u) = ap (λ b. if b then n else min n (length_at p (seat_after p.first i) u)) e in let l = each i opposed e in omega (arith, k, l, few))
+
 -- ---- what the leader cashes in a suit
 
 -- at most the tricks when no hand ruffs
 pub cashed-le : (strain : Strain) (p : Board) (u : Suit) → cashed strain p u ≤ suit_tricks p u
-cashed-le strain p u = elim (is_trump strain (card_of u 0)) as (λ b. (if b then 0 else unruffed strain p (seat_after p.first 1) u (unruffed strain p (seat_after p.first 3) u (suit_tricks p u))) ≤ suit_tricks p u) [
-  | true ↦ zero-le
-  | false ↦ (let a = unruffed-le p.first 1 (unruffed strain p (seat_after p.first 3) u (suit_tricks p u)) in let b = unruffed-le p.first 3 (suit_tricks p u) in omega (arith, a, b))
-]
-  where
-    unruffed-le : (f : Seat) (i n : ℕ) → unruffed strain p (seat_after f i) u n ≤ n
-    unruffed-le f i n = elim (trumps_at strain p (seat_after f i) == 0) as (λ b. (if b then n else min n (length_at p (seat_after f i) u)) ≤ n) [ true ↦ omega arith | false ↦ omega arith ]
+cashed-le strain p u = elim (is_trump strain (card_of u 0)) as (λ b. (if b then 0 else both_unruffed strain p u (suit_tricks p u)) ≤ suit_tricks p u) [ true ↦ zero-le | false ↦ unruffed-most strain p u (suit_tricks p u) ]
 
 -- and at most the length of an opponent that has trumps
-cashed-follows : (strain : Strain) (p : Board) (u : Suit) (i : ℕ) → IsOpposed i → (trumps_at strain p (seat_after p.first i) == 0) ≡ false → cashed strain p u ≤ length_at p (seat_after p.first i) u
-cashed-follows strain p u i opposed some = elim (is_trump strain (card_of u 0)) as (λ b. (if b then 0 else unruffed strain p (seat_after p.first 1) u (unruffed strain p (seat_after p.first 3) u (suit_tricks p u))) ≤ length_at p (seat_after p.first i) u) [
+pub cashed-follows : (strain : Strain) (p : Board) (u : Suit) (i : ℕ) → IsOpposed i → (trumps_at strain p (seat_after p.first i) == 0) ≡ false → cashed strain p u ≤ length_at p (seat_after p.first i) u
+cashed-follows strain p u i opposed some = elim (is_trump strain (card_of u 0)) as (λ b. (if b then 0 else both_unruffed strain p u (suit_tricks p u)) ≤ length_at p (seat_after p.first i) u) [
   | true ↦ zero-le
-  | false ↦ elim opposed [
-    | inl e ↦ subst (λ j. unruffed strain p (seat_after p.first 1) u inner ≤ length_at p (seat_after p.first j) u) (sym e) (with 1 inner (ap (λ j. trumps_at strain p (seat_after p.first j) == 0) (sym e) ∙ some))
-    | inr e ↦ subst (λ j. unruffed strain p (seat_after p.first 1) u inner ≤ length_at p (seat_after p.first j) u) (sym e)
-        (let a = with 3 (suit_tricks p u) (ap (λ j. trumps_at strain p (seat_after p.first j) == 0) (sym e) ∙ some) in let b = less 1 inner in omega (arith, a, b))
-  ]
+  | false ↦ unruffed-follows strain p u (suit_tricks p u) i opposed some
 ]
-  where
-    inner : ℕ
-    inner = unruffed strain p (seat_after p.first 3) u (suit_tricks p u)
-
-    less : (i n : ℕ) → unruffed strain p (seat_after p.first i) u n ≤ n
-    less i n = elim (trumps_at strain p (seat_after p.first i) == 0) as (λ b. (if b then n else min n (length_at p (seat_after p.first i) u)) ≤ n) [ true ↦ omega arith | false ↦ omega arith ]
-
-    with : (i n : ℕ) → (trumps_at strain p (seat_after p.first i) == 0) ≡ false → unruffed strain p (seat_after p.first i) u n ≤ length_at p (seat_after p.first i) u
-    with i n e = (let k : unruffed strain p (seat_after p.first i) u n ≡ min n (length_at p (seat_after p.first i) u) = ap (λ b. if b then n else min n (length_at p (seat_after p.first i) u)) e in omega (arith, k))
 
 -- none in trumps
-cashed-plain : (strain : Strain) (p : Board) (u : Suit) → 1 ≤ cashed strain p u → is_trump strain (card_of u 0) ≡ false
+pub cashed-plain : (strain : Strain) (p : Board) (u : Suit) → 1 ≤ cashed strain p u → is_trump strain (card_of u 0) ≡ false
 cashed-plain strain p u some = go (is_trump strain (card_of u 0)) refl
   where
     go : (b : Bool) → is_trump strain (card_of u 0) ≡ b → is_trump strain (card_of u 0) ≡ false

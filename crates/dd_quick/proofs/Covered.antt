@@ -203,7 +203,7 @@ none-beat p x u one three = count-where (is_of u) (λ c. is_of u c && is_unbeate
     rw (of_u, beats-void p (seat_after x 1) c (ap (length_at p (seat_after x 1)) suit ∙ one), beats-void p (seat_after x 3) c (ap (length_at p (seat_after x 3)) suit ∙ three)) refl)
 
 -- a position that is covered has as many joint trumps, of those that are top cards
-joint-covered : (top : PlayingCard → Bool) (k : ℕ) (to from : PlayingCard → PlayingCard) (s : Side) (p : Board) (t : Side) (q : Board) → IsCover top k to from s p t q
+pub joint-covered : (top : PlayingCard → Bool) (k : ℕ) (to from : PlayingCard → PlayingCard) (s : Side) (p : Board) (t : Side) (q : Board) → IsCover top k to from s p t q
     → (strain : Strain) (i m : ℕ) → IsJoint strain top p i m → m ≤ joint_trumps strain p (seat_after p.first i) → m ≤ joint_trumps strain q (seat_after q.first i)
 joint-covered top k to from s p t q r Notrump i m rests few = few
 joint-covered top k to from s p t q r (Trump u) i m rests few = subst (λ y. m ≤ joint_trumps (Trump u) q y) (sym (seat-same top k to from s p t q r i)) here

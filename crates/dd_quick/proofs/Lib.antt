@@ -10,6 +10,7 @@ pub mod Runs
 pub mod Covered
 pub mod Chosen
 pub mod Crossings
+pub mod PartnersPlan
 pub mod Across
 pub mod AcrossClaims
 pub mod Claims

@@ -43,7 +43,7 @@ record LetsWin (strain : Strain) (sure : PlayingCard → Bool) (n e : Suit → �
 -- where none is led first such a hand lets cards be cashed
 lets-cash : (strain : Strain) (sure : PlayingCard → Bool) (all : List PlayingCard) (most : ℕ) (n : Suit → ℕ) (i : ℕ) (own his : List PlayingCard) → ((u : Suit) → 1 ≤ n u → is_trump strain (card_of u 0) ≡ false) → ((u : Suit) → count_of u his ≤ most)
     → LetsWin strain sure n no_cards i own his → LetsCash strain (keeping_trumps strain sure all most) n no_cards i own his
-lets-cash strain sure all most n i own his plain few lets = record { yields = lets.yields; follows = lets.follows; spares = λ two. side-spared strain n his plain; throws = lets.throws; leaves = λ other u. (let k = few u in omega (arith, k)) }
+lets-cash strain sure all most n i own his plain few lets = record { yields = lets.yields; follows = λ other. elim (lets.follows other) [ inl none ↦ inl none | inr each ↦ inr (λ u. let k = each u in omega (arith, k)) ]; spares = λ two. side-spared strain n his plain; throws = lets.throws; leaves = λ other u. (let k = few u in omega (arith, k)) }
 
 -- a hand that plays a card c to such a lead lets the others be cashed
 played-too : (strain : Strain) (sure : PlayingCard → Bool) (n : Suit → ℕ) (i : ℕ) (own his rest : List PlayingCard) (m c : PlayingCard) → LetsWin strain sure n (one_card m) i own his → IsTaken c his rest → FollowsSuit m his c
@@ -122,7 +122,7 @@ module _ (p : Board) (c : PlayingCard) (h : Seat) (i : ℕ) (n : Suit → ℕ) (
       yields = λ u. yields u (is_of u m) refl;
       follows = λ other. elim (lets.follows other) [
         | inl none ↦ inl none
-        | inr each ↦ elim (cases_lt 0 (count (is_trump p.strain) (hand_on before j))) [ inl some ↦ inr (λ u. follows each some u (is_of u m) refl) | inr none ↦ inl (omega (arith, none)) ]
+        | inr each ↦ elim (cases_lt 0 (count (is_trump p.strain) (hand_on before j))) [ inl some ↦ inr (λ u. follows (λ v. let k = each v in omega (arith, k)) some u (is_of u m) refl) | inr none ↦ inl (omega (arith, none)) ]
       ];
       throws = λ two. subst (λ y. total (one_card m) + total n ≤ count (is_plain p.strain) (hand_on before y)) (sym two)
           (let one = one-total m in let all = plain-left before (total n + 1) valid_before refl spare in omega (arith, one, all));

@@ -269,7 +269,7 @@ length-left p i u valid start less =
 
 -- these cards of the leader's are sure, and the partner keeps its trumps
 abbrev pub keeping_trumps : Strain → (PlayingCard → Bool) → List PlayingCard → ℕ → Aims
-keeping_trumps strain sure own most = record { sure = sure; kept = is_trump strain; low = no_cards; over = λ u. sure_of sure u own; rest = λ u. most }
+keeping_trumps strain sure own most = record { sure = sure; kept = is_trump strain; low = no_cards; over = λ u. sure_of sure u own; rest = λ u. most; least = no_cards }
 
 -- so the winners of the leader at this position
 abbrev pub leaders_aims : Board → Aims
@@ -285,6 +285,14 @@ side-spared strain n hand plain u = elim (cases_lt 0 (n u)) [
   | inr none ↦ omega (arith, none)
 ]
 
+-- a hand that is neither the leader's nor its partner's is an opponent's
+pub opponent : (i : ℕ) → 1 ≤ i → i < 4 → i ≢ 2 → IsOpposed i
+opponent zero l k other = absurd (omega (arith, l))
+opponent (suc zero) l k other = inl refl
+opponent (suc (suc zero)) l k other = absurd (other refl)
+opponent (suc (suc (suc zero))) l k other = inr refl
+opponent (suc (suc (suc (suc i)))) l k other = absurd (omega (arith, k))
+
 -- so each hand that does not lead lets these cards be cashed
 pub can-let : (p : Board) (n : Suit → ℕ) (k : ℕ) → IsBoard p → p.trick ≡ [] → CanTake p n k → AllLetCash p.strain (leaders_aims p) n p
 can-let p n k valid start can i l m = record {
@@ -297,13 +305,6 @@ can-let p n k valid start can i l m = record {
   throws = λ two. subst (λ j. total no_cards + total n ≤ count (is_plain p.strain) (hand_on p j)) (sym two) (let k = plain-left p (total n) valid start can.throws in omega (arith, k));
   leaves = λ other u. (let k = length-left p i u valid start m in omega (arith, k));
 }
-  where
-    opponent : (i : ℕ) → 1 ≤ i → i < 4 → i ≢ 2 → IsOpposed i
-    opponent zero l k other = absurd (omega (arith, l))
-    opponent (suc zero) l k other = inl refl
-    opponent (suc (suc zero)) l k other = absurd (other refl)
-    opponent (suc (suc (suc zero))) l k other = inr refl
-    opponent (suc (suc (suc (suc i)))) l k other = absurd (omega (arith, k))
 
 -- later, where it has lost no trumps, its side still takes its joint trumps
 joint-on : (p : Board) (n : Suit → ℕ) (k : ℕ) → IsBoard p → CanTake p n k → (q : Board) → q.trick ≡ [] → IsLater p.strain (leaders_aims p) p (side_of p.first) q → k ≤ won (side_of p.first) q

@@ -111,24 +111,39 @@ abbrev pub partners_tricks : Board → Suit → ℕ
 partners_tricks p suit = (if is_partners_long p suit then length_at p (seat_after p.first 2) suit - run p p.first suit
     else min (next_run p suit) (length_at p (seat_after p.first 2) suit - run p p.first suit))
 
+-- What the partner cashes in a side suit: its tricks that no opponent can ruff, which has followed suit to the leader's run
+-- before.
+abbrev pub partners_cashed : Strain → Board → Suit → ℕ
+partners_cashed strain p suit = (if is_trump strain (card_of suit 0) then 0
+    else unruffed strain p (seat_after p.first 1) suit (unruffed strain p (seat_after p.first 3) suit (run p p.first suit + partners_tricks p suit)) - run p p.first suit)
+
 -- can the leader cross in the suit: has it a card beside its run to lead to a winner of its partner's?
 abbrev pub is_entry : Board → Suit → Bool
-is_entry p suit = nat_lt 0 (partners_tricks p suit) && nat_lt (run p p.first suit) (length_at p p.first suit)
+is_entry p suit = nat_lt 0 (partners_cashed p.strain p suit) && nat_lt (run p p.first suit) (length_at p p.first suit)
+
+-- can it cross in some suit?
+abbrev pub has_entry : Board → Bool
+has_entry p = (is_entry p Spades || is_entry p Hearts) || (is_entry p Diamonds || is_entry p Clubs)
+
+-- what the partner cashes in all side suits
+abbrev pub all_partners : Board → ℕ
+all_partners p = partners_cashed p.strain p Spades + partners_cashed p.strain p Hearts + partners_cashed p.strain p Diamonds + partners_cashed p.strain p Clubs
+
+-- how many tricks are left beside those that the leader cashes, where it and its partner keep their trumps
+abbrev pub beside_trumps : Board → ℕ
+beside_trumps p = left p - (side_tricks p + max (trumps_at p.strain p p.first) (trumps_at p.strain p (seat_after p.first 2)))
+
+-- Crossing: the leader cashes, then leads to its partner, and the partner cashes its winners, as long as both have other cards
+-- than trumps to throw.
+abbrev pub crossed : Board → ℕ
+crossed p = (if has_entry p then min (all_partners p) (beside_trumps p) else 0)
+
+-- ---- one later trick
 
 -- has no hand a trump?
 abbrev pub no_trumps : Board → Bool
 no_trumps p = (trumps_at p.strain p p.first == 0 && trumps_at p.strain p (seat_after p.first 1) == 0)
     && (trumps_at p.strain p (seat_after p.first 2) == 0 && trumps_at p.strain p (seat_after p.first 3) == 0)
-
--- Crossing: where no hand has a trump, the leader cashes, then leads to its partner, and the partner cashes its winners, as far
--- as there are tricks left.
-abbrev pub crossed : Board → ℕ
-crossed p =
-    (if no_trumps p && ((is_entry p Spades || is_entry p Hearts) || (is_entry p Diamonds || is_entry p Clubs))
-    then min (partners_tricks p Spades + partners_tricks p Hearts + partners_tricks p Diamonds + partners_tricks p Clubs) (left p - side_tricks p)
-    else 0)
-
--- ---- one later trick
 
 -- the longer holding of the leader's side in the suit
 abbrev pub longer : Board → Suit → ℕ
@@ -171,7 +186,7 @@ IsCash p suit tricks cards = (tricks ≡ cashed p.strain p suit) × (1 ≤ trick
 
 -- the tricks that the partner takes in a suit once the leader has crossed, and whether the leader can cross there
 abbrev pub IsNext : Board → Suit → ℕ → Bool → Type 0
-IsNext p suit tricks entry = (tricks ≡ partners_tricks p suit) × (entry ≡ is_entry p suit)
+IsNext p suit tricks entry = (tricks ≡ partners_cashed p.strain p suit) × (entry ≡ is_entry p suit)
 
 -- ---- the cards on which a claim rests
 

@@ -1,21 +1,24 @@
-//! Crossing to the partner. Where no hand has a trump, the leader cashes its suits, then leads a low card to a winner of its
-//! partner's, and the partner cashes what it holds next below the leader's runs. It can keep so many winners: to each lead of
-//! a suit it follows with another card of the suit, since of its cards there no more are counted than the leader's run leaves
-//! it, and it has enough others to throw, since no more tricks are counted than are left. Without that first condition a
-//! winner of the partner's would be counted that falls under the leader's own. Where these winners, with the leader's run, are
-//! as many as the leader and each opponent has cards of the suit, nobody else has one after them: then the partner's low cards
-//! of this long suit take tricks too.
-ghost use Rattle.std.specs.Prelude.{◌≡◌, ◌≤◌, ◌+◌, ◌&&◌, ◌||◌, ◌==◌, [], true, min, nat_le, if◌then◌else◌};
+//! Crossing to the partner. The leader cashes its suits, then leads a low card to a winner of its partner's, and the partner
+//! cashes what it holds next below the leader's runs. It can keep so many winners: to each lead of a suit it follows with
+//! another card of the suit, since of its cards there no more are counted than the leader's run leaves it, and it has enough
+//! others to throw, since no more tricks are counted than are left. Without that first condition a winner of the partner's
+//! would be counted that falls under the leader's own. Where these winners, with the leader's run, are as many as the leader
+//! and each opponent has cards of the suit, nobody else has one after them: then the partner's low cards of this long suit take
+//! tricks too. Where hands have trumps, an opponent that has some must not ruff: of a suit it has a card for each lead of both
+//! hands. The leader and its partner keep theirs, each with a card that is no trump for each of these tricks, so that their
+//! joint trumps take their tricks besides.
+ghost use Rattle.std.specs.Prelude.{◌≡◌, ◌≤◌, ◌+◌, ◌||◌, [], true, min, nat_le, if◌then◌else◌};
 ghost use mathlib.Core.Bool.{not};
 ghost use Rattle.dd_cards.specs.declared.suit.Suit.TheVariants.{Spades, Hearts, Diamonds, Clubs};
 ghost use Rattle.dd_cards.specs.PlayingCard.{PlayingCard};
 ghost use Rattle.dd_cards.specs.Cards.{has_card};
-ghost use Rattle.dd_cards.specs.Seats.{seat_after};
-ghost use Rattle.dd_quick.specs.QuickTricks.{IsNext, RestsOnNext, crossed, no_trumps, side_tricks, trumps_at};
+ghost use Rattle.dd_quick.specs.QuickTricks.{IsNext, RestsOnNext, all_partners, beside_trumps, crossed, has_entry};
+ghost use Rattle.dd_quick.specs.QuickTricks.{is_entry, no_trumps, partners_cashed, partners_tricks, run, side_tricks};
 
+use crate::long_suit::unruffed;
 use crate::sharing::{Offer, Offers, Shares};
-use crate::winners::{length, next_run, run, trumps, with_highest};
-use dd_cards::{Hand, Suit};
+use crate::winners::{below_run, length, next_run, run, trumps, unbeaten, with_highest};
+use dd_cards::{Hand, Strain, Suit};
 use dd_play::Position;
 
 /// What the partner takes in each suit once the leader has crossed, those first in which the leader can cross, and how many
@@ -31,12 +34,21 @@ const NONE: Offer = Offer {
     first: false,
 };
 
+const NO_PARTNERS: Partners = Partners {
+    next: Offers {
+        spades: NONE,
+        hearts: NONE,
+        diamonds: NONE,
+        clubs: NONE,
+    },
+    tricks: 0,
+};
+
 /// What crossing to the partner adds to these tricks that the leader cashes.
 pub(crate) fn crossing(position: &Position, side: u8) -> Partners
-    requires start { position.now.trick ≡ [] }
     requires side { side ≡ side_tricks position.now }
+    requires bound { side ≤ 13 }
     ensures tricks { result.tricks ≡ crossed position.now }
-    ensures plain { 1 ≤ result.tricks → no_trumps position.now ≡ true }
     ensures spades { 1 ≤ result.tricks
         → IsNext position.now Spades result.next.spades.tricks result.next.spades.first }
     ensures hearts { 1 ≤ result.tricks
@@ -47,16 +59,9 @@ pub(crate) fn crossing(position: &Position, side: u8) -> Partners
         → IsNext position.now Clubs result.next.clubs.tricks result.next.clubs.first }
     ensures bound { result.tricks ≤ 13 }
 {
-    if has_trumps(position) {
-        return Partners {
-            next: Offers {
-                spades: NONE,
-                hearts: NONE,
-                diamonds: NONE,
-                clubs: NONE,
-            },
-            tricks: 0,
-        };
+    let most = beside_trumps(position, side);
+    if most == 0 || !may_cross(position) {
+        return NO_PARTNERS;
     }
     let spades = next(position, Suit::Spades);
     let hearts = next(position, Suit::Hearts);
@@ -64,7 +69,6 @@ pub(crate) fn crossing(position: &Position, side: u8) -> Partners
     let clubs = next(position, Suit::Clubs);
     let all = spades.tricks + hearts.tricks + diamonds.tricks + clubs.tricks;
     let can = any(spades.first, hearts.first, diamonds.first, clubs.first);
-    let most = position.tricks_left() - side;
     Partners {
         next: Offers {
             spades,
@@ -74,6 +78,19 @@ pub(crate) fn crossing(position: &Position, side: u8) -> Partners
         },
         tricks: if can { all.min(most) } else { 0 },
     }
+}
+
+// The tricks left beside these that the leader cashes, where it and its partner keep their trumps.
+fn beside_trumps(position: &Position, side: u8) -> u8
+    requires side { side ≡ side_tricks position.now }
+    requires bound { side ≤ 13 }
+    ensures tricks { result ≡ beside_trumps position.now }
+    ensures bound { result ≤ 13 }
+{
+    let leader = position.first();
+    let partner = leader.partner();
+    let kept = trumps(position, leader).max(trumps(position, partner));
+    position.tricks_left().saturating_sub(side + kept)
 }
 
 /// Has a hand a trump?
@@ -94,26 +111,79 @@ fn any(a: bool, b: bool, c: bool, d: bool) -> bool
     (a || b) || (c || d)
 }
 
+// Is there a suit in which the leader might cross? Mostly there is none, which is soon told.
+fn may_cross(position: &Position) -> bool
+    ensures { has_entry position.now ≡ true → result ≡ true }
+{
+    let major = may_enter(position, Suit::Spades) || may_enter(position, Suit::Hearts);
+    major || may_enter(position, Suit::Diamonds) || may_enter(position, Suit::Clubs)
+}
+
+// Has the partner a card of the side suit that no opponent can beat, and the leader one beside its run?
+fn may_enter(position: &Position, suit: Suit) -> bool
+    ensures { is_entry position.now suit ≡ true → result ≡ true }
+{
+    let leader = position.first();
+    let partner = leader.partner();
+    unbeaten(position, partner, suit).len() > 0 && below_run(position, leader, suit).len() > 0
+}
+
 // What the partner takes in the suit, and whether the leader can cross there.
 fn next(position: &Position, suit: Suit) -> Offer
     ensures next { IsNext position.now suit result.tricks result.first }
     ensures bound { result.tricks ≤ 13 }
 {
     let leader = position.first();
-    let left = leader.left();
-    let partner = leader.partner();
-    let right = leader.right();
-    let run = run(position, leader, suit).len();
-    let next = next_run(position, suit).len();
+    let leads = run(position, leader, suit).len();
+    let tricks = partners_cashed(position, suit, leads);
     let own = length(position, leader, suit);
-    let longest = own.max(length(position, left, suit).max(length(position, right, suit)));
-    let spare = length(position, partner, suit).saturating_sub(run);
-    let tricks = taken(longest, run, next, spare);
-    let low = run < own;
+    let low = leads < own;
     Offer {
         tricks,
         first: tricks > 0 && low,
     }
+}
+
+// What the partner takes in the suit after so many leads of the leader's, where nobody ruffs: in trumps none.
+fn partners_cashed(position: &Position, suit: Suit, leads: u8) -> u8
+    requires leads { leads ≡ run position.now position.now.first suit }
+    requires few { leads ≤ 13 }
+    ensures tricks { result ≡ partners_cashed position.now.strain position.now suit }
+    ensures bound { result ≤ 13 }
+{
+    match position.strain() {
+        Strain::Notrump => partners_tricks(position, suit, leads),
+        Strain::Trump(trump) if trump == suit => 0,
+        Strain::Trump(trump) => {
+            let leader = position.first();
+            let left = leader.left();
+            let right = leader.right();
+            let all = leads + partners_tricks(position, suit, leads);
+            let followed = unruffed(position, right, trump, suit, all);
+            unruffed(position, left, trump, suit, followed).saturating_sub(leads)
+        }
+    }
+}
+
+// What the partner takes in the suit after so many leads of the leader's.
+fn partners_tricks(position: &Position, suit: Suit, leads: u8) -> u8
+    requires leads { leads ≡ run position.now position.now.first suit }
+    requires few { leads ≤ 13 }
+    ensures tricks { result ≡ partners_tricks position.now suit }
+    ensures bound { result ≤ 13 }
+{
+    let leader = position.first();
+    let left = leader.left();
+    let partner = leader.partner();
+    let right = leader.right();
+    let spare = length(position, partner, suit).saturating_sub(leads);
+    if spare == 0 {
+        return 0;
+    }
+    let next = next_run(position, suit).len();
+    let own = length(position, leader, suit);
+    let longest = own.max(length(position, left, suit).max(length(position, right, suit)));
+    taken(longest, leads, next, spare)
 }
 
 // Of its spare cards the partner takes a trick with each in a long suit, else with those next below the leader's run.

@@ -98,8 +98,8 @@ fn led_out(position: &Position, suit: Suit) -> Cash
     }
 }
 
-// Of so many leads of the suit, those that the seat can't ruff.
-fn unruffed(position: &Position, seat: Seat, trump: Suit, suit: Suit, leads: u8) -> u8
+/// Of so many leads of the suit, those that the seat can't ruff.
+pub(crate) fn unruffed(position: &Position, seat: Seat, trump: Suit, suit: Suit, leads: u8) -> u8
     ensures leads { result ≡ unruffed (Trump trump) position.now seat suit leads }
     ensures less { result ≤ leads }
 {

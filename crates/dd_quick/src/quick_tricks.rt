@@ -1,6 +1,6 @@
-//! Quick tricks. The leader cashes side suits, and its side keeps its joint trumps; without trumps it crosses to its partner,
-//! which cashes too; the other side has joint trumps, or without trumps wins a later trick. So a side's quick tricks are no
-//! more than it takes, and they rest on winners alone: it takes as many where the lower cards are others.
+//! Quick tricks. The leader cashes side suits and crosses to its partner, which cashes too, and the side keeps its joint
+//! trumps; the other side has joint trumps, or without trumps wins a later trick. So a side's quick tricks are no more than it
+//! takes, and they rest on winners alone: it takes as many where the lower cards are others.
 ghost use Rattle.std.specs.Prelude.{◌≡◌, ◌<◌, ◌≤◌, ◌+◌, ◌-◌, IsSome, ℕ, [], IfSome, true, max, if◌then◌else◌};
 ghost use Rattle.dd_cards.specs.declared.suit.Suit.{Suit as SuitOf};
 ghost use Rattle.dd_cards.specs.declared.suit.Suit.TheVariants.{Spades, Hearts, Diamonds, Clubs};
@@ -12,7 +12,7 @@ ghost use Rattle.dd_play.specs.Covers.{count_of};
 ghost use Rattle.dd_play.specs.Intervals.{Holds};
 ghost use Rattle.dd_play.specs.Reach.{reach, TakesBy};
 ghost use Rattle.dd_play.specs.Value.{lead};
-ghost use Rattle.dd_quick.specs.QuickTricks.{IsCash, IsNext, cashed, crossed, has_later_trick, joint_trumps, no_trumps};
+ghost use Rattle.dd_quick.specs.QuickTricks.{IsCash, IsNext, cashed, crossed, has_later_trick, joint_trumps};
 ghost use Rattle.dd_quick.specs.QuickTricks.{quick_hi, quick_lo, side_tricks};
 ghost use Rattle.dd_quick.specs.SecondHand.{IsBeforeLead};
 ghost use Rattle.dd_rank.specs.Depths.{all_cards, depth_in, Covers};
@@ -150,7 +150,7 @@ fn leaders_cards(position: &Position, ours: Sure, need: u8) -> Hand
 }
 
 /// The winners on which so many tricks of the leader's side rest where the leader crosses to its partner: all that it cashes,
-/// and of its partner's as many as are needed beside. The same holds after another hand's lead that it wins.
+/// all joint trumps, and of its partner's as many as are needed beside. The same holds after another hand's lead that it wins.
 pub(crate) fn crossing_cards(position: &Position, ours: Sure, partners: Partners, need: u8) -> Hand
     requires start { position.now.trick ≡ [] }
     requires spades { IsCash position.now Spades
@@ -162,7 +162,8 @@ pub(crate) fn crossing_cards(position: &Position, ours: Sure, partners: Partners
     requires clubs { IsCash position.now Clubs
         ours.cashed.clubs.tricks ours.cashed.clubs.depth }
     requires side { ours.side ≡ side_tricks position.now }
-    requires plain { 1 ≤ partners.tricks → no_trumps position.now ≡ true }
+    requires trumps { ours.trumps
+        ≡ joint_trumps position.now.strain position.now position.now.first }
     requires next_spades { 1 ≤ partners.tricks
         → IsNext position.now Spades partners.next.spades.tricks partners.next.spades.first }
     requires next_hearts { 1 ≤ partners.tricks
@@ -188,9 +189,10 @@ pub(crate) fn crossing_cards(position: &Position, ours: Sure, partners: Partners
         diamonds: cashed.diamonds.tricks,
         clubs: cashed.clubs.tricks,
     };
-    let shares = share_out(partners.next, need - ours.side);
+    let shares = share_out(partners.next, need - ours.side - ours.trumps);
     let cards = with_shares(position, Hand::new(), cashed, all);
-    with_partners(position, cards, shares)
+    let cards = with_partners(position, cards, shares);
+    with_trumps(position, position.first(), cards, ours.trumps)
 }
 
 // The winners on which so many tricks of the leader's side rest, by crossing where the others are too few.
@@ -208,7 +210,6 @@ fn sure_cards(position: &Position, ours: Sure, partners: Partners, need: u8) -> 
     requires trumps { ours.trumps
         ≡ joint_trumps position.now.strain position.now position.now.first }
     requires sums { (ours.side ≤ 13) × (ours.trumps ≤ 13) }
-    requires plain { 1 ≤ partners.tricks → no_trumps position.now ≡ true }
     requires next_spades { 1 ≤ partners.tricks
         → IsNext position.now Spades partners.next.spades.tricks partners.next.spades.first }
     requires next_hearts { 1 ≤ partners.tricks

@@ -238,7 +238,7 @@ fn no_more_is_claimed_than_exhaustive_play_takes(rt: HostRuntime) {
         (crossed, Strain::Notrump, Seat::North, (2, 3), 2),
         (drawn, diamonds, Seat::North, (3, 4), 3),
         (drawn, diamonds, Seat::East, (0, 2), 1),
-        (drawn, diamonds, Seat::South, (3, 4), 4),
+        (drawn, diamonds, Seat::South, (4, 4), 4),
         (drawn, diamonds, Seat::West, (0, 2), 1),
         (ruffed, clubs, Seat::North, (0, 3), 3),
         (ruffed, clubs, Seat::East, (1, 4), 2),
@@ -272,6 +272,53 @@ fn a_winner_counts_at_notrump(rt: HostRuntime) {
     ];
     for (hands, interval, depths, what) in table {
         let start = start(hands, Strain::Notrump, Seat::North).expect(&rt, "even hands");
+        assert_eq!(rt; found(&start), (interval, depths), "{what}");
+    }
+}
+
+#[test]
+fn beside_trumps_the_leader_crosses_while_nobody_ruffs(rt: HostRuntime) {
+    let hearts = Strain::Trump(Suit::Hearts);
+    let table = [
+        (
+            ["A2.3..", "54.2..", "K3.4..", "76.5.."],
+            (2, 2),
+            [2, 1, 0, 0],
+            "both opponents follow to the king",
+        ),
+        (
+            ["A2.3..", "54.2..", "K3.4..", "7.65.."],
+            (1, 1),
+            [1, 2, 0, 0],
+            "West ruffs it",
+        ),
+        (
+            ["A2.A..", "54.2..", "K3.4..", "76.3.."],
+            (3, 3),
+            [2, 1, 0, 0],
+            "the ace of trumps is kept",
+        ),
+        (
+            ["A2.3..", "54..2.", "K3.4..", "76..3."],
+            (3, 3),
+            [2, 0, 0, 0],
+            "no opponent has a trump",
+        ),
+        (
+            ["A2.32..", "654..2.", "KQ3.4..", "987..3."],
+            (4, 4),
+            [2, 0, 0, 0],
+            "the leader throws no trump on the queen",
+        ),
+        (
+            [".A2..3", "5.43..", "K.K5..", "7.76.."],
+            (2, 3),
+            [0, 2, 0, 0],
+            "the leader crosses in no trump",
+        ),
+    ];
+    for (hands, interval, depths, what) in table {
+        let start = start(hands, hearts, Seat::North).expect(&rt, "even hands");
         assert_eq!(rt; found(&start), (interval, depths), "{what}");
     }
 }

@@ -30,7 +30,7 @@ pub(crate) fn run(position: &Position, seat: Seat, suit: Suit) -> Holding
 }
 
 /// The cards of the suit that the seat holds below its run.
-fn below_run(position: &Position, seat: Seat, suit: Suit) -> Holding
+pub(crate) fn below_run(position: &Position, seat: Seat, suit: Suit) -> Holding
     ensures cards { map (card_of suit) result ≡ filter
         (λ c. is_of suit c && not (is_winner position.now seat c)) (cards_at position.now seat) }
     ensures board { IsBoard position.now }

@@ -103,8 +103,15 @@ fn the_highest_card_of_the_suit_led_wins_and_more_are_cashed(rt: HostRuntime) {
             ["2.3.2.", "A..54.", "3.2.3.", "4..AK."],
             hearts,
             2,
+            Some([1, 0, 1, 0]),
+            "beside trumps it crosses while both follow",
+        ),
+        (
+            ["2.3.2.", "A..54.", "3.2.3.", "4..AK."],
+            hearts,
+            3,
             None,
-            "a hand has a trump",
+            "and no further",
         ),
         (
             ["2.32..", "A.AK..", "3.54..", "4.76.."],
