@@ -73,13 +73,15 @@ impl Page {
     {
         let mut places = self.briefs.may_be_in(strings.brief());
         for _ in 0..BOUNDS_OF_A_PAGE {
-            // Where none is left the place is none.
-            let place = places.trailing_zeros() as usize;
-            let told = self.told.as_slice().get(place)?;
+            // Mostly there is none, and then the bounds, which stand further on, aren't read.
+            if places == 0 {
+                return None;
+            }
+            let told = self.told.as_slice().get(places.trailing_zeros() as usize)?;
             if told.answers(strings, need) {
                 return Some(told);
             }
-            places &= places.wrapping_sub(1);
+            places &= places - 1;
         }
         None
     }

@@ -31,6 +31,16 @@ pub struct FirstBriefs {
     masks: [u16; TOGETHER],
 }
 
+impl Default for FirstBriefs {
+    /// None: each place has owners that hardly a position has.
+    fn default() -> FirstBriefs {
+        FirstBriefs {
+            owners: [u16::MAX; TOGETHER],
+            masks: [u16::MAX; TOGETHER],
+        }
+    }
+}
+
 impl OwnerStrings {
     /// The owners of the two highest cards of each suit.
     #[inline]
