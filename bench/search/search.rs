@@ -413,11 +413,10 @@ impl<B: Bounds> Search<B> {
     fn known(&mut self, position: &Position, need: u8) -> Option<Answer> {
         let leads = position.first.is_north_south();
         let leaders = leaders_need(position, need);
-        if let Some(answer) = quick(position, leaders) {
-            return Some(answer);
+        match self.bounds.settle(position, leaders) {
+            Some((interval, depths)) => Some(Answer { yes: (leaders <= interval.lo) == leads, cards: cards_of(position, depths) }),
+            None => quick(position, leaders),
         }
-        let (interval, depths) = self.bounds.settle(position, leaders)?;
-        Some(Answer { yes: (leaders <= interval.lo) == leads, cards: cards_of(position, depths) })
     }
 
     fn teach(&mut self, position: &Position, need: u8, answer: Answer) {

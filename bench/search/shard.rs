@@ -1,10 +1,11 @@
-//! The table of a thread: at most so many shapes, last used first, each with up to eight pairs, newest first.
+//! The table of a thread: at most so many shapes, last used first, each with up to eight pairs, newest first; with the word
+//! `--cfg pages` for the compiler up to 64, nearly as many as a cache of pages keeps of a shape.
 use super::{Bounds, Interval, Position};
 use std::collections::HashMap;
 use std::fmt;
 use std::hash::{BuildHasherDefault, Hasher};
 
-const PAIRS: usize = 8;
+const PAIRS: usize = if cfg!(pages) { 64 } else { 8 };
 const NONE: u32 = u32::MAX;
 
 // Of a start of a trick, seats counted from the leader: the lengths, and in each suit the owners of the cards from the
