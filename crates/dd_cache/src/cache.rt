@@ -9,6 +9,7 @@ ghost use Rattle.dd_rank.specs.FirstOwners.{AreFirst};
 ghost use Rattle.dd_rank.specs.Strings.{shape_in, strings_of};
 ghost use Rattle.dd_cache.specs.Told.{ToldOf, IsSound};
 
+use crate::head::Head;
 use crate::page::Page;
 use crate::told::Told;
 use dd_play::{Interval, TrickStart};
@@ -33,6 +34,8 @@ pub struct Cache<B> {
     behind: B,
     // by place the number of its newest page
     newest: Vec<u32>,
+    // by place in the ring, of each page one
+    heads: Vec<Head>,
     pages: Vec<Page>,
     // the number of the next page; the first one has the number PAGES
     next: u32,
@@ -42,11 +45,13 @@ impl<B: Drop> Cache<B> {
     /// A cache that has learned nothing, before this table. All its memory is taken here. The error says that there is
     /// none.
     pub fn new(alloc: Global, behind: B) -> Result<Cache<B>, AllocError> {
+        let heads = Vec::with_capacity(alloc, PAGES as usize)?;
         let pages = Vec::with_capacity(alloc, PAGES as usize)?;
         let newest = vec![in alloc; 0; PLACES]?;
         Ok(Cache {
             behind,
             newest,
+            heads,
             pages,
             next: PAGES,
         })
@@ -59,13 +64,14 @@ impl<B> Cache<B> {
         &mut self.behind
     }
 
-    // The page of this number, where it is not yet overwritten.
+    // Where the page of this number stands, if it is not yet overwritten.
     #[inline]
-    fn page(&self, number: u32) -> Option<&Page> {
-        if self.next.wrapping_sub(number) > PAGES {
-            return None;
+    fn place_of(&self, number: u32) -> Option<usize> {
+        if self.next.wrapping_sub(number) <= PAGES {
+            Some((number % PAGES) as usize)
+        } else {
+            None
         }
-        self.pages.get((number % PAGES) as usize)
     }
 
     // What settles the question of the position with these strings.
@@ -77,15 +83,22 @@ impl<B> Cache<B> {
         // The proof reads here what it means that shapes are compared.
         alike_strings();
         let shape = strings.shape();
-        let mut number = *self.newest.get(place(shape))?;
+        let mixed = shape.mixing_number();
+        let brief = strings.brief();
+        let mut number = *self.newest.get(place(mixed))?;
         for _ in 0..MOST_PAGES {
-            let page = self.page(number)?;
-            if page.shape() == shape {
-                if let Some(told) = page.settle(strings, need) {
-                    return Some((told.interval, told.firsts.depths()));
+            let at = self.place_of(number)?;
+            let head = self.heads.get(at)?;
+            let likely = head.likely(tag(mixed), brief);
+            if likely != 0 {
+                let page = self.pages.get(at)?;
+                if page.shape() == shape {
+                    if let Some(told) = page.settle(likely, strings, need) {
+                        return Some((told.interval, told.firsts.depths()));
+                    }
                 }
             }
-            number = page.before();
+            number = head.before();
         }
         None
     }
@@ -96,26 +109,42 @@ impl<B> Cache<B> {
     fn keep(&mut self, shape: Shape, new: Told)
         requires { IsSound shape new }
     {
-        let Some(newest) = self.newest.get_mut(place(shape)) else {
+        let mixed = shape.mixing_number();
+        let brief = new.firsts.brief();
+        let Some(newest) = self.newest.get_mut(place(mixed)) else {
             return;
         };
         let number = *newest;
-        let at = (self.next % PAGES) as usize;
-        let new = match self.pages.get_mut((number % PAGES) as usize) {
+        let at = (number % PAGES) as usize;
+        let new = match self.pages.get_mut(at) {
             Some(page) if self.next.wrapping_sub(number) <= PAGES && page.shape() == shape => {
                 match page.keep(new) {
-                    Some(new) => new,
-                    None => return,
+                    Ok(place) => {
+                        if let Some(head) = self.heads.get_mut(at) {
+                            head.put(place, brief);
+                        }
+                        return;
+                    }
+                    Err(new) => new,
                 }
             }
             _ => new,
         };
         *newest = self.next;
+        self.add(Head::new(tag(mixed), number, brief), Page::new(shape, new));
+    }
+
+    // Puts a page into the ring: in the place of the oldest, where it is full.
+    fn add(&mut self, head: Head, page: Page) {
+        let at = (self.next % PAGES) as usize;
         self.next = self.next.wrapping_add(1);
-        let page = Page::new(shape, number, new);
-        match self.pages.get_mut(at) {
-            Some(oldest) => *oldest = page,
-            None => {
+        match (self.heads.get_mut(at), self.pages.get_mut(at)) {
+            (Some(oldest_head), Some(oldest)) => {
+                *oldest_head = head;
+                *oldest = page;
+            }
+            _ => {
+                let _ = self.heads.push(head);
                 let _ = self.pages.push(page);
             }
         }
@@ -175,8 +204,14 @@ impl<B: Bounds> Bounds for Cache<B> {
     }
 }
 
-// Where the pages of a shape are found.
+// Where the pages of a shape with this mixing number are found.
 #[inline]
-fn place(shape: Shape) -> usize {
-    (shape.mixing_number() >> 48) as usize
+fn place(mixed: u64) -> usize {
+    (mixed >> 48) as usize
+}
+
+// What tells most shapes of one place apart.
+#[inline]
+fn tag(mixed: u64) -> u32 {
+    (mixed & 0xFFFF_FFFF) as u32
 }

@@ -2,6 +2,7 @@
 #![tactic(auto)]
 
 mod cache;
+mod head;
 mod page;
 mod told;
 

@@ -1,0 +1,51 @@
+//! What is read of a page before the page itself.
+
+use dd_rank::{Brief, FirstBrief, FirstBriefs};
+
+/// The head of a page. Heads stand together, apart from the pages: a look walks over many of them, and most pages it needn't
+/// read. A head only tells where to look: no answer rests on it.
+#[derive(Clone, Copy, Debug)]
+pub(crate) struct Head {
+    // a number of the page's shape
+    tag: u32,
+    // the number of the page that was the newest of its place before
+    before: u32,
+    // what is seen at once of the page's bounds, by their places
+    briefs: FirstBriefs,
+}
+
+impl Head {
+    /// The head of a page with one entry.
+    #[inline]
+    pub(crate) fn new(tag: u32, before: u32, first: FirstBrief) -> Head {
+        let mut briefs = FirstBriefs::default();
+        briefs.put(0, first);
+        Head {
+            tag,
+            before,
+            briefs,
+        }
+    }
+
+    /// The page before.
+    #[inline]
+    pub(crate) fn before(&self) -> u32 {
+        self.before
+    }
+
+    /// The places of the page's bounds that may hold of a position with this tag and this brief: bit n for place n.
+    #[inline]
+    pub(crate) fn likely(&self, tag: u32, position: Brief) -> u64 {
+        if self.tag == tag {
+            self.briefs.may_be_in(position)
+        } else {
+            0
+        }
+    }
+
+    /// Bounds with this brief stand at this place now.
+    #[inline]
+    pub(crate) fn put(&mut self, place: usize, brief: FirstBrief) {
+        self.briefs.put(place, brief);
+    }
+}
