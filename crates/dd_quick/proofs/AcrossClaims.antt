@@ -1,25 +1,22 @@
 -- from what the code counts of the partner's tricks, and the cards that it puts together, to the claim that rests on them
-use Rattle.std.proofs.Common.{◌≡◌, ◌≢◌, ℕ, zero, suc, ◌+◌, ◌-◌, ◌<◌, ◌≤◌, Bool, true, false, refl, sym, ap, ◌∙◌, arith, List, inl, inr, min, zero-le}
-use Rattle.std.specs.Prelude.{nat_le, nat_lt, ◌&&◌, ◌||◌, ◌==◌, ◌⊎◌, if◌then◌else◌}
+use Rattle.std.proofs.Common.{subst, ◌≡◌, ◌≢◌, ℕ, zero, suc, ◌+◌, ◌-◌, ◌<◌, ◌≤◌, Bool, true, false, refl, sym, ap, ◌∙◌, arith, List, inl, inr, min, zero-le}
+use Rattle.std.specs.Prelude.{nat_lt, ◌&&◌, ◌||◌, ◌==◌, ◌⊎◌, if◌then◌else◌}
 use mathlib.Core.Bool.{not}
 use mathlib.Core.Path.{ap₂}
 use Rattle.std.proofs.lemmas.Bool.{cases_lt, eqb-true, leb-true, ltb-true, lt-ltb}
 use Rattle.std.proofs.lemmas.Bool.Decides.{eqb_tells, nat_tests}
-use Rattle.dd_cards.specs.declared.seat.Seat.{Seat}
 use Rattle.dd_cards.specs.declared.suit.Suit.{Suit}
 use Rattle.dd_cards.specs.declared.suit.Suit.TheVariants.{Spades, Hearts, Diamonds, Clubs}
-use Rattle.dd_cards.specs.declared.strain.Strain.{Strain}
-use Rattle.dd_cards.specs.declared.strain.Strain.TheVariants.{Trump, Notrump}
+use Rattle.dd_cards.specs.declared.strain.Strain.TheVariants.{Trump}
 use Rattle.dd_cards.specs.PlayingCard.{PlayingCard}
-use Rattle.dd_cards.specs.Suits.{suit_code}
 use Rattle.dd_cards.specs.Cards.{is_of, card_of, has_card}
 use Rattle.dd_cards.specs.Seats.{seat_after}
 use Rattle.dd_cards.proofs.CallerLemmas.{and-left, and-right, else-false, or-split}
 use Rattle.dd_play.specs.Board.{Board, cards_at, left}
 use Rattle.dd_play.specs.Tricks.{is_trump}
 use Rattle.dd_play.specs.Reach.{reach}
-use Rattle.dd_play.proofs.CallerLemmas.{count, reach-within, suit-of}
-use Rattle.dd_quick.specs.QuickTricks.{IsNext, RestsOnNext, RestsOnTrumps, all_partners, beside_trumps, cashed, crossed, has_entry, is_entry, is_next, is_partners_long, is_unbeaten, is_under_low, is_winner, joint_trumps, length_at, longest_beside, next_run, no_trumps, partners_cashed, partners_tricks, run, suit_tricks, trumps_at, unbeaten, unruffed}
+use Rattle.dd_play.proofs.CallerLemmas.{count, reach-within}
+use Rattle.dd_quick.specs.QuickTricks.{IsNext, RestsOnNext, RestsOnTrumps, all_partners, beside_trumps, cashed, crossed, has_entry, is_entry, is_next, is_partners_long, is_unbeaten, is_under_low, is_winner, joint_trumps, length_at, longest_beside, next_run, no_trumps, partners_cashed, partners_tricks, run, suit_tricks, trumps_at, unbeaten}
 use Rattle.dd_quick.specs.Sharing.{SomeOf, shares}
 use Rattle.dd_quick.proofs.Plays.{count-where}
 use Rattle.dd_quick.proofs.Cashing.{hand_on}
@@ -144,8 +141,8 @@ some-entry p t u v w a b c d s h di cl some = by (or-split (is_entry p Spades ||
     by (inl k) = elim (or-split (is_entry p Spades) (is_entry p Hearts) k) [ inl e ↦ inl (inl (at Spades t a s e)) | inr e ↦ inl (inr (at Hearts u b h e)) ]
     by (inr k) = elim (or-split (is_entry p Diamonds) (is_entry p Clubs) k) [ inl e ↦ inr (inl (at Diamonds v c di e)) | inr e ↦ inr (inr (at Clubs w d cl e)) ]
 
--- a suit to cross in has a card of the partner's that no opponent can beat, and one of the leader's beside its run
-pub entry-cards : (p : Board) (u : Suit) → is_entry p u ≡ true → (1 ≤ unbeaten p (seat_after p.first 2) u) × (1 ≤ count (λ c. is_of u c && not (is_winner p p.first c)) (cards_at p p.first))
+-- in a suit to cross in the partner cashes some; it has a card that no opponent can beat there, and the leader one beside its run
+pub entry-cards : (p : Board) (u : Suit) → is_entry p u ≡ true → (1 ≤ unbeaten p (seat_after p.first 2) u) × (1 ≤ count (λ c. is_of u c && not (is_winner p p.first c)) (cards_at p p.first)) × (1 ≤ partners_cashed p.strain p u)
 entry-cards p u entry =
     let some : 0 < partners_cashed p.strain p u = ltb-true 0 (partners_cashed p.strain p u) (and-left (nat_lt 0 (partners_cashed p.strain p u)) (nat_lt (run p p.first u) (length_at p p.first u)) entry) in
     let over : run p p.first u < length_at p p.first u = ltb-true (run p p.first u) (length_at p p.first u) (and-right (nat_lt 0 (partners_cashed p.strain p u)) (nat_lt (run p p.first u) (length_at p p.first u)) entry) in
@@ -154,7 +151,14 @@ entry-cards p u entry =
     let free = count-where (λ c. is_of u c && is_next p c) (λ c. is_of u c && is_unbeaten p (seat_after p.first 2) c) (hand_on p 2) (λ c has pass.
     ap₂ (λ a b. a && b) (and-left (is_of u c) (is_next p c) pass) (and-left (is_unbeaten p (seat_after p.first 2) c) (not (is_under_low p c)) (and-right (is_of u c) (is_next p c) pass))) in
     let split = count-split (is_of u) (is_winner p p.first) (cards_at p p.first) in
-    (elim (partners-long p u) [ inl few ↦ omega (arith, some, most, free, few) | inr long ↦ omega (arith, over, one, free, long) ], omega (arith, over, split))
+    (elim (partners-long p u) [ inl few ↦ omega (arith, some, most, free, few) | inr long ↦ omega (arith, over, one, free, long) ], omega (arith, over, split), some)
+
+-- there each opponent with trumps follows suit to one lead more than the leader's run
+pub entry-followed : (p : Board) (t u : Suit) (leads : ℕ) → p.strain ≡ Trump t → leads ≡ run p p.first u + 1 → 1 ≤ partners_cashed p.strain p u → both_unruffed (Trump t) p u leads ≡ leads
+entry-followed p t u leads strain leads_is some =
+    let most = unruffed-most (Trump t) p u leads in
+    let least = subst (λ x. leads ≤ both_unruffed x p u leads) strain (unruffed-least p.strain p u leads leads (omega arith) (λ i opposed has. (let k = partners-follow p u i opposed has some in omega (arith, k, leads_is, some)))) in
+    omega (arith, most, least)
 
 -- ---- without trumps
 

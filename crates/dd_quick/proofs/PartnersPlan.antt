@@ -3,7 +3,7 @@
 -- throw. Then the leader crosses, and the partner cashes the rest, while the leader keeps its trumps. An opponent with trumps
 -- has to follow suit to all this; then joint trumps take their tricks.
 use Rattle.std.proofs.Common.{◌≡◌, ◌≢◌, ℕ, zero, suc, ◌+◌, ◌-◌, ◌<◌, ◌≤◌, Bool, true, false, refl, sym, ap, ◌∙◌, subst, arith, List, [], length, inl, inr, min}
-use Rattle.std.specs.Prelude.{filter, nat_lt, ◌&&◌, ◌||◌, ◌⊎◌}
+use Rattle.std.specs.Prelude.{nat_lt, ◌&&◌, ◌||◌, ◌⊎◌}
 use mathlib.Core.Bool.{not}
 use mathlib.Core.Path.{ap₂}
 use Rattle.std.proofs.lemmas.Bool.{cases_lt}
@@ -21,10 +21,9 @@ use Rattle.dd_cards.specs.declared.side.Side.{Side}
 use Rattle.dd_cards.proofs.CallerLemmas.{and-left, and-right, filter-true, not-true, or-right}
 use Rattle.dd_play.specs.Board.{Board, IsBoard, cards_at, left}
 use Rattle.dd_play.specs.Tricks.{is_trump}
-use Rattle.dd_play.specs.Play.{after}
 use Rattle.dd_play.specs.Covers.{count_of}
 use Rattle.dd_play.specs.Won.{won}
-use Rattle.dd_play.proofs.CallerLemmas.{can, count, count-has, count-some, flag_of, of-suit', once-in, suit-of}
+use Rattle.dd_play.proofs.CallerLemmas.{count, count-has, count-some, flag_of, of-suit', once-in, suit-of}
 use Rattle.dd_quick.proofs.Plays.{count-where}
 use Rattle.dd_quick.proofs.Cashing.{Aims, AllLetCash, HasCards, IsLater, IsMaster, by-suits, cashed-all, hand_on, less, no_cards, partner-too, same-trump, spare_of, sure_of, total, total-less, OnlyTrumps, is_plain}
 use Rattle.dd_quick.specs.QuickTricks.{joint_trumps, trumps_at}

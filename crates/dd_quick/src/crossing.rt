@@ -44,10 +44,11 @@ const NO_PARTNERS: Partners = Partners {
     tricks: 0,
 };
 
-/// What crossing to the partner adds to these tricks that the leader cashes.
-pub(crate) fn crossing(position: &Position, side: u8) -> Partners
-    requires side { side ≡ side_tricks position.now }
-    requires bound { side ≤ 13 }
+/// What crossing to the partner adds to what the leader cashes, with so many tricks left beside that and the trumps that are
+/// kept.
+pub(crate) fn crossing(position: &Position, most: u8) -> Partners
+    requires most { most ≡ beside_trumps position.now }
+    requires bound { most ≤ 13 }
     ensures tricks { result.tricks ≡ crossed position.now }
     ensures spades { 1 ≤ result.tricks
         → IsNext position.now Spades result.next.spades.tricks result.next.spades.first }
@@ -59,7 +60,6 @@ pub(crate) fn crossing(position: &Position, side: u8) -> Partners
         → IsNext position.now Clubs result.next.clubs.tricks result.next.clubs.first }
     ensures bound { result.tricks ≤ 13 }
 {
-    let most = beside_trumps(position, side);
     if most == 0 || !may_cross(position) {
         return NO_PARTNERS;
     }
@@ -80,8 +80,8 @@ pub(crate) fn crossing(position: &Position, side: u8) -> Partners
     }
 }
 
-// The tricks left beside these that the leader cashes, where it and its partner keep their trumps.
-fn beside_trumps(position: &Position, side: u8) -> u8
+/// The tricks left beside these that the leader cashes, where it and its partner keep their trumps.
+pub(crate) fn beside_trumps(position: &Position, side: u8) -> u8
     requires side { side ≡ side_tricks position.now }
     requires bound { side ≤ 13 }
     ensures tricks { result ≡ beside_trumps position.now }
@@ -119,13 +119,36 @@ fn may_cross(position: &Position) -> bool
     major || may_enter(position, Suit::Diamonds) || may_enter(position, Suit::Clubs)
 }
 
-// Has the partner a card of the side suit that no opponent can beat, and the leader one beside its run?
+// Has the partner a card of the suit that no opponent can beat, the leader one beside its run, and nobody ruffs at once?
 fn may_enter(position: &Position, suit: Suit) -> bool
     ensures { is_entry position.now suit ≡ true → result ≡ true }
 {
     let leader = position.first();
     let partner = leader.partner();
-    unbeaten(position, partner, suit).len() > 0 && below_run(position, leader, suit).len() > 0
+    if unbeaten(position, partner, suit).len() == 0
+        || below_run(position, leader, suit).len() == 0
+    {
+        return false;
+    }
+    is_followed(position, suit)
+}
+
+// Does each opponent with trumps follow suit to one lead more than the leader's run? Not in trumps.
+fn is_followed(position: &Position, suit: Suit) -> bool
+    ensures { 1 ≤ partners_cashed position.now.strain position.now suit → result ≡ true }
+{
+    match position.strain() {
+        Strain::Notrump => true,
+        Strain::Trump(trump) if trump == suit => false,
+        Strain::Trump(trump) => {
+            let leader = position.first();
+            let left = leader.left();
+            let right = leader.right();
+            let leads = run(position, leader, suit).len() + 1;
+            let followed = unruffed(position, right, trump, suit, leads);
+            unruffed(position, left, trump, suit, followed) == leads
+        }
+    }
 }
 
 // What the partner takes in the suit, and whether the leader can cross there.

@@ -17,7 +17,7 @@ ghost use Rattle.dd_quick.specs.QuickTricks.{quick_hi, quick_lo, side_tricks};
 ghost use Rattle.dd_quick.specs.SecondHand.{IsBeforeLead};
 ghost use Rattle.dd_rank.specs.Depths.{all_cards, depth_in, Covers};
 
-use crate::crossing::{Partners, crossing, with_partners};
+use crate::crossing::{Partners, beside_trumps, crossing, with_partners};
 use crate::joint_trumps::{joint_trumps, with_trumps};
 use crate::later_trick::{later_cards, later_trick};
 use crate::long_suit::{Cashes, cashed, offers, with_shares};
@@ -39,7 +39,7 @@ pub fn bounds(start: &TrickStart) -> (Interval, Depths)
 {
     let position = start.position();
     let ours = leaders(position);
-    let partners = crossing(position, ours.side);
+    let partners = crossing(position, beside_trumps(position, ours.side));
     let lo = ours.side + ours.trumps + partners.tricks;
     let theirs = all_others(position);
     let interval = Interval {
@@ -62,7 +62,11 @@ pub fn for_leader(start: &TrickStart, need: u8) -> Option<Hand>
     if need <= ours.side + ours.trumps {
         return Some(leaders_cards(position, ours, need));
     }
-    let partners = crossing(position, ours.side);
+    let most = beside_trumps(position, ours.side);
+    if need > ours.side + ours.trumps + most {
+        return None;
+    }
+    let partners = crossing(position, most);
     if need <= ours.side + ours.trumps + partners.tricks {
         Some(crossing_cards(position, ours, partners, need))
     } else {

@@ -12,7 +12,7 @@ ghost use Rattle.dd_quick.specs.QuickTricks.{IsCash, side_tricks, joint_trumps};
 ghost use Rattle.dd_quick.specs.SecondHand.{IsBeforeLead, Opposes, unled};
 ghost use Rattle.dd_quick.specs.Sharing.{shares};
 
-use crate::crossing::crossing;
+use crate::crossing::{beside_trumps, crossing};
 use crate::joint_trumps::with_trumps;
 use crate::long_suit::{Cash, Cashes, offers, with_shares, with_winners};
 use crate::quick_tricks::{Sure, crossing_cards, leaders};
@@ -54,7 +54,11 @@ fn after_a_side_suit(position: &Position, before: &Position, led: Card, need: u8
     if need <= sure.side + sure.trumps {
         return Some(winners_of(position, before, led, sure, need));
     }
-    let partners = crossing(before, sure.side);
+    let most = beside_trumps(before, sure.side);
+    if need > sure.side + sure.trumps + most {
+        return None;
+    }
+    let partners = crossing(before, most);
     if need <= sure.side + sure.trumps + partners.tricks {
         Some(crossing_cards(before, sure, partners, need))
     } else {

@@ -1,4 +1,4 @@
-use Rattle.std.proofs.Common.{ℕ, arith, min, ◌-◌, ◌+◌, ◌≤◌, ◌≡◌, subst}
+use Rattle.std.proofs.Common.{ℕ, arith, min, ◌+◌, ◌≤◌, ◌≡◌, subst}
 use Rattle.dd_cards.specs.declared.suit.Suit.{Suit}
 use Rattle.dd_cards.specs.declared.suit.Suit.TheVariants.{Spades, Hearts, Diamonds, Clubs}
 use Rattle.dd_cards.specs.Sides.{side_of}

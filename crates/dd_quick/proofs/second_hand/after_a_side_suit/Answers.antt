@@ -14,8 +14,8 @@ some-cashed p s h d k Hearts a b e f some = omega (arith, b, some)
 some-cashed p s h d k Diamonds a b e f some = omega (arith, e, some)
 some-cashed p s h d k Clubs a b e f some = omega (arith, f, some)
 
-pub returns-then-need-sure-2 : goal.returns-then-need-sure-2
-returns-then-need-sure-2 c =
+pub returns-then-need-sure-3 : goal.returns-then-need-sure-3
+returns-then-need-sure-3 c =
     let of = c.leaders-sure.result.cashed in
     let all = c.leaders-sure.ensures in
     let first = c.tricks_in-first.ensures in
