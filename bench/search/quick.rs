@@ -14,7 +14,9 @@ pub const CROSSING: u32 = 8;
 pub const PARTNERS_LONG_SUITS: u32 = 1024;
 /// Without trumps, one trick where the leader's side has to lead a suit that an opponent heads.
 pub const LATER_TRICK: u32 = 8192;
-pub const ALL: u32 = RUNS | LONG_SUITS | JOINT_TRUMPS | CROSSING | PARTNERS_LONG_SUITS | LATER_TRICK;
+/// Joint trumps below some of the opponents', but for as many tricks.
+pub const LOWER_TRUMPS: u32 = 65536;
+pub const ALL: u32 = RUNS | LONG_SUITS | JOINT_TRUMPS | CROSSING | PARTNERS_LONG_SUITS | LATER_TRICK | LOWER_TRUMPS;
 
 // Wrong forms, which `cases/rules.rs` has to find wrong.
 /// An opponent with trumps follows suit as long as it is led.
@@ -39,6 +41,13 @@ pub const LONG_BEFORE_THE_OPPONENTS: u32 = 4096;
 pub const A_ROUND_FOR_EACH_TRICK: u32 = 16384;
 /// Of a suit that it heads the leader's side has as many rounds as its shorter holding.
 pub const ROUNDS_OF_THE_SHORTER: u32 = 32768;
+
+/// The opponents' higher trumps take no trick.
+pub const HIGHER_TRUMPS_TAKE_NOTHING: u32 = 1 << 17;
+/// Joint trumps take a trick each though neither hand has a trump for each.
+pub const TRUMPS_OF_BOTH_HANDS: u32 = 1 << 18;
+/// An opponent's higher trump takes no trick where the other opponent holds it.
+pub const ONE_OPPONENTS_TRUMPS: u32 = 1 << 19;
 
 // The cards of a holding above all of these others.
 fn above_all(own: u16, others: u16) -> u16 {
@@ -150,24 +159,79 @@ fn shares(offers: [Offer; 4], need: u8) -> [u8; 4] {
     shares
 }
 
-// The tricks of the joint trumps of the seat and its partner.
-fn joint_trumps<const RULES: u32>(position: &Position, seat: Seat) -> u8 {
-    let Strain::Trump(trump) = position.strain else { return 0 };
-    if RULES & JOINT_TRUMPS == 0 {
-        return 0;
-    }
-    let partner = seat.next().next();
-    let both = unbeaten(position, seat, trump).count_ones() + unbeaten(position, partner, trump).count_ones();
-    (both as u8).min(length(position, seat, trump).max(length(position, partner, trump)))
+// The trumps of a side and of its opponents, and how many the longer of its two hands has.
+struct Trumps {
+    ours: u16,
+    theirs: u16,
+    longer: u8,
 }
 
-fn with_trumps(position: &Position, seat: Seat, cards: u64, tricks: u8) -> u64 {
+impl Trumps {
+    fn new<const RULES: u32>(position: &Position, seat: Seat, trump: Suit) -> Trumps {
+        let [left, partner, right] = others(seat).map(|other| position.holding(other, trump));
+        let own = position.holding(seat, trump);
+        let (long, short) = (own.count_ones().max(partner.count_ones()), own.count_ones().min(partner.count_ones()));
+        Trumps {
+            ours: own | partner,
+            theirs: if RULES & ONE_OPPONENTS_TRUMPS != 0 { left } else { left | right },
+            longer: (if RULES & TRUMPS_OF_BOTH_HANDS != 0 { long + short } else { long }) as u8,
+        }
+    }
+
+    // What those of this rank or higher take.
+    fn taken<const RULES: u32>(&self, rank: u8) -> u8 {
+        let from = |ranks: u16| (ranks.count_ones() - below(ranks, rank).count_ones()) as u8;
+        let over = from(self.theirs);
+        match over {
+            0 => from(self.ours).min(self.longer),
+            _ if RULES & LOWER_TRUMPS == 0 => 0,
+            _ if RULES & HIGHER_TRUMPS_TAKE_NOTHING != 0 => from(self.ours).min(self.longer),
+            _ => from(self.ours).min(self.longer).saturating_sub(over),
+        }
+    }
+
+    fn most<const RULES: u32>(&self) -> u8 {
+        let (mut rest, mut most) = (self.ours, 0);
+        while rest != 0 {
+            let rank = highest(rest);
+            rest = below(rest, rank);
+            most = most.max(self.taken::<RULES>(rank));
+        }
+        most
+    }
+
+    // The highest of its ranks from which on trumps take so many tricks.
+    fn lowest<const RULES: u32>(&self, tricks: u8) -> Option<u8> {
+        let mut rest = self.ours;
+        while rest != 0 {
+            let rank = highest(rest);
+            rest = below(rest, rank);
+            if tricks <= self.taken::<RULES>(rank) {
+                return Some(rank);
+            }
+        }
+        None
+    }
+}
+
+// The tricks of the joint trumps of the seat and its partner.
+fn joint_trumps<const RULES: u32>(position: &Position, seat: Seat) -> u8 {
+    match position.strain {
+        Strain::Trump(trump) if RULES & JOINT_TRUMPS != 0 => Trumps::new::<RULES>(position, seat, trump).most::<RULES>(),
+        _ => 0,
+    }
+}
+
+fn with_trumps<const RULES: u32>(position: &Position, seat: Seat, cards: u64, tricks: u8) -> u64 {
     let Strain::Trump(trump) = position.strain else { return cards };
-    let [left, partner, right] = others(seat);
-    if length(position, left, trump) == 0 && length(position, right, trump) == 0 {
+    let [left, _, right] = others(seat);
+    if tricks == 0 || length(position, left, trump) == 0 && length(position, right, trump) == 0 {
         return cards;
     }
-    with_highest(cards, trump, unbeaten(position, seat, trump) | unbeaten(position, partner, trump), tricks)
+    match Trumps::new::<RULES>(position, seat, trump).lowest::<RULES>(tricks) {
+        Some(rank) => with(cards, trump, rank),
+        None => cards,
+    }
 }
 
 // The cards of the suit that the leader's partner holds next below the leader's run.
@@ -234,7 +298,7 @@ pub fn for_leader<const RULES: u32>(position: &Position, need: u8) -> Option<u64
     }
     let side = need.min(side);
     let cards = with_shares(position, 0, &cash, shares(long_first(&cash), side));
-    Some(with_trumps(position, position.first, cards, need - side))
+    Some(with_trumps::<RULES>(position, position.first, cards, need - side))
 }
 
 // These cards and the winners on which so many tricks of each suit rest.
@@ -268,7 +332,7 @@ fn crossing_cards<const RULES: u32>(position: &Position, cash: [Cash; 4], side: 
 pub fn against_leader<const RULES: u32>(position: &Position, need: u8) -> Option<u64> {
     let left = position.first.next();
     if need <= joint_trumps::<RULES>(position, left) {
-        return Some(with_trumps(position, left, 0, need));
+        return Some(with_trumps::<RULES>(position, left, 0, need));
     }
     if need == 1 && later_trick::<RULES>(position) { Some(later_cards(position)) } else { None }
 }
@@ -365,7 +429,7 @@ fn after_a_side_suit<const RULES: u32>(before: &Position, suit: Suit, need: u8) 
     fewer[suit as usize].tricks -= 1;
     let mut shares = shares(long_first(&fewer), side - 1);
     shares[suit as usize] += 1;
-    Some(with_trumps(before, before.first, with_shares(before, 0, &cash, shares), need - side))
+    Some(with_trumps::<RULES>(before, before.first, with_shares(before, 0, &cash, shares), need - side))
 }
 
 fn after_a_trump<const RULES: u32>(before: &Position, trump: Suit, need: u8) -> Option<u64> {

@@ -24,6 +24,7 @@ use Rattle.dd_quick.proofs.Plays.{count-where}
 use Rattle.dd_quick.proofs.Cashing.{hand_on}
 use Rattle.dd_quick.proofs.Claims.{IsShared, cashed-le, in-longest, long-or-run, run-length, shared-more, shared-tops}
 use Rattle.dd_quick.proofs.Across.{RestsAcross}
+use Rattle.dd_quick.proofs.Sound.{joint-longer}
 
 -- ---- what is counted
 
@@ -174,7 +175,7 @@ no-trumps-at p none i l = eqb-true (trumps_at p.strain p (seat_after p.first i))
 -- then there are no joint trumps
 pub no-joint : (strain : Strain) (p : Board) → trumps_at strain p p.first ≡ 0 → trumps_at strain p (seat_after p.first 2) ≡ 0 → joint_trumps strain p p.first ≡ 0
 no-joint Notrump p a b = refl
-no-joint (Trump t) p a b = omega (arith, a, b)
+no-joint (Trump t) p a b = (let most = joint-longer t p p.first in omega (arith, a, b, most))
 
 -- and the leader cashes all its tricks in a suit
 all-cashed : (p : Board) (u : Suit) → no_trumps p ≡ true → is_trump p.strain (card_of u 0) ≡ false → cashed p.strain p u ≡ suit_tricks p u

@@ -15,6 +15,7 @@ pub mod AcrossClaims
 pub mod Claims
 pub mod Highest
 pub mod Reached
+pub mod TrumpRanks
 pub mod Shares
 pub mod Next
 pub mod LeadBack

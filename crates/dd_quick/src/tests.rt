@@ -158,8 +158,8 @@ fn side_suits_are_cashed_while_nobody_ruffs(rt: HostRuntime) {
         (
             ["AK...", "5.9..", ".32..", "76..."],
             hearts,
-            (0, 1),
-            [0, 1, 0, 0],
+            (1, 1),
+            [0, 3, 0, 0],
             "the partner has only trumps",
         ),
     ];
@@ -208,6 +208,27 @@ fn joint_trumps_take_a_trick_each(rt: HostRuntime) {
             (2, 2),
             [0, 2, 0, 0],
             "the partner's alone",
+        ),
+        (
+            [".A2..", ".K3..", "32...", ".Q4.."],
+            hearts,
+            (1, 1),
+            [0, 3, 0, 0],
+            "two below the ace, and one hand has two trumps",
+        ),
+        (
+            [".A2..", ".K3..", "32...", "54..."],
+            hearts,
+            (1, 1),
+            [0, 3, 0, 0],
+            "the second and the third card",
+        ),
+        (
+            ["2.A..", "3.K..", "54...", "6.Q.."],
+            hearts,
+            (1, 2),
+            [0, 1, 0, 0],
+            "two below the ace that fall together",
         ),
         (
             ["32...", "54...", ".AK..", "7.Q.."],
