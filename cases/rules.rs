@@ -14,6 +14,7 @@ use search::quick::{ALL, CROSSING, JOINT_TRUMPS, LATER_TRICK, LONG_SUITS, LOWER_
 use search::quick::{against_leader, for_leader, for_second_hand};
 use search::quick::{AT_THIRD_HAND, CROSSES_WITHOUT_A_CARD, LONG_BEFORE_THE_LEADER, LONG_BEFORE_THE_OPPONENTS};
 use search::quick::{A_ROUND_FOR_EACH_TRICK, ROUNDS_OF_THE_SHORTER};
+use search::quick::{KEEPS_EACH_WINNER, KEEPS_OVER_THE_SHORTER, KEPT_WINNERS};
 use search::quick::{HIGHER_TRUMPS_TAKE_NOTHING, ONE_OPPONENTS_TRUMPS, TRUMPS_OF_BOTH_HANDS};
 use search::quick::{NOBODY_RUFFS, NO_WINNER_FALLS, THE_LEAD_IS_NOT_RUFFED, TRUMPS_ARE_DRAWN};
 use search::{Card, Position, Strain, Suit, depths_of};
@@ -53,7 +54,7 @@ const fn others(name: &'static str, played: usize, claim: fn(&Position, u8) -> O
 }
 
 // A rule that is added to the quick tricks gets a line here, and where it has parts a line for each.
-const RIGHT: [Rule; 26] = [
+const RIGHT: [Rule; 27] = [
     leaders("side suits without long ones", for_leader::<RUNS>),
     leaders("long suits", for_leader::<LONG_SUITS>),
     leaders("side suits with long ones", for_leader::<{ RUNS | LONG_SUITS }>),
@@ -63,6 +64,7 @@ const RIGHT: [Rule; 26] = [
     leaders("lower trumps beside side suits", lower_leaders::<{ RUNS | LONG_SUITS | JOINT_TRUMPS | LOWER_TRUMPS }>),
     others("lower trumps of the other side", 0, lower_others::<{ JOINT_TRUMPS | LOWER_TRUMPS }>),
     others("the other side's later trick", 0, against_leader::<LATER_TRICK>),
+    others("the other side's kept winners", 0, against_leader::<KEPT_WINNERS>),
     others("all of the other side", 0, against_leader::<ALL>),
     leaders("crossing to the partner", for_leader::<CROSSING>),
     leaders("crossing after side suits without long ones", crossed::<{ RUNS | CROSSING }>),
@@ -82,7 +84,7 @@ const RIGHT: [Rule; 26] = [
     others("second hand: all after the lead of a trump", 1, trump_led::<ALL>),
 ];
 
-const WRONG: [Rule; 17] = [
+const WRONG: [Rule; 19] = [
     leaders("joint trumps added after a draw", for_leader::<{ ALL | TRUMPS_ARE_DRAWN }>),
     leaders("long suits that opponents with trumps can't follow", for_leader::<{ LONG_SUITS | NOBODY_RUFFS }>),
     leaders("lower trumps where higher ones take nothing", lower_leaders::<{ ALL | HIGHER_TRUMPS_TAKE_NOTHING }>),
@@ -96,6 +98,8 @@ const WRONG: [Rule; 17] = [
     others("second hand: crossing to a suit that opponents are long in", 1, second_long::<{ ALL | LONG_BEFORE_THE_OPPONENTS }>),
     others("a later trick where there is a round for each trick", 0, against_leader::<{ LATER_TRICK | A_ROUND_FOR_EACH_TRICK }>),
     others("a later trick by the shorter holdings", 0, against_leader::<{ LATER_TRICK | ROUNDS_OF_THE_SHORTER }>),
+    others("kept winners without a trick for each", 0, against_leader::<{ KEPT_WINNERS | KEEPS_EACH_WINNER }>),
+    others("kept winners by the shorter holdings", 0, against_leader::<{ KEPT_WINNERS | KEEPS_OVER_THE_SHORTER }>),
     others("second hand: a lead that third hand ruffs", 1, side_suit_led::<{ ALL | THE_LEAD_IS_NOT_RUFFED }>),
     others("second hand: crossing to winners that fall", 1, second_crossed::<{ ALL | NO_WINNER_FALLS }>),
     others("second hand: crossing without a card to lead", 1, second_crossed::<{ ALL | CROSSES_WITHOUT_A_CARD }>),

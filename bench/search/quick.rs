@@ -1,6 +1,6 @@
 //! The quick tricks of `dd_quick` in plain Rust. `RULES` says which are counted, so that `cases/rules.rs` can try each alone: a
 //! search counts `ALL`. What is left out or added is known when it is compiled, and costs nothing.
-use super::{Card, Interval, Position, SUITS, Seat, Strain, Suit, above, below, highest, with};
+use super::{Card, Interval, Position, SEATS, SUITS, Seat, Strain, Suit, above, below, highest, with};
 
 /// A side suit's highest cards, while the leader holds them without a gap.
 pub const RUNS: u32 = 1;
@@ -16,7 +16,10 @@ pub const PARTNERS_LONG_SUITS: u32 = 1024;
 pub const LATER_TRICK: u32 = 8192;
 /// Joint trumps below some of the opponents', but for as many tricks.
 pub const LOWER_TRUMPS: u32 = 65536;
-pub const ALL: u32 = RUNS | LONG_SUITS | JOINT_TRUMPS | CROSSING | PARTNERS_LONG_SUITS | LATER_TRICK | LOWER_TRUMPS;
+/// Without trumps, the winners that an opponent keeps until the leader's side has to lead to them.
+pub const KEPT_WINNERS: u32 = 1 << 20;
+pub const ALL: u32 =
+    RUNS | LONG_SUITS | JOINT_TRUMPS | CROSSING | PARTNERS_LONG_SUITS | LATER_TRICK | LOWER_TRUMPS | KEPT_WINNERS;
 
 // Wrong forms, which `cases/rules.rs` has to find wrong.
 /// An opponent with trumps follows suit as long as it is led.
@@ -49,6 +52,11 @@ pub const TRUMPS_OF_BOTH_HANDS: u32 = 1 << 18;
 /// An opponent's higher trump takes no trick where the other opponent holds it.
 pub const ONE_OPPONENTS_TRUMPS: u32 = 1 << 19;
 
+/// An opponent keeps as many winners as it likes.
+pub const KEEPS_EACH_WINNER: u32 = 1 << 21;
+/// It keeps them over the rounds of the shorter holdings.
+pub const KEEPS_OVER_THE_SHORTER: u32 = 1 << 22;
+
 // The cards of a holding above all of these others.
 fn above_all(own: u16, others: u16) -> u16 {
     if others == 0 { own } else { above(own, highest(others)) }
@@ -58,12 +66,6 @@ fn above_all(own: u16, others: u16) -> u16 {
 fn winners(position: &Position, seat: Seat, suit: Suit) -> u16 {
     let [left, partner, right] = others(seat).map(|other| position.holding(other, suit));
     above_all(position.holding(seat, suit), left | partner | right)
-}
-
-// The cards of the suit that the seat holds and no opponent can beat.
-fn unbeaten(position: &Position, seat: Seat, suit: Suit) -> u16 {
-    let [left, _, right] = others(seat).map(|other| position.holding(other, suit));
-    above_all(position.holding(seat, suit), left | right)
 }
 
 pub fn others(seat: Seat) -> [Seat; 3] {
@@ -286,7 +288,9 @@ fn leaders<const RULES: u32>(position: &Position) -> ([Cash; 4], u8, u8) {
 pub fn bounds<const RULES: u32>(position: &Position) -> Interval {
     let (_, side, trumps) = leaders::<RULES>(position);
     let (_, crossed) = crossing::<RULES>(position, side);
-    let theirs = joint_trumps::<RULES>(position, position.first.next()).max(later_trick::<RULES>(position) as u8);
+    let [left, _, right] = others(position.first);
+    let kept = kept::<RULES>(position, left).max(kept::<RULES>(position, right));
+    let theirs = joint_trumps::<RULES>(position, left).max(later_trick::<RULES>(position) as u8).max(kept);
     Interval { lo: side + trumps + crossed, hi: position.tricks_left() - theirs }
 }
 
@@ -334,7 +338,50 @@ pub fn against_leader<const RULES: u32>(position: &Position, need: u8) -> Option
     if need <= joint_trumps::<RULES>(position, left) {
         return Some(with_trumps::<RULES>(position, left, 0, need));
     }
-    if need == 1 && later_trick::<RULES>(position) { Some(later_cards(position)) } else { None }
+    if need == 1 && later_trick::<RULES>(position) {
+        return Some(later_cards(position));
+    }
+    let [left, _, right] = others(position.first);
+    let seat = [left, right].into_iter().find(|&seat| need <= kept::<RULES>(position, seat))?;
+    Some(kept_cards(position, seat, need))
+}
+
+// Of a suit, how many winners an opponent has, and how often the leader's side can lead it.
+fn kept_of<const RULES: u32>(position: &Position, seat: Seat, suit: Suit) -> (u8, u8) {
+    let run = winners(position, seat, suit).count_ones() as u8;
+    let (own, his) = (length(position, position.first, suit), length(position, position.first.next().next(), suit));
+    (run, if RULES & KEEPS_OVER_THE_SHORTER != 0 { own.min(his) } else { own.max(his) })
+}
+
+// How many winners the opponent keeps until it comes in.
+fn kept<const RULES: u32>(position: &Position, seat: Seat) -> u8 {
+    if RULES & KEPT_WINNERS == 0 || SEATS.into_iter().any(|seat| trumps(position, seat) > 0) {
+        return 0;
+    }
+    let suits = SUITS.map(|suit| kept_of::<RULES>(position, seat, suit));
+    let winners: u8 = suits.iter().map(|suit| suit.0).sum();
+    let rounds: u8 = suits.iter().map(|suit| if suit.0 > 0 { 0 } else { suit.1 }).sum();
+    let headed = suits.iter().filter(|suit| suit.0 > 0 && suit.1 > 0).count() as u8;
+    let tricks = position.tricks_left();
+    match () {
+        () if headed + rounds > tricks => 0,
+        () if RULES & KEEPS_EACH_WINNER != 0 => winners.min(tricks),
+        () => winners.min(tricks.saturating_sub(rounds)),
+    }
+}
+
+// One of each suit that the leader's side can lead, and more winners up to so many.
+fn kept_cards(position: &Position, seat: Seat, need: u8) -> u64 {
+    let suits = SUITS.map(|suit| kept_of::<0>(position, seat, suit));
+    let first = suits.map(|suit| suit.0.min(suit.1).min(1));
+    let mut left = need.saturating_sub(first.iter().sum());
+    let mut cards = 0;
+    for ((suit, of), one) in SUITS.into_iter().zip(suits).zip(first) {
+        let more = (of.0 - one).min(left);
+        left -= more;
+        cards = with_highest(cards, suit, winners(position, seat, suit), one + more);
+    }
+    cards
 }
 
 // Of a suit: the longer holding of the leader's side, or the shorter, and whether an opponent heads it.

@@ -23,5 +23,8 @@ pub mod TakenTrick
 pub mod SecondHand
 pub mod SecondTrump
 pub mod SecondAcross
+pub mod PlainTrick
 pub mod LaterTrick
 pub mod LaterClaims
+pub mod KeptWinners
+pub mod KeptClaims

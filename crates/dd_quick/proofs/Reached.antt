@@ -19,7 +19,7 @@ use Rattle.dd_quick.specs.QuickTricks.{RestsOn, RestsOnHead, RestsOnNext, is_lon
 use Rattle.dd_quick.proofs.Plays.{count-where}
 
 -- where the ranks are the cards of a list that pass, those among the cards are reached
-reached-of : (suit : Suit) (test : PlayingCard → Bool) (ranks : List ℕ) (hand cards : List PlayingCard) → map (card_of suit) ranks ≡ filter test hand
+pub reached-of : (suit : Suit) (test : PlayingCard → Bool) (ranks : List ℕ) (hand cards : List PlayingCard) → map (card_of suit) ranks ≡ filter test hand
     → length (filter (λ q. has_card cards (card_of suit q)) ranks) ≤ count (λ c. test c && reach cards c) hand
 reached-of suit test ranks hand cards same =
     let a : length (filter (λ q. has_card cards (card_of suit q)) ranks) ≡ length (filter (has_card cards) (map (card_of suit) ranks)) = sym (length-map (filter (λ q. has_card cards (card_of suit q)) ranks) (card_of suit)) ∙ ap length (sym (filter-map (has_card cards) (card_of suit) ranks)) in

@@ -170,6 +170,31 @@ headed p i = (if heads p i Spades then 1 else 0) + (if heads p i Hearts then 1 e
 unfoldable pub has_later_trick : Board → Bool
 has_later_trick p = no_trumps p && (nat_lt (all_rounds p) (left p) && (nat_le (all_rounds p + headed p 1) (left p) && nat_le (all_rounds p + headed p 3) (left p)))
 
+-- ---- kept winners
+
+-- a winner of the suit that the seat keeps, where it has one and the leader's side can lead the suit
+abbrev pub first_kept : Board → Seat → Suit → ℕ
+first_kept p seat suit = min 1 (min (run p seat suit) (longer p suit))
+
+-- how often the leader's side can lead the suit, where the seat has no winner
+abbrev pub free_rounds : Board → Seat → Suit → ℕ
+free_rounds p seat suit = (if nat_lt 0 (run p seat suit) then 0 else longer p suit)
+
+-- the sum of a number over the suits
+abbrev pub of_all : (Suit → ℕ) → ℕ
+of_all number = number Spades + number Hearts + number Diamonds + number Clubs
+
+-- Kept winners: what the seat takes when it comes in, where no hand has a trump. The leader's side takes tricks only in the
+-- suits where the seat has no winner, and until then it has other cards to throw: those rounds, with one winner for each suit
+-- that it heads, are no more than the tricks left.
+unfoldable pub kept_winners : Board → Seat → ℕ
+kept_winners p seat = (if no_trumps p && nat_le (of_all (first_kept p seat) + of_all (free_rounds p seat)) (left p)
+    then min (of_all (run p seat)) (left p - of_all (free_rounds p seat)) else 0)
+
+-- those of the opponent that keeps more
+abbrev pub others_kept : Board → ℕ
+others_kept p = max (kept_winners p (seat_after p.first 1)) (kept_winners p (seat_after p.first 3))
+
 -- ---- both
 
 -- the side of the leader takes at least this number
@@ -178,7 +203,7 @@ quick_lo p = side_tricks p + joint_trumps p.strain p p.first + crossed p
 
 -- and no more than this
 unfoldable pub quick_hi : Board → ℕ
-quick_hi p = left p - max (joint_trumps p.strain p (seat_after p.first 1)) (if has_later_trick p then 1 else 0)
+quick_hi p = left p - max (max (joint_trumps p.strain p (seat_after p.first 1)) (if has_later_trick p then 1 else 0)) (others_kept p)
 
 -- the tricks that the leader cashes in a suit, and the number of cards on which they rest, if there are any
 abbrev pub IsCash : Board → Suit → ℕ → ℕ → Type 0
@@ -204,6 +229,10 @@ RestsOnTrumps Notrump p seat cards n = Unit {0}
 RestsOnTrumps (Trump trump) p seat cards n =
     ((n ≡ 0) ⊎ ((rank : ℕ) × (n ≤ taken_from p seat trump rank) × (reach cards (card_of trump rank) ≡ true)))
     ⊎ ((length_at p (seat_after seat 1) trump ≡ 0) × (length_at p (seat_after seat 3) trump ≡ 0))
+
+-- so many of the seat's winners in the suit, as far as its run goes, are reached by these cards
+abbrev pub RestsOnRun : Board → Seat → Suit → List PlayingCard → ℕ → Type 0
+RestsOnRun p seat suit cards n = min n (run p seat suit) ≤ length (filter (λ c. (is_of suit c && is_winner p seat c) && reach cards c) (cards_at p seat))
 
 -- the card with which the seat heads the suit is reached by these cards
 abbrev pub RestsOnHead : Board → ℕ → Suit → List PlayingCard → Type 0
