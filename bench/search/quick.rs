@@ -342,7 +342,7 @@ pub fn against_leader<const RULES: u32>(position: &Position, need: u8) -> Option
         return Some(later_cards(position));
     }
     let [left, _, right] = others(position.first);
-    let seat = [left, right].into_iter().find(|&seat| need <= kept::<RULES>(position, seat))?;
+    let seat = [left, right].into_iter().find(|&seat| keeps::<RULES>(position, seat, need))?;
     Some(kept_cards(position, seat, need))
 }
 
@@ -351,6 +351,15 @@ fn kept_of<const RULES: u32>(position: &Position, seat: Seat, suit: Suit) -> (u8
     let run = winners(position, seat, suit).count_ones() as u8;
     let (own, his) = (length(position, position.first, suit), length(position, position.first.next().next(), suit));
     (run, if RULES & KEEPS_OVER_THE_SHORTER != 0 { own.min(his) } else { own.max(his) })
+}
+
+// Does the opponent keep so many winners? Most often it has too few of them, which is asked first.
+fn keeps<const RULES: u32>(position: &Position, seat: Seat, need: u8) -> bool {
+    if SEATS.into_iter().any(|seat| trumps(position, seat) > 0) {
+        return false;
+    }
+    let all: u32 = SUITS.map(|suit| winners(position, seat, suit).count_ones()).iter().sum();
+    need as u32 <= all && need <= kept::<RULES>(position, seat)
 }
 
 // How many winners the opponent keeps until it comes in.

@@ -330,30 +330,33 @@ module _ (s : Side) (h : Seat) (keep spend : PlayingCard → Bool) (p : Board) (
 
   -- a lead by another hand than h begins it
   pub lead-on : (valid : IsBoard p) → p.trick ≡ [] → seat_code p.first ≢ seat_code h → IsLegal p m → ((c : PlayingCard) → keep c ≡ true → has_card (cards_at p h) c ≡ true) → IsUnder (after p m) × (length (after p m).trick ≡ 1)
-  lead-on valid start away has keeps = (record {
-    valid = (legal-leads p m valid has).valid;
-    same = strain-after p m;
-    first = (trick-after p m opens).1;
-    led = ([], pushed);
-    part = λ x d k. was-in p m valid x d k;
-    keeps = λ d k. ap (λ cards. has_card cards d) (others h (λ e. away (sym e))) ∙ keeps d k;
-    still = λ i l k. others (seat_after p.first i) (let a = after-code p.first i in let b = code-lt p.first in let z = one in λ e. omega (arith, a, b, z, e, l, k));
-    fewer = λ x test. elim (same-or x p.first) [
-      | inl e ↦ subst (λ y. count test (cards_at (after p m) y) ≤ count test (cards_at p y)) (sym e) (let l = lost test in omega (arith, l))
-      | inr apart ↦ (let f : count test (cards_at (after p m) x) ≡ count test (cards_at p x) = ap (count test) (others x apart) in omega (arith, f))
-    ];
-    followed = λ i l. subst (λ n. HasFollowed m.suit p (after p m) (seat_after p.first n)) (let k = one in let z : 0 ≡ i = omega (arith, l, k) in z)
-        (subst (HasFollowed m.suit p (after p m)) (sym (no-turn p.first)) (inr (let l = lost (is_of m.suit) in let f : flag_of (is_of m.suit m) ≡ 1 = ap flag_of (of-suit' m.suit m refl) in omega (arith, l, f))));
-    played = λ i d l. (let k = one in let z : 0 ≡ i = omega (arith, l, k) in
-        subst (λ n. has_card (cards_at p (seat_after p.first n)) (get_or (after p m).trick n d) ≡ true) z (ap₂ (λ x trick. has_card (cards_at p x) (get_or trick 0 d)) (no-turn p.first) pushed ∙ mine));
-    spent = λ i d l at. absurd (let k = one in let z : i ≡ 0 = omega (arith, l, k) in away (ap seat_code (sym (no-turn p.first) ∙ ap (seat_after p.first) (sym z) ∙ at)));
-    paid = (
-        let l = lost (λ c. true) in
-        let a = ap length (filter-true (cards_at (after p m) p.first)) in
-        let b = ap length (filter-true (cards_at p p.first)) in
-        let n = hand-left p valid start p.first in
-        omega (arith, l, a, b, n));
-  }, one)
+  lead-on valid start away has keeps = (
+    record {
+      valid = (legal-leads p m valid has).valid;
+      same = strain-after p m;
+      first = (trick-after p m opens).1;
+      led = ([], pushed);
+      part = λ x d k. was-in p m valid x d k;
+      keeps = λ d k. ap (λ cards. has_card cards d) (others h (λ e. away (sym e))) ∙ keeps d k;
+      still = λ i l k. others (seat_after p.first i) (let a = after-code p.first i in let b = code-lt p.first in let z = one in λ e. omega (arith, a, b, z, e, l, k));
+      fewer = λ x test. elim (same-or x p.first) [
+        | inl e ↦ subst (λ y. count test (cards_at (after p m) y) ≤ count test (cards_at p y)) (sym e) (let l = lost test in omega (arith, l))
+        | inr apart ↦ (let f : count test (cards_at (after p m) x) ≡ count test (cards_at p x) = ap (count test) (others x apart) in omega (arith, f))
+      ];
+      followed = λ i l. subst (λ n. HasFollowed m.suit p (after p m) (seat_after p.first n)) (let k = one in let z : 0 ≡ i = omega (arith, l, k) in z)
+          (subst (HasFollowed m.suit p (after p m)) (sym (no-turn p.first)) (inr (let l = lost (is_of m.suit) in let f : flag_of (is_of m.suit m) ≡ 1 = ap flag_of (of-suit' m.suit m refl) in omega (arith, l, f))));
+      played = λ i d l. (let k = one in let z : 0 ≡ i = omega (arith, l, k) in
+          subst (λ n. has_card (cards_at p (seat_after p.first n)) (get_or (after p m).trick n d) ≡ true) z (ap₂ (λ x trick. has_card (cards_at p x) (get_or trick 0 d)) (no-turn p.first) pushed ∙ mine));
+      spent = λ i d l at. absurd (let k = one in let z : i ≡ 0 = omega (arith, l, k) in away (ap seat_code (sym (no-turn p.first) ∙ ap (seat_after p.first) (sym z) ∙ at)));
+      paid = (
+          let l = lost (λ c. true) in
+          let a = ap length (filter-true (cards_at (after p m) p.first)) in
+          let b = ap length (filter-true (cards_at p p.first)) in
+          let n = hand-left p valid start p.first in
+          omega (arith, l, a, b, n));
+    },
+    one,
+  )
     where
       opens : completes p ≡ false
       opens = ap (λ trick. length trick == 3) start

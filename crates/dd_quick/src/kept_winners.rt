@@ -120,9 +120,27 @@ pub(crate) fn kept_cards(position: &Position, seat: Seat, need: u8) -> Hand
     };
     let more = share_out(offers, need.max(first) - first);
     let cards = Hand::new();
-    let cards = with_winners(position, cards, seat, Suit::Spades, spades.first + more.spades);
-    let cards = with_winners(position, cards, seat, Suit::Hearts, hearts.first + more.hearts);
-    let cards = with_winners(position, cards, seat, Suit::Diamonds, diamonds.first + more.diamonds);
+    let cards = with_winners(
+        position,
+        cards,
+        seat,
+        Suit::Spades,
+        spades.first + more.spades,
+    );
+    let cards = with_winners(
+        position,
+        cards,
+        seat,
+        Suit::Hearts,
+        hearts.first + more.hearts,
+    );
+    let cards = with_winners(
+        position,
+        cards,
+        seat,
+        Suit::Diamonds,
+        diamonds.first + more.diamonds,
+    );
     with_winners(position, cards, seat, Suit::Clubs, clubs.first + more.clubs)
 }
 

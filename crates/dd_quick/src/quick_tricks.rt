@@ -269,7 +269,9 @@ fn all_others(position: &Position) -> u8
     let left = position.first().left();
     let right = position.first().right();
     let kept = kept_winners(position, left).max(kept_winners(position, right));
-    others(position).max(one_if(later_trick(position))).max(kept)
+    others(position)
+        .max(one_if(later_trick(position)))
+        .max(kept)
 }
 
 // The winners on which so many tricks of the other side rest.
