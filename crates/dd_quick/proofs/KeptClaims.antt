@@ -8,7 +8,6 @@ use Rattle.dd_cards.specs.declared.seat.Seat.{Seat}
 use Rattle.dd_cards.specs.declared.seat.Seat.TheVariants.{North, East, South, West}
 use Rattle.dd_cards.specs.declared.suit.Suit.{Suit}
 use Rattle.dd_cards.specs.declared.suit.Suit.TheVariants.{Spades, Hearts, Diamonds, Clubs}
-use Rattle.dd_cards.specs.declared.side.Side.{Side}
 use Rattle.dd_cards.specs.PlayingCard.{PlayingCard}
 use Rattle.dd_cards.specs.Cards.{is_of, card_of, has_card}
 use Rattle.dd_cards.specs.Seats.{seat_code, seat_after}
@@ -18,12 +17,12 @@ use Rattle.dd_play.specs.Board.{Board, IsBoard, cards_at, left}
 use Rattle.dd_play.specs.Covers.{count_of}
 use Rattle.dd_play.specs.Reach.{TakesBy, reach}
 use Rattle.dd_play.specs.Won.{won}
-use Rattle.dd_play.proofs.CallerLemmas.{after-code, code-lt, count, count-has, count-some, of-suit', once-in, reach-within, suit-of}
+use Rattle.dd_play.proofs.CallerLemmas.{after-code, code-lt, count, count-has, count-some, once-in, reach-within, suit-of}
 use Rattle.dd_quick.specs.QuickTricks.{RestsOnRun, first_kept, free_rounds, is_winner, kept_winners, length_at, longer, no_trumps, of_all, run}
 use Rattle.dd_quick.specs.SecondHand.{Opposes}
 use Rattle.dd_quick.proofs.Across.{plain-covered}
 use Rattle.dd_quick.proofs.AcrossClaims.{no-trumps-at}
-use Rattle.dd_quick.proofs.Cashing.{by-suits, hand_on, sure_of, total}
+use Rattle.dd_quick.proofs.Cashing.{by-suits, total}
 use Rattle.dd_quick.proofs.Chosen.{Chosen, choose}
 use Rattle.dd_quick.proofs.Covered.{left-same, length-same, no-trick, run-covered, seat-same}
 use Rattle.dd_quick.proofs.Crossings.{NoTrumps, chosen-many}
@@ -32,8 +31,7 @@ use Rattle.dd_quick.proofs.KeptWinners.{CanKeep, kept-taken}
 use Rattle.dd_quick.proofs.LaterTrick.{rounds_of}
 use Rattle.dd_quick.proofs.Plays.{count-where}
 use Rattle.dd_quick.proofs.Reached.{length-of, reached-of}
-use Rattle.dd_quick.proofs.TakenTrick.{one-three, three-one}
-use Rattle.dd_quick.proofs.TrumpRanks.{last-seat}
+use Rattle.dd_quick.proofs.TakenTrick.{one-three}
 
 -- ---- any numbers of winners
 

@@ -3,8 +3,8 @@
 -- not head shorter; so as long as those are, with the winners kept, no more than the tricks left, h has another card to throw.
 -- Where a suit that it heads is led, h wins and cashes the others. Its partner, on lead, leads to it, or a suit that the other
 -- side has, or has only cards that the other side can't beat.
-use Rattle.std.proofs.Common.{◌≡◌, ◌≢◌, ℕ, zero, suc, ◌+◌, ◌-◌, ◌<◌, ◌≤◌, Bool, true, false, refl, sym, ap, ◌∙◌, subst, arith, List, [], ◌∷◌, ◌++◌, length, inl, inr, max, min, zero-le}
-use Rattle.std.specs.Prelude.{nat_lt, ◌&&◌, ◌||◌, ◌==◌, ◌⊎◌, if◌then◌else◌}
+use Rattle.std.proofs.Common.{◌≡◌, ◌≢◌, ℕ, zero, suc, ◌+◌, ◌-◌, ◌<◌, ◌≤◌, Bool, true, false, refl, sym, ap, ◌∙◌, subst, arith, List, [], ◌∷◌, length, inl, inr, max, zero-le}
+use Rattle.std.specs.Prelude.{nat_lt, ◌&&◌, ◌⊎◌, if◌then◌else◌}
 use mathlib.Core.Bool.{not}
 use mathlib.Core.Path.{ap₂}
 use Rattle.std.proofs.lemmas.Bool.{cases_lt, lt-ltb, ltb-true}
@@ -22,13 +22,13 @@ use Rattle.dd_play.specs.Tricks.{is_trump}
 use Rattle.dd_play.specs.Play.{after, following, legal}
 use Rattle.dd_play.specs.Simulations.{IsLegal}
 use Rattle.dd_play.specs.Covers.{count_of}
-use Rattle.dd_play.specs.Won.{point, won}
-use Rattle.dd_play.proofs.CallerLemmas.{after-code, can, code-lt, count, count-has, count-some, flag_of, has-first, inject, legal-in, no-legal, of-suit', once-in, own-card, same-or, suit-of, won_with}
-use Rattle.dd_quick.specs.QuickTricks.{beats, is_winner, length_at, run, trumps_at}
+use Rattle.dd_play.specs.Won.{won}
+use Rattle.dd_play.proofs.CallerLemmas.{after-code, can, code-lt, count, count-has, count-some, has-first, inject, legal-in, no-legal, of-suit', once-in, own-card, same-or, suit-of, won_with}
+use Rattle.dd_quick.specs.QuickTricks.{beats, is_winner, trumps_at}
 use Rattle.dd_quick.proofs.Cashing.{by-suits, same-trump, total}
 use Rattle.dd_quick.proofs.Chosen.{count-never, count-split}
 use Rattle.dd_quick.proofs.Covered.{some-card}
-use Rattle.dd_quick.proofs.Crossings.{HasFollowed, NoTrumps}
+use Rattle.dd_quick.proofs.Crossings.{NoTrumps}
 use Rattle.dd_quick.proofs.JointTrumps.{place-of}
 use Rattle.dd_quick.proofs.LaterTrick.{rounds_of}
 use Rattle.dd_quick.proofs.PlainTrick.{IsDone, IsUnder, hand-left, lead-on, no-turn, trick-on}

@@ -5,7 +5,7 @@ use Rattle.std.specs.Prelude.{map, nat_le, nat_lt, ◌&&◌, ◌==◌, ◌⊎◌
 use Rattle.std.specs.List.{list_all}
 use mathlib.Core.Bool.{not}
 use mathlib.Core.Path.{ap₂}
-use Rattle.std.proofs.lemmas.Bool.{leb-true, eqb-true, cases_lt, lt-ltb}
+use Rattle.std.proofs.lemmas.Bool.{leb-true, eqb-true, cases_lt}
 use Rattle.std.proofs.lemmas.Bool.Decides.{eqb_tells, nat_tests}
 use Rattle.std.proofs.lemmas.List.{length-map, get_or-map}
 use Rattle.std.proofs.lemmas.List.Sums.{passes_at_first}
@@ -24,11 +24,11 @@ use Rattle.dd_cards.proofs.CallerLemmas.{else-false, filter-true, has_card-witho
 use Rattle.dd_play.specs.Board.{Board, IsBoard, cards_at, mover, left}
 use Rattle.dd_play.specs.Tricks.{is_trump, winning_place, winner_of}
 use Rattle.dd_play.specs.Strength.{strength, strongest_place}
-use Rattle.dd_play.specs.Play.{completes, trick_with, after, following}
+use Rattle.dd_play.specs.Play.{completes, trick_with, after}
 use Rattle.dd_play.specs.Simulations.{IsLegal}
 use Rattle.dd_play.specs.Covers.{count_of}
 use Rattle.dd_play.specs.Won.{won, point}
-use Rattle.dd_play.proofs.CallerLemmas.{Obeys, after-code, can, code-lt, count, count-has, count-some, flag_of, hand-others, hand-own, has-at, has-first, legal-leads, legal-out, of-suit', own-card, place-within, real-trick, same-or, strain-after, strength_by, suit-of, trick-after, trick-closed, was-in, winning-strongest, won_with}
+use Rattle.dd_play.proofs.CallerLemmas.{Obeys, after-code, can, code-lt, count, count-some, flag_of, hand-others, hand-own, has-at, has-first, legal-leads, legal-out, of-suit', own-card, place-within, real-trick, same-or, strain-after, strength_by, suit-of, trick-after, trick-closed, was-in, winning-strongest, won_with}
 use Rattle.dd_quick.proofs.Crossings.{HasFollowed, NoTrumps}
 use Rattle.dd_quick.proofs.JointTrumps.{place-of}
 use Rattle.dd_quick.proofs.Plays.{count-own, place-push, whoever}

@@ -285,7 +285,7 @@ fn all_others_cards(position: &Position, need: u8) -> Hand
     if need <= others(position) {
         return others_cards(position, need);
     }
-    if need == 1 && later_trick(position) {
+    if later_trick(position) && need == 1 {
         return later_cards(position);
     }
     let left = position.first().left();

@@ -461,6 +461,7 @@ fn an_opponent_keeps_its_winners_until_it_comes_in(rt: HostRuntime) {
             notrump,
             (1, 1),
             [1, 2, 0, 0],
+            2,
             "one round of spades, then hearts",
         ),
         (
@@ -468,6 +469,7 @@ fn an_opponent_keeps_its_winners_until_it_comes_in(rt: HostRuntime) {
             notrump,
             (1, 1),
             [1, 2, 0, 0],
+            2,
             "the right opponent's",
         ),
         (
@@ -475,6 +477,7 @@ fn an_opponent_keeps_its_winners_until_it_comes_in(rt: HostRuntime) {
             notrump,
             (2, 2),
             [2, 1, 0, 0],
+            1,
             "no trick is left for the king",
         ),
         (
@@ -482,6 +485,7 @@ fn an_opponent_keeps_its_winners_until_it_comes_in(rt: HostRuntime) {
             notrump,
             (2, 2),
             [2, 1, 1, 0],
+            2,
             "one of each suit, and the king is thrown",
         ),
         (
@@ -489,6 +493,7 @@ fn an_opponent_keeps_its_winners_until_it_comes_in(rt: HostRuntime) {
             notrump,
             (1, 2),
             [1, 2, 0, 0],
+            2,
             "its partner has a winner too",
         ),
         (
@@ -496,15 +501,15 @@ fn an_opponent_keeps_its_winners_until_it_comes_in(rt: HostRuntime) {
             Strain::Trump(Suit::Diamonds),
             (1, 3),
             [1, 0, 1, 0],
+            1,
             "each hand has a trump",
         ),
     ];
-    for (hands, strain, interval, depths, what) in table {
+    for (hands, strain, interval, depths, theirs, what) in table {
         let start = start(hands, strain, Seat::North).expect(&rt, "even hands");
         assert_eq!(rt; found(&start), (interval, depths), "{what}");
-        let tricks = start.position().tricks_left() - interval.1;
-        assert!(rt; against_leader(&start, tricks).is_some(), "{what}");
-        assert!(rt; against_leader(&start, tricks + 1).is_none(), "{what}");
+        assert!(rt; against_leader(&start, theirs).is_some(), "{what}");
+        assert!(rt; against_leader(&start, theirs + 1).is_none(), "{what}");
     }
 }
 

@@ -1,5 +1,4 @@
-use Rattle.std.proofs.Common.{arith, ◌∙◌, ◌≡◌, ◌+◌, ◌≤◌, ℕ, ap, sym, subst}
-use mathlib.Core.Path.{ap₂}
+use Rattle.std.proofs.Common.{arith, ◌+◌, ◌≤◌, ℕ, subst}
 use Rattle.dd_cards.specs.declared.suit.Suit.{Suit}
 use Rattle.dd_cards.specs.declared.suit.Suit.TheVariants.{Spades, Hearts, Diamonds, Clubs}
 use Rattle.dd_quick.specs.QuickTricks.{RestsOnRun, first_kept, run}

@@ -1,4 +1,3 @@
-use Rattle.std.proofs.Common.{arith, ◌∙◌, ap}
 use Rattle.dd_quick.proofs.KeptClaims.{run-reached}
 use Rattle.dd_quick.proofs.kept_winners.with_winners.Goals as goal
 
