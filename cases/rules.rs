@@ -10,11 +10,13 @@ mod search;
 mod deals;
 
 use deals::{Chance, Played, code, dealt_anew, random_deal, start, turned, written};
-use search::quick::{ALL, CROSSING, JOINT_TRUMPS, LATER_TRICK, LONG_SUITS, PARTNERS_LONG_SUITS, RUNS};
+use search::quick::{ALL, CROSSING, JOINT_TRUMPS, LATER_TRICK, LONG_SUITS, LOWER_TRUMPS, PARTNERS_LONG_SUITS, RUNS};
 use search::quick::{against_leader, for_leader, for_second_hand, others as other_seats};
 use search::quick::{AT_THIRD_HAND, CROSSES_WITHOUT_A_CARD, LONG_BEFORE_THE_LEADER, LONG_BEFORE_THE_OPPONENTS};
 use search::quick::{A_ROUND_FOR_EACH_TRICK, ROUNDS_OF_THE_SHORTER};
 use search::quick::{CROSSING_WITHOUT_TRUMPS, NOBODY_HAS_FOLLOWED, NOBODY_RUFFS_THE_PARTNER};
+use search::quick::{KEEPS_EACH_WINNER, KEEPS_OVER_THE_SHORTER, KEPT_WINNERS};
+use search::quick::{HIGHER_TRUMPS_TAKE_NOTHING, ONE_OPPONENTS_TRUMPS, TRUMPS_OF_BOTH_HANDS};
 use search::quick::{NOBODY_RUFFS, NO_WINNER_FALLS, THE_LEAD_IS_NOT_RUFFED, TRUMPS_ARE_DRAWN};
 use search::{Card, Position, Strain, Suit, depths_of};
 use std::process::ExitCode;
@@ -53,13 +55,17 @@ const fn others(name: &'static str, played: usize, claim: fn(&Position, u8) -> O
 }
 
 // A rule that is added to the quick tricks gets a line here, and where it has parts a line for each.
-const RIGHT: [Rule; 29] = [
+const RIGHT: [Rule; 34] = [
     leaders("side suits without long ones", for_leader::<RUNS>),
     leaders("long suits", for_leader::<LONG_SUITS>),
     leaders("side suits with long ones", for_leader::<{ RUNS | LONG_SUITS }>),
     leaders("joint trumps of the leader's side", for_leader::<JOINT_TRUMPS>),
     others("joint trumps of the other side", 0, against_leader::<JOINT_TRUMPS>),
+    leaders("lower trumps of the leader's side", lower_leaders::<{ JOINT_TRUMPS | LOWER_TRUMPS }>),
+    leaders("lower trumps beside side suits", lower_leaders::<{ RUNS | LONG_SUITS | JOINT_TRUMPS | LOWER_TRUMPS }>),
+    others("lower trumps of the other side", 0, lower_others::<{ JOINT_TRUMPS | LOWER_TRUMPS }>),
     others("the other side's later trick", 0, against_leader::<LATER_TRICK>),
+    others("the other side's kept winners", 0, against_leader::<KEPT_WINNERS>),
     others("all of the other side", 0, against_leader::<ALL>),
     leaders("crossing to the partner", for_leader::<CROSSING>),
     leaders("crossing after side suits without long ones", crossed::<{ RUNS | CROSSING }>),
@@ -74,6 +80,7 @@ const RIGHT: [Rule; 29] = [
     others("second hand: side suits without long ones", 1, side_suit_led::<RUNS>),
     others("second hand: long suits", 1, side_suit_led::<LONG_SUITS>),
     others("second hand: side suits and joint trumps", 1, side_suit_led::<{ RUNS | JOINT_TRUMPS }>),
+    others("second hand: side suits and lower trumps", 1, second_lower::<{ RUNS | JOINT_TRUMPS | LOWER_TRUMPS }>),
     others("second hand: crossing after side suits without long ones", 1, second_crossed::<{ RUNS | CROSSING }>),
     others("second hand: crossing to its partner's long suits", 1, second_long::<ALL>),
     others("second hand: crossing after side suits", 1, second_crossed::<ALL>),
@@ -85,9 +92,13 @@ const RIGHT: [Rule; 29] = [
     others("second hand: all after the lead of a trump", 1, trump_led::<ALL>),
 ];
 
-const WRONG: [Rule; 21] = [
+const WRONG: [Rule; 27] = [
     leaders("joint trumps added after a draw", for_leader::<{ ALL | TRUMPS_ARE_DRAWN }>),
     leaders("long suits that opponents with trumps can't follow", for_leader::<{ LONG_SUITS | NOBODY_RUFFS }>),
+    leaders("lower trumps where higher ones take nothing", lower_leaders::<{ ALL | HIGHER_TRUMPS_TAKE_NOTHING }>),
+    others("the other side's lower trumps where higher ones take nothing", 0, lower_others::<{ ALL | HIGHER_TRUMPS_TAKE_NOTHING }>),
+    others("joint trumps where one opponent's take nothing", 0, lower_others::<{ ALL | ONE_OPPONENTS_TRUMPS }>),
+    others("joint trumps of both hands", 0, against_leader::<{ ALL | TRUMPS_OF_BOTH_HANDS }>),
     leaders("crossing to winners that fall", crossed::<{ ALL | NO_WINNER_FALLS }>),
     leaders("crossing without a card to lead", crossed::<{ ALL | CROSSES_WITHOUT_A_CARD }>),
     leaders("crossing to a suit that the leader is long in", long_crossed::<{ ALL | LONG_BEFORE_THE_LEADER }>),
@@ -95,6 +106,8 @@ const WRONG: [Rule; 21] = [
     others("second hand: crossing to a suit that opponents are long in", 1, second_long::<{ ALL | LONG_BEFORE_THE_OPPONENTS }>),
     others("a later trick where there is a round for each trick", 0, against_leader::<{ LATER_TRICK | A_ROUND_FOR_EACH_TRICK }>),
     others("a later trick by the shorter holdings", 0, against_leader::<{ LATER_TRICK | ROUNDS_OF_THE_SHORTER }>),
+    others("kept winners without a trick for each", 0, against_leader::<{ KEPT_WINNERS | KEEPS_EACH_WINNER }>),
+    others("kept winners by the shorter holdings", 0, against_leader::<{ KEPT_WINNERS | KEEPS_OVER_THE_SHORTER }>),
     others("second hand: a lead that third hand ruffs", 1, side_suit_led::<{ ALL | THE_LEAD_IS_NOT_RUFFED }>),
     others("second hand: crossing to winners that fall", 1, second_crossed::<{ ALL | NO_WINNER_FALLS }>),
     others("second hand: crossing without a card to lead", 1, second_crossed::<{ ALL | CROSSES_WITHOUT_A_CARD }>),
@@ -108,6 +121,28 @@ const WRONG: [Rule; 21] = [
     others("second hand: crossing beside trumps to winners that fall", 1, second_beside::<{ ALL | NO_WINNER_FALLS }>),
     others("second hand's winners at third hand", 2, third_hand),
 ];
+
+// Only what the highest trumps don't answer.
+fn lower_leaders<const RULES: u32>(position: &Position, need: u8) -> Option<u64> {
+    match for_leader::<{ RUNS | LONG_SUITS | JOINT_TRUMPS }>(position, need) {
+        Some(_) => None,
+        None => for_leader::<RULES>(position, need),
+    }
+}
+
+fn lower_others<const RULES: u32>(position: &Position, need: u8) -> Option<u64> {
+    match against_leader::<JOINT_TRUMPS>(position, need) {
+        Some(_) => None,
+        None => against_leader::<RULES>(position, need),
+    }
+}
+
+fn second_lower<const RULES: u32>(position: &Position, need: u8) -> Option<u64> {
+    match side_suit_led::<{ RUNS | JOINT_TRUMPS }>(position, need) {
+        Some(_) => None,
+        None => side_suit_led::<RULES>(position, need),
+    }
+}
 
 // Only what the leader's own tricks don't answer.
 fn crossed<const RULES: u32>(position: &Position, need: u8) -> Option<u64> {

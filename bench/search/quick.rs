@@ -1,6 +1,6 @@
 //! The quick tricks of `dd_quick` in plain Rust. `RULES` says which are counted, so that `cases/rules.rs` can try each alone: a
 //! search counts `ALL`. What is left out or added is known when it is compiled, and costs nothing.
-use super::{Card, Interval, Position, SUITS, Seat, Strain, Suit, above, below, highest, with};
+use super::{Card, Interval, Position, SEATS, SUITS, Seat, Strain, Suit, above, below, highest, with};
 
 /// A side suit's highest cards, while the leader holds them without a gap.
 pub const RUNS: u32 = 1;
@@ -14,7 +14,12 @@ pub const CROSSING: u32 = 8;
 pub const PARTNERS_LONG_SUITS: u32 = 1024;
 /// Without trumps, one trick where the leader's side has to lead a suit that an opponent heads.
 pub const LATER_TRICK: u32 = 8192;
-pub const ALL: u32 = RUNS | LONG_SUITS | JOINT_TRUMPS | CROSSING | PARTNERS_LONG_SUITS | LATER_TRICK;
+/// Joint trumps below some of the opponents', but for as many tricks.
+pub const LOWER_TRUMPS: u32 = 65536;
+/// Without trumps, the winners that an opponent keeps until the leader's side has to lead to them.
+pub const KEPT_WINNERS: u32 = 1 << 20;
+pub const ALL: u32 =
+    RUNS | LONG_SUITS | JOINT_TRUMPS | CROSSING | PARTNERS_LONG_SUITS | LATER_TRICK | LOWER_TRUMPS | KEPT_WINNERS;
 
 // Wrong forms, which `cases/rules.rs` has to find wrong.
 /// An opponent with trumps follows suit as long as it is led.
@@ -46,6 +51,18 @@ pub const CROSSING_WITHOUT_TRUMPS: u32 = 1 << 22;
 pub const A_ROUND_FOR_EACH_TRICK: u32 = 16384;
 /// Of a suit that it heads the leader's side has as many rounds as its shorter holding.
 pub const ROUNDS_OF_THE_SHORTER: u32 = 32768;
+
+/// The opponents' higher trumps take no trick.
+pub const HIGHER_TRUMPS_TAKE_NOTHING: u32 = 1 << 17;
+/// Joint trumps take a trick each though neither hand has a trump for each.
+pub const TRUMPS_OF_BOTH_HANDS: u32 = 1 << 18;
+/// An opponent's higher trump takes no trick where the other opponent holds it.
+pub const ONE_OPPONENTS_TRUMPS: u32 = 1 << 19;
+
+/// An opponent keeps as many winners as it likes.
+pub const KEEPS_EACH_WINNER: u32 = 1 << 21;
+/// It keeps them over the rounds of the shorter holdings.
+pub const KEEPS_OVER_THE_SHORTER: u32 = 1 << 22;
 
 // The cards of a holding above all of these others.
 fn above_all(own: u16, others: u16) -> u16 {
@@ -162,24 +179,79 @@ fn shares(offers: [Offer; 4], need: u8) -> [u8; 4] {
     shares
 }
 
-// The tricks of the joint trumps of the seat and its partner.
-fn joint_trumps<const RULES: u32>(position: &Position, seat: Seat) -> u8 {
-    let Strain::Trump(trump) = position.strain else { return 0 };
-    if RULES & JOINT_TRUMPS == 0 {
-        return 0;
-    }
-    let partner = seat.next().next();
-    let both = unbeaten(position, seat, trump).count_ones() + unbeaten(position, partner, trump).count_ones();
-    (both as u8).min(length(position, seat, trump).max(length(position, partner, trump)))
+// The trumps of a side and of its opponents, and how many the longer of its two hands has.
+struct Trumps {
+    ours: u16,
+    theirs: u16,
+    longer: u8,
 }
 
-fn with_trumps(position: &Position, seat: Seat, cards: u64, tricks: u8) -> u64 {
+impl Trumps {
+    fn new<const RULES: u32>(position: &Position, seat: Seat, trump: Suit) -> Trumps {
+        let [left, partner, right] = others(seat).map(|other| position.holding(other, trump));
+        let own = position.holding(seat, trump);
+        let (long, short) = (own.count_ones().max(partner.count_ones()), own.count_ones().min(partner.count_ones()));
+        Trumps {
+            ours: own | partner,
+            theirs: if RULES & ONE_OPPONENTS_TRUMPS != 0 { left } else { left | right },
+            longer: (if RULES & TRUMPS_OF_BOTH_HANDS != 0 { long + short } else { long }) as u8,
+        }
+    }
+
+    // What those of this rank or higher take.
+    fn taken<const RULES: u32>(&self, rank: u8) -> u8 {
+        let from = |ranks: u16| (ranks.count_ones() - below(ranks, rank).count_ones()) as u8;
+        let over = from(self.theirs);
+        match over {
+            0 => from(self.ours).min(self.longer),
+            _ if RULES & LOWER_TRUMPS == 0 => 0,
+            _ if RULES & HIGHER_TRUMPS_TAKE_NOTHING != 0 => from(self.ours).min(self.longer),
+            _ => from(self.ours).min(self.longer).saturating_sub(over),
+        }
+    }
+
+    fn most<const RULES: u32>(&self) -> u8 {
+        let (mut rest, mut most) = (self.ours, 0);
+        while rest != 0 {
+            let rank = highest(rest);
+            rest = below(rest, rank);
+            most = most.max(self.taken::<RULES>(rank));
+        }
+        most
+    }
+
+    // The highest of its ranks from which on trumps take so many tricks.
+    fn lowest<const RULES: u32>(&self, tricks: u8) -> Option<u8> {
+        let mut rest = self.ours;
+        while rest != 0 {
+            let rank = highest(rest);
+            rest = below(rest, rank);
+            if tricks <= self.taken::<RULES>(rank) {
+                return Some(rank);
+            }
+        }
+        None
+    }
+}
+
+// The tricks of the joint trumps of the seat and its partner.
+fn joint_trumps<const RULES: u32>(position: &Position, seat: Seat) -> u8 {
+    match position.strain {
+        Strain::Trump(trump) if RULES & JOINT_TRUMPS != 0 => Trumps::new::<RULES>(position, seat, trump).most::<RULES>(),
+        _ => 0,
+    }
+}
+
+fn with_trumps<const RULES: u32>(position: &Position, seat: Seat, cards: u64, tricks: u8) -> u64 {
     let Strain::Trump(trump) = position.strain else { return cards };
-    let [left, partner, right] = others(seat);
-    if length(position, left, trump) == 0 && length(position, right, trump) == 0 {
+    let [left, _, right] = others(seat);
+    if tricks == 0 || length(position, left, trump) == 0 && length(position, right, trump) == 0 {
         return cards;
     }
-    with_highest(cards, trump, unbeaten(position, seat, trump) | unbeaten(position, partner, trump), tricks)
+    match Trumps::new::<RULES>(position, seat, trump).lowest::<RULES>(tricks) {
+        Some(rank) => with(cards, trump, rank),
+        None => cards,
+    }
 }
 
 // The cards of the suit that the leader's partner holds next below the leader's run.
@@ -264,7 +336,9 @@ fn leaders<const RULES: u32>(position: &Position) -> ([Cash; 4], u8, u8) {
 pub fn bounds<const RULES: u32>(position: &Position) -> Interval {
     let (_, side, trumps) = leaders::<RULES>(position);
     let (_, crossed) = crossing::<RULES>(position, side);
-    let theirs = joint_trumps::<RULES>(position, position.first.next()).max(later_trick::<RULES>(position) as u8);
+    let [left, _, right] = others(position.first);
+    let kept = kept::<RULES>(position, left).max(kept::<RULES>(position, right));
+    let theirs = joint_trumps::<RULES>(position, left).max(later_trick::<RULES>(position) as u8).max(kept);
     Interval { lo: side + trumps + crossed, hi: position.tricks_left() - theirs }
 }
 
@@ -276,7 +350,7 @@ pub fn for_leader<const RULES: u32>(position: &Position, need: u8) -> Option<u64
     }
     let side = need.min(side);
     let cards = with_shares(position, 0, &cash, shares(long_first(&cash), side));
-    Some(with_trumps(position, position.first, cards, need - side))
+    Some(with_trumps::<RULES>(position, position.first, cards, need - side))
 }
 
 // These cards and the winners on which so many tricks of each suit rest.
@@ -304,16 +378,68 @@ fn crossing_cards<const RULES: u32>(position: &Position, cash: [Cash; 4], side: 
         cards = with_highest(cards, suit, next_run(position, suit), share);
     }
     let joint = if RULES & CROSSING_WITHOUT_TRUMPS != 0 { 0 } else { trumps };
-    Some(with_trumps(position, position.first, cards, joint))
+    Some(with_trumps::<RULES>(position, position.first, cards, joint))
 }
 
 /// At a start of a trick: the cards on which it rests that the other side takes at least `need` tricks.
 pub fn against_leader<const RULES: u32>(position: &Position, need: u8) -> Option<u64> {
     let left = position.first.next();
     if need <= joint_trumps::<RULES>(position, left) {
-        return Some(with_trumps(position, left, 0, need));
+        return Some(with_trumps::<RULES>(position, left, 0, need));
     }
-    if need == 1 && later_trick::<RULES>(position) { Some(later_cards(position)) } else { None }
+    if need == 1 && later_trick::<RULES>(position) {
+        return Some(later_cards(position));
+    }
+    let [left, _, right] = others(position.first);
+    let seat = [left, right].into_iter().find(|&seat| keeps::<RULES>(position, seat, need))?;
+    Some(kept_cards(position, seat, need))
+}
+
+// Of a suit, how many winners an opponent has, and how often the leader's side can lead it.
+fn kept_of<const RULES: u32>(position: &Position, seat: Seat, suit: Suit) -> (u8, u8) {
+    let run = winners(position, seat, suit).count_ones() as u8;
+    let (own, his) = (length(position, position.first, suit), length(position, position.first.next().next(), suit));
+    (run, if RULES & KEEPS_OVER_THE_SHORTER != 0 { own.min(his) } else { own.max(his) })
+}
+
+// Does the opponent keep so many winners? Most often it has too few of them, which is asked first.
+fn keeps<const RULES: u32>(position: &Position, seat: Seat, need: u8) -> bool {
+    if SEATS.into_iter().any(|seat| trumps(position, seat) > 0) {
+        return false;
+    }
+    let all: u32 = SUITS.map(|suit| winners(position, seat, suit).count_ones()).iter().sum();
+    need as u32 <= all && need <= kept::<RULES>(position, seat)
+}
+
+// How many winners the opponent keeps until it comes in.
+fn kept<const RULES: u32>(position: &Position, seat: Seat) -> u8 {
+    if RULES & KEPT_WINNERS == 0 || SEATS.into_iter().any(|seat| trumps(position, seat) > 0) {
+        return 0;
+    }
+    let suits = SUITS.map(|suit| kept_of::<RULES>(position, seat, suit));
+    let winners: u8 = suits.iter().map(|suit| suit.0).sum();
+    let rounds: u8 = suits.iter().map(|suit| if suit.0 > 0 { 0 } else { suit.1 }).sum();
+    let headed = suits.iter().filter(|suit| suit.0 > 0 && suit.1 > 0).count() as u8;
+    let tricks = position.tricks_left();
+    match () {
+        () if headed + rounds > tricks => 0,
+        () if RULES & KEEPS_EACH_WINNER != 0 => winners.min(tricks),
+        () => winners.min(tricks.saturating_sub(rounds)),
+    }
+}
+
+// One of each suit that the leader's side can lead, and more winners up to so many.
+fn kept_cards(position: &Position, seat: Seat, need: u8) -> u64 {
+    let suits = SUITS.map(|suit| kept_of::<0>(position, seat, suit));
+    let first = suits.map(|suit| suit.0.min(suit.1).min(1));
+    let mut left = need.saturating_sub(first.iter().sum());
+    let mut cards = 0;
+    for ((suit, of), one) in SUITS.into_iter().zip(suits).zip(first) {
+        let more = (of.0 - one).min(left);
+        left -= more;
+        cards = with_highest(cards, suit, winners(position, seat, suit), one + more);
+    }
+    cards
 }
 
 // Of a suit: the longer holding of the leader's side, or the shorter, and whether an opponent heads it.
@@ -408,7 +534,7 @@ fn after_a_side_suit<const RULES: u32>(before: &Position, suit: Suit, need: u8) 
     fewer[suit as usize].tricks -= 1;
     let mut shares = shares(long_first(&fewer), side - 1);
     shares[suit as usize] += 1;
-    Some(with_trumps(before, before.first, with_shares(before, 0, &cash, shares), need - side))
+    Some(with_trumps::<RULES>(before, before.first, with_shares(before, 0, &cash, shares), need - side))
 }
 
 fn after_a_trump<const RULES: u32>(before: &Position, trump: Suit, need: u8) -> Option<u64> {

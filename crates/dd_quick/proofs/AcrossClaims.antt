@@ -16,7 +16,7 @@ use Rattle.dd_play.specs.Board.{Board, cards_at, left}
 use Rattle.dd_play.specs.Tricks.{is_trump}
 use Rattle.dd_play.specs.Reach.{reach}
 use Rattle.dd_play.proofs.CallerLemmas.{count, reach-within}
-use Rattle.dd_quick.specs.QuickTricks.{IsNext, RestsOnNext, RestsOnTrumps, all_partners, beside_trumps, cashed, crossed, has_entry, is_entry, is_next, is_partners_long, is_unbeaten, is_under_low, is_winner, joint_trumps, length_at, longest_beside, next_run, no_trumps, partners_cashed, partners_tricks, run, suit_tricks, trumps_at, unbeaten}
+use Rattle.dd_quick.specs.QuickTricks.{IsNext, RestsOnNext, RestsOnTrumps, all_partners, beside_trumps, cashed, crossed, has_entry, is_entry, is_next, is_partners_long, is_unbeaten, is_under_low, is_winner, joint_trumps, length_at, longest_beside, next_run, no_trumps, partners_cashed, partners_tricks, run, suit_tricks, trumps_at}
 use Rattle.dd_quick.specs.Sharing.{SomeOf, shares}
 use Rattle.dd_quick.proofs.Plays.{count-where}
 use Rattle.dd_quick.proofs.Cashing.{hand_on}
@@ -142,7 +142,7 @@ some-entry p t u v w a b c d s h di cl some = by (or-split (is_entry p Spades ||
     by (inr k) = elim (or-split (is_entry p Diamonds) (is_entry p Clubs) k) [ inl e ↦ inr (inl (at Diamonds v c di e)) | inr e ↦ inr (inr (at Clubs w d cl e)) ]
 
 -- in a suit to cross in the partner cashes some; it has a card that no opponent can beat there, and the leader one beside its run
-pub entry-cards : (p : Board) (u : Suit) → is_entry p u ≡ true → (1 ≤ unbeaten p (seat_after p.first 2) u) × (1 ≤ count (λ c. is_of u c && not (is_winner p p.first c)) (cards_at p p.first)) × (1 ≤ partners_cashed p.strain p u)
+pub entry-cards : (p : Board) (u : Suit) → is_entry p u ≡ true → (1 ≤ count (λ c. is_of u c && is_unbeaten p (seat_after p.first 2) c) (cards_at p (seat_after p.first 2))) × (1 ≤ count (λ c. is_of u c && not (is_winner p p.first c)) (cards_at p p.first)) × (1 ≤ partners_cashed p.strain p u)
 entry-cards p u entry =
     let some : 0 < partners_cashed p.strain p u = ltb-true 0 (partners_cashed p.strain p u) (and-left (nat_lt 0 (partners_cashed p.strain p u)) (nat_lt (run p p.first u) (length_at p p.first u)) entry) in
     let over : run p p.first u < length_at p p.first u = ltb-true (run p p.first u) (length_at p p.first u) (and-right (nat_lt 0 (partners_cashed p.strain p u)) (nat_lt (run p p.first u) (length_at p p.first u)) entry) in

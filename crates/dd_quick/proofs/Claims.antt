@@ -1,6 +1,6 @@
 -- from what the code counts, and the cards that it puts together, to the claims that rest on them
 use Rattle.std.proofs.Common.{◌≡◌, ℕ, zero, suc, ◌+◌, ◌-◌, ◌<◌, ◌≤◌, Bool, true, false, refl, sym, ap, ◌∙◌, subst, arith, List, [], inl, inr, min, zero-le}
-use Rattle.std.specs.Prelude.{max, nat_le, ◌&&◌, ◌==◌, ◌⊎◌, if◌then◌else◌}
+use Rattle.std.specs.Prelude.{nat_le, ◌&&◌, ◌==◌, ◌⊎◌, if◌then◌else◌}
 use mathlib.Core.Path.{ap₂}
 use Rattle.std.proofs.lemmas.Bool.{cases_lt, leb-true}
 use Rattle.std.proofs.lemmas.Bool.Decides.{eqb_tells, nat_tests}
@@ -13,22 +13,29 @@ use Rattle.dd_cards.specs.PlayingCard.{PlayingCard}
 use Rattle.dd_cards.specs.Cards.{is_of, card_of, has_card}
 use Rattle.dd_cards.specs.Seats.{seat_after}
 use Rattle.dd_cards.specs.Sides.{side_of}
-use Rattle.dd_cards.proofs.CallerLemmas.{and-left, and-right}
+use Rattle.dd_cards.proofs.CallerLemmas.{and-left, and-right, else-true}
 use Rattle.dd_play.specs.Board.{Board, IsBoard, cards_at, left}
 use Rattle.dd_play.specs.Tricks.{is_trump}
 use Rattle.dd_play.specs.Reach.{TakesBy, reach}
-use Rattle.dd_play.proofs.CallerLemmas.{count, reach-within}
-use Rattle.dd_quick.specs.QuickTricks.{IsCash, RestsOn, RestsOnTrumps, cashed, is_long, is_winner, joint_trumps, length_at, longest, run, suit_tricks, trumps_at, unbeaten, unruffed}
+use Rattle.dd_play.proofs.CallerLemmas.{count, reach-upward, reach-within}
+use Rattle.dd_quick.specs.QuickTricks.{IsCash, RestsOn, RestsOnTrumps, cashed, is_long, is_winner, joint_trumps, length_at, longest, run, suit_tricks, trumps_at, unruffed}
 use Rattle.dd_quick.specs.Sharing.{shares}
 use Rattle.dd_quick.proofs.Hands.{IsOpposed}
 use Rattle.dd_quick.proofs.Plays.{count-where}
-use Rattle.dd_quick.proofs.Sound.{CanTake, length-left}
+use Rattle.dd_quick.proofs.Sound.{CanTake, joint-longer, length-left}
+use Rattle.dd_quick.proofs.TrumpRanks.{last-seat}
 use Rattle.dd_quick.proofs.Covered.{IsJoint, RestsOnTops, leader-by}
 
 -- joint trumps that the cards reach are top cards
 pub joint-rests : (strain : Strain) (p : Board) (i : ℕ) (cards : List PlayingCard) (m : ℕ) → m ≤ joint_trumps strain p (seat_after p.first i) → RestsOnTrumps strain p (seat_after p.first i) cards m → IsJoint strain (reach cards) p i m
 joint-rests Notrump p i cards m few rests = tt
-joint-rests (Trump t) p i cards m few rests = elim rests [ inl tops ↦ inl (omega (arith, few, tops)) | inr none ↦ inr none ]
+joint-rests (Trump t) p i cards m few rests = elim rests [
+  | inl tops ↦ inl (elim tops [
+    | inl none ↦ inl none
+    | inr rank ↦ inr (rank.0, rank.1, λ c suit over. else-true (reach cards c) (λ low. let under = reach-upward cards (card_of t rank.0) c rank.2 low (sym suit) in omega (arith, over, under)))
+  ])
+  | inr none ↦ inr none
+]
 
 -- ---- no more than is left
 
@@ -43,12 +50,9 @@ joint-left Notrump p valid start = zero-le
 joint-left (Trump t) p valid start =
     let a = length-left p 1 t valid start (omega arith) in
     let b = length-left p 3 t valid start (omega arith) in
-    omega (arith, a, b)
-
--- what the code counts are the joint trumps
-pub joint-is : (strain : Strain) (p : Board) (seat : Seat) (t : Suit) (a b c d n : ℕ) → strain ≡ Trump t → a ≡ unbeaten p seat t → b ≡ unbeaten p (seat_after seat 2) t → c ≡ length_at p seat t → d ≡ length_at p (seat_after seat 2) t
-    → n ≡ min (a + b) (max c d) → n ≡ joint_trumps strain p seat
-joint-is strain p seat t a b c d n trump x y z w e = e ∙ rw (x, y, z, w) refl ∙ ap (λ s. joint_trumps s p seat) (sym trump)
+    let most = joint-longer t p (seat_after p.first 1) in
+    let partner : length_at p (seat_after (seat_after p.first 1) 2) t ≡ length_at p (seat_after p.first 3) t = ap (λ x. length_at p x t) (last-seat p.first) in
+    omega (arith, a, b, most, partner)
 
 -- ---- leads that nobody ruffs
 

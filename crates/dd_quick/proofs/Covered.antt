@@ -1,9 +1,9 @@
 -- the quick tricks of a position are those of each position that it covers with its winners
-use Rattle.std.proofs.Common.{◌≡◌, ◌≢◌, ℕ, ◌+◌, ◌-◌, ◌<◌, ◌≤◌, Bool, true, false, refl, sym, ap, ◌∙◌, subst, arith, List, [], ◌∷◌, length, inl, inr, min}
-use Rattle.std.specs.Prelude.{nat_le, nat_lt, ◌&&◌, ◌||◌, ◌==◌, ◌⊎◌}
+use Rattle.std.proofs.Common.{◌≡◌, ◌≢◌, ℕ, ◌+◌, ◌-◌, ◌<◌, ◌≤◌, Bool, true, false, refl, sym, ap, ◌∙◌, subst, arith, List, [], ◌∷◌, ◌++◌, length, length-append, inl, inr, min, zero-le}
+use Rattle.std.specs.Prelude.{filter, nat_le, nat_lt, ◌&&◌, ◌||◌, ◌==◌, ◌⊎◌}
 use Rattle.std.specs.List.{list_any}
 use mathlib.Core.Bool.{not}
-use Rattle.std.proofs.lemmas.Bool.{ltb-true}
+use Rattle.std.proofs.lemmas.Bool.{cases_lt, le-leb, leb-true, ltb-true}
 use Rattle.std.proofs.lemmas.Bool.Decides.{nat_tests}
 use Rattle.dd_cards.specs.declared.seat.Seat.{Seat}
 use Rattle.dd_cards.specs.declared.suit.Suit.{Suit}
@@ -13,25 +13,25 @@ use Rattle.dd_cards.specs.declared.strain.Strain.TheVariants.{Trump, Notrump}
 use Rattle.dd_cards.specs.declared.side.Side.{Side}
 use Rattle.dd_cards.specs.PlayingCard.{PlayingCard}
 use Rattle.dd_cards.specs.Ranks.{IsRank}
-use Rattle.dd_cards.specs.Cards.{is_of, card_of, has_card}
+use Rattle.dd_cards.specs.Cards.{is_of, card_of, has_card, same_card}
 use Rattle.dd_cards.specs.Suits.{suit_code}
 use Rattle.dd_cards.specs.Seats.{seat_code, seat_after}
 use Rattle.dd_cards.specs.Sides.{side_of, other_side, is_side}
-use Rattle.dd_cards.proofs.CallerLemmas.{and-left, and-right, else-false, is-other, is-same, same-other, same-self}
+use Rattle.dd_cards.proofs.CallerLemmas.{and-left, and-right, any-filter, else-false, is-other, is-same, same-other, same-self}
 use Rattle.dd_play.specs.Board.{Board, IsBoard, cards_at, left}
 use Rattle.dd_play.specs.Tricks.{is_trump}
 use Rattle.dd_play.specs.Value.{lead}
 use Rattle.dd_play.specs.Won.{won}
 use Rattle.dd_play.specs.Covers.{IsCover, AllAnswer, count_of}
 use Rattle.dd_play.specs.Reach.{TakesBy, reach}
-use Rattle.dd_play.proofs.CallerLemmas.{after-code, both, by-fewer, by-here, by-more, code-lt, count, count-cons, count-has, flag_of, has-first, in-rest, inject, of-suit', once-in, reach-upward, reach-within, suit-of, turn-apart, turn-turn}
+use Rattle.dd_play.proofs.CallerLemmas.{after-code, both, by-fewer, by-here, by-more, code-lt, count, count-cons, filter-has, filter-passes, flag_of, has-first, in-rest, inject, of-suit', once-in, reach-upward, reach-within, suit-of, turn-apart, turn-turn}
 use Rattle.dd_rank.specs.Depths.{Covers, depths_of}
 use Rattle.dd_rank.proofs.CallerLemmas.{noted}
-use Rattle.dd_quick.specs.QuickTricks.{beats, is_winner, is_unbeaten, joint_trumps, length_at, run, trumps_at, unbeaten}
+use Rattle.dd_quick.specs.QuickTricks.{beats, from_rank, is_winner, is_unbeaten, joint_trumps, length_at, run, taken_from, trumps_at}
 use Rattle.dd_quick.proofs.Hands.{IsOpposed, no-higher, none-over}
 use Rattle.dd_quick.proofs.Cashing.{total}
 use Rattle.dd_quick.proofs.Plays.{count-where}
-use Rattle.dd_quick.proofs.Sound.{CanTake, can-take, joint-sure, opponents-side, round}
+use Rattle.dd_quick.proofs.Sound.{CanTake, can-take, in-either, in-left, in-right, joint-longer, joint-sure, lowest, opponents-side, rank-joint}
 
 -- a card of the list that passes
 pub some-card : (test : PlayingCard → Bool) (cards : List PlayingCard) → list_any test cards ≡ true → (d : PlayingCard) × (has_card cards d ≡ true) × (test d ≡ true)
@@ -121,12 +121,6 @@ module _ (top : PlayingCard → Bool) (k : ℕ) (to from : PlayingCard → Playi
       let of_u = and-left (is_of u c) (is_winner p x c) pass in
       both-pass (of-suit' u (to c) (r.to_suit c ∙ suit-of u c of_u)) (winner-image x c h (and-right (is_of u c) (is_winner p x c) pass) tc))
 
-  -- nor are there fewer cards that no opponent beats
-  unbeaten-covered : (x : Seat) (u : Suit) → count (λ c. (is_of u c && is_unbeaten p x c) && top c) (cards_at p x) ≤ unbeaten q (seat_after x k) u
-  unbeaten-covered x u = count-image (λ c. is_of u c && is_unbeaten p x c) (λ c. is_of u c && is_unbeaten q (seat_after x k) c) x (λ c h pass tc.
-      let of_u = and-left (is_of u c) (is_unbeaten p x c) pass in
-      both-pass (of-suit' u (to c) (r.to_suit c ∙ suit-of u c of_u)) (unbeaten-image x c h (and-right (is_of u c) (is_unbeaten p x c) pass) tc))
-
   -- the seats after the leader are those after the leader
   pub seat-same : (i : ℕ) → seat_after q.first i ≡ seat_after (seat_after p.first i) k
   seat-same i = ap (λ z. seat_after z i) r.first ∙ turn-turn p.first k i
@@ -179,28 +173,137 @@ left-same p q start empty each =
 
 -- ---- claims
 
--- how many of the seat's cards of the suit that no opponent beats are top cards
-abbrev pub unbeaten_top : (PlayingCard → Bool) → Board → Seat → Suit → ℕ
-unbeaten_top top p x u = count (λ c. (is_of u c && is_unbeaten p x c) && top c) (cards_at p x)
-
--- so many joint trumps of the seat i places after the leader and its partner are top cards, or no opponent has trumps
+-- So many tricks are taken by trumps of some rank or higher, all top cards, of the seat i places after the leader and its
+-- partner, or no opponent has trumps.
 abbrev pub IsJoint : Strain → (PlayingCard → Bool) → Board → ℕ → ℕ → Type 0
 IsJoint Notrump top p i k = Unit {0}
-IsJoint (Trump u) top p i k = (k ≤ unbeaten_top top p (seat_after p.first i) u + unbeaten_top top p (seat_after (seat_after p.first i) 2) u)
+IsJoint (Trump u) top p i k = ((k ≡ 0) ⊎ ((rank : ℕ) × (k ≤ taken_from p (seat_after p.first i) u rank) × ((c : PlayingCard) → c.suit ≡ u → rank ≤ c.rank → top c ≡ true)))
     ⊎ ((length_at p (seat_after (seat_after p.first i) 1) u ≡ 0) × (length_at p (seat_after (seat_after p.first i) 3) u ≡ 0))
 
--- a hand without the suit beats no card of it
-beats-void : (p : Board) (x : Seat) (c : PlayingCard) → length_at p x c.suit ≡ 0 → beats p x c ≡ false
-beats-void p x c none = else-false (beats p x c) (λ h.
-    let e = some-card (λ d. is_of c.suit d && nat_lt c.rank d.rank) (cards_at p x) h in
-    let one = count-has (is_of c.suit) (cards_at p x) e.0 e.1 (and-left (is_of c.suit e.0) (nat_lt c.rank e.0.rank) e.2) in
-    omega (arith, one, none))
+-- from the lowest rank on a hand has all its cards of the suit
+all-from : (p : Board) (x : Seat) (u : Suit) → length_at p x u ≤ from_rank p x u 0
+all-from p x u = count-where (is_of u) (λ c. is_of u c && nat_le 0 c.rank) (cards_at p x) (λ c has of_u. rw (of_u, le-leb 0 c.rank zero-le) refl)
 
--- a suit that no opponent has, no opponent beats
-none-beat : (p : Board) (x : Seat) (u : Suit) → length_at p (seat_after x 1) u ≡ 0 → length_at p (seat_after x 3) u ≡ 0 → length_at p x u ≤ unbeaten p x u
-none-beat p x u one three = count-where (is_of u) (λ c. is_of u c && is_unbeaten p x c) (cards_at p x) (λ c has of_u.
-    let suit = suit-of u c of_u in
-    rw (of_u, beats-void p (seat_after x 1) c (ap (length_at p (seat_after x 1)) suit ∙ one), beats-void p (seat_after x 3) c (ap (length_at p (seat_after x 3)) suit ∙ three)) refl)
+-- and never more than all
+from-all : (p : Board) (x : Seat) (u : Suit) (r : ℕ) → from_rank p x u r ≤ length_at p x u
+from-all p x u r = count-where (λ c. is_of u c && nat_le r c.rank) (is_of u) (cards_at p x) (λ c has pass. and-left (is_of u c) (nat_le r c.rank) pass)
+
+-- where trumps of a rank or higher are top cards, there is a rank from which on they and no others stand at a position that is covered
+module _ (top : PlayingCard → Bool) (k : ℕ) (to from : PlayingCard → PlayingCard) (s : Side) (p : Board) (t : Side) (q : Board) (r : IsCover top k to from s p t q) (u : Suit) (a : Seat) (rank : ℕ)
+    (tops : (c : PlayingCard) → c.suit ≡ u → rank ≤ c.rank → top c ≡ true) where
+  -- the trumps
+  abbrev high : PlayingCard → Bool
+  high c = is_of u c && nat_le rank c.rank
+
+  high-top : (c : PlayingCard) → high c ≡ true → top c ≡ true
+  high-top c e = tops c (suit-of u c (and-left (is_of u c) (nat_le rank c.rank) e)) (leb-true rank c.rank (and-right (is_of u c) (nat_le rank c.rank) e))
+
+  -- those of the two hands
+  abbrev ours : List PlayingCard
+  ours = filter high (cards_at p a) ++ filter high (cards_at p (seat_after a 2))
+
+  -- a rank from which on the images of all of them stand, and one of them that is its holder's
+  record IsFrom (least : ℕ) : Type 0 where
+    each : (x : Seat) → (x ≡ a) ⊎ (x ≡ seat_after a 2) → (c : PlayingCard) → has_card (cards_at p x) c ≡ true → high c ≡ true → least ≤ (to c).rank
+    holder : (x : Seat) × (c : PlayingCard) × ((x ≡ a) ⊎ (x ≡ seat_after a 2)) × (has_card (cards_at p x) c ≡ true) × (high c ≡ true) × ((to c).rank ≡ least)
+
+  -- of the two hands no fewer stand from there on
+  own-from : (least : ℕ) → IsFrom least → (x : Seat) → (x ≡ a) ⊎ (x ≡ seat_after a 2) → from_rank p x u rank ≤ from_rank q (seat_after x k) u least
+  own-from least low x mine =
+      let n = count-where high (λ c. high c && top c) (cards_at p x) (λ c has e. both-pass e (high-top c e)) in
+      let m = count-image top k to from s p t q r high (λ c. is_of u c && nat_le least c.rank) x (λ c has e tc. both-pass (of-suit' u (to c) (r.to_suit c ∙ suit-of u c (and-left (is_of u c) (nat_le rank c.rank) e))) (le-leb least (to c).rank (low.each x mine c has e))) in
+      omega (arith, n, m)
+    where
+      both-pass : {b d : Bool} → b ≡ true → d ≡ true → (b && d) ≡ true
+      both-pass e f = rw (e, f) refl
+
+  -- and of another hand no more
+  others-from : (least : ℕ) → IsFrom least → (x : Seat) → seat_code x ≢ seat_code a → seat_code x ≢ seat_code (seat_after a 2) → from_rank q (seat_after x k) u least ≤ from_rank p x u rank
+  others-from least low x one two = inject from to (λ c. is_of u c && nat_le least c.rank) high (cards_at q (seat_after x k)) (cards_at p x) (once-in q r.valid_q (seat_after x k)) (λ e has pass. go e has pass (top (from e)) refl)
+    where
+      h : Seat
+      h = low.holder.0
+
+      c : PlayingCard
+      c = low.holder.1
+
+      mine : has_card (cards_at p h) c ≡ true
+      mine = low.holder.3
+
+      passes : high c ≡ true
+      passes = low.holder.4
+
+      apart : seat_code x ≢ seat_code h
+      apart = elim low.holder.2 [ inl e ↦ (λ z. one (z ∙ ap seat_code e)) | inr e ↦ (λ z. two (z ∙ ap seat_code e)) ]
+
+      is_top : top c ≡ true
+      is_top = high-top c passes
+
+      image : (has_card (cards_at q (seat_after h k)) (to c) ≡ true) × (from (to c) ≡ c)
+      image = r.forth h c mine is_top
+
+      go : (e : PlayingCard) → has_card (cards_at q (seat_after x k)) e ≡ true → (is_of u e && nat_le least e.rank) ≡ true → (b : Bool) → top (from e) ≡ b → (has_card (cards_at p x) (from e) ≡ true) × (high (from e) ≡ true) × (to (from e) ≡ e)
+      go e has pass false te = absurd (
+          let suits : (to c).suit ≡ e.suit = r.to_suit c ∙ suit-of u c (and-left (is_of u c) (nat_le rank c.rank) passes) ∙ sym (suit-of u e (and-left (is_of u e) (nat_le least e.rank) pass)) in
+          let under = r.over_q.hands (seat_after h k) (seat_after x k) (to c) e (λ z. turn-apart x h k apart (ap seat_code (sym z))) image.0 has (ap top image.1 ∙ is_top) te suits in
+          let over = leb-true least e.rank (and-right (is_of u e) (nat_le least e.rank) pass) in
+          let same = low.holder.5 in
+          omega (arith, under, over, same))
+      go e has pass true te =
+          let b = r.back x e has te in
+          let suit : (from e).suit ≡ u = r.from_suit e ∙ suit-of u e (and-left (is_of u e) (nat_le least e.rank) pass) in
+          let keep : nat_le (to c).rank (to (from e)).rank ≡ nat_le c.rank (from e).rank = r.keeps.hands h x c (from e) (λ z. apart (ap seat_code (sym z))) mine b.0 is_top te (suit-of u c (and-left (is_of u c) (nat_le rank c.rank) passes) ∙ sym suit) in
+          let over = leb-true least e.rank (and-right (is_of u e) (nat_le least e.rank) pass) in
+          let same = low.holder.5 in
+          let here : nat_le (to c).rank (to (from e)).rank ≡ true = ap (λ (d : PlayingCard). nat_le (to c).rank d.rank) b.1 ∙ le-leb (to c).rank e.rank (omega (arith, over, same)) in
+          let high_c = leb-true rank c.rank (and-right (is_of u c) (nat_le rank c.rank) passes) in
+          let above = leb-true c.rank (from e).rank (sym keep ∙ here) in
+          (b.0, rw (of-suit' u (from e) suit, le-leb rank (from e).rank (omega (arith, high_c, above))) refl, b.1)
+
+  -- there is such a rank, where there are such trumps
+  some-from : (cards : List PlayingCard) → ours ≡ cards → 1 ≤ length cards → (least : ℕ) × IsFrom least
+  some-from [] e some = absurd (omega (arith, some))
+  some-from (c ∷ cards) e some = ((to low.0).rank, record { each = each; holder = holder })
+    where
+      low : (d : PlayingCard) × (has_card (c ∷ cards) d ≡ true) × ((e : PlayingCard) → has_card (c ∷ cards) e ≡ true → (to d).rank ≤ (to e).rank)
+      low = lowest (λ (y : PlayingCard). (to y).rank) c cards
+
+      in-ours : (x : Seat) → (x ≡ a) ⊎ (x ≡ seat_after a 2) → (d : PlayingCard) → has_card (filter high (cards_at p x)) d ≡ true → has_card ours d ≡ true
+      in-ours x (inl f) d has = in-left (filter high (cards_at p a)) (filter high (cards_at p (seat_after a 2))) d (subst (λ y. has_card (filter high (cards_at p y)) d ≡ true) f has)
+      in-ours x (inr f) d has = in-right (filter high (cards_at p a)) (filter high (cards_at p (seat_after a 2))) d (subst (λ y. has_card (filter high (cards_at p y)) d ≡ true) f has)
+
+      each : (x : Seat) → (x ≡ a) ⊎ (x ≡ seat_after a 2) → (d : PlayingCard) → has_card (cards_at p x) d ≡ true → high d ≡ true → (to low.0).rank ≤ (to d).rank
+      each x mine d has pass = low.2 d (ap (λ l. has_card l d) (sym e) ∙ in-ours x mine d (filter-has high (cards_at p x) d has pass))
+
+      of-seat : (x : Seat) → (x ≡ a) ⊎ (x ≡ seat_after a 2) → has_card (filter high (cards_at p x)) low.0 ≡ true
+          → (y : Seat) × (d : PlayingCard) × ((y ≡ a) ⊎ (y ≡ seat_after a 2)) × (has_card (cards_at p y) d ≡ true) × (high d ≡ true) × ((to d).rank ≡ (to low.0).rank)
+      of-seat x mine has = (x, low.0, mine, any-filter (λ y. same_card y low.0) high (cards_at p x) has, filter-passes high (cards_at p x) low.0 has, refl)
+
+      holder : (y : Seat) × (d : PlayingCard) × ((y ≡ a) ⊎ (y ≡ seat_after a 2)) × (has_card (cards_at p y) d ≡ true) × (high d ≡ true) × ((to d).rank ≡ (to low.0).rank)
+      holder = elim (in-either (filter high (cards_at p a)) (filter high (cards_at p (seat_after a 2))) low.0 (ap (λ l. has_card l low.0) e ∙ low.1)) [ inl has ↦ of-seat a (inl refl) has | inr has ↦ of-seat (seat_after a 2) (inr refl) has ]
+
+  -- so they take as many tricks there
+  pub from-covered : (m : ℕ) → m ≤ taken_from p a u rank → m ≤ joint_trumps (Trump u) q (seat_after a k)
+  from-covered m few = elim (cases_lt 0 m) [
+    | inl some ↦ (
+        let long = length-append (filter high (cards_at p a)) (filter high (cards_at p (seat_after a 2))) in
+        let low = some-from ours refl (omega (arith, few, some, long)) in
+        let x = own-from low.0 low.1 a (inl refl) in
+        let y = own-from low.0 low.1 (seat_after a 2) (inr refl) in
+        let v = others-from low.0 low.1 (seat_after a 1) (two 1 0 (omega arith) (omega arith) (λ e. omega (arith, e))) (two 1 2 (omega arith) (omega arith) (λ e. omega (arith, e))) in
+        let w = others-from low.0 low.1 (seat_after a 3) (two 3 0 (omega arith) (omega arith) (λ e. omega (arith, e))) (two 3 2 (omega arith) (omega arith) (λ e. omega (arith, e))) in
+        let la = r.lengths a u in
+        let lb = r.lengths (seat_after a 2) u in
+        let on_1 : from_rank q (seat_after (seat_after a k) 1) u low.0 ≡ from_rank q (seat_after (seat_after a 1) k) u low.0 = ap (λ y. from_rank q y u low.0) (turn-turn a k 1) in
+        let on_2 : from_rank q (seat_after (seat_after a k) 2) u low.0 ≡ from_rank q (seat_after (seat_after a 2) k) u low.0 = ap (λ y. from_rank q y u low.0) (turn-turn a k 2) in
+        let on_3 : from_rank q (seat_after (seat_after a k) 3) u low.0 ≡ from_rank q (seat_after (seat_after a 3) k) u low.0 = ap (λ y. from_rank q y u low.0) (turn-turn a k 3) in
+        let long_2 : length_at q (seat_after (seat_after a k) 2) u ≡ length_at q (seat_after (seat_after a 2) k) u = ap (λ y. length_at q y u) (turn-turn a k 2) in
+        rank-joint u q (seat_after a k) low.0 m r.valid_q (omega (arith, few, x, y, v, w, la, lb, on_1, on_2, on_3, long_2)))
+    | inr none ↦ omega (arith, none)
+  ]
+    where
+      two : (i j : ℕ) → i < 4 → j < 4 → i ≢ j → seat_code (seat_after a i) ≢ seat_code (seat_after a j)
+      two i j l m e = (let x = after-code a i in let y = after-code a j in let z = code-lt a in λ k. omega (arith, x, y, z, k, l, m, e))
 
 -- a position that is covered has as many joint trumps, of those that are top cards
 pub joint-covered : (top : PlayingCard → Bool) (k : ℕ) (to from : PlayingCard → PlayingCard) (s : Side) (p : Board) (t : Side) (q : Board) → IsCover top k to from s p t q
@@ -215,28 +318,21 @@ joint-covered top k to from s p t q r (Trump u) i m rests few = subst (λ y. m �
     on : (j : ℕ) → length_at q (seat_after (seat_after a k) j) u ≡ length_at p (seat_after a j) u
     on j = ap (λ y. length_at q y u) (turn-turn a k j) ∙ r.lengths (seat_after a j) u
 
-    partner : seat_after (seat_after a k) 2 ≡ seat_after (seat_after a 2) k
-    partner = turn-turn a k 2
-
     here : m ≤ joint_trumps (Trump u) q (seat_after a k)
-    here =
-        let la = r.lengths a u in
-        let lb = on 2 in
-        elim rests [
-          | inl tops ↦ (
-              let x = unbeaten-covered top k to from s p t q r a u in
-              let y = unbeaten-covered top k to from s p t q r (seat_after a 2) u in
-              let z : unbeaten q (seat_after (seat_after a k) 2) u ≡ unbeaten q (seat_after (seat_after a 2) k) u = ap (λ y. unbeaten q y u) partner in
-              omega (arith, few, tops, x, y, z, la, lb))
-          | inr none ↦ (
-              let one = on 1 ∙ none.0 in
-              let three = on 3 ∙ none.1 in
-              let x = none-beat q (seat_after a k) u one three in
-              let opp_1 : length_at q (seat_after (seat_after (seat_after a k) 2) 1) u ≡ 0 = three in
-              let opp_3 : length_at q (seat_after (seat_after (seat_after a k) 2) 3) u ≡ 0 = ap (λ y. length_at q (seat_after y 1) u) (round (seat_after a k)) ∙ one in
-              let y = none-beat q (seat_after (seat_after a k) 2) u opp_1 opp_3 in
-              omega (arith, few, x, y, la, lb))
-        ]
+    here = elim rests [
+      | inl tops ↦ elim tops [ inl none ↦ omega (arith, none) | inr high ↦ from-covered top k to from s p t q r u a high.0 high.2 m high.1 ]
+      | inr none ↦ (
+          let most = joint-longer u p a in
+          let la = r.lengths a u in
+          let lb = on 2 in
+          let x = all-from q (seat_after a k) u in
+          let y = all-from q (seat_after (seat_after a k) 2) u in
+          let one = on 1 ∙ none.0 in
+          let three = on 3 ∙ none.1 in
+          let v = from-all q (seat_after (seat_after a k) 1) u 0 in
+          let w = from-all q (seat_after (seat_after a k) 3) u 0 in
+          rank-joint u q (seat_after a k) 0 m r.valid_q (omega (arith, few, most, la, lb, x, y, one, three, v, w)))
+    ]
 
 -- the claims for cards to cash rest on top cards: of each suit so many winners as any other hand has cards, or as are cashed
 abbrev pub RestsOnTops : (PlayingCard → Bool) → Board → (Suit → ℕ) → Type 0

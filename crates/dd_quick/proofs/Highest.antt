@@ -22,7 +22,7 @@ pub none-taken : (suit : Suit) (cards : List PlayingCard) (ranks : List ℕ) →
 none-taken suit cards ranks real = record { gone = []; parts = refl; each = λ q h. absurd (cc); more = λ c h. h; real = real; many = inl refl }
 
 -- cards that are put in stay
-with-more : (cards : List PlayingCard) (x : PlayingCard) → ((d : PlayingCard) → has_card cards d ≡ true → IsRank d.rank) → (c : PlayingCard) → has_card cards c ≡ true → has_card (with_card cards x) c ≡ true
+pub with-more : (cards : List PlayingCard) (x : PlayingCard) → ((d : PlayingCard) → has_card cards d ≡ true → IsRank d.rank) → (c : PlayingCard) → has_card cards c ≡ true → has_card (with_card cards x) c ≡ true
 with-more cards x real c h = has_card-with_card cards x c (real c h) ∙ or-right (same_card c x) (has_card cards c) h
 
 -- a rank of a list with a last rank is that rank or one before it

@@ -1,7 +1,7 @@
--- Joint trumps: where the two hands of a side have the highest trumps between them, they take a trick for each, as long as
--- one of the two hands has a trump for each. Before each trick the two agree what to play (`JointPlans`): whoever leads,
--- either nothing is lost, or one of these trumps wins the trick, and no more than one of them and one trump of the long hand
--- are gone.
+-- Joint trumps: of the trumps of some rank or higher, the two hands of a side take a trick for each of theirs, as long as one of
+-- the two hands has a trump for each, but for as many tricks as the others have such trumps. Before each trick the two agree
+-- what to play (`JointPlans`): whoever leads, either nothing is lost, or one of these trumps wins the trick, and no more than
+-- one of the side's and one trump of its long hand are gone; and where it is another's that wins, that one is gone too.
 use Rattle.std.proofs.Common.{◌≡◌, ◌≢◌, ℕ, zero, suc, ◌+◌, ◌-◌, ◌%◌, ◌<◌, ◌≤◌, Bool, true, false, refl, sym, ap, ◌∙◌, subst, arith, List, [], ◌∷◌, ◌++◌, length, length-append, get_or, inl, inr}
 use Rattle.std.specs.Prelude.{map, nat_le, nat_lt, ◌&&◌, ◌==◌, ◌⊎◌}
 use Rattle.std.specs.List.{list_all}
@@ -29,15 +29,64 @@ use Rattle.dd_play.specs.Play.{completes, trick_with, after, following}
 use Rattle.dd_play.specs.Simulations.{IsLegal}
 use Rattle.dd_play.specs.Won.{won, point}
 use Rattle.dd_play.proofs.CallerLemmas.{after-code, can, cards-tricks, cards_left-after, code-lt, count, count-has, count-some, flag_of, hand-others, has-at, has-first, legal-in, legal-leads, own-card, place-within, real-trick, strain-after, strength_by, trick-after, trick-closed, was-in, winning-strongest, won_with}
-use Rattle.dd_quick.proofs.Plays.{whoever, count-own, place-push}
+use Rattle.dd_quick.proofs.Plays.{whoever, count-own, count-push, place-push}
 use Rattle.dd_quick.proofs.JointPlans.{is_top, Follows, IsLed, Plan, IsPlanned, plan-for, long-plays, short-plays, other-plays, plan-done}
 
--- each trump of this rank or a higher one that is still in play is of one of the two seats, or was played by it to this trick
-pub record OwnTops (strain : Strain) (floor : ℕ) (a b : Seat) (p : Board) : Type 0 where
+-- each trump of this rank or a higher one that is still in play is of one of the two seats, or was played by it to this trick,
+-- or it is one of theirs
+pub record OwnTops (strain : Strain) (floor : ℕ) (theirs : PlayingCard → Bool) (a b : Seat) (p : Board) : Type 0 where
   pub valid : IsBoard p
   pub same : p.strain ≡ strain
-  pub held : (x : Seat) (c : PlayingCard) → has_card (cards_at p x) c ≡ true → is_top strain floor c ≡ true → (x ≡ a) ⊎ (x ≡ b)
-  pub played : (i : ℕ) (d : PlayingCard) → i < length p.trick → is_top strain floor (get_or p.trick i d) ≡ true → (seat_after p.first i ≡ a) ⊎ (seat_after p.first i ≡ b)
+  pub held : (x : Seat) (c : PlayingCard) → has_card (cards_at p x) c ≡ true → is_top strain floor c ≡ true → ((x ≡ a) ⊎ (x ≡ b)) ⊎ (theirs c ≡ true)
+  pub played : (i : ℕ) (d : PlayingCard) → i < length p.trick → is_top strain floor (get_or p.trick i d) ≡ true → ((seat_after p.first i ≡ a) ⊎ (seat_after p.first i ≡ b)) ⊎ (theirs (get_or p.trick i d) ≡ true)
+
+-- ---- cards that are in play
+
+-- how many cards of the four hands pass
+abbrev pub in_hands : (PlayingCard → Bool) → Board → ℕ
+in_hands test p = count test (cards_at p North) + count test (cards_at p East) + count test (cards_at p South) + count test (cards_at p West)
+
+-- and with those on the trick
+abbrev pub in_play : (PlayingCard → Bool) → Board → ℕ
+in_play test p = in_hands test p + count test p.trick
+
+-- the hands, from any seat on
+pub around : (test : PlayingCard → Bool) (p : Board) (a : Seat) → in_hands test p ≡ count test (cards_at p a) + count test (cards_at p (seat_after a 1)) + count test (cards_at p (seat_after a 2)) + count test (cards_at p (seat_after a 3))
+around test p North = omega arith
+around test p East = omega arith
+around test p South = omega arith
+around test p West = omega arith
+
+-- a play takes a card out of the hands
+hands-after : (test : PlayingCard → Bool) (p : Board) (c : PlayingCard) → IsBoard p → IsLegal p c → in_hands test (after p c) + flag_of (test c) ≡ in_hands test p
+hands-after test p c valid has = go (mover p) refl
+  where
+    mine : (x : Seat) → mover p ≡ x → count test (cards_at (after p c) x) + flag_of (test c) ≡ count test (cards_at p x)
+    mine x is = subst (λ y. count test (cards_at (after p c) y) + flag_of (test c) ≡ count test (cards_at p y)) is (count-own test p c valid has)
+
+    other : (x y : Seat) → mover p ≡ x → seat_code y ≢ seat_code x → count test (cards_at (after p c) y) ≡ count test (cards_at p y)
+    other x y is apart = ap (count test) (hand-others p c y (λ e. apart (e ∙ ap seat_code is)))
+
+    go : (x : Seat) → mover p ≡ x → in_hands test (after p c) + flag_of (test c) ≡ in_hands test p
+    go North is = (let m = mine North is in let x = other North East is (λ e. absurd (cc)) in let y = other North South is (λ e. absurd (cc)) in let z = other North West is (λ e. absurd (cc)) in omega (arith, m, x, y, z))
+    go East is = (let m = mine East is in let x = other East North is (λ e. absurd (cc)) in let y = other East South is (λ e. absurd (cc)) in let z = other East West is (λ e. absurd (cc)) in omega (arith, m, x, y, z))
+    go South is = (let m = mine South is in let x = other South North is (λ e. absurd (cc)) in let y = other South East is (λ e. absurd (cc)) in let z = other South West is (λ e. absurd (cc)) in omega (arith, m, x, y, z))
+    go West is = (let m = mine West is in let x = other West North is (λ e. absurd (cc)) in let y = other West East is (λ e. absurd (cc)) in let z = other West South is (λ e. absurd (cc)) in omega (arith, m, x, y, z))
+
+-- to the trick, and after its last card those of the trick are gone
+play-after : (test : PlayingCard → Bool) (p : Board) (c : PlayingCard) → IsBoard p → IsLegal p c → completes p ≡ false → in_play test (after p c) ≡ in_play test p
+play-after test p c valid has e =
+    let hands = hands-after test p c valid has in
+    let on : count test (after p c).trick ≡ count test (p.trick ++ c ∷ []) = ap (count test) (trick-after p c e).0 in
+    let pushed = count-push test p.trick c in
+    omega (arith, hands, on, pushed)
+
+trick-gone : (test : PlayingCard → Bool) (p : Board) (c : PlayingCard) → IsBoard p → IsLegal p c → completes p ≡ true → in_play test (after p c) + count test (trick_with p c) ≡ in_play test p
+trick-gone test p c valid has e =
+    let hands = hands-after test p c valid has in
+    let on : count test (after p c).trick ≡ 0 = ap (count test) (trick-closed p c e).0 in
+    let pushed = count-push test p.trick c in
+    omega (arith, hands, on, pushed)
 
 -- ---- who wins a trick with one of them on it
 
@@ -99,24 +148,43 @@ top-wins strain floor (led ∷ rest) c d real has top =
 -- ---- one play
 
 -- any hand plays a card c
-module _ (strain : Strain) (floor : ℕ) (a b : Seat) (s : Side) (p : Board) (c : PlayingCard) (ours_a : is_side s a ≡ true) (ours_b : is_side s b ≡ true) (own : OwnTops strain floor a b p) (has : IsLegal p c) where
-  -- the trick with the card on it has none of them but those of the two
-  played-with : (i : ℕ) (d : PlayingCard) → i < length (trick_with p c) → is_top strain floor (get_or (trick_with p c) i d) ≡ true → (seat_after p.first i ≡ a) ⊎ (seat_after p.first i ≡ b)
+module _ (strain : Strain) (floor : ℕ) (theirs : PlayingCard → Bool) (a b : Seat) (s : Side) (p : Board) (c : PlayingCard) (ours_a : is_side s a ≡ true) (ours_b : is_side s b ≡ true) (own : OwnTops strain floor theirs a b p) (has : IsLegal p c) where
+  -- is the card of theirs, or was it played from one of the two hands at this place?
+  abbrev IsOf : ℕ → PlayingCard → Type 0
+  IsOf i d = ((seat_after p.first i ≡ a) ⊎ (seat_after p.first i ≡ b)) ⊎ (theirs d ≡ true)
+
+  -- the trick with the card on it has none of them but those of the two and theirs
+  played-with : (i : ℕ) (d : PlayingCard) → i < length (trick_with p c) → is_top strain floor (get_or (trick_with p c) i d) ≡ true → IsOf i (get_or (trick_with p c) i d)
   played-with i d l t = elim (place-push p.trick c d i l) [
-    | inl r ↦ own.played i d r.0 (ap (is_top strain floor) (sym r.1) ∙ t)
-    | inr r ↦ subst (λ k. (seat_after p.first k ≡ a) ⊎ (seat_after p.first k ≡ b)) (sym r.0) (own.held (mover p) c (own-card p c has) (ap (is_top strain floor) (sym r.1) ∙ t))
+    | inl r ↦ subst (IsOf i) (sym r.1) (own.played i d r.0 (ap (is_top strain floor) (sym r.1) ∙ t))
+    | inr r ↦ subst (λ k. IsOf k (get_or (trick_with p c) i d)) (sym r.0) (subst (IsOf (length p.trick)) (sym r.1) (own.held (mover p) c (own-card p c has) (ap (is_top strain floor) (sym r.1) ∙ t)))
   ]
 
-  -- a complete trick with one of them is the side's
-  wins : completes p ≡ true → 1 ≤ count (is_top strain floor) (trick_with p c) → point s p c ≡ 1
+  -- a complete trick with one of them is the side's, or one of theirs is gone
+  wins : completes p ≡ true → 1 ≤ count (is_top strain floor) (trick_with p c) → in_play theirs (after p c) + 1 ≤ in_play theirs p + point s p c
   wins e many =
       let some = count-some (is_top strain floor) (trick_with p c) many in
       let best = top-wins strain floor (trick_with p c) some.0 c (real-trick p c own.valid has) some.1 some.2 in
-      let ours : is_side s (seat_after p.first (winning_place strain (trick_with p c))) ≡ true = elim (played-with (winning_place strain (trick_with p c)) c best.0 best.1) [ inl k ↦ ap (is_side s) k ∙ ours_a | inr k ↦ ap (is_side s) k ∙ ours_b ] in
-      ap₂ (λ a b. flag_of (a && b)) e (ap (λ x. is_side s (winner_of (trick_with p c) p.first x)) own.same ∙ ours)
+      let gone = trick-gone theirs p c own.valid has e in
+      let w : ℕ = winning_place strain (trick_with p c) in
+      elim (played-with w c best.0 best.1) [
+        | inl ours ↦ (
+            let side : is_side s (seat_after p.first w) ≡ true = elim ours [ inl k ↦ ap (is_side s) k ∙ ours_a | inr k ↦ ap (is_side s) k ∙ ours_b ] in
+            let one : point s p c ≡ 1 = ap₂ (λ a b. flag_of (a && b)) e (ap (λ x. is_side s (winner_of (trick_with p c) p.first x)) own.same ∙ side) in
+            omega (arith, gone, one))
+        | inr his ↦ (let one = count-has theirs (trick_with p c) (get_or (trick_with p c) w c) (has-at (trick_with p c) w c best.0) his in omega (arith, gone, one))
+      ]
 
-  -- after the play they are of the two as before
-  own-after : OwnTops strain floor a b (after p c)
+  -- no more of theirs are in play
+  fewer : in_play theirs (after p c) ≤ in_play theirs p
+  fewer = go (completes p) refl
+    where
+      go : (x : Bool) → completes p ≡ x → in_play theirs (after p c) ≤ in_play theirs p
+      go true e = (let k = trick-gone theirs p c own.valid has e in omega (arith, k))
+      go false e = (let k = play-after theirs p c own.valid has e in omega (arith, k))
+
+  -- after the play they are of the two or theirs as before
+  own-after : OwnTops strain floor theirs a b (after p c)
   own-after = record {
     valid = (legal-leads p c own.valid has).valid;
     same = strain-after p c ∙ own.same;
@@ -124,12 +192,13 @@ module _ (strain : Strain) (floor : ℕ) (a b : Seat) (s : Side) (p : Board) (c 
     played = go (completes p) refl;
   }
     where
-      go : (x : Bool) → completes p ≡ x → (i : ℕ) (d : PlayingCard) → i < length (after p c).trick → is_top strain floor (get_or (after p c).trick i d) ≡ true → (seat_after (after p c).first i ≡ a) ⊎ (seat_after (after p c).first i ≡ b)
+      go : (x : Bool) → completes p ≡ x → (i : ℕ) (d : PlayingCard) → i < length (after p c).trick → is_top strain floor (get_or (after p c).trick i d) ≡ true → ((seat_after (after p c).first i ≡ a) ⊎ (seat_after (after p c).first i ≡ b)) ⊎ (theirs (get_or (after p c).trick i d) ≡ true)
       go true e i d l t = absurd (let none : length (after p c).trick ≡ 0 = ap length (trick-closed p c e).0 in omega (arith, none, l))
       go false e i d l t =
           let on : (after p c).trick ≡ trick_with p c = (trick-after p c e).0 in
           let long : length (after p c).trick ≡ length (trick_with p c) = ap length on in
-          subst (λ f. (seat_after f i ≡ a) ⊎ (seat_after f i ≡ b)) (sym (trick-after p c e).1) (played-with i d (omega (arith, long, l)) (ap (λ cards. is_top strain floor (get_or cards i d)) (sym on) ∙ t))
+          let here : IsOf i (get_or (after p c).trick i d) = subst (λ trick. IsOf i (get_or trick i d)) (sym on) (played-with i d (omega (arith, long, l)) (ap (λ cards. is_top strain floor (get_or cards i d)) (sym on) ∙ t)) in
+          subst (λ f. ((seat_after f i ≡ a) ⊎ (seat_after f i ≡ b)) ⊎ (theirs (get_or (after p c).trick i d) ≡ true)) (sym (trick-after p c e).1) here
 
 -- a hand has no more cards than all four
 hand-in : (p : Board) (h : Seat) → length (cards_at p h) ≤ cards_left p
@@ -166,8 +235,8 @@ place-of h x =
 
 -- The two seats are at these places of the trick, and have a plan for it. Where it has not begun, one of them leads, and has
 -- a card of the suit.
-record InPlan (strain : Strain) (floor m : ℕ) (a b : Seat) (p : Board) : Type 0 where
-  own : OwnTops strain floor a b p
+record InPlan (strain : Strain) (floor m : ℕ) (theirs : PlayingCard → Bool) (a b : Seat) (p : Board) : Type 0 where
+  own : OwnTops strain floor theirs a b p
   u : Suit
   i : ℕ
   j : ℕ
@@ -179,18 +248,22 @@ record InPlan (strain : Strain) (floor m : ℕ) (a b : Seat) (p : Board) : Type 
   plan : Plan strain floor m u i j p.trick (cards_at p a) (cards_at p b)
 
 -- two seats of a side
-module _ (strain : Strain) (floor : ℕ) (a b : Seat) (s : Side) (ours_a : is_side s a ≡ true) (ours_b : is_side s b ≡ true) (apart : seat_code a ≢ seat_code b) where
+module _ (strain : Strain) (floor : ℕ) (theirs : PlayingCard → Bool) (a b : Seat) (s : Side) (ours_a : is_side s a ≡ true) (ours_b : is_side s b ≡ true) (apart : seat_code a ≢ seat_code b) where
+  -- the tricks of the side, and the trumps that are theirs
+  abbrev sum : Board → ℕ
+  sum p = won s p + in_play theirs p
+
   -- with n cards in the hands, the side takes before a trick what the theorem says
   abbrev StartAt : ℕ → Type 0
-  StartAt n = (m : ℕ) (p : Board) → cards_left p ≡ n → p.trick ≡ [] → OwnTops strain floor a b p → m ≤ count (is_top strain floor) (cards_at p a) + count (is_top strain floor) (cards_at p b) → m ≤ count (is_trump strain) (cards_at p a) → m ≤ won s p
+  StartAt n = (m : ℕ) (p : Board) → cards_left p ≡ n → p.trick ≡ [] → OwnTops strain floor theirs a b p → m ≤ count (is_top strain floor) (cards_at p a) + count (is_top strain floor) (cards_at p b) → m ≤ count (is_trump strain) (cards_at p a) → m ≤ sum p
 
   -- and what is planned
   abbrev MidAt : ℕ → Type 0
-  MidAt n = (m : ℕ) (p : Board) → cards_left p ≡ n → InPlan strain floor m a b p → m ≤ won s p
+  MidAt n = (m : ℕ) (p : Board) → cards_left p ≡ n → InPlan strain floor m theirs a b p → m ≤ sum p
 
   -- a card that keeps the plan
-  leaves : (n m : ℕ) (p : Board) (c : PlayingCard) → MidAt n → StartAt n → cards_left p ≡ suc n → (now : InPlan strain floor m a b p) → IsLegal p c
-      → Plan strain floor m now.u now.i now.j (p.trick ++ c ∷ []) (cards_at (after p c) a) (cards_at (after p c) b) → m ≤ won_with s p c
+  leaves : (n m : ℕ) (p : Board) (c : PlayingCard) → MidAt n → StartAt n → cards_left p ≡ suc n → (now : InPlan strain floor m theirs a b p) → IsLegal p c
+      → Plan strain floor m now.u now.i now.j (p.trick ++ c ∷ []) (cards_at (after p c) a) (cards_at (after p c) b) → m ≤ won_with s p c + in_play theirs p
   leaves n m p c mid start size now has plan = go (completes p) refl
     where
       long : length (p.trick ++ c ∷ []) ≡ length p.trick + 1
@@ -199,12 +272,13 @@ module _ (strain : Strain) (floor : ℕ) (a b : Seat) (s : Side) (ours_a : is_si
       few : cards_left (after p c) + 1 ≡ cards_left p
       few = cards_left-after p c now.own.valid has
 
-      go : (x : Bool) → completes p ≡ x → m ≤ won_with s p c
+      go : (x : Bool) → completes p ≡ x → m ≤ won_with s p c + in_play theirs p
       go false e =
           let on = trick-after p c e in
           let size' : length (after p c).trick ≡ length (p.trick ++ c ∷ []) = ap length on.0 in
-          let later : m ≤ won s (after p c) = mid m (after p c) (let f = few in omega (arith, f, size)) (record {
-            own = own-after strain floor a b s p c ours_a ours_b now.own has;
+          let held = play-after theirs p c now.own.valid has e in
+          let later : m ≤ sum (after p c) = mid m (after p c) (let f = few in omega (arith, f, size)) (record {
+            own = own-after strain floor theirs a b s p c ours_a ours_b now.own has;
             u = now.u;
             i = now.i;
             j = now.j;
@@ -215,7 +289,7 @@ module _ (strain : Strain) (floor : ℕ) (a b : Seat) (s : Side) (ours_a : is_si
             lead = λ none. absurd (let l = long in omega (arith, none, size', l));
             plan = subst (λ trick. Plan strain floor m now.u now.i now.j trick (cards_at (after p c) a) (cards_at (after p c) b)) (sym on.0) plan;
           }) in
-          omega (arith, later)
+          omega (arith, later, held)
       go true e =
           let three : length p.trick ≡ 3 = eqb-true (length p.trick) 3 e in
           let l = long in
@@ -227,10 +301,11 @@ module _ (strain : Strain) (floor : ℕ) (a b : Seat) (s : Side) (ours_a : is_si
           let one = done.one in
           let top = done.top in
           let f = few in
-          let later : m - plan.w ≤ won s (after p c) = start (m - plan.w) (after p c) (omega (arith, f, size)) (trick-closed p c e).0 (own-after strain floor a b s p c ours_a ours_b now.own has) (omega (arith, enough)) (omega (arith, room)) in
+          let held = fewer strain floor theirs a b s p c ours_a ours_b now.own has in
+          let later : m - plan.w ≤ sum (after p c) = start (m - plan.w) (after p c) (omega (arith, f, size)) (trick-closed p c e).0 (own-after strain floor theirs a b s p c ours_a ours_b now.own has) (omega (arith, enough)) (omega (arith, room)) in
           elim (cases_lt 0 plan.w) [
-            | inl k ↦ (let won_it = wins strain floor a b s p c ours_a ours_b now.own has e (omega (arith, k, top)) in omega (arith, won_it, later, one))
-            | inr k ↦ omega (arith, k, later)
+            | inl k ↦ (let won_it = wins strain floor theirs a b s p c ours_a ours_b now.own has e (omega (arith, k, top)) in omega (arith, won_it, later, one))
+            | inr k ↦ omega (arith, k, later, held)
           ]
 
   -- by the plan one card is played
@@ -265,13 +340,13 @@ module _ (strain : Strain) (floor : ℕ) (a b : Seat) (s : Side) (ours_a : is_si
       taken-by : (x : Seat) (c : PlayingCard) → mover p ≡ x → IsLegal p c → (test : PlayingCard → Bool) → count test (cards_at (after p c) x) + flag_of (test c) ≡ count test (cards_at p x)
       taken-by x c is has test = subst (λ y. count test (cards_at (after p c) y) + flag_of (test c) ≡ count test (cards_at p y)) is (count-own test p c now.own.valid has)
 
-      long-turn : now.i ≡ length p.trick → m ≤ won s p
+      long-turn : now.i ≡ length p.trick → m ≤ sum p
       long-turn here = go now.plan.mine
         where
           is : mover p ≡ a
           is = ap (seat_after p.first) (sym here) ∙ sym now.at_i
 
-          go : IsPlanned strain floor now.u now.i p.trick (cards_at p a) now.plan.t now.plan.r → m ≤ won s p
+          go : IsPlanned strain floor now.u now.i p.trick (cards_at p a) now.plan.t now.plan.r → m ≤ sum p
           go (inl l) = absurd (let k = l.0 in omega (arith, k, here))
           go (inr l) =
               let c = l.1.0 in
@@ -283,13 +358,13 @@ module _ (strain : Strain) (floor : ℕ) (a b : Seat) (s : Side) (ours_a : is_si
               let reach : won_with s p c ≤ won s p = can s p c now.own.valid (ap (is_side s) is ∙ ours_a) has in
               omega (arith, enough, reach)
 
-      short-turn : now.i ≢ length p.trick → now.j ≡ length p.trick → m ≤ won s p
+      short-turn : now.i ≢ length p.trick → now.j ≡ length p.trick → m ≤ sum p
       short-turn other here = go now.plan.his
         where
           is : mover p ≡ b
           is = ap (seat_after p.first) (sym here) ∙ sym now.at_j
 
-          go : IsPlanned strain floor now.u now.j p.trick (cards_at p b) now.plan.t2 now.plan.r2 → m ≤ won s p
+          go : IsPlanned strain floor now.u now.j p.trick (cards_at p b) now.plan.t2 now.plan.r2 → m ≤ sum p
           go (inl l) = absurd (let k = l.0 in omega (arith, k, here))
           go (inr l) =
               let c = l.1.0 in
@@ -300,17 +375,23 @@ module _ (strain : Strain) (floor : ℕ) (a b : Seat) (s : Side) (ours_a : is_si
               let reach : won_with s p c ≤ won s p = can s p c now.own.valid (ap (is_side s) is ∙ ours_b) has in
               omega (arith, enough, reach)
 
-      others-turn : now.i ≢ length p.trick → now.j ≢ length p.trick → m ≤ won s p
-      others-turn other another = whoever s p m now.own.valid some (λ c has.
-          let plan = other-plays strain floor m now.u now.i now.j p.trick (cards_at p a) (cards_at p b) c now.plan
-          (led-push now.u p.trick c now.plan.led (λ none. absurd (elim (now.lead none).0 [ inl e ↦ other (e ∙ sym none) | inr e ↦ another (e ∙ sym none) ]))) other another in
-          let mine : cards_at (after p c) a ≡ cards_at p a = hand-others p c a (not-mover a now.i now.at_i now.less_i other) in
-          let his : cards_at (after p c) b ≡ cards_at p b = hand-others p c b (not-mover b now.j now.at_j now.less_j another) in
-          leaves n m p c mid start size now has (subst (λ hand. Plan strain floor m now.u now.i now.j (p.trick ++ c ∷ []) hand (cards_at (after p c) b)) (sym mine)
-          (subst (λ hand. Plan strain floor m now.u now.i now.j (p.trick ++ c ∷ []) (cards_at p a) hand) (sym his) plan)))
+      others-turn : now.i ≢ length p.trick → now.j ≢ length p.trick → m ≤ sum p
+      others-turn other another = omega (arith, each)
         where
-          some : 1 ≤ left p
-          some = (let four = cards-tricks p now.own.valid in omega (arith, four, size))
+          each : m - in_play theirs p ≤ won s p
+          each = whoever s p (m - in_play theirs p) now.own.valid some (λ c has. (let k = by c has in omega (arith, k)))
+            where
+              some : 1 ≤ left p
+              some = (let four = cards-tricks p now.own.valid in omega (arith, four, size))
+
+              by : (c : PlayingCard) → IsLegal p c → m ≤ won_with s p c + in_play theirs p
+              by c has =
+                  let plan = other-plays strain floor m now.u now.i now.j p.trick (cards_at p a) (cards_at p b) c now.plan
+                  (led-push now.u p.trick c now.plan.led (λ none. absurd (elim (now.lead none).0 [ inl e ↦ other (e ∙ sym none) | inr e ↦ another (e ∙ sym none) ]))) other another in
+                  let mine : cards_at (after p c) a ≡ cards_at p a = hand-others p c a (not-mover a now.i now.at_i now.less_i other) in
+                  let his : cards_at (after p c) b ≡ cards_at p b = hand-others p c b (not-mover b now.j now.at_j now.less_j another) in
+                  leaves n m p c mid start size now has (subst (λ hand. Plan strain floor m now.u now.i now.j (p.trick ++ c ∷ []) hand (cards_at (after p c) b)) (sym mine)
+                  (subst (λ hand. Plan strain floor m now.u now.i now.j (p.trick ++ c ∷ []) (cards_at p a) hand) (sym his) plan))
 
   -- before a trick the two make their plan, at once where one of them leads, else when the suit is led
   start-step : (n : ℕ) → MidAt n → MidAt (suc n) → StartAt (suc n)
@@ -346,7 +427,7 @@ module _ (strain : Strain) (floor : ℕ) (a b : Seat) (s : Side) (ours_a : is_si
       full_b = full b at_b.0 at_b.1 at_b.2
 
       -- one of the two leads
-      ours : (x : Seat) → mover p ≡ x → length (cards_at p x) ≡ left p → (at_a.0 ≡ 0) ⊎ (at_b.0 ≡ 0) → m ≤ won s p
+      ours : (x : Seat) → mover p ≡ x → length (cards_at p x) ≡ left p → (at_a.0 ≡ 0) ⊎ (at_b.0 ≡ 0) → m ≤ sum p
       ours x is many first =
           let k = some in
           let d = some-card (cards_at p x) (omega (arith, many, k)) in
@@ -374,8 +455,8 @@ module _ (strain : Strain) (floor : ℕ) (a b : Seat) (s : Side) (ours_a : is_si
       leader = ap (λ k. seat_after p.first k) none
 
       -- an opponent leads
-      theirs : at_a.0 ≢ 0 → at_b.0 ≢ 0 → m ≤ won s p
-      theirs away_a away_b = whoever s p m own.valid some (λ c has.
+      others : at_a.0 ≢ 0 → at_b.0 ≢ 0 → m ≤ sum p
+      others away_a away_b = (let k : m - in_play theirs p ≤ won s p = whoever s p (m - in_play theirs p) own.valid some (λ c has.
           let on = trick-after p c opens in
           let led : (after p c).trick ≡ c ∷ [] = on.0 ∙ ap (λ trick. trick ++ c ∷ []) start in
           let one : length (after p c).trick ≡ 1 = ap length led in
@@ -388,8 +469,9 @@ module _ (strain : Strain) (floor : ℕ) (a b : Seat) (s : Side) (ours_a : is_si
           let trumps : count (is_trump strain) (cards_at (after p c) a) ≡ count (is_trump strain) (cards_at p a) = ap (count (is_trump strain)) mine in
           let k = some in
           let few : cards_left (after p c) + 1 ≡ cards_left p = cards_left-after p c own.valid has in
-          let later : m ≤ won s (after p c) = mid m (after p c) (omega (arith, few, size)) (record {
-            own = own-after strain floor a b s p c ours_a ours_b own has;
+          let held = fewer strain floor theirs a b s p c ours_a ours_b own has in
+          let later : m ≤ sum (after p c) = mid m (after p c) (omega (arith, few, size)) (record {
+            own = own-after strain floor theirs a b s p c ours_a ours_b own has;
             u = c.suit;
             i = at_a.0;
             j = at_b.0;
@@ -401,7 +483,7 @@ module _ (strain : Strain) (floor : ℕ) (a b : Seat) (s : Side) (ours_a : is_si
             plan = plan-for strain floor m c.suit at_a.0 at_b.0 (after p c).trick (cards_at (after p c) a) (cards_at (after p c) b) (subst (IsLed c.suit) (sym led) refl) (omega (arith, one, away_a)) (omega (arith, one, away_b))
                 (omega (arith, many_a, k)) (omega (arith, many_a, many_b)) (omega (arith, tops_a, tops_b, enough)) (omega (arith, trumps, room));
           }) in
-          omega (arith, later))
+          omega (arith, later, held)) in omega (arith, k))
         where
           not-first : (x : Seat) (i : ℕ) → i < 4 → x ≡ seat_after p.first i → i ≢ 0 → seat_code x ≢ seat_code (mover p)
           not-first x i l at away =
@@ -411,12 +493,12 @@ module _ (strain : Strain) (floor : ℕ) (a b : Seat) (s : Side) (ours_a : is_si
               let h : seat_code (mover p) ≡ seat_code p.first = ap seat_code leader in
               omega (arith, e, f, g, h, l, away)
 
-      go : m ≤ won s p
+      go : m ≤ sum p
       go = elim (eqb_tells at_a.0 0) [
         | inl e ↦ ours a (leader ∙ sym (at_a.2 ∙ ap (seat_after p.first) e.1)) full_a (inl e.1)
         | inr away_a ↦ elim (eqb_tells at_b.0 0) [
           | inl e ↦ ours b (leader ∙ sym (at_b.2 ∙ ap (seat_after p.first) e.1)) full_b (inr e.1)
-          | inr away_b ↦ theirs away_a.1 away_b.1
+          | inr away_b ↦ others away_a.1 away_b.1
         ]
       ]
 
@@ -431,7 +513,7 @@ module _ (strain : Strain) (floor : ℕ) (a b : Seat) (s : Side) (ours_a : is_si
   mid-none : MidAt 0
   mid-none m p size now = go now.plan.mine
     where
-      go : IsPlanned strain floor now.u now.i p.trick (cards_at p a) now.plan.t now.plan.r → m ≤ won s p
+      go : IsPlanned strain floor now.u now.i p.trick (cards_at p a) now.plan.t now.plan.r → m ≤ sum p
       go (inl l) = absurd (let four = cards-tricks p now.own.valid in let short = now.own.valid.short in let k = l.0 in omega (arith, four, short, size, k))
       go (inr l) = absurd (
           let one = count-has (λ c. true) (cards_at p a) l.1.0 l.1.1 refl in
@@ -445,7 +527,7 @@ module _ (strain : Strain) (floor : ℕ) (a b : Seat) (s : Side) (ours_a : is_si
   both-at (suc n) = (let before = both-at n in let now = mid-step n before.1 before.0 in (start-step n before.1 now, now))
 
 -- before a trick, the side takes a trick for each of m of the highest trumps that its two hands have, where one of the hands
--- has so many trumps
-pub joint-taken : (strain : Strain) (floor m : ℕ) (a b : Seat) (s : Side) (p : Board) → is_side s a ≡ true → is_side s b ≡ true → seat_code a ≢ seat_code b → OwnTops strain floor a b p → p.trick ≡ []
-    → m ≤ count (is_top strain floor) (cards_at p a) + count (is_top strain floor) (cards_at p b) → m ≤ count (is_trump strain) (cards_at p a) → m ≤ won s p
-joint-taken strain floor m a b s p ours_a ours_b apart own start enough room = (both-at strain floor a b s ours_a ours_b apart (cards_left p)).0 m p refl start own enough room
+-- has so many trumps, but for as many as there are of theirs
+pub joint-taken : (strain : Strain) (floor m : ℕ) (theirs : PlayingCard → Bool) (a b : Seat) (s : Side) (p : Board) → is_side s a ≡ true → is_side s b ≡ true → seat_code a ≢ seat_code b → OwnTops strain floor theirs a b p → p.trick ≡ []
+    → m ≤ count (is_top strain floor) (cards_at p a) + count (is_top strain floor) (cards_at p b) → m ≤ count (is_trump strain) (cards_at p a) → m ≤ won s p + in_play theirs p
+joint-taken strain floor m theirs a b s p ours_a ours_b apart own start enough room = (both-at strain floor theirs a b s ours_a ours_b apart (cards_left p)).0 m p refl start own enough room

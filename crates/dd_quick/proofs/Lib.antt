@@ -16,6 +16,7 @@ pub mod AcrossClaims
 pub mod Claims
 pub mod Highest
 pub mod Reached
+pub mod TrumpRanks
 pub mod Shares
 pub mod Next
 pub mod LeadBack
@@ -23,5 +24,8 @@ pub mod TakenTrick
 pub mod SecondHand
 pub mod SecondTrump
 pub mod SecondAcross
+pub mod PlainTrick
 pub mod LaterTrick
 pub mod LaterClaims
+pub mod KeptWinners
+pub mod KeptClaims

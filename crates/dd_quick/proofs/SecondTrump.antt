@@ -1,6 +1,6 @@
 -- Second hand wins a trump that is led. It takes a trick for each of its trumps that no other hand can beat, and what it could
 -- cash in side suits before the lead, where its partner has a card more to throw.
-use Rattle.std.proofs.Common.{◌≡◌, ◌≢◌, ℕ, ◌+◌, ◌-◌, ◌<◌, ◌≤◌, Bool, true, false, refl, sym, ap, ◌∙◌, subst, arith, List, [], ◌∷◌, inl, inr, zero-le}
+use Rattle.std.proofs.Common.{◌≡◌, ◌≢◌, ℕ, ◌+◌, ◌-◌, ◌<◌, ◌≤◌, Bool, true, false, refl, sym, ap, ◌∙◌, subst, arith, List, [], ◌∷◌, inl, inr}
 use Rattle.std.specs.Prelude.{nat_lt, min, ◌&&◌, ◌||◌, ◌⊎◌}
 use mathlib.Core.Bool.{not}
 use mathlib.Core.Path.{ap₂}
@@ -21,7 +21,7 @@ use Rattle.dd_play.specs.Covers.{count_of}
 use Rattle.dd_play.specs.Reach.{TakesBy, reach}
 use Rattle.dd_play.specs.Won.{won}
 use Rattle.dd_play.proofs.CallerLemmas.{after-code, code-lt, count, count-has, count-some, flag_of, legal-in, of-suit', suit-of, turn-turn}
-use Rattle.dd_quick.specs.QuickTricks.{RestsOnTrumps, beats, is_unbeaten, is_winner, joint_trumps, run, trumps_at, unbeaten}
+use Rattle.dd_quick.specs.QuickTricks.{beats, is_unbeaten, is_winner, joint_trumps, run, trumps_at}
 use Rattle.dd_quick.specs.SecondHand.{IsBeforeLead, unled}
 use Rattle.dd_quick.proofs.Claims.{IsSure}
 use Rattle.dd_quick.proofs.Cashing.{AllLetCash, Aims, FollowsSuit, HasCards, IsLater, IsMaster, LetsCash, cashed-all, follows-on, hand_on, is_plain, no_cards, one_card, one-total, same-trump, sure_of, total, yields-on}
@@ -30,7 +30,7 @@ use Rattle.dd_quick.proofs.LeadBack.{answered, board-back, cover-back}
 use Rattle.dd_quick.proofs.Plays.{count-where}
 use Rattle.dd_quick.proofs.SecondHand.{count-lost, follows-led, waiting}
 use Rattle.dd_quick.proofs.TakenTrick.{Allows, IsLed, IsMidway, IsTaken, nobody, trick-taken}
-use Rattle.dd_quick.proofs.Sound.{CanTake, can-let, joint-later, keeping_trumps, leaders_aims, length-left, own-side, partners-side, plain-left, side-spared}
+use Rattle.dd_quick.proofs.Sound.{CanTake, can-let, joint-later, keeping_trumps, leaders_aims, length-left, own-side, partners-side, plain-left, side-spared, unbeaten, unbeaten-joint}
 use Rattle.dd_quick.proofs.Covered.{IsJoint, RestsOnTops, can-covered, left-same, length-same, run-covered, some-card, trumps-same}
 
 -- The hand that is i places after h lets n cards of each suit be cashed, and e more that are led first, where its partner
@@ -217,7 +217,8 @@ module _ (p : Board) (c : PlayingCard) (h : Seat) (i : ℕ) (n : Suit → ℕ) (
         joint (Trump t) e =
             let free = subst (λ u. k - 1 ≤ unbeaten q h u) (suit-of t c e) unbeaten-on in
             let long = count-where (λ d. is_of t d && is_unbeaten q h d) (is_of t) (cards_at q h) (λ d has pass. and-left (is_of t d) (is_unbeaten q h d) pass) in
-            omega (arith, free, long)
+            let most = unbeaten-joint t q h now.valid in
+            omega (arith, free, long, most)
         joint Notrump e = absurd (cc)
 
         rest : (r : Board) → r.trick ≡ [] → IsLater p.strain aims q (side_of h) r → k - 1 ≤ won (side_of h) r
@@ -255,7 +256,7 @@ trumps-by top p c h i n m led opposed at may trump some winners tops spare k to 
   where
     none : (s : Strain) → IsJoint s top (unled p c h) 0 0
     none Notrump = tt
-    none (Trump u) = inl zero-le
+    none (Trump u) = inl (inl refl)
 
 -- and what is counted there where a trump was led
 pub trump-claim : (p : Board) (c : PlayingCard) (before : Board) (cards : List PlayingCard) (n : Suit → ℕ) (m : ℕ) → IsBeforeLead p c before → IsSure before cards n 0 → is_trump p.strain c ≡ true → 1 ≤ m
@@ -269,8 +270,3 @@ trump-claim p c before cards n m ready sure trump some tops spare = elim ready.s
         (subst (λ o. RestsOnTops (reach cards) o n) ready.was sure.tops)
         (subst (λ (o : Board). m ≤ count (λ d. (is_of c.suit d && is_winner o before.first d) && reach cards d) (cards_at o before.first)) ready.was tops)
         (subst (λ (o : Board). total n + 1 + trumps_at o.strain o (seat_after before.first 2) ≤ left o) ready.was spare)
-
--- no joint trumps rest on any cards
-pub none-rest : (strain : Strain) (p : Board) (seat : Seat) (cards : List PlayingCard) → RestsOnTrumps strain p seat cards 0
-none-rest Notrump p seat cards = tt
-none-rest (Trump t) p seat cards = inl (omega arith)

@@ -1,9 +1,9 @@
 -- the quick tricks of a side are no more than the tricks that it takes
-use Rattle.std.proofs.Common.{◌≡◌, ◌≢◌, ℕ, zero, suc, ◌+◌, ◌<◌, ◌≤◌, Bool, true, false, refl, sym, ap, ◌∙◌, subst, arith, List, [], ◌∷◌, ◌++◌, length, length-append, inl, inr, min}
-use Rattle.std.specs.Prelude.{filter, nat_le, nat_lt, ◌&&◌, ◌⊎◌}
+use Rattle.std.proofs.Common.{◌≡◌, ◌≢◌, ℕ, zero, suc, ◌+◌, ◌<◌, ◌≤◌, Bool, true, false, refl, sym, ap, ◌∙◌, subst, arith, List, [], ◌∷◌, ◌++◌, length, length-append, inl, inr, min, zero-le}
+use Rattle.std.specs.Prelude.{filter, nat_le, nat_lt, ◌&&◌, ◌||◌, ◌==◌, ◌⊎◌}
 use mathlib.Core.Bool.{not}
 use mathlib.Core.Path.{ap₂}
-use Rattle.std.proofs.lemmas.Bool.{leb-true, le-leb, cases_lt}
+use Rattle.std.proofs.lemmas.Bool.{leb-true, le-leb, eqb-true, cases_lt}
 use Rattle.std.proofs.lemmas.Bool.Decides.{nat_tests}
 use Rattle.dd_cards.specs.declared.seat.Seat.{Seat}
 use Rattle.dd_cards.specs.declared.seat.Seat.TheVariants.{North, East, South, West}
@@ -12,27 +12,30 @@ use Rattle.dd_cards.specs.declared.strain.Strain.{Strain}
 use Rattle.dd_cards.specs.declared.strain.Strain.TheVariants.{Trump, Notrump}
 use Rattle.dd_cards.specs.PlayingCard.{PlayingCard}
 use Rattle.dd_cards.specs.Cards.{is_of, same_card, card_of, has_card}
+use Rattle.dd_cards.specs.Ranks.{all_ranks, has_rank}
 use Rattle.dd_cards.specs.Seats.{seat_code, seat_after}
-use Rattle.dd_cards.proofs.CallerLemmas.{and-left, and-right, any-filter, length-filter-le, same_card-eq}
+use Rattle.dd_cards.proofs.CallerLemmas.{and-left, and-right, any-filter, else-false, length-filter-le, or-right, or-split, same_card-eq}
 use Rattle.dd_cards.specs.Sides.{side_of, other_side, is_side}
 use Rattle.dd_cards.specs.declared.side.Side.{Side}
 use Rattle.dd_play.specs.Board.{Board, IsBoard, cards_at, left}
 use Rattle.dd_play.specs.Tricks.{is_trump}
 use Rattle.dd_play.specs.Covers.{count_of}
 use Rattle.dd_play.specs.Won.{won}
-use Rattle.dd_play.proofs.CallerLemmas.{after-code, card-real, code-lt, count, filter-has, filter-passes, flag_of, has-first, in-rest, suit-of}
-use Rattle.dd_quick.specs.QuickTricks.{is_winner, is_unbeaten, run, length_at, unbeaten, trumps_at, joint_trumps}
-use Rattle.dd_quick.proofs.Hands.{IsOpposed, no-higher, none-over}
+use Rattle.dd_play.proofs.CallerLemmas.{after-code, card-real, code-lt, count, filter-has, filter-passes, flag_of, has-first, in-rest, inject, once-in, suit-of}
+use Rattle.dd_quick.specs.QuickTricks.{from_rank, greatest, is_winner, is_unbeaten, joint_trumps, length_at, longer_of, run, taken_from, trumps_at}
+use Rattle.dd_quick.proofs.Chosen.{count-never, count-same}
+use Rattle.dd_quick.proofs.Hands.{IsOpposed, no-higher, none-over, one-hand}
 use Rattle.dd_quick.proofs.Plays.{count-where}
 use Rattle.dd_quick.proofs.JointPlans.{is_top, trumps-plain}
-use Rattle.dd_quick.proofs.JointTrumps.{joint-taken, place-of}
+use Rattle.dd_quick.proofs.JointTrumps.{around, in_play, joint-taken, place-of}
+use Rattle.dd_quick.proofs.Runs.{has-all}
 use Rattle.dd_quick.proofs.Plans.{IsPlan, planned}
 use Rattle.dd_quick.proofs.Cashing.{Aims, AllLetCash, IsLater, OnlyTrumps, hand_on, is_plain, no_cards, same-trump, spare_of, sure_of, total}
 
 -- ---- two lists
 
 -- a card of the first list is one of both
-in-left : (xs ys : List PlayingCard) (d : PlayingCard) → has_card xs d ≡ true → has_card (xs ++ ys) d ≡ true
+pub in-left : (xs ys : List PlayingCard) (d : PlayingCard) → has_card xs d ≡ true → has_card (xs ++ ys) d ≡ true
 in-left [] ys d h = absurd (cc)
 in-left (x ∷ xs) ys d h = go (same_card x d) refl (in-left xs ys d)
   where
@@ -41,12 +44,12 @@ in-left (x ∷ xs) ys d h = go (same_card x d) refl (in-left xs ys d)
     go false e ih = rw e (ih (rw e at h))
 
 -- a card of the second list is one of both
-in-right : (xs ys : List PlayingCard) (d : PlayingCard) → has_card ys d ≡ true → has_card (xs ++ ys) d ≡ true
+pub in-right : (xs ys : List PlayingCard) (d : PlayingCard) → has_card ys d ≡ true → has_card (xs ++ ys) d ≡ true
 in-right [] ys d h = h
 in-right (x ∷ xs) ys d h = in-rest x d (xs ++ ys) (in-right xs ys d h)
 
 -- a card of both is one of either
-in-either : (xs ys : List PlayingCard) (d : PlayingCard) → has_card (xs ++ ys) d ≡ true → (has_card xs d ≡ true) ⊎ (has_card ys d ≡ true)
+pub in-either : (xs ys : List PlayingCard) (d : PlayingCard) → has_card (xs ++ ys) d ≡ true → (has_card xs d ≡ true) ⊎ (has_card ys d ≡ true)
 in-either [] ys d h = inr h
 in-either (x ∷ xs) ys d h = go (same_card x d) refl (in-either xs ys d)
   where
@@ -56,27 +59,27 @@ in-either (x ∷ xs) ys d h = go (same_card x d) refl (in-either xs ys d)
 
 -- ---- the lowest of the highest trumps
 
--- a list has a lowest card
-lowest : (c : PlayingCard) (cards : List PlayingCard) → (d : PlayingCard) × (has_card (c ∷ cards) d ≡ true) × ((e : PlayingCard) → has_card (c ∷ cards) e ≡ true → d.rank ≤ e.rank)
-lowest c [] = (c, has-first c [], λ e h. go e (same_card c e) refl h)
+-- of a list that has some, a card whose number is the lowest
+pub lowest : (number : PlayingCard → ℕ) (c : PlayingCard) (cards : List PlayingCard) → (d : PlayingCard) × (has_card (c ∷ cards) d ≡ true) × ((e : PlayingCard) → has_card (c ∷ cards) e ≡ true → number d ≤ number e)
+lowest number c [] = (c, has-first c [], λ e h. go e (same_card c e) refl h)
   where
-    go : (e : PlayingCard) (b : Bool) → same_card c e ≡ b → has_card (c ∷ []) e ≡ true → c.rank ≤ e.rank
-    go e true f h = (let k : c.rank ≡ e.rank = ap (λ (y : PlayingCard). y.rank) (same_card-eq c e f) in omega (arith, k))
+    go : (e : PlayingCard) (b : Bool) → same_card c e ≡ b → has_card (c ∷ []) e ≡ true → number c ≤ number e
+    go e true f h = (let k : number c ≡ number e = ap number (same_card-eq c e f) in omega (arith, k))
     go e false f h = absurd (let k : false ≡ true = rw f at h in cc)
-lowest c (x ∷ cards) = pick (lowest x cards)
+lowest number c (x ∷ cards) = pick (lowest number x cards)
   where
     Lowest : PlayingCard → List PlayingCard → Type 0
-    Lowest x cards = (d : PlayingCard) × (has_card (x ∷ cards) d ≡ true) × ((e : PlayingCard) → has_card (x ∷ cards) e ≡ true → d.rank ≤ e.rank)
+    Lowest x cards = (d : PlayingCard) × (has_card (x ∷ cards) d ≡ true) × ((e : PlayingCard) → has_card (x ∷ cards) e ≡ true → number d ≤ number e)
 
-    under : (d e : PlayingCard) → d.rank ≤ c.rank → ((e : PlayingCard) → has_card (x ∷ cards) e ≡ true → d.rank ≤ e.rank) → has_card (c ∷ x ∷ cards) e ≡ true → d.rank ≤ e.rank
+    under : (d e : PlayingCard) → number d ≤ number c → ((e : PlayingCard) → has_card (x ∷ cards) e ≡ true → number d ≤ number e) → has_card (c ∷ x ∷ cards) e ≡ true → number d ≤ number e
     under d e first rest h = go (same_card c e) refl
       where
-        go : (b : Bool) → same_card c e ≡ b → d.rank ≤ e.rank
-        go true f = (let k : c.rank ≡ e.rank = ap (λ (y : PlayingCard). y.rank) (same_card-eq c e f) in omega (arith, k, first))
+        go : (b : Bool) → same_card c e ≡ b → number d ≤ number e
+        go true f = (let k : number c ≡ number e = ap number (same_card-eq c e f) in omega (arith, k, first))
         go false f = rest e (rw f at h)
 
     pick : Lowest x cards → Lowest c (x ∷ cards)
-    pick r = elim (cases_lt c.rank r.0.rank) [
+    pick r = elim (cases_lt (number c) (number r.0)) [
       | inl l ↦ (c, has-first c (x ∷ cards), λ e h. under c e (omega arith) (λ d k. (let m = r.2 d k in omega (arith, l, m))) h)
       | inr l ↦ (r.0, in-rest c r.0 (x ∷ cards) r.1, λ e h. under r.0 e l r.2 h)
     ]
@@ -110,6 +113,10 @@ opponents-side North = (refl, refl)
 opponents-side East = (refl, refl)
 opponents-side South = (refl, refl)
 opponents-side West = (refl, refl)
+
+-- how many cards of the suit the seat holds that no opponent can beat
+abbrev pub unbeaten : Board → Seat → Suit → ℕ
+unbeaten p seat suit = count (λ c. is_of suit c && is_unbeaten p seat c) (cards_at p seat)
 
 -- trumps of this rank or a higher one are all of the two seats, and there are as many as no opponent can beat
 record IsFloor (strain : Strain) (p : Board) (a b : Seat) (k floor : ℕ) : Type 0 where
@@ -154,7 +161,7 @@ floor-of t p a b valid partner = go (filter (free a) (cards_at p a) ++ filter (f
     go (c ∷ cards) e = (floor, record { owned = owned; enough = (let x = counted a (λ d h. in-left (filter (free a) (cards_at p a)) (filter (free b) (cards_at p b)) d h) in let y = counted b (λ d h. in-right (filter (free a) (cards_at p a)) (filter (free b) (cards_at p b)) d h) in omega (arith, x, y)) })
       where
         low : (d : PlayingCard) × (has_card (c ∷ cards) d ≡ true) × ((e : PlayingCard) → has_card (c ∷ cards) e ≡ true → d.rank ≤ e.rank)
-        low = lowest c cards
+        low = lowest (λ (y : PlayingCard). y.rank) c cards
 
         floor : ℕ
         floor = low.0.rank
@@ -187,11 +194,172 @@ floor-of t p a b valid partner = go (filter (free a) (cards_at p a) ++ filter (f
             let over : low.0.rank ≤ d.rank = low.2 d (ap (λ cards. has_card cards d) (sym e) ∙ inside d (filter-has (free h) (cards_at p h) d has high)) in
             ap₂ (λ a b. a && b) (and-left (is_of t d) (is_unbeaten p h d) high) (le-leb floor d.rank over))
 
+-- ---- the greatest of the numbers by rank
+
+-- each is no greater
+pub in-greatest : (f : ℕ → ℕ) (ranks : List ℕ) (r : ℕ) → has_rank ranks r ≡ true → f r ≤ greatest f ranks
+in-greatest f [] r h = absurd (cc)
+in-greatest f (q ∷ ranks) r h = go (q == r) refl (in-greatest f ranks r)
+  where
+    go : (b : Bool) → (q == r) ≡ b → (has_rank ranks r ≡ true → f r ≤ greatest f ranks) → f r ≤ greatest f (q ∷ ranks)
+    go true e ih = (let k : f q ≡ f r = ap f (eqb-true q r e) in omega (arith, k))
+    go false e ih = (let k = ih (rw e at h) in omega (arith, k))
+
+-- it is one of them, or nothing
+pub some-greatest : (f : ℕ → ℕ) (ranks : List ℕ) (n : ℕ) → n ≤ greatest f ranks → (n ≡ 0) ⊎ ((r : ℕ) × (n ≤ f r))
+some-greatest f [] n h = inl (omega (arith, h))
+some-greatest f (q ∷ ranks) n h = elim (cases_lt (f q) n) [ inl l ↦ some-greatest f ranks n (omega (arith, h, l)) | inr l ↦ inr (q, l) ]
+
+-- it is no greater than what none exceeds
+pub greatest-least : (f : ℕ → ℕ) (ranks : List ℕ) (n : ℕ) → ((r : ℕ) → f r ≤ n) → greatest f ranks ≤ n
+greatest-least f [] n each = zero-le
+greatest-least f (q ∷ ranks) n each = (let a = each q in let b = greatest-least f ranks n each in omega (arith, a, b))
+
 -- ---- joint trumps
+
+-- a side has no more joint trumps than its longer hand has trumps
+pub joint-longer : (t : Suit) (p : Board) (a : Seat) → joint_trumps (Trump t) p a ≤ longer_of p a t
+joint-longer t p a = greatest-least (taken_from p a t) all_ranks (longer_of p a t) (λ r. omega arith)
+
+-- what the trumps of any rank or higher take are joint trumps
+pub rank-joint : (t : Suit) (p : Board) (a : Seat) (r n : ℕ) → IsBoard p → n ≤ taken_from p a t r → n ≤ joint_trumps (Trump t) p a
+rank-joint t p a r n valid few = elim (cases_lt r 2) [
+  | inl low ↦ (
+      let d = at-two a low in
+      let e = at-two (seat_after a 2) low in
+      let f = at-two (seat_after a 1) low in
+      let g = at-two (seat_after a 3) low in
+      let k = in-greatest (taken_from p a t) all_ranks 2 (has-all 2 (omega arith, omega arith)) in
+      omega (arith, few, d, e, f, g, k))
+  | inr l ↦ elim (cases_lt r 15) [
+    | inl high ↦ (let k = in-greatest (taken_from p a t) all_ranks r (has-all r (l, omega (arith, high))) in omega (arith, few, k))
+    | inr none ↦ (let d = nothing a none in let e = nothing (seat_after a 2) none in omega (arith, few, d, e))
+  ]
+]
+  where
+    -- no card is below the two
+    at-two : (x : Seat) → r < 2 → from_rank p x t r ≡ from_rank p x t 2
+    at-two x low = count-same (λ c. is_of t c && nat_le r c.rank) (λ c. is_of t c && nat_le 2 c.rank) (cards_at p x) (λ c has.
+        let real = (card-real p x c valid has).0 in ap (λ b. is_of t c && b) (le-leb r c.rank (omega (arith, low, real)) ∙ sym (le-leb 2 c.rank real)))
+
+    -- nor above the ace
+    nothing : (x : Seat) → 15 ≤ r → from_rank p x t r ≡ 0
+    nothing x none = count-never (λ c. is_of t c && nat_le r c.rank) (cards_at p x) (λ c has. else-false (is_of t c && nat_le r c.rank) (λ e.
+        let real = (card-real p x c valid has).1 in let high = leb-true r c.rank (and-right (is_of t c) (nat_le r c.rank) e) in omega (arith, none, real, high)))
+
+-- The cards that no opponent beats are joint trumps, as far as the longer hand has trumps.
+pub unbeaten-joint : (t : Suit) (p : Board) (a : Seat) → IsBoard p → min (unbeaten p a t + unbeaten p (seat_after a 2) t) (longer_of p a t) ≤ joint_trumps (Trump t) p a
+unbeaten-joint t p a valid =
+    let low = floor-of t p a (seat_after a 2) valid refl in
+    let enough = low.1.enough in
+    let one = nobody low.0 low.1.owned 1 (inl refl) in
+    let three = nobody low.0 low.1.owned 3 (inr refl) in
+    rank-joint t p a low.0 (min (unbeaten p a t + unbeaten p (seat_after a 2) t) (longer_of p a t)) valid (omega (arith, enough, one, three))
+  where
+    -- an opponent has none of them
+    nobody : (floor : ℕ) → ((x : Seat) (c : PlayingCard) → has_card (cards_at p x) c ≡ true → is_top (Trump t) floor c ≡ true → (x ≡ a) ⊎ (x ≡ seat_after a 2)) → (i : ℕ) → IsOpposed i → from_rank p (seat_after a i) t floor ≡ 0
+    nobody floor owned i opposed = count-never (is_top (Trump t) floor) (cards_at p (seat_after a i)) (λ c has. else-false (is_top (Trump t) floor c) (λ top.
+        let x = after-code a i in
+        let y = after-code a 2 in
+        let z = code-lt a in
+        elim (owned (seat_after a i) c has top) [
+          | inl e ↦ (let k : seat_code (seat_after a i) ≡ seat_code a = ap seat_code e in elim opposed [ inl f ↦ omega (arith, x, z, k, f) | inr f ↦ omega (arith, x, z, k, f) ])
+          | inr e ↦ (let k : seat_code (seat_after a i) ≡ seat_code (seat_after a 2) = ap seat_code e in elim opposed [ inl f ↦ omega (arith, x, y, z, k, f) | inr f ↦ omega (arith, x, y, z, k, f) ])
+        ]))
 
 -- a test of the highest trumps passes trumps alone
 tops-only : (strain : Strain) (floor : ℕ) → OnlyTrumps strain (is_top strain floor)
 tops-only strain floor c e = ap (λ b. b && nat_le floor c.rank) e
+
+-- The trumps of a rank or higher take their tricks, also later, where the two hands have lost none of their trumps.
+module _ (t : Suit) (o q : Board) (a : Seat) (s : Side) (r : ℕ) (valid : IsBoard o) (now : IsBoard q) (same : q.strain ≡ Trump t) (start : q.trick ≡ []) (ours_a : is_side s a ≡ true) (ours_b : is_side s (seat_after a 2) ≡ true)
+    (part : (x : Seat) (c : PlayingCard) → has_card (cards_at q x) c ≡ true → has_card (cards_at o x) c ≡ true)
+    (mine : (test : PlayingCard → Bool) → OnlyTrumps (Trump t) test → count test (cards_at q a) ≡ count test (cards_at o a))
+    (his : (test : PlayingCard → Bool) → OnlyTrumps (Trump t) test → count test (cards_at q (seat_after a 2)) ≡ count test (cards_at o (seat_after a 2))) where
+  -- a trump of the rank or higher of an opponent's
+  abbrev theirs : PlayingCard → Bool
+  theirs c = is_top (Trump t) r c && (has_card (cards_at o (seat_after a 1)) c || has_card (cards_at o (seat_after a 3)) c)
+
+  -- two seats at two places are two
+  two-seats : (i j : ℕ) → i < 4 → j < 4 → i ≢ j → seat_code (seat_after a i) ≢ seat_code (seat_after a j)
+  two-seats i j l m e = (let x = after-code a i in let y = after-code a j in let z = code-lt a in λ k. omega (arith, x, y, z, k, l, m, e))
+
+  -- the two hands have none of theirs
+  not-ours : (i : ℕ) → i < 4 → i ≢ 1 → i ≢ 3 → count theirs (cards_at q (seat_after a i)) ≡ 0
+  not-ours i l one three = count-never theirs (cards_at q (seat_after a i)) (λ c has. else-false (theirs c) (λ e.
+      elim (or-split (has_card (cards_at o (seat_after a 1)) c) (has_card (cards_at o (seat_after a 3)) c) (and-right (is_top (Trump t) r c) (has_card (cards_at o (seat_after a 1)) c || has_card (cards_at o (seat_after a 3)) c) e)) [
+        | inl h ↦ one-hand o valid (seat_after a i) (seat_after a 1) c (two-seats i 1 l (omega arith) one) (part (seat_after a i) c has) h
+        | inr h ↦ one-hand o valid (seat_after a i) (seat_after a 3) c (two-seats i 3 l (omega arith) three) (part (seat_after a i) c has) h
+      ]))
+
+  -- and the others no more than at first
+  no-more : (x : Seat) → count theirs (cards_at q x) ≤ from_rank o x t r
+  no-more x = inject (λ c. c) (λ c. c) theirs (is_top (Trump t) r) (cards_at q x) (cards_at o x) (once-in q now x) (λ c has e. (part x c has, and-left (is_top (Trump t) r c) (has_card (cards_at o (seat_after a 1)) c || has_card (cards_at o (seat_after a 3)) c) e, refl))
+
+  their-trumps : in_play theirs q ≤ from_rank o (seat_after a 1) t r + from_rank o (seat_after a 3) t r
+  their-trumps =
+      let all = around theirs q a in
+      let x = not-ours 0 (omega arith) (λ e. omega (arith, e)) (λ e. omega (arith, e)) in
+      let y = not-ours 2 (omega arith) (λ e. omega (arith, e)) (λ e. omega (arith, e)) in
+      let z = no-more (seat_after a 1) in
+      let w = no-more (seat_after a 3) in
+      let none : count theirs q.trick ≡ 0 = ap (count theirs) start in
+      let first : count theirs (cards_at q (seat_after a 0)) ≡ count theirs (cards_at q a) = ap (λ b. count theirs (cards_at q b)) (no-turn a) in
+      omega (arith, all, x, y, z, w, none, first)
+    where
+      no-turn : (b : Seat) → seat_after b 0 ≡ b
+      no-turn North = refl
+      no-turn East = refl
+      no-turn South = refl
+      no-turn West = refl
+
+  -- the trumps of the rank or higher are the side's and theirs
+  owned : (x : Seat) (c : PlayingCard) → has_card (cards_at q x) c ≡ true → is_top (Trump t) r c ≡ true → ((x ≡ a) ⊎ (x ≡ seat_after a 2)) ⊎ (theirs c ≡ true)
+  owned x c has top = by (place-of a x)
+    where
+      both : {b d : Bool} → b ≡ true → d ≡ true → (b && d) ≡ true
+      both e f = rw (e, f) refl
+
+      by : (i : ℕ) × (i < 4) × (x ≡ seat_after a i) → ((x ≡ a) ⊎ (x ≡ seat_after a 2)) ⊎ (theirs c ≡ true)
+      by (zero, l, e) = inl (inl e)
+      by (suc zero, l, e) = inr (both top (ap (λ b. b || has_card (cards_at o (seat_after a 3)) c) (subst (λ y. has_card (cards_at o y) c ≡ true) e (part x c has))))
+      by (suc (suc zero), l, e) = inl (inr e)
+      by (suc (suc (suc zero)), l, e) = inr (both top (or-right (has_card (cards_at o (seat_after a 1)) c) (has_card (cards_at o (seat_after a 3)) c) (subst (λ y. has_card (cards_at o y) c ≡ true) e (part x c has))))
+      by (suc (suc (suc (suc j))), l, e) = absurd (omega (arith, l))
+
+  -- nothing of them is on the trick
+  none-played : (i : ℕ) (d : PlayingCard) → i < length q.trick → ⊥
+  none-played i d l = (let none : length q.trick ≡ 0 = ap length start in omega (arith, none, l))
+
+  rank-later : (k : ℕ) → k ≤ taken_from o a t r → k ≤ won s q
+  rank-later k few = elim (cases_lt 0 k) [
+    | inl some ↦ (
+        let tops_a = mine (is_top (Trump t) r) (tops-only (Trump t) r) in
+        let tops_b = his (is_top (Trump t) r) (tops-only (Trump t) r) in
+        let trumps_a = mine (is_trump (Trump t)) (λ c e. e) in
+        let trumps_b = his (is_trump (Trump t)) (λ c e. e) in
+        let over = their-trumps in
+        let apart : seat_code a ≢ seat_code (seat_after a 2) = (let x = after-code a 2 in let y = code-lt a in omega (arith, x, y)) in
+        elim (cases_lt (count (is_trump (Trump t)) (cards_at o a)) (count (is_trump (Trump t)) (cards_at o (seat_after a 2)))) [
+          | inl l ↦ (
+              let taken = joint-taken (Trump t) r (k + (from_rank o (seat_after a 1) t r + from_rank o (seat_after a 3) t r)) theirs (seat_after a 2) a s q ours_b ours_a (λ e. apart (sym e)) (record {
+                valid = now;
+                same = same;
+                held = λ x c has top. elim (owned x c has top) [ inl e ↦ inl (elim e [ inl f ↦ inr f | inr f ↦ inl f ]) | inr e ↦ inr e ];
+                played = λ i d l t. absurd (none-played i d l);
+              }) start (omega (arith, few, some, tops_a, tops_b)) (omega (arith, few, some, trumps_b, l)) in
+              omega (arith, taken, over))
+          | inr l ↦ (
+              let taken = joint-taken (Trump t) r (k + (from_rank o (seat_after a 1) t r + from_rank o (seat_after a 3) t r)) theirs a (seat_after a 2) s q ours_a ours_b apart (record {
+                valid = now;
+                same = same;
+                held = owned;
+                played = λ i d l t. absurd (none-played i d l);
+              }) start (omega (arith, few, some, tops_a, tops_b)) (omega (arith, few, some, trumps_a, l)) in
+              omega (arith, taken, over))
+        ])
+    | inr none ↦ omega (arith, none)
+  ]
 
 -- Joint trumps take their tricks, also later, where the two hands have lost none of their trumps.
 pub joint-later : (strain : Strain) (o q : Board) (a : Seat) (s : Side) (k : ℕ) → IsBoard o → IsBoard q → q.strain ≡ strain → q.trick ≡ [] → is_side s a ≡ true → is_side s (seat_after a 2) ≡ true → k ≤ joint_trumps strain o a
@@ -199,28 +367,10 @@ pub joint-later : (strain : Strain) (o q : Board) (a : Seat) (s : Side) (k : ℕ
     → ((test : PlayingCard → Bool) → OnlyTrumps strain test → count test (cards_at q a) ≡ count test (cards_at o a))
     → ((test : PlayingCard → Bool) → OnlyTrumps strain test → count test (cards_at q (seat_after a 2)) ≡ count test (cards_at o (seat_after a 2))) → k ≤ won s q
 joint-later Notrump o q a s k valid now same start ours_a ours_b few part mine his = omega (arith, few)
-joint-later (Trump t) o q a s k valid now same start ours_a ours_b few part mine his =
-    let low = floor-of t o a (seat_after a 2) valid refl in
-    let enough = low.1.enough in
-    let tops_a = mine (is_top (Trump t) low.0) (tops-only (Trump t) low.0) in
-    let tops_b = his (is_top (Trump t) low.0) (tops-only (Trump t) low.0) in
-    let trumps_a = mine (is_trump (Trump t)) (λ c e. e) in
-    let trumps_b = his (is_trump (Trump t)) (λ c e. e) in
-    let apart : seat_code a ≢ seat_code (seat_after a 2) = (let x = after-code a 2 in let y = code-lt a in omega (arith, x, y)) in
-    elim (cases_lt (count (is_trump (Trump t)) (cards_at o a)) (count (is_trump (Trump t)) (cards_at o (seat_after a 2)))) [
-      | inl l ↦ joint-taken (Trump t) low.0 k (seat_after a 2) a s q ours_b ours_a (λ e. apart (sym e)) (record {
-        valid = now;
-        same = same;
-        held = λ x c has top. (elim (low.1.owned x c (part x c has) top) [ inl e ↦ inr e | inr e ↦ inl e ]);
-        played = λ i d l t. absurd (let none : length q.trick ≡ 0 = ap length start in omega (arith, none, l));
-      }) start (omega (arith, few, enough, tops_a, tops_b)) (omega (arith, few, trumps_b, l))
-      | inr l ↦ joint-taken (Trump t) low.0 k a (seat_after a 2) s q ours_a ours_b apart (record {
-        valid = now;
-        same = same;
-        held = λ x c has top. low.1.owned x c (part x c has) top;
-        played = λ i d l t. absurd (let none : length q.trick ≡ 0 = ap length start in omega (arith, none, l));
-      }) start (omega (arith, few, enough, tops_a, tops_b)) (omega (arith, few, trumps_a, l))
-    ]
+joint-later (Trump t) o q a s k valid now same start ours_a ours_b few part mine his = elim (some-greatest (taken_from o a t) all_ranks k few) [
+  | inl none ↦ omega (arith, none)
+  | inr r ↦ rank-later t o q a s r.0 valid now same start ours_a ours_b part mine his k r.1
+]
 
 -- before a trick, a side takes its joint trumps
 pub joint-sure : (p : Board) (a : Seat) (s : Side) (k : ℕ) → IsBoard p → p.trick ≡ [] → is_side s a ≡ true → is_side s (seat_after a 2) ≡ true → k ≤ joint_trumps p.strain p a → k ≤ won s p

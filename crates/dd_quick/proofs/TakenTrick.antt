@@ -224,7 +224,7 @@ takes-over strain o lets m own waits p now turn has = record {
     stays j l k = hand-others p m (seat_after o.first j) (let a = after-code o.first j in let b = code-lt o.first in let t : seat_code (mover p) ≡ seat_code o.first = ap seat_code turn in λ e. omega (arith, a, b, t, e, l, k))
 
 -- where a card lies on the trick, one more is to come
-some-left : (p : Board) → IsBoard p → 1 ≤ length p.trick → 1 ≤ left p
+pub some-left : (p : Board) → IsBoard p → 1 ≤ length p.trick → 1 ≤ left p
 some-left p valid begun =
     let full = valid.even 0 (omega arith) in
     let one : flag_of (nat_lt 0 (length p.trick)) ≡ 1 = ap flag_of (lt-ltb 0 (length p.trick) begun) in

@@ -1,5 +1,5 @@
 -- Quick tricks: the tricks that a side is sure to take, counted without search.
-use Rattle.std.specs.Prelude.{◌≡◌, ◌≤◌, ◌⊎◌, List, ℕ, ◌+◌, ◌-◌, Bool, true, ◌&&◌, ◌||◌, ◌==◌, length, filter, min, max, nat_le, nat_lt, if◌then◌else◌}
+use Rattle.std.specs.Prelude.{◌≡◌, ◌≤◌, ◌⊎◌, List, [], ◌∷◌, ℕ, ◌+◌, ◌-◌, Bool, true, ◌&&◌, ◌||◌, ◌==◌, length, filter, min, max, nat_le, nat_lt, if◌then◌else◌}
 use Rattle.std.specs.List.{list_any}
 use mathlib.Core.Bool.{not}
 use Rattle.dd_cards.specs.declared.seat.Seat.{Seat}
@@ -8,6 +8,7 @@ use Rattle.dd_cards.specs.declared.suit.Suit.TheVariants.{Spades, Hearts, Diamon
 use Rattle.dd_cards.specs.declared.strain.Strain.{Strain}
 use Rattle.dd_cards.specs.declared.strain.Strain.TheVariants.{Trump, Notrump}
 use Rattle.dd_cards.specs.PlayingCard.{PlayingCard}
+use Rattle.dd_cards.specs.Ranks.{all_ranks}
 use Rattle.dd_cards.specs.Seats.{seat_after}
 use Rattle.dd_cards.specs.Cards.{is_of, card_of}
 use Rattle.dd_play.specs.Board.{Board, cards_at, left}
@@ -72,15 +73,29 @@ depth p suit = min (longest p suit) (run p p.first suit)
 abbrev pub is_unbeaten : Board → Seat → PlayingCard → Bool
 is_unbeaten p seat c = not (beats p (seat_after seat 1) c || beats p (seat_after seat 3) c)
 
--- how many cards of the suit the seat holds that no opponent can beat
-abbrev pub unbeaten : Board → Seat → Suit → ℕ
-unbeaten p seat suit = length (filter (λ c. is_of suit c && is_unbeaten p seat c) (cards_at p seat))
+-- how many cards of the suit, of this rank or higher, the seat holds
+abbrev pub from_rank : Board → Seat → Suit → ℕ → ℕ
+from_rank p seat suit rank = length (filter (λ c. is_of suit c && nat_le rank c.rank) (cards_at p seat))
 
--- Joint trumps: the highest trumps left are the seat's and its partner's. They take a trick each, as long as one of the two
--- hands has a trump for each.
+-- the longer holding of the seat and its partner in the suit
+abbrev pub longer_of : Board → Seat → Suit → ℕ
+longer_of p seat suit = max (length_at p seat suit) (length_at p (seat_after seat 2) suit)
+
+-- What the trumps of this rank or higher take: those of the seat and its partner a trick each, as long as one of the two hands
+-- has a trump for each, but for as many tricks as the opponents have such trumps.
+abbrev pub taken_from : Board → Seat → Suit → ℕ → ℕ
+taken_from p seat trump rank = min (from_rank p seat trump rank + from_rank p (seat_after seat 2) trump rank) (longer_of p seat trump)
+    - (from_rank p (seat_after seat 1) trump rank + from_rank p (seat_after seat 3) trump rank)
+
+-- the greatest of these numbers
+abbrev pub greatest : (ℕ → ℕ) → List ℕ → ℕ
+greatest number [] = 0
+greatest number (r ∷ ranks) = max (number r) (greatest number ranks)
+
+-- Joint trumps: the most that the trumps of some rank or higher take.
 abbrev pub joint_trumps : Strain → Board → Seat → ℕ
 joint_trumps Notrump p seat = 0
-joint_trumps (Trump trump) p seat = min (unbeaten p seat trump + unbeaten p (seat_after seat 2) trump) (max (length_at p seat trump) (length_at p (seat_after seat 2) trump))
+joint_trumps (Trump trump) p seat = greatest (taken_from p seat trump) all_ranks
 
 -- ---- crossing to the partner
 
@@ -170,6 +185,31 @@ headed p i = (if heads p i Spades then 1 else 0) + (if heads p i Hearts then 1 e
 unfoldable pub has_later_trick : Board → Bool
 has_later_trick p = no_trumps p && (nat_lt (all_rounds p) (left p) && (nat_le (all_rounds p + headed p 1) (left p) && nat_le (all_rounds p + headed p 3) (left p)))
 
+-- ---- kept winners
+
+-- a winner of the suit that the seat keeps, where it has one and the leader's side can lead the suit
+abbrev pub first_kept : Board → Seat → Suit → ℕ
+first_kept p seat suit = min 1 (min (run p seat suit) (longer p suit))
+
+-- how often the leader's side can lead the suit, where the seat has no winner
+abbrev pub free_rounds : Board → Seat → Suit → ℕ
+free_rounds p seat suit = (if nat_lt 0 (run p seat suit) then 0 else longer p suit)
+
+-- the sum of a number over the suits
+abbrev pub of_all : (Suit → ℕ) → ℕ
+of_all number = number Spades + number Hearts + number Diamonds + number Clubs
+
+-- Kept winners: what the seat takes when it comes in, where no hand has a trump. The leader's side takes tricks only in the
+-- suits where the seat has no winner, and until then it has other cards to throw: those rounds, with one winner for each suit
+-- that it heads, are no more than the tricks left.
+unfoldable pub kept_winners : Board → Seat → ℕ
+kept_winners p seat = (if no_trumps p && nat_le (of_all (first_kept p seat) + of_all (free_rounds p seat)) (left p)
+    then min (of_all (run p seat)) (left p - of_all (free_rounds p seat)) else 0)
+
+-- those of the opponent that keeps more
+abbrev pub others_kept : Board → ℕ
+others_kept p = max (kept_winners p (seat_after p.first 1)) (kept_winners p (seat_after p.first 3))
+
 -- ---- both
 
 -- the side of the leader takes at least this number
@@ -178,7 +218,7 @@ quick_lo p = side_tricks p + joint_trumps p.strain p p.first + crossed p
 
 -- and no more than this
 unfoldable pub quick_hi : Board → ℕ
-quick_hi p = left p - max (joint_trumps p.strain p (seat_after p.first 1)) (if has_later_trick p then 1 else 0)
+quick_hi p = left p - max (max (joint_trumps p.strain p (seat_after p.first 1)) (if has_later_trick p then 1 else 0)) (others_kept p)
 
 -- the tricks that the leader cashes in a suit, and the number of cards on which they rest, if there are any
 abbrev pub IsCash : Board → Suit → ℕ → ℕ → Type 0
@@ -198,16 +238,16 @@ RestsOn p suit cards n = min n (run p p.first suit) ≤ length (filter (λ c. (i
 abbrev pub RestsOnNext : Board → Suit → List PlayingCard → ℕ → Type 0
 RestsOnNext p suit cards n = min n (next_run p suit) ≤ length (filter (λ c. (is_of suit c && is_next p c) && reach cards c) (cards_at p (seat_after p.first 2)))
 
--- how many of the seat's cards of the suit that no opponent can beat are reached by these cards
-abbrev pub unbeaten_reached : List PlayingCard → Board → Seat → Suit → ℕ
-unbeaten_reached cards p seat suit = length (filter (λ c. (is_of suit c && is_unbeaten p seat c) && reach cards c) (cards_at p seat))
-
--- so many joint trumps of the seat and its partner, as far as there are, are reached by these cards, or no opponent has trumps
+-- so many tricks are taken by trumps of some rank or higher, which these cards reach, or no opponent has trumps
 abbrev pub RestsOnTrumps : Strain → Board → Seat → List PlayingCard → ℕ → Type 0
 RestsOnTrumps Notrump p seat cards n = Unit {0}
 RestsOnTrumps (Trump trump) p seat cards n =
-    (min n (unbeaten p seat trump + unbeaten p (seat_after seat 2) trump) ≤ unbeaten_reached cards p seat trump + unbeaten_reached cards p (seat_after seat 2) trump)
+    ((n ≡ 0) ⊎ ((rank : ℕ) × (n ≤ taken_from p seat trump rank) × (reach cards (card_of trump rank) ≡ true)))
     ⊎ ((length_at p (seat_after seat 1) trump ≡ 0) × (length_at p (seat_after seat 3) trump ≡ 0))
+
+-- so many of the seat's winners in the suit, as far as its run goes, are reached by these cards
+abbrev pub RestsOnRun : Board → Seat → Suit → List PlayingCard → ℕ → Type 0
+RestsOnRun p seat suit cards n = min n (run p seat suit) ≤ length (filter (λ c. (is_of suit c && is_winner p seat c) && reach cards c) (cards_at p seat))
 
 -- the card with which the seat heads the suit is reached by these cards
 abbrev pub RestsOnHead : Board → ℕ → Suit → List PlayingCard → Type 0

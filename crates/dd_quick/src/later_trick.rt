@@ -71,9 +71,9 @@ fn unheaded(by_left: bool, by_right: bool, rounds: u8) -> u8
     if by_left || by_right { 0 } else { rounds }
 }
 
-// One where it holds.
+/// One where it holds.
 #[inline]
-fn one_if(holds: bool) -> u8
+pub(crate) fn one_if(holds: bool) -> u8
     ensures { result ≡ (if holds then 1 else 0) }
 {
     if holds { 1 } else { 0 }
@@ -87,8 +87,8 @@ fn is_some(a: u8, b: u8) -> bool
     0 < a && 0 < b
 }
 
-// The longer holding of the leader's side in the suit.
-fn longer(position: &Position, suit: Suit) -> u8
+/// The longer holding of the leader's side in the suit.
+pub(crate) fn longer(position: &Position, suit: Suit) -> u8
     ensures longer { result ≡ longer position.now suit }
     ensures bound { result ≤ 13 }
 {

@@ -3,6 +3,7 @@
 
 mod crossing;
 mod joint_trumps;
+mod kept_winners;
 mod later_trick;
 mod long_suit;
 mod quick_tricks;

@@ -1,6 +1,6 @@
 //! Quick tricks. The leader cashes side suits and crosses to its partner, which cashes too, and the side keeps its joint
-//! trumps; the other side has joint trumps, or without trumps wins a later trick. So a side's quick tricks are no more than it
-//! takes, and they rest on winners alone: it takes as many where the lower cards are others.
+//! trumps; the other side has joint trumps, or without trumps wins a later trick or keeps winners. So a side's quick tricks
+//! are no more than it takes, and they rest on winners alone: it takes as many where the lower cards are others.
 ghost use Rattle.std.specs.Prelude.{◌≡◌, ◌<◌, ◌≤◌, ◌+◌, ◌-◌, IsSome, ℕ, [], IfSome, true, max, if◌then◌else◌};
 ghost use Rattle.dd_cards.specs.declared.suit.Suit.{Suit as SuitOf};
 ghost use Rattle.dd_cards.specs.declared.suit.Suit.TheVariants.{Spades, Hearts, Diamonds, Clubs};
@@ -13,13 +13,15 @@ ghost use Rattle.dd_play.specs.Intervals.{Holds};
 ghost use Rattle.dd_play.specs.Reach.{reach, TakesBy};
 ghost use Rattle.dd_play.specs.Value.{lead};
 ghost use Rattle.dd_quick.specs.QuickTricks.{IsCash, IsNext, cashed, crossed, has_later_trick, joint_trumps};
+ghost use Rattle.dd_quick.specs.QuickTricks.{others_kept};
 ghost use Rattle.dd_quick.specs.QuickTricks.{quick_hi, quick_lo, side_tricks};
 ghost use Rattle.dd_quick.specs.SecondHand.{IsBeforeLead};
 ghost use Rattle.dd_rank.specs.Depths.{all_cards, depth_in, Covers};
 
 use crate::crossing::{Partners, beside_trumps, crossing, with_partners};
 use crate::joint_trumps::{joint_trumps, with_trumps};
-use crate::later_trick::{later_cards, later_trick};
+use crate::kept_winners::{keeps, kept_cards, kept_winners};
+use crate::later_trick::{later_cards, later_trick, one_if};
 use crate::long_suit::{Cashes, cashed, offers, with_shares};
 use crate::sharing::{Shares, share_out};
 use crate::winners::trumps;
@@ -86,7 +88,15 @@ pub fn against_leader(start: &TrickStart, need: u8) -> Option<Hand>
         return Some(others_cards(position, need));
     }
     if need == 1 && later_trick(position) {
-        Some(later_cards(position))
+        return Some(later_cards(position));
+    }
+    let left = position.first().left();
+    if keeps(position, left, need) {
+        return Some(kept_cards(position, left, need));
+    }
+    let right = position.first().right();
+    if keeps(position, right, need) {
+        Some(kept_cards(position, right, need))
     } else {
         None
     }
@@ -254,32 +264,39 @@ fn others_cards(position: &Position, need: u8) -> Hand
     with_trumps(position, position.first().left(), Hand::new(), need)
 }
 
-// What the other side is sure of in all: its joint trumps, or one later trick.
+// What the other side is sure of in all: its joint trumps, or one later trick, or what an opponent keeps.
 fn all_others(position: &Position) -> u8
-    ensures tricks { result ≡ max
+    ensures tricks { result ≡ max (max
         (joint_trumps position.now.strain position.now (seat_after position.now.first 1))
-        (if has_later_trick position.now then 1 else 0) }
+        (if has_later_trick position.now then 1 else 0)) (others_kept position.now) }
     ensures bound { result ≤ 13 }
 {
-    let trumps = others(position);
-    if trumps == 0 && later_trick(position) {
-        1
-    } else {
-        trumps
-    }
+    let left = position.first().left();
+    let right = position.first().right();
+    let kept = kept_winners(position, left).max(kept_winners(position, right));
+    others(position)
+        .max(one_if(later_trick(position)))
+        .max(kept)
 }
 
 // The winners on which so many tricks of the other side rest.
 fn all_others_cards(position: &Position, need: u8) -> Hand
     requires start { position.now.trick ≡ [] }
-    requires few { need ≤ max
+    requires few { need ≤ max (max
         (joint_trumps position.now.strain position.now (seat_after position.now.first 1))
-        (if has_later_trick position.now then 1 else 0) }
+        (if has_later_trick position.now then 1 else 0)) (others_kept position.now) }
     ensures { TakesBy (reach result) (other_side (side_of position.now.first)) position.now need }
 {
     if need <= others(position) {
-        others_cards(position, need)
-    } else {
-        later_cards(position)
+        return others_cards(position, need);
     }
+    if later_trick(position) && need == 1 {
+        return later_cards(position);
+    }
+    let left = position.first().left();
+    if need <= kept_winners(position, left) {
+        return kept_cards(position, left, need);
+    }
+    let right = position.first().right();
+    kept_cards(position, right, need)
 }

@@ -158,8 +158,8 @@ fn side_suits_are_cashed_while_nobody_ruffs(rt: HostRuntime) {
         (
             ["AK...", "5.9..", ".32..", "76..."],
             hearts,
-            (0, 1),
-            [0, 1, 0, 0],
+            (1, 1),
+            [0, 3, 0, 0],
             "the partner has only trumps",
         ),
     ];
@@ -208,6 +208,27 @@ fn joint_trumps_take_a_trick_each(rt: HostRuntime) {
             (2, 2),
             [0, 2, 0, 0],
             "the partner's alone",
+        ),
+        (
+            [".A2..", ".K3..", "32...", ".Q4.."],
+            hearts,
+            (1, 1),
+            [0, 3, 0, 0],
+            "two below the ace, and one hand has two trumps",
+        ),
+        (
+            [".A2..", ".K3..", "32...", "54..."],
+            hearts,
+            (1, 1),
+            [0, 3, 0, 0],
+            "the second and the third card",
+        ),
+        (
+            ["2.A..", "3.K..", "54...", "6.Q.."],
+            hearts,
+            (1, 2),
+            [0, 1, 0, 0],
+            "two below the ace that fall together",
         ),
         (
             ["32...", "54...", ".AK..", "7.Q.."],
@@ -478,6 +499,67 @@ fn the_leaders_side_comes_to_a_suit_that_an_opponent_heads(rt: HostRuntime) {
 }
 
 // A claim with the partner's winners rests on one of the suit in which the leader crosses first.
+#[test]
+fn an_opponent_keeps_its_winners_until_it_comes_in(rt: HostRuntime) {
+    let notrump = Strain::Notrump;
+    let table = [
+        (
+            ["A.32..", "2.AK..", "3.54..", "4.76.."],
+            notrump,
+            (1, 1),
+            [1, 2, 0, 0],
+            2,
+            "one round of spades, then hearts",
+        ),
+        (
+            ["A.32..", "4.76..", "3.54..", "2.AK.."],
+            notrump,
+            (1, 1),
+            [1, 2, 0, 0],
+            2,
+            "the right opponent's",
+        ),
+        (
+            ["AK.3..", "2.AK..", "43.5..", "5.76.."],
+            notrump,
+            (2, 2),
+            [2, 1, 0, 0],
+            1,
+            "no trick is left for the king",
+        ),
+        (
+            ["AK.32..", "2.A.AK.", "43..32.", "5.54.4."],
+            notrump,
+            (2, 2),
+            [2, 1, 1, 0],
+            2,
+            "one of each suit, and the king is thrown",
+        ),
+        (
+            ["A.32..2", "2.AK..3", "3.54..4", "4.76..A"],
+            notrump,
+            (1, 2),
+            [1, 2, 0, 0],
+            2,
+            "its partner has a winner too",
+        ),
+        (
+            ["A.32.2.", "2.AK.3.", "3.54.4.", "4.76.5."],
+            Strain::Trump(Suit::Diamonds),
+            (1, 3),
+            [1, 0, 1, 0],
+            1,
+            "each hand has a trump",
+        ),
+    ];
+    for (hands, strain, interval, depths, theirs, what) in table {
+        let start = start(hands, strain, Seat::North).expect(&rt, "even hands");
+        assert_eq!(rt; found(&start), (interval, depths), "{what}");
+        assert!(rt; against_leader(&start, theirs).is_some(), "{what}");
+        assert!(rt; against_leader(&start, theirs + 1).is_none(), "{what}");
+    }
+}
+
 #[test]
 fn a_claim_rests_first_on_the_suit_that_is_crossed_in(rt: HostRuntime) {
     let hands = [".43.2.", "3.Q6..", "A.K5..", "4.J7.."];

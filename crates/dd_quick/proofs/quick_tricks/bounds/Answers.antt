@@ -3,6 +3,8 @@ use Rattle.dd_cards.specs.Sides.{side_of, other_side}
 use Rattle.dd_play.specs.Board.{Board, left}
 use Rattle.dd_play.specs.Reach.{TakesBy, reach}
 use Rattle.dd_quick.proofs.Claims.{joint-left}
+use Rattle.dd_cards.specs.Seats.{seat_after}
+use Rattle.dd_quick.proofs.KeptClaims.{kept-left}
 use Rattle.dd_quick.proofs.LaterClaims.{later-most}
 use Rattle.dd_quick.proofs.Covered.{sure-within, sure-bounds}
 use Rattle.dd_quick.proofs.quick_tricks.bounds.Goals as goal
@@ -24,9 +26,11 @@ overflow_sub-interval c =
     let p = c.position-position.result.now in
     let most = joint-left p.strain p c.tricks_left.ensures.board (ap (λ (q : Board). q.trick) c.position-position.ensures.value ∙ c.position-position.ensures.start) in
     let later = later-most c.position-position.result.now in
+    let left_kept = kept-left p (seat_after p.first 1) in
+    let right_kept = kept-left p (seat_after p.first 3) in
     let theirs = c.all_others-theirs.ensures.tricks in
     let tricks = c.tricks_left.ensures.tricks in
-    omega (arith, most, later, theirs, tricks)
+    omega (arith, most, later, left_kept, right_kept, theirs, tricks)
 
 pub invariant_of-interval : goal.invariant_of-interval
 invariant_of-interval c =

@@ -3,7 +3,7 @@ use Rattle.dd_cards.specs.declared.suit.Suit.{Suit}
 use Rattle.dd_cards.specs.declared.suit.Suit.TheVariants.{Spades, Hearts, Diamonds, Clubs}
 use Rattle.dd_cards.specs.Sides.{side_of}
 use Rattle.dd_play.specs.Reach.{TakesBy, reach}
-use Rattle.dd_quick.specs.QuickTricks.{RestsOnTrumps, cashed, next_run}
+use Rattle.dd_quick.specs.QuickTricks.{RestsOnTrumps, cashed, joint_trumps, next_run}
 use Rattle.dd_quick.specs.Sharing.{shares}
 use Rattle.dd_quick.proofs.Across.{RestsAcross, across-by}
 use Rattle.dd_quick.proofs.Cashing.{total}
@@ -63,7 +63,7 @@ rests c =
     let tc = nc.0 in
     let shared : y.spades + y.hearts + y.diamonds + y.clubs + c.args.ours.side + c.args.ours.trumps ≡ c.args.need = omega (arith, sum, few, many, trumps, side, of_all, ts, th, td, tc) in
     let all : of.spades.tricks + of.hearts.tricks + of.diamonds.tricks + of.clubs.tricks ≡ c.args.ours.side = omega (arith, side, many, few, of_left, s, h, d, k) in
-    let joint = subst (λ x. RestsOnTrumps p.strain p x cards c.args.ours.trumps) c.first.ensures c.with_trumps.ensures.trumps in
+    let joint = subst (λ x. c.args.ours.trumps ≤ joint_trumps p.strain p x → RestsOnTrumps p.strain p x cards c.args.ours.trumps) c.first.ensures c.with_trumps.ensures.trumps (omega (arith, trumps)) in
     let across = across-rests p c.with_shares-cards.result cards of.spades.tricks of.hearts.tricks of.diamonds.tricks of.clubs.tricks y.spades y.hearts y.diamonds y.clubs c.args.ours.trumps next.spades.first next.hearts.first next.diamonds.first next.clubs.first
     s h d k
     (record { tricks = of.spades.tricks; cards_of = of.spades.depth; cash = c.requires.spades; few = omega arith; rests = c.with_shares-cards.ensures.spades })

@@ -1,7 +1,7 @@
-use Rattle.std.proofs.Common.{arith, ◌-◌, ◌∙◌, subst}
+use Rattle.std.proofs.Common.{◌≤◌, arith, ◌-◌, ◌∙◌, subst, sym}
 use Rattle.dd_cards.specs.Sides.{side_of}
 use Rattle.dd_play.specs.Reach.{TakesBy, reach}
-use Rattle.dd_quick.specs.QuickTricks.{RestsOnTrumps}
+use Rattle.dd_quick.specs.QuickTricks.{RestsOnTrumps, joint_trumps}
 use Rattle.dd_quick.proofs.Claims.{leader-claim}
 use Rattle.dd_quick.proofs.quick_tricks.leaders_cards.Goals as goal
 
@@ -11,11 +11,11 @@ returns c =
     let of = c.args.ours.cashed in
     let n = c.share_out-shares.result in
     let m = c.args.need - c.min-side.result in
-    let trumps = subst (λ x. RestsOnTrumps p.strain p x c.with_trumps.result m) c.first.ensures c.with_trumps.ensures.trumps in
     let sum = c.share_out-shares.ensures.sum in
     let need = c.min-side.ensures in
     let side = c.requires.side in
     let few = c.requires.few in
+    let trumps = subst (λ x. RestsOnTrumps p.strain p x c.with_trumps.result m) c.first.ensures (c.with_trumps.ensures.trumps (subst (λ x. m ≤ joint_trumps p.strain p x) (sym c.first.ensures) (omega (arith, need, side, few)))) in
     let s = c.offers.ensures.spades ∙ c.requires.spades.0 in
     let h = c.offers.ensures.hearts ∙ c.requires.hearts.0 in
     let d = c.offers.ensures.diamonds ∙ c.requires.diamonds.0 in

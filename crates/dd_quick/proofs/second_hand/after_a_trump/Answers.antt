@@ -1,4 +1,4 @@
-use Rattle.std.proofs.Common.{arith, ap, ◌≡◌, ◌≤◌, ◌∙◌, subst, zero-le}
+use Rattle.std.proofs.Common.{arith, ap, ◌≡◌, ◌≤◌, ◌∙◌, refl, subst, zero-le}
 use Rattle.std.specs.Prelude.{filter, map, ◌&&◌}
 use Rattle.dd_cards.specs.PlayingCard.{PlayingCard}
 use Rattle.dd_cards.specs.Cards.{is_of, card_of}
@@ -11,7 +11,8 @@ use Rattle.dd_quick.specs.QuickTricks.{is_winner, trumps_at}
 use Rattle.dd_quick.specs.Sharing.{shares}
 use Rattle.dd_quick.proofs.Claims.{leader-sure, rests-more}
 use Rattle.dd_quick.proofs.Reached.{length-of}
-use Rattle.dd_quick.proofs.SecondTrump.{none-rest, trump-claim}
+use Rattle.dd_quick.proofs.SecondTrump.{trump-claim}
+use Rattle.dd_quick.proofs.TrumpRanks.{none-rest}
 use Rattle.dd_quick.proofs.second_hand.after_a_trump.Goals as goal
 
 pub returns : goal.returns
@@ -42,7 +43,7 @@ returns c =
     (record { tricks = of.diamonds.tricks; cards_of = of.diamonds.depth; cash = c.leaders-sure.ensures.diamonds; few = (let few = c.share_out-shares.ensures.diamonds in let same = c.offers.ensures.diamonds in omega (arith, few, same)); rests = c.with_shares.ensures.diamonds })
     (record { tricks = of.clubs.tricks; cards_of = of.clubs.depth; cash = c.leaders-sure.ensures.clubs; few = (let few = c.share_out-shares.ensures.clubs in let same = c.offers.ensures.clubs in omega (arith, few, same)); rests = c.with_shares.ensures.clubs })
     (λ e has. has)
-    (omega (arith, sum, all, most, s, h, d, k)) zero-le (none-rest o.strain o o.first cards) in
+    (omega (arith, sum, all, most, s, h, d, k)) zero-le (none-rest o.strain o o.first cards 0 refl) in
     let long = subst (λ x. map (card_of u) c.run.result ≡ filter (λ e. is_of u e && is_winner o x e) (cards_at o x)) c.first-seat.ensures c.run.ensures.cards in
     let run = c.len-run.ensures.len ∙ length-of u (λ e. is_of u e && is_winner o o.first e) c.run.result (cards_at o o.first) long in
     let rests = rests-more o u c.with_winners-cards.result cards _ c.with_shares.ensures.more c.with_winners-cards.ensures.winners in

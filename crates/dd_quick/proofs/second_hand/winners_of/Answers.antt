@@ -1,9 +1,9 @@
-use Rattle.std.proofs.Common.{arith, ap, ◌≤◌, ◌-◌, subst}
+use Rattle.std.proofs.Common.{arith, ap, ◌≤◌, ◌-◌, subst, sym}
 use Rattle.dd_cards.specs.PlayingCard.{PlayingCard}
 use Rattle.dd_cards.specs.Sides.{side_of}
 use Rattle.dd_play.specs.Board.{Board}
 use Rattle.dd_play.specs.Reach.{TakesBy, reach}
-use Rattle.dd_quick.specs.QuickTricks.{RestsOnTrumps}
+use Rattle.dd_quick.specs.QuickTricks.{RestsOnTrumps, joint_trumps}
 use Rattle.dd_quick.specs.Sharing.{shares}
 use Rattle.dd_quick.proofs.Claims.{leader-sure}
 use Rattle.dd_quick.proofs.SecondHand.{second-claim}
@@ -17,11 +17,11 @@ returns c =
     let n = c.share_out_from-shares.result in
     let m = c.args.need - c.min-side.result in
     let cards = c.with_shares-cards.result in
-    let trumps = subst (λ x. RestsOnTrumps o.strain o x c.with_trumps.result m) c.first.ensures c.with_trumps.ensures.trumps in
     let sum = c.share_out_from-shares.ensures.sum in
     let need = c.min-side.ensures in
     let side = c.requires.side in
     let few = c.requires.few in
+    let trumps = subst (λ x. RestsOnTrumps o.strain o x c.with_trumps.result m) c.first.ensures (c.with_trumps.ensures.trumps (subst (λ x. m ≤ joint_trumps o.strain o x) (sym c.first.ensures) (omega (arith, need, side, few)))) in
     let s = c.requires.spades.0 in
     let h = c.requires.hearts.0 in
     let d = c.requires.diamonds.0 in

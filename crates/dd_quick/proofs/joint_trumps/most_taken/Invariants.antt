@@ -1,0 +1,12 @@
+use Rattle.std.proofs.Common.{◌≡◌, ◌-◌, length, min}
+use Rattle.std.specs.Prelude.{filter, max, nat_le}
+use Rattle.dd_quick.specs.QuickTricks.{greatest}
+use Rattle.dd_quick.proofs.joint_trumps.most_taken.Given as goal
+
+-- what was found and what is still to be asked are the greatest together
+abbrev pub invariant-loop-rank : goal.invariant-loop-rank
+invariant-loop-rank l = max l.most (greatest (λ rank. min (length (filter (nat_le rank) l.fn.ours)) l.fn.longer - length (filter (nat_le rank) l.fn.theirs)) l.rest)
+    ≡ greatest (λ rank. min (length (filter (nat_le rank) l.fn.ours)) l.fn.longer - length (filter (nat_le rank) l.fn.theirs)) l.fn.ours
+
+abbrev pub decreases-loop-rank : goal.decreases-loop-rank
+decreases-loop-rank l = length l.rest
