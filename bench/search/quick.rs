@@ -41,11 +41,11 @@ pub const LONG_BEFORE_THE_LEADER: u32 = 2048;
 pub const LONG_BEFORE_THE_OPPONENTS: u32 = 4096;
 
 /// An opponent with trumps follows suit as long as the partner leads it.
-pub const NOBODY_RUFFS_THE_PARTNER: u32 = 1 << 20;
+pub const NOBODY_RUFFS_THE_PARTNER: u32 = 1 << 23;
 /// An opponent with trumps still has all its cards of a suit when the partner leads it.
-pub const NOBODY_HAS_FOLLOWED: u32 = 1 << 21;
+pub const NOBODY_HAS_FOLLOWED: u32 = 1 << 24;
 /// Crossing rests on no trumps.
-pub const CROSSING_WITHOUT_TRUMPS: u32 = 1 << 22;
+pub const CROSSING_WITHOUT_TRUMPS: u32 = 1 << 25;
 
 /// The leader's side may have a round of its own suits for each trick left.
 pub const A_ROUND_FOR_EACH_TRICK: u32 = 16384;
