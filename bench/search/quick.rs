@@ -302,18 +302,37 @@ fn partners_tricks<const RULES: u32>(position: &Position, suit: Suit, leads: u8)
     }
 }
 
-// Has the partner a card of the suit that no opponent can beat, and the leader one beside its run? Mostly not.
+// Has the partner a card of the suit that no opponent can beat, the leader one beside its run, and nobody ruffs at once?
+// Mostly not.
 fn may_enter<const RULES: u32>(position: &Position, suit: Suit) -> bool {
     let partner = position.first.next().next();
     unbeaten(position, partner, suit) != 0
         && (RULES & CROSSES_WITHOUT_A_CARD != 0 || low_cards(position, position.first, suit) != 0)
+        && is_followed::<RULES>(position, suit)
 }
 
-// What the partner takes in each suit once the leader has crossed, and how many tricks that adds to these: no more than both
-// hands have cards beside their trumps.
-fn crossing<const RULES: u32>(position: &Position, side: u8) -> ([Offer; 4], u8) {
+// Does each opponent with trumps follow suit to one lead more than the leader's run? Not in trumps.
+fn is_followed<const RULES: u32>(position: &Position, suit: Suit) -> bool {
+    match position.strain {
+        Strain::Notrump => true,
+        Strain::Trump(trump) if trump == suit => false,
+        Strain::Trump(_) => {
+            let [left, _, right] = others(position.first);
+            let run = winners(position, position.first, suit).count_ones() as u8;
+            let all = RULES & (NOBODY_RUFFS_THE_PARTNER | NOBODY_HAS_FOLLOWED) != 0;
+            all || [left, right].into_iter().all(|seat| trumps(position, seat) == 0 || run < length(position, seat, suit))
+        }
+    }
+}
+
+// The tricks left beside these that the leader cashes, where it and its partner keep their trumps.
+fn beside_trumps(position: &Position, side: u8) -> u8 {
     let (own, his) = (trumps(position, position.first), trumps(position, position.first.next().next()));
-    let most = position.tricks_left().saturating_sub(side + own.max(his));
+    position.tricks_left().saturating_sub(side + own.max(his))
+}
+
+// What the partner takes in each suit once the leader has crossed, and how many tricks that adds, of so many.
+fn crossing<const RULES: u32>(position: &Position, most: u8) -> ([Offer; 4], u8) {
     let may_cross = most > 0 && SUITS.into_iter().any(|suit| may_enter::<RULES>(position, suit));
     if RULES & CROSSING == 0 || !may_cross {
         return ([Offer { tricks: 0, first: false }; 4], 0);
@@ -335,7 +354,7 @@ fn leaders<const RULES: u32>(position: &Position) -> ([Cash; 4], u8, u8) {
 /// An interval that holds the tricks of the leader's side from this start of a trick on.
 pub fn bounds<const RULES: u32>(position: &Position) -> Interval {
     let (_, side, trumps) = leaders::<RULES>(position);
-    let (_, crossed) = crossing::<RULES>(position, side);
+    let (_, crossed) = crossing::<RULES>(position, beside_trumps(position, side));
     let [left, _, right] = others(position.first);
     let kept = kept::<RULES>(position, left).max(kept::<RULES>(position, right));
     let theirs = joint_trumps::<RULES>(position, left).max(later_trick::<RULES>(position) as u8).max(kept);
@@ -369,7 +388,11 @@ fn long_first(cash: &[Cash; 4]) -> [Offer; 4] {
 
 // The cards on which so many tricks rest where the leader crosses to its partner.
 fn crossing_cards<const RULES: u32>(position: &Position, cash: [Cash; 4], side: u8, trumps: u8, need: u8) -> Option<u64> {
-    let (next, crossed) = crossing::<RULES>(position, side);
+    let most = beside_trumps(position, side);
+    if need > side + trumps + most {
+        return None;
+    }
+    let (next, crossed) = crossing::<RULES>(position, most);
     if need > side + trumps + crossed {
         return None;
     }
