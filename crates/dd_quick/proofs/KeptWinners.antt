@@ -31,7 +31,7 @@ use Rattle.dd_quick.proofs.Covered.{some-card}
 use Rattle.dd_quick.proofs.Crossings.{NoTrumps}
 use Rattle.dd_quick.proofs.JointTrumps.{place-of}
 use Rattle.dd_quick.proofs.LaterTrick.{rounds_of}
-use Rattle.dd_quick.proofs.PlainTrick.{IsDone, IsUnder, hand-left, lead-on, no-turn, trick-on}
+use Rattle.dd_quick.proofs.PlainTrick.{IsDone, IsUnder, hand-left, lead-on, trick-on}
 use Rattle.dd_quick.proofs.Plays.{count-where, whoever}
 use Rattle.dd_quick.proofs.Sound.{CanTake, can-take, own-side, partners-side, trumps-count}
 use Rattle.dd_quick.proofs.TakenTrick.{some-left}
@@ -136,7 +136,7 @@ module _ (o : Board) (h : Seat) (guard : PlayingCard → Bool) (headed : Suit �
 
   -- what leads at a start of a trick is its leader's, and any of its cards may be led
   leaders : (p : Board) → IsPart p → mover p ≡ p.first
-  leaders p was = ap (λ trick. seat_after p.first (length trick)) was.start ∙ no-turn p.first
+  leaders p was = ap (λ trick. seat_after p.first (length trick)) was.start
 
   led-own : (p : Board) → IsPart p → (m : PlayingCard) → IsLegal p m → has_card (cards_at p p.first) m ≡ true
   led-own p was m has = ap (λ x. has_card (cards_at p x) m) (sym (leaders p was)) ∙ own-card p m has
@@ -171,7 +171,7 @@ module _ (o : Board) (h : Seat) (guard : PlayingCard → Bool) (headed : Suit �
           none = plain-part p was.now
 
           away : seat_code p.first ≢ seat_code h
-          away = λ e. places 2 0 (omega arith) (omega arith) (λ z. omega (arith, z)) (ap seat_code (sym was.first) ∙ e ∙ ap seat_code (sym (no-turn h)))
+          away = λ e. places 2 0 (omega arith) (omega arith) (λ z. omega (arith, z)) (ap seat_code (sym was.first) ∙ e)
 
           ends : (q : Board) (c : PlayingCard) → IsDone t h nothing anything p m none q c → n ≤ won_with t q c
           ends q c done = by (place-of h (after q c).first)
@@ -207,9 +207,8 @@ module _ (o : Board) (h : Seat) (guard : PlayingCard → Bool) (headed : Suit �
 
               by : (i : ℕ) × (i < 4) × (z.first ≡ seat_after h i) → n ≤ won_with t q c
               by (zero, l, at) =
-                  let leads = at ∙ no-turn h in
-                  let one = done.points (ap (is_side t) leads ∙ own-side h) in
-                  let more = cash z now leads in
+                  let one = done.points (ap (is_side t) at ∙ own-side h) in
+                  let more = cash z now at in
                   let s = still in
                   omega (arith, one, more, s, few)
               by (suc zero, l, at) = absurd (absent (seat_after h 1) (inl refl) at)
@@ -343,8 +342,7 @@ module _ (o : Board) (h : Seat) (guard : PlayingCard → Bool) (headed : Suit �
 
         by : (i : ℕ) × (i < 4) × (z.first ≡ seat_after h i) → n ≤ won_with t q c
         by (zero, l, at) =
-            let leads = at ∙ no-turn h in
-            let more = cash z now leads in
+            let more = cash z now at in
             let all = all-kept guard (cards_at z h) (λ c e. e) done.keeps in
             omega (arith, more, all, few)
         by (suc zero, l, at) = (let more = ih n z gone (waits-on (apart 1 (omega arith) (omega arith) at)) few in omega (arith, more))
@@ -497,7 +495,7 @@ module _ (o : Board) (h : Seat) (guard : PlayingCard → Bool) (headed : Suit �
               ]
 
       by : (i : ℕ) × (i < 4) × (p.first ≡ seat_after h i) → Later → n ≤ won t p
-      by (zero, l, at) ih = absurd (was.away (ap seat_code (at ∙ no-turn h)))
+      by (zero, l, at) ih = absurd (was.away (ap seat_code at))
       by (suc zero, l, at) ih = others-lead (seat_after h 1) (inl refl) at ih
       by (suc (suc zero), l, at) ih = partner-leads at ih
       by (suc (suc (suc zero)), l, at) ih = others-lead (seat_after h 3) (inr (sym (last-seat h))) at ih

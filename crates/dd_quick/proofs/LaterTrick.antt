@@ -35,6 +35,7 @@ use Rattle.dd_quick.proofs.Hands.{IsOpposed}
 use Rattle.dd_quick.proofs.JointPlans.{trumps-plain}
 use Rattle.dd_quick.proofs.JointTrumps.{place-of}
 use Rattle.dd_quick.proofs.LeadBack.{board-back, is-back, was-back}
+use Rattle.dd_quick.proofs.PlainTrick.{hand-left}
 use Rattle.dd_quick.proofs.Plays.{count-own, whoever}
 use Rattle.dd_quick.proofs.SecondTrump.{any-card}
 use Rattle.dd_quick.proofs.Sound.{opponents-side}
@@ -194,18 +195,6 @@ module _ (o : Board) (guard : PlayingCard → Bool) (headed : Suit → Bool) (ho
     fewer : (x : Seat) (test : PlayingCard → Bool) → count test (cards_at q x) ≤ count test (cards_at p x)
     followed : (i : ℕ) → i < length q.trick → HasFollowed m.suit p q (seat_after p.first i)
     paid : length (cards_at q p.first) + 1 ≡ left p
-
-  -- before a trick each hand has as many cards as tricks are left
-  hand-left : (p : Board) → IsBoard p → p.trick ≡ [] → (x : Seat) → length (cards_at p x) ≡ left p
-  hand-left p valid start x =
-      let at = place-of p.first x in
-      let even = valid.even at.0 at.1 in
-      let flag : flag_of (nat_lt at.0 (length p.trick)) ≡ 0 = ap flag_of (not-under at.0 (length p.trick) (ap length start)) in
-      let same : length (cards_at p x) ≡ length (cards_at p (seat_after p.first at.0)) = ap (λ y. length (cards_at p y)) at.2 in
-      omega (arith, even, flag, same)
-    where
-      not-under : (a b : ℕ) → b ≡ 0 → nat_lt a b ≡ false
-      not-under a b h = grind (arith, nat_tests)
 
   -- the leader is one of the two partners
   leader-of : (p : Board) → IsOutside p → (p.first ≡ o.first) ⊎ (p.first ≡ seat_after o.first 2)

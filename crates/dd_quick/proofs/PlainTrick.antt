@@ -97,13 +97,6 @@ suit-wins strain led rest d real none = subst (λ w. IsHighest trick led.suit w 
 
 -- ---- hands and places
 
--- no places on is the seat itself
-pub no-turn : (b : Seat) → seat_after b 0 ≡ b
-no-turn North = refl
-no-turn East = refl
-no-turn South = refl
-no-turn West = refl
-
 -- before a trick each hand has as many cards as tricks are left
 pub hand-left : (p : Board) → IsBoard p → p.trick ≡ [] → (x : Seat) → length (cards_at p x) ≡ left p
 hand-left p valid start x =
@@ -227,7 +220,7 @@ module _ (s : Side) (h : Seat) (keep spend : PlayingCard → Bool) (p : Board) (
     ]
 
     paid-on : length (cards_at (after q c) p.first) + 1 ≡ left p
-    paid-on = ap (λ cards. length cards + 1) (hand-others q c p.first (λ e. apart-places 0 (omega arith) (let k = begun in λ z. omega (arith, z, k)) (ap seat_code (no-turn p.first) ∙ e))) ∙ now.paid
+    paid-on = ap (λ cards. length cards + 1) (hand-others q c p.first (λ e. apart-places 0 (omega arith) (let k = begun in λ z. omega (arith, z, k)) (e))) ∙ now.paid
 
     -- where the trick goes on
     under-on : completes q ≡ false → IsUnder (after q c)
@@ -344,10 +337,10 @@ module _ (s : Side) (h : Seat) (keep spend : PlayingCard → Bool) (p : Board) (
         | inr apart ↦ (let f : count test (cards_at (after p m) x) ≡ count test (cards_at p x) = ap (count test) (others x apart) in omega (arith, f))
       ];
       followed = λ i l. subst (λ n. HasFollowed m.suit p (after p m) (seat_after p.first n)) (let k = one in let z : 0 ≡ i = omega (arith, l, k) in z)
-          (subst (HasFollowed m.suit p (after p m)) (sym (no-turn p.first)) (inr (let l = lost (is_of m.suit) in let f : flag_of (is_of m.suit m) ≡ 1 = ap flag_of (of-suit' m.suit m refl) in omega (arith, l, f))));
+          ((inr (let l = lost (is_of m.suit) in let f : flag_of (is_of m.suit m) ≡ 1 = ap flag_of (of-suit' m.suit m refl) in omega (arith, l, f))));
       played = λ i d l. (let k = one in let z : 0 ≡ i = omega (arith, l, k) in
-          subst (λ n. has_card (cards_at p (seat_after p.first n)) (get_or (after p m).trick n d) ≡ true) z (ap₂ (λ x trick. has_card (cards_at p x) (get_or trick 0 d)) (no-turn p.first) pushed ∙ mine));
-      spent = λ i d l at. absurd (let k = one in let z : i ≡ 0 = omega (arith, l, k) in away (ap seat_code (sym (no-turn p.first) ∙ ap (seat_after p.first) (sym z) ∙ at)));
+          subst (λ n. has_card (cards_at p (seat_after p.first n)) (get_or (after p m).trick n d) ≡ true) z (ap (λ trick. has_card (cards_at p p.first) (get_or trick 0 d)) pushed ∙ mine));
+      spent = λ i d l at. absurd (let k = one in let z : i ≡ 0 = omega (arith, l, k) in away (ap seat_code (ap (seat_after p.first) (sym z) ∙ at)));
       paid = (
           let l = lost (λ c. true) in
           let a = ap length (filter-true (cards_at (after p m) p.first)) in
@@ -362,7 +355,7 @@ module _ (s : Side) (h : Seat) (keep spend : PlayingCard → Bool) (p : Board) (
       opens = ap (λ trick. length trick == 3) start
 
       at : mover p ≡ p.first
-      at = ap (λ trick. seat_after p.first (length trick)) start ∙ no-turn p.first
+      at = ap (λ trick. seat_after p.first (length trick)) start
 
       pushed : (after p m).trick ≡ m ∷ []
       pushed = (trick-after p m opens).0 ∙ ap (λ trick. trick ++ m ∷ []) start

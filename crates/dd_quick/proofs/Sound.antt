@@ -304,14 +304,7 @@ module _ (t : Suit) (o q : Board) (a : Seat) (s : Side) (r : ℕ) (valid : IsBoa
       let z = no-more (seat_after a 1) in
       let w = no-more (seat_after a 3) in
       let none : count theirs q.trick ≡ 0 = ap (count theirs) start in
-      let first : count theirs (cards_at q (seat_after a 0)) ≡ count theirs (cards_at q a) = ap (λ b. count theirs (cards_at q b)) (no-turn a) in
-      omega (arith, all, x, y, z, w, none, first)
-    where
-      no-turn : (b : Seat) → seat_after b 0 ≡ b
-      no-turn North = refl
-      no-turn East = refl
-      no-turn South = refl
-      no-turn West = refl
+      omega (arith, all, x, y, z, w, none)
 
   -- the trumps of the rank or higher are the side's and theirs
   owned : (x : Seat) (c : PlayingCard) → has_card (cards_at q x) c ≡ true → is_top (Trump t) r c ≡ true → ((x ≡ a) ⊎ (x ≡ seat_after a 2)) ⊎ (theirs c ≡ true)
