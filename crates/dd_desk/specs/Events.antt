@@ -5,25 +5,30 @@ use Rattle.dd_book.specs.declared.call.Call.TheVariants.{Submit, Claim, Finish, 
 use Rattle.dd_book.specs.declared.call.Reply.{Reply}
 use Rattle.dd_book.specs.Limits.{LimitsOf}
 use Rattle.dd_book.specs.Calls.{BookOf, empty_book, run, replies}
-use Rattle.dd_desk.specs.declared.event.Event.{Event}
 
-abbrev pub event : ℕ → Call → Reply → Event
+-- a call with its caller and its reply
+pub record EventOf : Type 0 where
+  pub caller : ℕ
+  pub call : Call
+  pub reply : Reply
+
+abbrev pub event : ℕ → Call → Reply → EventOf
 event caller call reply = record { caller = caller; call = call; reply = reply }
 
 -- the calls of a journal, and their replies
-abbrev pub calls_in : List Event → List Call
-calls_in events = map (λ (e : Event). e.call) events
+abbrev pub calls_in : List EventOf → List Call
+calls_in events = map (λ (e : EventOf). e.call) events
 
-abbrev pub replies_in : List Event → List Reply
-replies_in events = map (λ (e : Event). e.reply) events
+abbrev pub replies_in : List EventOf → List Reply
+replies_in events = map (λ (e : EventOf). e.reply) events
 
 -- the book of these limits after all these events
-abbrev pub replay : LimitsOf → List Event → BookOf
+abbrev pub replay : LimitsOf → List EventOf → BookOf
 replay limits events = run (empty_book limits) (calls_in events)
 
 -- one thread could have made it: from an empty book of these limits each reply is what the book
 -- replies there
-abbrev pub IsLegal : LimitsOf → List Event → Type 0
+abbrev pub IsLegal : LimitsOf → List EventOf → Type 0
 IsLegal limits events = replies_in events ≡ replies (empty_book limits) (calls_in events)
 
 -- the caller or worker of a call, if it has one, is this one

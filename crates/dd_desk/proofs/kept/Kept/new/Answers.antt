@@ -1,5 +1,5 @@
 use Rattle.std.proofs.Common.{◌≡◌, [], map, take, vec_len, Some, sym, ap, ◌∙◌, arith, rules}
-use Rattle.dd_desk.specs.declared.event.Event.{Event}
+use Rattle.dd_desk.specs.Events.{EventOf}
 use Rattle.dd_desk.specs.Receipts.{below}
 use Rattle.dd_desk.proofs.kept.Kept.new.Goals as goal
 
@@ -15,7 +15,7 @@ invariant_of-result g c =
     record {
       within = omega (arith, ap (λ l. l.events) c.new.ensures.limits, c.requires.events);
       marked = ap (map (λ n. n.cell)) marks ∙ sym (ap (λ k. take k g.J.Naming.cells) none ∙ search rules);
-      knows = ap (map (λ n. n.known)) marks ∙ sym (ap (map {A = Event} Some) journal);
+      knows = ap (map (λ n. n.known)) marks ∙ sym (ap (map {A = EventOf} Some) journal);
       counted = c.open-count.ensures.total ∙ sym none;
       placed = c.open-sum.ensures.total ∙ sym (ap below none);
       all_is = ap (λ l. l.passes) c.new.ensures.limits ∙ c.requires.passes.0;
