@@ -2,7 +2,7 @@
 ghost use Rattle.std.specs.Prelude.{◌≡◌, ◌<◌, true, IfOk, IfErr};
 ghost use Rattle.std.specs.List.Sorted.{IsPermutation};
 ghost use Rattle.dd_desk.specs.declared.closed.CloseFault.TheVariants.{Missing, Memory};
-ghost use Rattle.dd_desk.specs.Events.{IsLegal, replay};
+ghost use Rattle.dd_desk.specs.Events.{AnswersAreOwn, IsLegal, replay};
 ghost use Rattle.dd_desk.specs.Closing.{numbers_of, by_these, AllTheirs, Lacks};
 
 use crate::closing::{put_in_order, settle};
@@ -40,6 +40,7 @@ impl<J: Naming> Desk<J> {
         ensures legal { IfOk result (λ c. IsLegal c.history.limits c.history.journal.items) }
         ensures book { IfOk result (λ c.
             c.history.book ≡ replay c.history.limits c.history.journal.items) }
+        ensures answers { IfOk result (λ c. AnswersAreOwn c.history.journal.items) }
         ensures theirs { IfOk result (λ c. AllTheirs c.history.journal.items c.passes.items) }
         ensures callers { IfOk result (λ c.
             by_these (numbers_of c.passes.items) c.history.journal.items ≡ true) }
