@@ -1,13 +1,21 @@
 //! A check of a closed desk by plain lists, in which no book is.
-use book_tests::made::{plain, plain_call};
+use book_tests::made::{Shows, plain, plain_call, shown};
 use book_tests::second::Second;
 use dd_book::Limits;
 use dd_desk::{Closed, Naming};
 use std::alloc::{AllocError, Global};
 use std::process::Abort;
 
+fn shows<J: Naming>(closed: &Closed<J>, job: u64) -> Option<Shows> {
+    match closed.book().state(job) {
+        Some(state) => Some(shown(&state)),
+        None => None,
+    }
+}
+
 /// Each reply is what a plain list of jobs replies to which the journal is told, and the events of
-/// each caller are the receipts of its pass, in order and at their places.
+/// each caller are the receipts of its pass, in order and at their places. At
+/// the end each job of the book is as the list has it.
 pub fn check<J: Naming>(
     rt: &impl Abort,
     alloc: Global,
@@ -33,6 +41,10 @@ pub fn check<J: Naming>(
     }
     for (pass, count) in closed.passes().iter().zip(seen.iter()) {
         assert_eq!(rt; pass.receipts().len(), *count);
+    }
+    // The job 0 and the one after the last are none.
+    for job in 0..(jobs.len() as u64).saturating_add(2) {
+        assert!(rt; shows(closed, job) == jobs.shows(job), "job {job}");
     }
     Ok(())
 }
