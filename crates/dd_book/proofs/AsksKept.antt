@@ -1,5 +1,5 @@
 -- A job keeps what it was asked, and ends with what is of it.
-use Rattle.std.proofs.Common.{◌≡◌, ℕ, zero, suc, ◌+◌, ◌-◌, Bool, true, false, cond, refl, sym, ap, ◌∙◌, subst, arith, List, [], ◌∷◌, ◌++◌, length, map, Some, None, drop}
+use Rattle.std.proofs.Common.{◌≡◌, ℕ, zero, suc, ◌+◌, ◌-◌, Bool, true, false, cond, refl, sym, ap, ◌∙◌, subst, List, [], ◌∷◌, ◌++◌, length, Some, None}
 use Rattle.std.specs.Prelude.{Option, option_and_then, option_map, unwrap_or, slice_get, slice_set, nat_eq, ◌&&◌, ◌==◌}
 use Rattle.std.specs.Option.{is_some}
 use Rattle.std.specs.List.{position, list_all}
@@ -27,7 +27,7 @@ use Rattle.dd_book.specs.Parts.{is_waiting, is_ended, runs_by}
 use Rattle.dd_book.specs.Same.{same_question, same_hands}
 use Rattle.dd_book.specs.Limits.{LimitsOf}
 use Rattle.dd_book.specs.Jobs.{JobOf, Turn, has_waiting, if_owned, is_open, job_after, job_at, job_with, new_job, next_turn, own_job, parts_of, shown_stage, stage_after, table_stage, turn, turn_at, turn_of, with_job, with_part, with_stage}
-use Rattle.dd_book.specs.Calls.{BookOf, after, book_claimed, cancel_told, claim_told, claimed, empty_book, fetch_told, jobs_after_finish, jobs_cancelled, refusal_of, replies, reply_of, with_jobs}
+use Rattle.dd_book.specs.Calls.{BookOf, after, book_claimed, cancel_told, claim_told, claimed, empty_book, fetch_told, jobs_after_finish, jobs_cancelled, replies, reply_of, with_jobs}
 use Rattle.dd_book.specs.Asks.{AllTellOwn, ShowsOwn, TellsOwn, asked_anew, asked_at, asks_of, submitted}
 use Rattle.dd_book.proofs.Indexed.{slice_get-push_here}
 use Rattle.dd_book.proofs.SameLaws.{same_question-is}
