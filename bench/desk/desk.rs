@@ -1,10 +1,10 @@
 // A job book behind one lock, as plain Rust has it: a map of jobs, the numbers that wait, open jobs by owner, and the journal
-// as a list; each caller keeps a list of its receipts. For the words `threads rounds` it writes the nanoseconds that the calls
-// took, how many events there were, and 0.
+// as a list; each caller keeps a list of its receipts. An event is kept once, and both lists share it. For the words
+// `threads rounds` it writes the nanoseconds that the calls took, how many events there were, and 0.
 #![allow(dead_code)]
 
 use std::collections::{BTreeSet, HashMap};
-use std::sync::Mutex;
+use std::sync::{Arc, Mutex};
 use std::time::Instant;
 
 #[derive(Clone, PartialEq, Debug)]
@@ -56,8 +56,7 @@ struct Event {
 
 struct Receipt {
     place: u64,
-    call: Call,
-    reply: Reply,
+    event: Arc<Event>,
 }
 
 struct Job {
@@ -72,7 +71,7 @@ struct Book {
     waiting: BTreeSet<u64>,
     open: HashMap<u64, u64>,
     claims: u64,
-    journal: Vec<Event>,
+    journal: Vec<Arc<Event>>,
 }
 
 impl Book {
@@ -125,8 +124,9 @@ fn record(book: &Mutex<Book>, caller: u64, receipts: &mut Vec<Receipt>, call: Ca
     let mut book = book.lock().unwrap();
     let reply = book.apply(call.clone());
     let place = book.journal.len() as u64;
-    book.journal.push(Event { caller, call: call.clone(), reply: reply.clone() });
-    receipts.push(Receipt { place, call, reply: reply.clone() });
+    let event = Arc::new(Event { caller, call, reply: reply.clone() });
+    book.journal.push(event.clone());
+    receipts.push(Receipt { place, event });
     reply
 }
 

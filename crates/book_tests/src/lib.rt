@@ -5,8 +5,7 @@ pub mod drawn;
 pub mod made;
 #[cfg(test)]
 mod refused;
-#[cfg(test)]
-mod second;
+pub mod second;
 #[cfg(test)]
 mod seeded;
 pub mod words;

@@ -171,6 +171,44 @@ impl Made {
     }
 }
 
+// A request to solve, told by its number of tricks.
+fn asks_of(request: &Request) -> Asks {
+    if request.position().tricks_left() == 1 {
+        Asks::Ace
+    } else {
+        Asks::Pair
+    }
+}
+
+fn plain_outcome(outcome: &Outcome) -> Ends {
+    match outcome {
+        Outcome::Solved(solved) => Ends::Answer(asks_of(solved.request())),
+        Outcome::Part(solved) => Ends::Part(solved.part()),
+        Outcome::Spent => Ends::Spent,
+        Outcome::Stopped => Ends::Stopped,
+    }
+}
+
+/// A call as a plain value.
+pub fn plain_call(call: &Call) -> Step {
+    match call {
+        Call::Submit { caller, asked } => match asked {
+            Asked::Solve(request) => Step::Submit(*caller, asks_of(request)),
+            Asked::Table(_) => Step::Submit(*caller, Asks::Table),
+        },
+        Call::Claim { worker } => Step::Claim(*worker),
+        Call::Finish {
+            worker,
+            job,
+            claim,
+            outcome,
+        } => Step::Finish(*worker, *job, *claim, plain_outcome(outcome)),
+        Call::Cancel { caller, job } => Step::Cancel(*caller, *job),
+        Call::Fetch { caller, job } => Step::Fetch(*caller, *job),
+        Call::Shut => Step::Shut,
+    }
+}
+
 /// What a fetch shows, as a plain value.
 pub fn shown(state: &JobState) -> Shows {
     match state {

@@ -81,6 +81,13 @@ impl Second {
         self.jobs.len()
     }
 
+    /// What the owner of the job of this number is shown.
+    pub fn shows(&self, job: u64) -> Option<Shows> {
+        let place = job.checked_sub(1)?;
+        let found = self.jobs.get(place as usize)?;
+        Some(found.shows())
+    }
+
     pub fn apply(&mut self, step: Step) -> Result<Told, AllocError> {
         match step {
             Step::Submit(caller, asks) => self.submit(caller, asks),

@@ -8,3 +8,6 @@ pub use Rattle.dd_book.proofs.Runs.{replies-more}
 -- ---- Claim numbers.
 -- no call gives more than one
 pub use Rattle.dd_book.proofs.Runs.{claims-after}
+-- ---- What callers are told.
+-- all that calls are told of a job is of what was submitted under its number
+pub use Rattle.dd_book.proofs.AsksKept.{tell-own}

@@ -5,9 +5,8 @@ use Rattle.dd_book.specs.declared.call.Reply.{Reply}
 use Rattle.dd_book.specs.declared.call.Reply.TheVariants.{Submitted, Claimed, ClaimedPart, NothingWaits, Closing, Recorded, Stale, Cancelled, State, Shut, Fault}
 use Rattle.dd_book.specs.Limits.{LimitsOf}
 use Rattle.dd_book.specs.Calls.{reply_of}
-use Rattle.dd_desk.specs.declared.event.Event.{Event}
+use Rattle.dd_desk.specs.Events.{EventOf, IsLegal, replay}
 use Rattle.dd_desk.specs.declared.fault.Fault.{Fault as DeskFault}
-use Rattle.dd_desk.specs.Events.{IsLegal, replay}
 use Rattle.dd_desk.specs.Faults.{IsOfCall}
 use Rattle.dd_desk.specs.Receipts.{PassOf, pass_of, receipt}
 
@@ -15,7 +14,7 @@ use Rattle.dd_desk.specs.Receipts.{PassOf, pass_of, receipt}
 -- that one thread could have made, and its place is the next of that journal
 pub record IsAnswered (before : PassOf) (call : Call) (reply : Reply) (after : PassOf) : Type 0 where
   pub limits : LimitsOf
-  pub journal : List Event
+  pub journal : List EventOf
   pub legal : IsLegal limits journal
   pub told : reply ≡ reply_of (replay limits journal) call
   pub gained : after ≡ pass_of before.number (before.receipts ++ receipt (length journal) call reply ∷ [])

@@ -2,7 +2,7 @@
 ghost use Rattle.std.specs.Prelude.{◌≡◌, ◌<◌, true, IfOk, IfErr};
 ghost use Rattle.std.specs.List.Sorted.{IsPermutation};
 ghost use Rattle.dd_desk.specs.declared.closed.CloseFault.TheVariants.{Missing, Memory};
-ghost use Rattle.dd_desk.specs.Events.{IsLegal, replay};
+ghost use Rattle.dd_desk.specs.Events.{AnswersAreOwn, IsLegal, replay};
 ghost use Rattle.dd_desk.specs.Closing.{numbers_of, by_these, AllTheirs, Lacks};
 
 use crate::closing::{put_in_order, settle};
@@ -20,6 +20,7 @@ use std::sync::Mutex;
 pub struct Closed<J: Naming> {
     pub(crate) history: History,
     pub(crate) passes: Vec<Pass<J>>,
+    pub ghost limits: { history.limits ≡ J.limits },
     pub ghost theirs: { AllTheirs history.journal.items passes.items },
     pub ghost callers: { by_these (numbers_of passes.items) history.journal.items ≡ true },
 }
@@ -37,9 +38,11 @@ impl<J: Naming> Desk<J> {
     /// Ends the desk. It takes the passes in any order, and answers them in that of their numbers.
     pub fn close(self, passes: Vec<Pass<J>>) -> Result<Closed<J>, CloseFault<J>>
         requires { J.all ≡ J.parts }
+        ensures limits { IfOk result (λ c. c.history.limits ≡ J.limits) }
         ensures legal { IfOk result (λ c. IsLegal c.history.limits c.history.journal.items) }
         ensures book { IfOk result (λ c.
             c.history.book ≡ replay c.history.limits c.history.journal.items) }
+        ensures answers { IfOk result (λ c. AnswersAreOwn c.history.journal.items) }
         ensures theirs { IfOk result (λ c. AllTheirs c.history.journal.items c.passes.items) }
         ensures callers { IfOk result (λ c.
             by_these (numbers_of c.passes.items) c.history.journal.items ≡ true) }

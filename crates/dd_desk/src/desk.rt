@@ -35,6 +35,7 @@ impl<J: Naming> Desk<J> {
     /// A desk with an empty book. It takes no memory.
     pub fn new(row: Row) -> Desk<J>
         requires cells { (map cell_name row.cells.items ≡ J.cells) × (J.all ≡ J.parts) }
+        requires limits { row.limits ≡ J.limits }
         requires count { (row.count.name ≡ J.counts) × (row.count.parts ≡ J.parts) }
         requires sum { (row.sum.name ≡ J.places) × (row.sum.parts ≡ J.parts) }
     {

@@ -4,10 +4,11 @@ ghost use Rattle.dd_book.specs.Calls.{after, empty_book, reply_of, IsIdle};
 ghost use Rattle.dd_desk.specs.Events.{IsLegal, event, replay};
 ghost use Rattle.dd_desk.specs.Faults.{MatchFault};
 
-use crate::event::Event;
+use crate::event::{Event, filled};
 use crate::fault::Fault;
 use dd_book::{Book, Call, Limits};
 use std::alloc::Global;
+use std::sync::Wait;
 
 /// A book, and the journal that led to it from the empty book of its limits.
 #[derive(Drop)]
@@ -34,11 +35,18 @@ impl History {
         }
     }
 
-    /// The event joins the journal. It is `JournalFull` exactly where the journal holds its limit.
-    pub(crate) fn add(&mut self, caller: u64, call: Call) -> Result<Event, Fault>
-        ensures event { IfOk result (λ e. e ≡ event caller call (reply_of self.old.book call)) }
+    /// The blank becomes the event of this call, and joins the journal. An error is `JournalFull`
+    /// exactly where the journal holds its limit.
+    pub(crate) fn add<R: Wait>(
+        &mut self,
+        rt: &R,
+        blank: Box<Event>,
+        call: Call,
+    ) -> Result<Box<Event>, Fault>
+        ensures event { IfOk result (λ e.
+            e.value ≡ event blank.value.caller call (reply_of self.old.book call)) }
         ensures journal { MatchResult result
-            (λ e. self.new.journal.items ≡ self.old.journal.items ++ e ∷ [])
+            (λ e. self.new.journal.items ≡ self.old.journal.items ++ e.value ∷ [])
             (λ _. self.new.journal.items ≡ self.old.journal.items) }
         ensures book { MatchResult result (λ _. self.new.book ≡ after self.old.book call)
             (λ _. self.new.book ≡ self.old.book) }
@@ -64,13 +72,9 @@ impl History {
         }
         match book.apply(call.copy()) {
             Ok(reply) => {
-                let event = Event {
-                    caller,
-                    call,
-                    reply,
-                };
-                journal.push_reserved(event.copy());
-                Ok(event)
+                let made = filled(rt, blank, call, reply);
+                journal.push_reserved(made.share(rt));
+                Ok(made)
             }
             Err(_) => Err(Fault::Memory),
         }

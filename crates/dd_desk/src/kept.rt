@@ -32,6 +32,7 @@ pub struct Kept<J: Naming> {
     pub ghost knows: { map (λ n. n.known) marks.items ≡ map Some history.journal.items },
     pub ghost counted: { count.total ≡ vec_len history.journal },
     pub ghost placed: { sum.total ≡ below (vec_len history.journal) },
+    pub ghost limits_are: { history.limits ≡ J.limits },
     pub ghost all_is: { history.limits.passes ≡ J.all },
     pub ghost parts: { (spare_count.parts + given ≡ J.all)
         × (spare_sum.parts + given ≡ J.all) },
@@ -41,6 +42,7 @@ pub struct Kept<J: Naming> {
 impl<J: Naming> Kept<J> {
     /// An empty history, with all parts of both ledgers.
     pub(crate) fn new(alloc: Global, limits: Limits, count: Blank, sum: Blank) -> Kept<J>
+        requires limits { limits ≡ J.limits }
         requires events { limits.events ≡ length J.cells }
         requires passes { (limits.passes ≡ J.all) × (J.all ≡ J.parts) }
         requires count { (count.name ≡ J.counts) × (count.parts ≡ J.parts) }

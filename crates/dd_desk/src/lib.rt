@@ -13,6 +13,7 @@ mod pass;
 mod recording;
 mod row;
 mod sheet;
+mod stuck;
 
 pub use closed::{CloseFault, Closed};
 pub use desk::Desk;

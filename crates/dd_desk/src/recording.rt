@@ -8,36 +8,24 @@ ghost use Rattle.dd_desk.specs.Faults.{MatchFault};
 ghost use Rattle.dd_desk.specs.Receipts.{pass_of, receipt};
 ghost use Rattle.dd_desk.specs.Replies.{EndsWait, IsTold};
 
-use crate::event::{Event, Receipt};
+use crate::event::{Event, Receipt, blank};
 use crate::fault::Fault;
 use crate::kept::Kept;
 use crate::names::Naming;
 use crate::pass::Pass;
 use crate::sheet::{Held, Sheet};
+use crate::stuck::wait_forever;
 use dd_book::{Call, Reply};
 use once_cell::race::{Note, OnceBox};
 use std::alloc::Global;
 use std::sync::Wait;
 
-// Never returns.
-fn wait_forever<R: Wait>(rt: &R) -> ! {
-    for _ in rt.forever() {}
-    unreachable!()
-}
-
 // The cell at a place takes its event, or the call never returns.
-fn mark<R: Wait>(
-    rt: &R,
-    row: &Vec<OnceBox<Event>>,
-    place: usize,
-    mut made: Box<Event>,
-    event: Event,
-) -> Note<Event>
+fn mark<R: Wait>(rt: &R, row: &Vec<OnceBox<Event>>, place: usize, made: Box<Event>) -> Note<Event>
     requires { place < vec_len row.now }
     ensures cell { result.cell ≡ slice_index_or (map cell_name row.now.items) place 0 }
-    ensures known { result.known ≡ Some event }
+    ensures known { result.known ≡ Some made.value }
 {
-    *made = event;
     let cell = &row[place];
     let mut note = cell.note();
     if cell.set_as(made, &mut note).is_err() {
@@ -111,28 +99,19 @@ fn record_held<J: Naming, R: Wait>(
     let Some(all_places) = places.checked_add(place as u64) else {
         wait_forever(rt)
     };
-    // The box comes before the book's step, and takes the event after it.
-    let blank = Event {
-        caller: *number,
-        call: Call::Shut,
-        reply: Reply::Shut,
-    };
-    let Ok(made) = Box::new(alloc, blank) else {
+    // The room for the event comes before the book's step.
+    let Ok(blank) = blank(alloc, *number) else {
         return Err(Fault::Memory);
     };
-    let event = history.add(*number, call)?;
-    let mut note = mark(rt, row, place, made, event.copy());
+    let made = history.add(rt, blank, call)?;
+    let event = made.share(rt);
+    let mut note = mark(rt, row, place, made);
     count.add(my_count, 1);
     sum.add(my_sum, place as u64);
-    let Event {
-        caller: _,
-        call,
-        reply,
-    } = event;
+    let reply = event.reply().copy();
     receipts.push_reserved(Receipt {
         place: place as u64,
-        call,
-        reply: reply.copy(),
+        event,
     });
     mine.push_reserved(note.again());
     marks.push_reserved(note);

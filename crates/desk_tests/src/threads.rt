@@ -192,6 +192,7 @@ fn meet<J: Naming + Send + Sync, R: Threads + Wait + Abort + Sync>(
     limits: Limits,
 ) -> Result<(), AllocError>
     requires cells { (map cell_name row.cells.items ≡ J.cells) × (J.all ≡ J.parts) }
+    requires limits { row.limits ≡ J.limits }
     requires count { (row.count.name ≡ J.counts) × (row.count.parts ≡ J.parts) }
     requires sum { (row.sum.name ≡ J.places) × (row.sum.parts ≡ J.parts) }
 {

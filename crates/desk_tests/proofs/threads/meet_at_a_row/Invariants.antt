@@ -6,4 +6,4 @@ abbrev pub ghosts-meet-J-Tokens : goal.ghosts-meet-J-Tokens
 ghosts-meet-J-Tokens g a = record { counts = a.row.count.name; places = a.row.sum.name; parts = a.row.count.parts }
 
 abbrev pub ghosts-meet-J-Naming : goal.ghosts-meet-J-Naming
-ghosts-meet-J-Naming g a = record { cells = map cell_name a.row.cells.items; all = a.row.count.parts }
+ghosts-meet-J-Naming g a = record { cells = map cell_name a.row.cells.items; limits = a.row.limits; all = a.row.count.parts }

@@ -6,4 +6,4 @@ abbrev pub ghosts-run-J-Tokens : goal.ghosts-run-J-Tokens
 ghosts-run-J-Tokens g a = record { counts = a.row.count.name; places = a.row.sum.name; parts = a.row.count.parts }
 
 abbrev pub ghosts-run-J-Naming : goal.ghosts-run-J-Naming
-ghosts-run-J-Naming g a = record { cells = map cell_name a.row.cells.items; all = a.row.count.parts }
+ghosts-run-J-Naming g a = record { cells = map cell_name a.row.cells.items; limits = a.row.limits; all = a.row.count.parts }
