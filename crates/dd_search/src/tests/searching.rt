@@ -112,17 +112,17 @@ fn asked<B: Bounds, M: Meter>(
     }
 }
 
-// One trick is a quick trick: North crosses to the ace. So the first position is the only one, without a look, and nothing
-// is noted.
+// One trick is a quick trick: North crosses to the ace. So the first position is the only one: what the look there doesn't
+// settle the quick trick does, and nothing is noted.
 #[test]
-fn a_quick_trick_settles_it_before_a_look(rt: HostRuntime) {
+fn a_quick_trick_settles_what_a_look_does_not(rt: HostRuntime) {
     let position = position_of(&BEHIND, Seat::North, &[]).expect(&rt, "two cards a hand");
     let mut log = Log::knowing(NONE);
     let mut budget = Budget::new(100);
     let answer = asked(&position, 1, &mut log, &mut budget);
     assert_eq!(rt; answer, Some(Ok(true)));
     assert_eq!(rt; budget.ticks(), 1);
-    assert!(rt; log.events.is_empty());
+    assert_eq!(rt; log.events.as_slice(), [Event::Look { left: 2 }].as_slice());
 }
 
 // Two tricks are not had. North's 3 and East's 6 have equals below them, so there is one card to try in each hand. South
@@ -138,11 +138,12 @@ fn each_position_is_one_tick_where_two_tricks_are_asked_for(rt: HostRuntime) {
     let answer = asked(&position, 2, &mut log, &mut budget);
     assert_eq!(rt; answer, Some(Ok(false)));
     assert_eq!(rt; budget.ticks(), 6);
-    // What is noted at the start of the trick that was played is the answer there.
+    // There is a look at each start of a trick. What is noted at that of the trick that was played is the answer there.
     assert_eq!(rt;
         log.events.as_slice(),
         [
             Event::Look { left: 2 },
+            Event::Look { left: 1 },
             Event::Note {
                 left: 2,
                 lo: 0,
@@ -173,6 +174,7 @@ fn each_position_is_one_tick_where_the_other_side_asks(rt: HostRuntime) {
         log.events.as_slice(),
         [
             Event::Look { left: 2 },
+            Event::Look { left: 1 },
             Event::Note {
                 left: 2,
                 lo: 0,
@@ -206,8 +208,8 @@ fn a_look_that_settles_it_is_the_end(rt: HostRuntime) {
 }
 
 // With a heart more in each hand, North's the ace, three tricks are not had. North leads the ace, and at the second trick is
-// where it was in `BEHIND`: the look there settles that two tricks are not had. A spade first leads to a start of a trick that
-// quick tricks settle, since West has the king.
+// where it was in `BEHIND`: the look there settles that two tricks are not had. A spade first leads to another start of a trick,
+// of which the look tells as much.
 #[test]
 fn a_look_at_the_second_trick_saves_its_positions(rt: HostRuntime) {
     let position = position_of(&BEHIND_AN_ACE, Seat::North, &[]).expect(&rt, "three cards a hand");
@@ -219,6 +221,7 @@ fn a_look_at_the_second_trick_saves_its_positions(rt: HostRuntime) {
         log.events.as_slice(),
         [
             Event::Look { left: 3 },
+            Event::Look { left: 2 },
             Event::Look { left: 2 },
             Event::Note {
                 left: 3,
