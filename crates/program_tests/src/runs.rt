@@ -242,11 +242,11 @@ fn three_classes() -> &'static str {
 
 // Another, whose value no quick trick tells, asked for the first of the best and for all.
 fn first_of_all() -> &'static str {
-    "{\"do\":\"solve\",\"deal\":\"N:8.7.T. .T.K8. T.J..K ..Q2.5\",\"trump\":0,\"first\":0,\"solutions\":1}\n"
+    "{\"do\":\"solve\",\"deal\":\"N:.64.J7. AJT..2. 2.5..T5 .7.K.74\",\"trump\":0,\"first\":0,\"solutions\":1}\n"
 }
 
 fn all() -> &'static str {
-    "{\"do\":\"solve\",\"deal\":\"N:8.7.T. .T.K8. T.J..K ..Q2.5\",\"trump\":0,\"first\":0,\"solutions\":3}\n"
+    "{\"do\":\"solve\",\"deal\":\"N:.64.J7. AJT..2. 2.5..T5 .7.K.74\",\"trump\":0,\"first\":0,\"solutions\":3}\n"
 }
 
 // The least budget, below 100, with which the last of these lines is answered.
