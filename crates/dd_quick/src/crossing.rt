@@ -12,7 +12,7 @@ ghost use mathlib.Core.Bool.{not};
 ghost use Rattle.dd_cards.specs.declared.suit.Suit.TheVariants.{Spades, Hearts, Diamonds, Clubs};
 ghost use Rattle.dd_cards.specs.PlayingCard.{PlayingCard};
 ghost use Rattle.dd_cards.specs.Cards.{has_card};
-ghost use Rattle.dd_quick.specs.QuickTricks.{IsNext, RestsOnNext, all_partners, beside_trumps, crossed, has_entry};
+ghost use Rattle.dd_quick.specs.QuickTricks.{IsNext, RestsOnNext, beside_trumps, crossed, has_entry};
 ghost use Rattle.dd_quick.specs.QuickTricks.{is_entry, no_trumps, partners_cashed, partners_tricks, run, side_tricks};
 
 use crate::long_suit::unruffed;
@@ -119,15 +119,24 @@ fn may_cross(position: &Position) -> bool
     major || may_enter(position, Suit::Diamonds) || may_enter(position, Suit::Clubs)
 }
 
-// Has the partner a card of the suit that no opponent can beat, the leader one beside its run, and nobody ruffs at once?
+// Has the partner a card of the suit that no opponent can beat, and can the leader lead to it?
+#[inline]
 fn may_enter(position: &Position, suit: Suit) -> bool
     ensures { is_entry position.now suit ≡ true → result ≡ true }
 {
+    let partner = position.first().partner();
+    if unbeaten(position, partner, suit).len() == 0 {
+        return false;
+    }
+    may_lead(position, suit)
+}
+
+// Has the leader a card of the suit beside its run, and does nobody ruff it?
+fn may_lead(position: &Position, suit: Suit) -> bool
+    ensures { is_entry position.now suit ≡ true → result ≡ true }
+{
     let leader = position.first();
-    let partner = leader.partner();
-    if unbeaten(position, partner, suit).len() == 0
-        || below_run(position, leader, suit).len() == 0
-    {
+    if below_run(position, leader, suit).len() == 0 {
         return false;
     }
     is_followed(position, suit)
