@@ -16,6 +16,7 @@ use search::quick::{AT_THIRD_HAND, CROSSES_WITHOUT_A_CARD, LONG_BEFORE_THE_LEADE
 use search::quick::{A_ROUND_FOR_EACH_TRICK, ROUNDS_OF_THE_SHORTER};
 use search::quick::{CROSSING_WITHOUT_TRUMPS, NOBODY_HAS_FOLLOWED, NOBODY_RUFFS_THE_PARTNER};
 use search::quick::{KEEPS_EACH_WINNER, KEEPS_OVER_THE_SHORTER, KEPT_WINNERS};
+use search::quick::{A_LONE_TRUMP_IS_GUARDED, GUARDED_BEFORE_THE_HIGHEST, GUARDED_TRUMP, THE_THIRD_IS_GUARDED};
 use search::quick::{HIGHER_TRUMPS_TAKE_NOTHING, ONE_OPPONENTS_TRUMPS, TRUMPS_OF_BOTH_HANDS};
 use search::quick::{NOBODY_RUFFS, NO_WINNER_FALLS, THE_LEAD_IS_NOT_RUFFED, TRUMPS_ARE_DRAWN};
 use search::{Card, Position, Strain, Suit, depths_of};
@@ -55,7 +56,7 @@ const fn others(name: &'static str, played: usize, claim: fn(&Position, u8) -> O
 }
 
 // A rule that is added to the quick tricks gets a line here, and where it has parts a line for each.
-const RIGHT: [Rule; 34] = [
+const RIGHT: [Rule; 35] = [
     leaders("side suits without long ones", for_leader::<RUNS>),
     leaders("long suits", for_leader::<LONG_SUITS>),
     leaders("side suits with long ones", for_leader::<{ RUNS | LONG_SUITS }>),
@@ -66,6 +67,7 @@ const RIGHT: [Rule; 34] = [
     others("lower trumps of the other side", 0, lower_others::<{ JOINT_TRUMPS | LOWER_TRUMPS }>),
     others("the other side's later trick", 0, against_leader::<LATER_TRICK>),
     others("the other side's kept winners", 0, against_leader::<KEPT_WINNERS>),
+    others("the other side's guarded trump", 0, against_leader::<GUARDED_TRUMP>),
     others("all of the other side", 0, against_leader::<ALL>),
     leaders("crossing to the partner", for_leader::<CROSSING>),
     leaders("crossing after side suits without long ones", crossed::<{ RUNS | CROSSING }>),
@@ -92,7 +94,7 @@ const RIGHT: [Rule; 34] = [
     others("second hand: all after the lead of a trump", 1, trump_led::<ALL>),
 ];
 
-const WRONG: [Rule; 27] = [
+const WRONG: [Rule; 30] = [
     leaders("joint trumps added after a draw", for_leader::<{ ALL | TRUMPS_ARE_DRAWN }>),
     leaders("long suits that opponents with trumps can't follow", for_leader::<{ LONG_SUITS | NOBODY_RUFFS }>),
     leaders("lower trumps where higher ones take nothing", lower_leaders::<{ ALL | HIGHER_TRUMPS_TAKE_NOTHING }>),
@@ -108,6 +110,9 @@ const WRONG: [Rule; 27] = [
     others("a later trick by the shorter holdings", 0, against_leader::<{ LATER_TRICK | ROUNDS_OF_THE_SHORTER }>),
     others("kept winners without a trick for each", 0, against_leader::<{ KEPT_WINNERS | KEEPS_EACH_WINNER }>),
     others("kept winners by the shorter holdings", 0, against_leader::<{ KEPT_WINNERS | KEEPS_OVER_THE_SHORTER }>),
+    others("a lone trump is guarded", 0, against_leader::<{ GUARDED_TRUMP | A_LONE_TRUMP_IS_GUARDED }>),
+    others("a trump is guarded before the highest", 0, against_leader::<{ GUARDED_TRUMP | GUARDED_BEFORE_THE_HIGHEST }>),
+    others("the third trump is guarded", 0, against_leader::<{ GUARDED_TRUMP | THE_THIRD_IS_GUARDED }>),
     others("second hand: a lead that third hand ruffs", 1, side_suit_led::<{ ALL | THE_LEAD_IS_NOT_RUFFED }>),
     others("second hand: crossing to winners that fall", 1, second_crossed::<{ ALL | NO_WINNER_FALLS }>),
     others("second hand: crossing without a card to lead", 1, second_crossed::<{ ALL | CROSSES_WITHOUT_A_CARD }>),

@@ -18,8 +18,17 @@ pub const LATER_TRICK: u32 = 8192;
 pub const LOWER_TRUMPS: u32 = 65536;
 /// Without trumps, the winners that an opponent keeps until the leader's side has to lead to them.
 pub const KEPT_WINNERS: u32 = 1 << 20;
-pub const ALL: u32 =
-    RUNS | LONG_SUITS | JOINT_TRUMPS | CROSSING | PARTNERS_LONG_SUITS | LATER_TRICK | LOWER_TRUMPS | KEPT_WINNERS;
+/// The second highest trump behind the hand that has the highest, with another trump.
+pub const GUARDED_TRUMP: u32 = 1 << 24;
+pub const ALL: u32 = RUNS
+    | LONG_SUITS
+    | JOINT_TRUMPS
+    | CROSSING
+    | PARTNERS_LONG_SUITS
+    | LATER_TRICK
+    | LOWER_TRUMPS
+    | KEPT_WINNERS
+    | GUARDED_TRUMP;
 
 // Wrong forms, which `cases/rules.rs` has to find wrong.
 /// An opponent with trumps follows suit as long as it is led.
@@ -41,11 +50,11 @@ pub const LONG_BEFORE_THE_LEADER: u32 = 2048;
 pub const LONG_BEFORE_THE_OPPONENTS: u32 = 4096;
 
 /// An opponent with trumps follows suit as long as the partner leads it.
-pub const NOBODY_RUFFS_THE_PARTNER: u32 = 1 << 23;
+pub const NOBODY_RUFFS_THE_PARTNER: u32 = 1 << 28;
 /// An opponent with trumps still has all its cards of a suit when the partner leads it.
-pub const NOBODY_HAS_FOLLOWED: u32 = 1 << 24;
+pub const NOBODY_HAS_FOLLOWED: u32 = 1 << 29;
 /// Crossing rests on no trumps.
-pub const CROSSING_WITHOUT_TRUMPS: u32 = 1 << 25;
+pub const CROSSING_WITHOUT_TRUMPS: u32 = 1 << 30;
 
 /// The leader's side may have a round of its own suits for each trick left.
 pub const A_ROUND_FOR_EACH_TRICK: u32 = 16384;
@@ -63,6 +72,13 @@ pub const ONE_OPPONENTS_TRUMPS: u32 = 1 << 19;
 pub const KEEPS_EACH_WINNER: u32 = 1 << 21;
 /// It keeps them over the rounds of the shorter holdings.
 pub const KEEPS_OVER_THE_SHORTER: u32 = 1 << 22;
+
+/// A trump is guarded by none.
+pub const A_LONE_TRUMP_IS_GUARDED: u32 = 1 << 25;
+/// It is guarded before the hand that has the highest.
+pub const GUARDED_BEFORE_THE_HIGHEST: u32 = 1 << 26;
+/// It is the third highest.
+pub const THE_THIRD_IS_GUARDED: u32 = 1 << 27;
 
 // The cards of a holding above all of these others.
 fn above_all(own: u16, others: u16) -> u16 {
@@ -414,8 +430,32 @@ pub fn against_leader<const RULES: u32>(position: &Position, need: u8) -> Option
         return Some(later_cards(position));
     }
     let [left, _, right] = others(position.first);
-    let seat = [left, right].into_iter().find(|&seat| keeps::<RULES>(position, seat, need))?;
-    Some(kept_cards(position, seat, need))
+    if let Some(seat) = [left, right].into_iter().find(|&seat| keeps::<RULES>(position, seat, need)) {
+        return Some(kept_cards(position, seat, need));
+    }
+    if need == 1 {
+        guarded_trump::<RULES>(position, left).or_else(|| guarded_trump::<RULES>(position, right))
+    } else {
+        None
+    }
+}
+
+// The second highest trump, where the hand before the seat's has the highest, and the seat has another trump.
+fn guarded_trump<const RULES: u32>(position: &Position, seat: Seat) -> Option<u64> {
+    let Strain::Trump(trump) = position.strain else { return None };
+    let [left, partner, right] = others(seat).map(|other| position.holding(other, trump));
+    let own = position.holding(seat, trump);
+    let (before, beside) = if RULES & GUARDED_BEFORE_THE_HIGHEST != 0 { (left, right | partner) } else { (right, left | partner) };
+    if RULES & GUARDED_TRUMP == 0 || own.count_ones() < if RULES & A_LONE_TRUMP_IS_GUARDED != 0 { 1 } else { 2 } {
+        return None;
+    }
+    let best = highest(own);
+    let over = above(before, best).count_ones();
+    if over == if RULES & THE_THIRD_IS_GUARDED != 0 { 2 } else { 1 } && above(beside, best) == 0 {
+        Some(with(0, trump, best))
+    } else {
+        None
+    }
 }
 
 // Of a suit, how many winners an opponent has, and how often the leader's side can lead it.

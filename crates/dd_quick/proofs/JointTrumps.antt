@@ -112,7 +112,7 @@ strong-top strain led floor c w real top over = go (is_trump strain w) (is_of le
         absurd (omega (arith, mine, over, his))
 
 -- the winning card of a trick with one of them is one of them
-top-wins : (strain : Strain) (floor : ℕ) (trick : List PlayingCard) (c d : PlayingCard) → ((x : PlayingCard) → has_card trick x ≡ true → IsRank x.rank) → has_card trick c ≡ true → is_top strain floor c ≡ true
+pub top-wins : (strain : Strain) (floor : ℕ) (trick : List PlayingCard) (c d : PlayingCard) → ((x : PlayingCard) → has_card trick x ≡ true → IsRank x.rank) → has_card trick c ≡ true → is_top strain floor c ≡ true
     → (winning_place strain trick < length trick) × (is_top strain floor (get_or trick (winning_place strain trick) d) ≡ true)
 top-wins strain floor [] c d real has top = absurd (cc)
 top-wins strain floor (led ∷ rest) c d real has top =
@@ -201,7 +201,7 @@ module _ (strain : Strain) (floor : ℕ) (theirs : PlayingCard → Bool) (a b : 
           subst (λ f. ((seat_after f i ≡ a) ⊎ (seat_after f i ≡ b)) ⊎ (theirs (get_or (after p c).trick i d) ≡ true)) (sym (trick-after p c e).1) here
 
 -- a hand has no more cards than all four
-hand-in : (p : Board) (h : Seat) → length (cards_at p h) ≤ cards_left p
+pub hand-in : (p : Board) (h : Seat) → length (cards_at p h) ≤ cards_left p
 hand-in p North = omega arith
 hand-in p East = omega arith
 hand-in p South = omega arith

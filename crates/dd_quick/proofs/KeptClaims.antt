@@ -33,6 +33,22 @@ use Rattle.dd_quick.proofs.Plays.{count-where}
 use Rattle.dd_quick.proofs.Reached.{length-of, reached-of}
 use Rattle.dd_quick.proofs.TakenTrick.{one-three}
 
+-- the side of an opponent is the other one
+pub opponents-are : (q : Board) (i : ℕ) → IsOpposed i → side_of (seat_after q.first i) ≡ other_side (side_of q.first)
+opponents-are q i opposed = elim opposed [ inl e ↦ ap (λ j. side_of (seat_after q.first j)) e ∙ one q.first | inr e ↦ ap (λ j. side_of (seat_after q.first j)) e ∙ three q.first ]
+  where
+    one : (f : Seat) → side_of (seat_after f 1) ≡ other_side (side_of f)
+    one North = refl
+    one East = refl
+    one South = refl
+    one West = refl
+
+    three : (f : Seat) → side_of (seat_after f 3) ≡ other_side (side_of f)
+    three North = refl
+    three East = refl
+    three South = refl
+    three West = refl
+
 -- ---- any numbers of winners
 
 -- an opponent of the leader, i places after it, keeps k of its winners in each suit
@@ -76,22 +92,6 @@ module _ (q : Board) (i : ℕ) (k : Suit → ℕ) (valid : IsBoard q) (start : q
         lt-ltb 0 (k c.suit) (omega (arith, one, n)));
   }
 
-  -- the side of the opponent is the other one
-  others-side : side_of h ≡ other_side (side_of q.first)
-  others-side = elim opposed [ inl e ↦ ap (λ j. side_of (seat_after q.first j)) e ∙ one q.first | inr e ↦ ap (λ j. side_of (seat_after q.first j)) e ∙ three q.first ]
-    where
-      one : (f : Seat) → side_of (seat_after f 1) ≡ other_side (side_of f)
-      one North = refl
-      one East = refl
-      one South = refl
-      one West = refl
-
-      three : (f : Seat) → side_of (seat_after f 3) ≡ other_side (side_of f)
-      three North = refl
-      three East = refl
-      three South = refl
-      three West = refl
-
   -- the rounds of a suit in which it keeps none
   rounds-are : (u : Suit) → rounds_of (seat_after h 1) headed q u ≡ (if nat_lt 0 (k u) then 0 else max (length_at q q.first u) (length_at q (seat_after q.first 2) u))
   rounds-are u = ap (λ n. if nat_lt 0 (k u) then 0 else n) (by opposed)
@@ -126,7 +126,7 @@ module _ (q : Board) (i : ℕ) (k : Suit → ℕ) (valid : IsBoard q) (start : q
   numbers-taken room =
       let m = many in
       let away : seat_code q.first ≢ seat_code h = (let a = after-code q.first i in let b = code-lt q.first in elim opposed [ inl e ↦ (λ z. omega (arith, a, b, e, z)) | inr e ↦ (λ z. omega (arith, a, b, e, z)) ]) in
-      let taken : count guard (cards_at q h) ≤ won (other_side (side_of q.first)) q = subst (λ s. count guard (cards_at q h) ≤ won s q) others-side (kept-taken q h guard headed holds start away (omega (arith, room, m))) in
+      let taken : count guard (cards_at q h) ≤ won (other_side (side_of q.first)) q = subst (λ s. count guard (cards_at q h) ≤ won s q) (opponents-are q i opposed) (kept-taken q h guard headed holds start away (omega (arith, room, m))) in
       omega (arith, taken, m)
 
 -- ---- what is counted

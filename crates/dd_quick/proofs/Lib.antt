@@ -29,3 +29,5 @@ pub mod LaterTrick
 pub mod LaterClaims
 pub mod KeptWinners
 pub mod KeptClaims
+pub mod GuardedTrump
+pub mod GuardedClaims

@@ -51,8 +51,8 @@ pub(crate) fn with_trumps(position: &Position, seat: Seat, cards: Hand, tricks: 
     }
 }
 
-// These cards and that of the rank.
-fn with_trump(cards: Hand, trump: Suit, rank: Rank) -> Hand
+/// These cards and the trump of the rank.
+pub(crate) fn with_trump(cards: Hand, trump: Suit, rank: Rank) -> Hand
     ensures more { (c : PlayingCard) → has_card cards c ≡ true → has_card result c ≡ true }
     ensures there { has_card result (card_of trump rank) ≡ true }
 {

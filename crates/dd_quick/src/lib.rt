@@ -2,6 +2,7 @@
 #![tactic(auto)]
 
 mod crossing;
+mod guarded_trump;
 mod joint_trumps;
 mod kept_winners;
 mod later_trick;

@@ -15,17 +15,18 @@ ghost use Rattle.dd_play.specs.Value.{lead};
 ghost use Rattle.dd_quick.specs.QuickTricks.{IsCash, IsNext, cashed, crossed, has_later_trick, joint_trumps};
 ghost use Rattle.dd_quick.specs.QuickTricks.{others_kept};
 ghost use Rattle.dd_quick.specs.QuickTricks.{quick_hi, quick_lo, side_tricks};
-ghost use Rattle.dd_quick.specs.SecondHand.{IsBeforeLead};
+ghost use Rattle.dd_quick.specs.SecondHand.{IsBeforeLead, Opposes};
 ghost use Rattle.dd_rank.specs.Depths.{all_cards, depth_in, Covers};
 
 use crate::crossing::{Partners, beside_trumps, crossing, with_partners};
+use crate::guarded_trump::guarded_trump;
 use crate::joint_trumps::{joint_trumps, with_trumps};
 use crate::kept_winners::{keeps, kept_cards, kept_winners};
 use crate::later_trick::{later_cards, later_trick, one_if};
 use crate::long_suit::{Cashes, cashed, offers, with_shares};
 use crate::sharing::{Shares, share_out};
 use crate::winners::trumps;
-use dd_cards::Hand;
+use dd_cards::{Hand, Seat};
 use dd_play::{Interval, Position, TrickStart};
 use dd_rank::Depths;
 
@@ -91,14 +92,30 @@ pub fn against_leader(start: &TrickStart, need: u8) -> Option<Hand>
         return Some(later_cards(position));
     }
     let left = position.first().left();
+    let right = position.first().right();
     if keeps(position, left, need) {
         return Some(kept_cards(position, left, need));
     }
-    let right = position.first().right();
     if keeps(position, right, need) {
-        Some(kept_cards(position, right, need))
+        return Some(kept_cards(position, right, need));
+    }
+    if need == 1 {
+        either_guards(position, left, right)
     } else {
         None
+    }
+}
+
+// The trump on which it rests that one of the two opponents takes a trick, where it has it guarded.
+fn either_guards(position: &Position, left: Seat, right: Seat) -> Option<Hand>
+    requires start { position.now.trick ≡ [] }
+    requires opposes { Opposes position.now left × Opposes position.now right }
+    ensures { IfSome result
+        (λ cards. TakesBy (reach cards) (other_side (side_of position.now.first)) position.now 1) }
+{
+    match guarded_trump(position, left) {
+        Some(cards) => Some(cards),
+        None => guarded_trump(position, right),
     }
 }
 

@@ -561,6 +561,54 @@ fn an_opponent_keeps_its_winners_until_it_comes_in(rt: HostRuntime) {
 }
 
 #[test]
+fn a_trump_is_guarded_behind_the_hand_with_the_highest(rt: HostRuntime) {
+    let hearts = Strain::Trump(Suit::Hearts);
+    let table = [
+        (
+            ["A.A.2.", "2.K3..", "3.QJ..", "4.54.."],
+            hearts,
+            true,
+            "the king behind the ace",
+        ),
+        (
+            ["3.QJ..", "4.54..", "A.A.2.", "2.K3.."],
+            hearts,
+            true,
+            "the right opponent's",
+        ),
+        (
+            ["3.QJ..", "2.K3..", "A.A.2.", "4.54.."],
+            hearts,
+            false,
+            "the ace behind the king",
+        ),
+        (
+            ["A.A.2.", "32.K..", "4.QJ..", "5.54.."],
+            hearts,
+            false,
+            "the king alone",
+        ),
+        (
+            ["2.AK..", "3.Q2..", "4.J5..", "5.43.."],
+            hearts,
+            false,
+            "two are above the queen",
+        ),
+        (
+            ["A.A.2.", "2.K3..", "3.QJ..", "4.54.."],
+            Strain::Notrump,
+            false,
+            "no trumps",
+        ),
+    ];
+    for (hands, strain, guarded, what) in table {
+        let start = start(hands, strain, Seat::North).expect(&rt, "even hands");
+        assert_eq!(rt; against_leader(&start, 1).is_some(), guarded, "{what}");
+        assert!(rt; against_leader(&start, 2).is_none(), "{what}");
+    }
+}
+
+#[test]
 fn a_claim_rests_first_on_the_suit_that_is_crossed_in(rt: HostRuntime) {
     let hands = [".43.2.", "3.Q6..", "A.K5..", "4.J7.."];
     let start = start(hands, Strain::Notrump, Seat::North).expect(&rt, "even hands");
