@@ -1,25 +1,23 @@
 -- from the cards that the code finds to the claim that a guarded trump takes a trick
-use Rattle.std.proofs.Common.{◌≡◌, ◌≢◌, ℕ, zero, suc, ◌+◌, ◌<◌, ◌≤◌, Bool, true, false, refl, sym, ap, ◌∙◌, subst, arith, List, [], length, inl, inr}
+use Rattle.std.proofs.Common.{◌≡◌, ◌≢◌, ℕ, zero, suc, ◌<◌, ◌≤◌, Bool, true, false, refl, sym, ap, ◌∙◌, subst, arith, List, [], length, inl, inr}
 use Rattle.std.specs.Prelude.{filter, map, nat_le, nat_lt, ◌&&◌, ◌⊎◌}
 use mathlib.Core.Bool.{not}
 use mathlib.Core.Path.{ap₂}
-use Rattle.std.proofs.lemmas.Bool.{cases_lt, leb-true, le-leb, lt-ltb, ltb-true}
+use Rattle.std.proofs.lemmas.Bool.{cases_lt, lt-ltb, ltb-true}
 use Rattle.std.proofs.lemmas.Bool.Decides.{eqb_tells, nat_tests}
 use Rattle.std.proofs.lemmas.List.{length-map}
 use Rattle.dd_cards.specs.declared.seat.Seat.{Seat}
 use Rattle.dd_cards.specs.declared.suit.Suit.{Suit}
-use Rattle.dd_cards.specs.declared.side.Side.{Side}
-use Rattle.dd_cards.specs.declared.strain.Strain.{Strain}
-use Rattle.dd_cards.specs.declared.strain.Strain.TheVariants.{Trump, Notrump}
+use Rattle.dd_cards.specs.declared.strain.Strain.TheVariants.{Trump}
 use Rattle.dd_cards.specs.PlayingCard.{PlayingCard}
 use Rattle.dd_cards.specs.Cards.{is_of, card_of, same_card, has_card}
 use Rattle.dd_cards.specs.Seats.{seat_code, seat_after}
 use Rattle.dd_cards.specs.Sides.{side_of, other_side, is_side}
 use Rattle.dd_cards.proofs.CallerLemmas.{and-left, and-right, else-true, filter-filter, filter-map, is-other, same-other, same_card-eq, same_card-self}
-use Rattle.dd_play.specs.Board.{Board, IsBoard, cards_at}
+use Rattle.dd_play.specs.Board.{Board, cards_at}
 use Rattle.dd_play.specs.Reach.{TakesBy, reach}
 use Rattle.dd_play.specs.Won.{won}
-use Rattle.dd_play.proofs.CallerLemmas.{after-code, code-lt, count, count-has, count-some, of-suit', reach-of, reach-upward, same-or, suit-of, turn-apart, turn-turn}
+use Rattle.dd_play.proofs.CallerLemmas.{after-code, code-lt, count, count-has, count-some, of-suit', reach-of, reach-upward, suit-of, turn-turn}
 use Rattle.dd_quick.specs.QuickTricks.{length_at}
 use Rattle.dd_quick.specs.SecondHand.{Opposes}
 use Rattle.dd_quick.proofs.Chosen.{count-split}

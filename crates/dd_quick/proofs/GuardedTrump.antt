@@ -1,28 +1,27 @@
 -- A guarded trump. The highest trump left is in the hand before y's, the second highest in y's hand, and y has another trump. Where
 -- y is to play to a trick, the hand before it has played, unless y leads: if it has played the highest trump, y plays another
 -- card, and its trump is the highest then; if not, y's trump wins the trick, or y has to follow a side suit and keeps its trumps.
-use Rattle.std.proofs.Common.{◌≡◌, ◌≢◌, ℕ, zero, suc, ◌+◌, ◌<◌, ◌≤◌, Bool, true, false, refl, sym, ap, ◌∙◌, subst, arith, List, [], ◌∷◌, ◌++◌, length, length-append, get_or, inl, inr, zero-le}
-use Rattle.std.specs.Prelude.{nat_le, nat_lt, ◌&&◌, ◌==◌, ◌⊎◌}
+use Rattle.std.proofs.Common.{◌≡◌, ◌≢◌, ℕ, zero, suc, ◌+◌, ◌<◌, ◌≤◌, Bool, true, false, refl, sym, ap, ◌∙◌, subst, arith, List, [], ◌∷◌, ◌++◌, length, length-append, get_or, inl, inr}
+use Rattle.std.specs.Prelude.{nat_le, ◌&&◌, ◌⊎◌}
 use mathlib.Core.Bool.{not}
 use mathlib.Core.Path.{ap₂}
 use Rattle.std.proofs.lemmas.Bool.{cases_lt, eqb-true, leb-true, le-leb}
 use Rattle.dd_cards.specs.declared.seat.Seat.{Seat}
 use Rattle.dd_cards.specs.declared.suit.Suit.{Suit}
 use Rattle.dd_cards.specs.declared.side.Side.{Side}
-use Rattle.dd_cards.specs.declared.strain.Strain.{Strain}
-use Rattle.dd_cards.specs.declared.strain.Strain.TheVariants.{Trump, Notrump}
+use Rattle.dd_cards.specs.declared.strain.Strain.TheVariants.{Trump}
 use Rattle.dd_cards.specs.PlayingCard.{PlayingCard}
 use Rattle.dd_cards.specs.Cards.{is_of, same_card, has_card}
 use Rattle.dd_cards.specs.Seats.{seat_code, seat_after}
 use Rattle.dd_cards.specs.Sides.{side_of, is_side}
 use Rattle.dd_cards.proofs.CallerLemmas.{and-left, and-right, else-false, has_card-without, length-filter-le, not-true, same_card-eq, same_card-self}
 use Rattle.dd_play.specs.Board.{Board, IsBoard, cards_at, cards_left, left, mover}
-use Rattle.dd_play.specs.Tricks.{is_trump, winning_place, winner_of}
+use Rattle.dd_play.specs.Tricks.{winning_place, winner_of}
 use Rattle.dd_play.specs.Play.{after, completes, following, trick_with}
 use Rattle.dd_play.specs.Simulations.{IsLegal}
 use Rattle.dd_play.specs.Covers.{count_of}
 use Rattle.dd_play.specs.Won.{point, won}
-use Rattle.dd_play.proofs.CallerLemmas.{Obeys, after-code, can, cards-tricks, cards_left-after, code-lt, count, count-has, count-some, flag_of, has-at, has-first, hand-others, hand-own, in-push, legal-in, legal-leads, of-suit', once-in, own-card, real-trick, same-or, strain-after, suit-of, trick-after, trick-closed, was-in, won_with}
+use Rattle.dd_play.proofs.CallerLemmas.{after-code, can, cards-tricks, cards_left-after, code-lt, count, count-has, count-some, flag_of, has-at, has-first, hand-others, hand-own, in-push, legal-in, legal-leads, of-suit', once-in, own-card, real-trick, same-or, strain-after, suit-of, trick-after, trick-closed, was-in, won_with}
 use Rattle.dd_quick.specs.QuickTricks.{from_rank, joint_trumps}
 use Rattle.dd_quick.proofs.Chosen.{count-never, count-split}
 use Rattle.dd_quick.proofs.Hands.{one-hand}

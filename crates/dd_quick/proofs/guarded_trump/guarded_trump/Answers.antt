@@ -1,10 +1,10 @@
-use Rattle.std.proofs.Common.{arith, ◌≡◌, ◌∙◌, ap, length, subst, sym, true}
-use Rattle.std.specs.Prelude.{filter, map}
-use Rattle.dd_cards.specs.Cards.{is_of, card_of, has_card}
+use Rattle.std.proofs.Common.{arith, ◌∙◌, ap, length, sym}
+use Rattle.std.specs.Prelude.{filter}
+use Rattle.dd_cards.specs.Cards.{is_of}
 use Rattle.dd_cards.specs.Hands.{hand_of}
 use Rattle.dd_cards.proofs.CallerLemmas.{has_rank-holding}
 use Rattle.dd_play.specs.Board.{cards_at}
-use Rattle.dd_quick.proofs.GuardedClaims.{IsGuarded, guard-at, ranks-above}
+use Rattle.dd_quick.proofs.GuardedClaims.{guard-at, ranks-above}
 use Rattle.dd_quick.proofs.Reached.{length-of}
 use Rattle.dd_quick.proofs.Runs.{first-in}
 use Rattle.dd_quick.proofs.guarded_trump.guarded_trump.Goals as goal
