@@ -1,5 +1,5 @@
 //! The table.
-ghost use Rattle.std.specs.Prelude.{◌≡◌, ◌<◌, ◌≤◌, IfSome};
+ghost use Rattle.std.specs.Prelude.{◌≡◌, ◌<◌, ◌≤◌, IfOk, IfSome, vec_len};
 ghost use Rattle.dd_cards.specs.declared.suit.Suit.{Suit};
 ghost use Rattle.dd_play.specs.Board.{Board, IsBoard};
 ghost use Rattle.dd_play.specs.Covers.{count_of};
@@ -27,7 +27,7 @@ pub const FRONT_CELLS: u16 = 4096;
 /// without waiting. Contracts see the names of the front's cells.
 #[derive(Drop)]
 pub struct SharedTable {
-    shards: Vec<Mutex<Shard>>,
+    pub(crate) shards: Vec<Mutex<Shard>>,
     pub(crate) front: Vec<OnceBox<FrontEntry>>,
     pub(crate) alloc: Global,
 }
@@ -108,7 +108,10 @@ fn shard_of(count: usize, shape: Shape) -> usize
 }
 
 // So many shards that have learned nothing.
-fn empty_shards(alloc: Global, count: u32, entries: u32) -> Result<Vec<Mutex<Shard>>, AllocError> {
+fn empty_shards(alloc: Global, count: u32, entries: u32) -> Result<Vec<Mutex<Shard>>, AllocError>
+    requires { (1 ≤ entries) × (entries ≤ MOST_SHAPES) }
+    ensures { IfOk result (λ shards. vec_len shards ≡ count) }
+{
     let mut shards = Vec::with_capacity(alloc, count as usize)?;
     for _ in 0..count {
         shards.push(Mutex::new(Shard::new(alloc, entries)?))?;
@@ -117,7 +120,9 @@ fn empty_shards(alloc: Global, count: u32, entries: u32) -> Result<Vec<Mutex<Sha
 }
 
 // The cells of a front, all empty.
-fn empty_cells(alloc: Global) -> Result<Vec<OnceBox<FrontEntry>>, AllocError> {
+fn empty_cells(alloc: Global) -> Result<Vec<OnceBox<FrontEntry>>, AllocError>
+    ensures { IfOk result (λ cells. vec_len cells ≡ FRONT_CELLS) }
+{
     let mut cells = Vec::with_capacity(alloc, FRONT_CELLS as usize)?;
     for _ in 0..FRONT_CELLS {
         cells.push(OnceBox::new(alloc))?;

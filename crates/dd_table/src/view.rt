@@ -1,4 +1,12 @@
 //! A table as a search sees it.
+ghost use Rattle.std.specs.Prelude.{◌≡◌, ◌≤◌, IfSome};
+ghost use Rattle.dd_cards.specs.declared.suit.Suit.{Suit};
+ghost use Rattle.dd_play.specs.Board.{Board, IsBoard};
+ghost use Rattle.dd_play.specs.Covers.{count_of};
+ghost use Rattle.dd_play.specs.Intervals.{Holds};
+ghost use Rattle.dd_play.specs.Value.{lead};
+ghost use Rattle.dd_rank.specs.Depths.{all_cards, depth_in, Covers};
+
 use crate::front::front_slot;
 use crate::shared_table::SharedTable;
 use dd_play::{Interval, TrickStart};
@@ -20,7 +28,14 @@ impl SharedTable {
     }
 
     // What the front tells of a position, at the depths of all cards.
-    fn exact(&self, start: &TrickStart) -> Option<(Interval, Depths)> {
+    fn exact(&self, start: &TrickStart) -> Option<(Interval, Depths)>
+        ensures holds { IfSome result (λ told. (q : Board) → IsBoard q
+            → Covers start.now (depth_in told.1) q → Holds told.0 (lead q)) }
+        ensures within { IfSome result (λ told. (u : Suit)
+            → depth_in told.1 u ≤ count_of u (all_cards start.now)) }
+    {
+        // The proof reads here that it is a legal state of play.
+        let _ = start.position();
         let mut note = self.front_note(front_slot(start));
         let value = self.front_get(&mut note, start)?;
         let interval = Interval {
@@ -31,7 +46,9 @@ impl SharedTable {
     }
 
     // Offers the value of a position to its cell, where that is empty.
-    fn offer(&self, start: &TrickStart, value: u8) {
+    fn offer(&self, start: &TrickStart, value: u8)
+        requires { value ≡ lead start.now }
+    {
         let mut note = self.front_note(front_slot(start));
         if self.front_held(&mut note).is_none() {
             // A value that finds no memory is not kept.
