@@ -69,14 +69,14 @@ fn a_cell_tells_nothing_of_positions_that_are_not_alike(rt: HostRuntime) -> Resu
 
 // A table with what was seen of one of its cells: both can be kept together.
 #[derive(Drop)]
-struct Watched<'a> {
+pub(crate) struct Watched<'a> {
     table: &'a SharedTable,
     note: FrontNote,
     ghost of: { IsNoteOf table.now note },
 }
 
 impl<'a> Watched<'a> {
-    fn new(table: &'a SharedTable, slot: u16) -> Option<Watched<'a>> {
+    pub(crate) fn new(table: &'a SharedTable, slot: u16) -> Option<Watched<'a>> {
         if slot < dd_table::FRONT_CELLS {
             Some(Watched {
                 table,
@@ -87,7 +87,7 @@ impl<'a> Watched<'a> {
         }
     }
 
-    fn get(&mut self, start: &TrickStart) -> Option<u8> {
+    pub(crate) fn get(&mut self, start: &TrickStart) -> Option<u8> {
         let Watched { table, note } = self;
         table.front_get(note, start)
     }

@@ -1,5 +1,5 @@
 //! Threads over one table.
-use crate::front::offered;
+use crate::front::{Watched, offered};
 use crate::positions::{
     BEHIND, BEHIND_ANSWER, CAUGHT, CAUGHT_ANSWER, TURNED, answers, bounds_told, start,
 };
@@ -51,14 +51,14 @@ fn two_threads_solve_over_one_table(rt: HostRuntime) -> Result<(), AllocError> {
 const TURNS: u32 = 1_000_000;
 
 // Reads a cell by one note until something is told, and tells that and what a read by the same note tells after it.
-fn wait_for(table: &SharedTable, start: &TrickStart) -> (Option<u8>, Option<u8>) {
-    let mut note = table.front_note(front_slot(start));
+fn wait_for(table: &SharedTable, start: &TrickStart) -> Option<(u8, Option<u8>)> {
+    let mut watched = Watched::new(table, front_slot(start))?;
     for _ in 0..TURNS {
-        if let Some(value) = table.front_get(&mut note, start) {
-            return (Some(value), table.front_get(&mut note, start));
+        if let Some(value) = watched.get(start) {
+            return Some((value, watched.get(start)));
         }
     }
-    (None, None)
+    None
 }
 
 #[test]
@@ -72,10 +72,8 @@ fn a_thread_gets_what_another_offers(rt: HostRuntime) -> Result<(), AllocError> 
         || offered(&table, &caught).is_ok_and(|taken| taken),
     );
     assert!(rt; taken);
-    assert!(rt;
-        seen == (Some(2), Some(2)) || seen == (None, None),
-        "{seen:?}"
-    );
-    assert_eq!(rt; wait_for(&table, &turned), (Some(2), Some(2)));
+    let both = Some((2, Some(2)));
+    assert!(rt; seen == both || seen.is_none());
+    assert_eq!(rt; wait_for(&table, &turned), both);
     Ok(())
 }
