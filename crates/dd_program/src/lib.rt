@@ -4,10 +4,8 @@
 mod command_line;
 mod ending;
 mod help;
-mod one_shard;
 mod run;
 
 pub use command_line::{Args, VERSION, WordsFault, given_words, not_text, read_args};
 pub use ending::Ending;
-pub use one_shard::OneShard;
 pub use run::run_words;

@@ -6,17 +6,20 @@ ghost use Rattle.dd_program.specs.Endings.{line_of, state_of, streams, words_of,
 
 use crate::command_line::{Args, WordsFault, not_text, read_args};
 use crate::ending::Ending;
-use crate::one_shard::OneShard;
 use clap::Error;
 use clap::error::ErrorKind;
 use dd_cache::Cache;
 use dd_lines::{CountedDevice, LineFault, solve_lines, write_whole};
+use dd_search::Bounds;
+use dd_table::SharedTable;
 use std::alloc::{AllocError, Global};
 use std::io::{Read, Write};
+use std::sync::Wait;
 
 /// Does what the words ask for: answers the lines of the input on the output, shows help or the version there, or says on
 /// the standard error what is wrong with the words.
-pub fn run_words<R: Read, O: Write, E: Write>(
+pub fn run_words<W: Wait, R: Read, O: Write, E: Write>(
+    rt: &W,
     alloc: Global,
     words: Result<Vec<String>, WordsFault>,
     reader: &mut CountedDevice<R>,
@@ -30,7 +33,7 @@ pub fn run_words<R: Read, O: Write, E: Write>(
         (state_of E.contents errors.new)) result }
 {
     match args_of(alloc, words) {
-        Ok(args) => answer(alloc, args, reader, output, errors),
+        Ok(args) => answer(rt, alloc, args, reader, output, errors),
         Err(error) => match error.kind() {
             ErrorKind::OutOfMemory => fail(errors, Ending::OutOfMemory),
             _ => show(alloc, &error, output, errors),
@@ -51,8 +54,9 @@ fn args_of(alloc: Global, words: Result<Vec<String>, WordsFault>) -> Result<Args
     }
 }
 
-/// Answers the lines of the input, each within the budget, over one table of so many entries behind a cache.
-fn answer<R: Read, O: Write, E: Write>(
+/// Answers the lines of the input as the arguments ask, over a view of a table of one shard, behind a cache.
+fn answer<W: Wait, R: Read, O: Write, E: Write>(
+    rt: &W,
     alloc: Global,
     args: Args,
     reader: &mut CountedDevice<R>,
@@ -66,22 +70,37 @@ fn answer<R: Read, O: Write, E: Write>(
         (streams (state_of R.remaining reader.new) (state_of O.contents output.new)
         (state_of E.contents errors.new)) result }
 {
-    let Args::Solve { budget, entries } = args;
-    let Ok(mut table) = table(alloc, entries) else {
+    let Args::Solve { budget: _, entries } = args;
+    let Ok(table) = SharedTable::new(alloc, 1, entries) else {
         return fail(errors, Ending::OutOfMemory);
     };
-    match solve_lines(alloc, reader, output, &mut table, budget) {
+    let Ok(mut cache) = Cache::new(alloc, table.view(rt)) else {
+        return fail(errors, Ending::OutOfMemory);
+    };
+    answer_over(alloc, args, reader, output, errors, &mut cache)
+}
+
+/// Answers the lines of the input over a table, each within the budget.
+fn answer_over<B: Bounds, R: Read, O: Write, E: Write>(
+    alloc: Global,
+    args: Args,
+    reader: &mut CountedDevice<R>,
+    output: &mut CountedDevice<O>,
+    errors: &mut CountedDevice<E>,
+    table: &mut B,
+) -> Ending
+    ensures { AnswersUntil args
+        (streams (state_of R.remaining reader.old) (state_of O.contents output.old)
+        (state_of E.contents errors.old))
+        (streams (state_of R.remaining reader.new) (state_of O.contents output.new)
+        (state_of E.contents errors.new)) result }
+{
+    let Args::Solve { budget, entries: _ } = args;
+    match solve_lines(alloc, reader, output, table, budget) {
         Ok(()) => Ending::Answered,
         Err(LineFault::Read) => fail(errors, Ending::ReadFailed),
         Err(LineFault::Write) => fail(errors, Ending::WriteFailed),
     }
-}
-
-/// A table of so many entries behind a cache. The error says that memory ran out.
-fn table(alloc: Global, entries: u32) -> Result<Cache<OneShard>, AllocError>
-    requires { IsTableSize entries }
-{
-    Cache::new(alloc, OneShard::new(alloc, entries)?)
 }
 
 /// Shows help or the version on the output, and any other error on the standard error.

@@ -14,5 +14,5 @@ fn main(rt: HostRuntime) -> ExitCode {
     let mut output = CountedDevice::new(io::writer(&rt));
     let mut errors = CountedDevice::new(rt.stderr());
     let words = given_words(&rt);
-    run_words(rt.alloc(), words, &mut input, &mut output, &mut errors).exit_code()
+    run_words(&rt, rt.alloc(), words, &mut input, &mut output, &mut errors).exit_code()
 }

@@ -4,6 +4,7 @@ use dd_program::{Ending, WordsFault, run_words};
 use std::alloc::{AllocError, Global};
 use std::io;
 use std::io::{Error, ErrorKind, Read, Write};
+use std::sync::Wait;
 
 /// Gives its bytes, and fails once it has had its calls.
 #[derive(Drop)]
@@ -83,7 +84,8 @@ pub fn words_in(alloc: Global, line: &str) -> Result<Vec<String>, AllocError> {
 }
 
 /// A run of these words over this input.
-pub fn run_over(
+pub fn run_over<W: Wait>(
+    rt: &W,
     alloc: Global,
     words: Result<Vec<String>, WordsFault>,
     input: &str,
@@ -101,7 +103,7 @@ pub fn run_over(
         taken: Vec::new(alloc),
         room: devices.errors,
     });
-    let ending = run_words(alloc, words, &mut reader, &mut output, &mut errors);
+    let ending = run_words(rt, alloc, words, &mut reader, &mut output, &mut errors);
     Outcome {
         ending,
         unread: reader.into_inner().bytes.len(),
@@ -111,12 +113,13 @@ pub fn run_over(
 }
 
 /// A run of the words of this line over this input.
-pub fn run_line(
+pub fn run_line<W: Wait>(
+    rt: &W,
     alloc: Global,
     line: &str,
     input: &str,
     devices: Devices,
 ) -> Result<Outcome, AllocError> {
     let words = words_in(alloc, line)?;
-    Ok(run_over(alloc, Ok(words), input, devices))
+    Ok(run_over(rt, alloc, Ok(words), input, devices))
 }

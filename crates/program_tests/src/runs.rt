@@ -3,6 +3,7 @@ use dd_program::{Ending, VERSION, WordsFault, given_words};
 use std::alloc::{AllocError, Global};
 use std::env::FillError;
 use std::rt::Env;
+use std::sync::Wait;
 use std::test::Fail;
 
 // Lines and replies are what functions answer, so that the proof of a test meets a value and no text.
@@ -59,7 +60,7 @@ fn the_lines_of_the_input_are_answered_within_the_budget(rt: HostRuntime) -> Res
         ("ddserve solve --budget 1", last_card(), ace_reply()),
     ];
     for (line, input, want) in rows {
-        let outcome = run_line(rt.alloc(), line, input, SOUND)?;
+        let outcome = run_line(&rt, rt.alloc(), line, input, SOUND)?;
         assert!(rt; has_answered(&outcome, want), "{line}");
     }
     Ok(())
@@ -77,7 +78,7 @@ fn a_call_is_shown_on_the_output_and_ends_with_0(rt: HostRuntime) -> Result<(), 
         ("ddserve -V", version.as_str()),
     ];
     for (line, part) in rows {
-        let outcome = run_line(rt.alloc(), line, ace(), SOUND)?;
+        let outcome = run_line(&rt, rt.alloc(), line, ace(), SOUND)?;
         assert!(rt; has_shown(&outcome, part), "{line}");
     }
     Ok(())
@@ -129,9 +130,9 @@ fn a_bad_line_is_explained_on_the_standard_error_and_ends_with_2(
     ];
     let closed = Devices { errors: 0, ..SOUND };
     for (line, said) in rows {
-        let outcome = run_line(rt.alloc(), line, ace(), SOUND)?;
+        let outcome = run_line(&rt, rt.alloc(), line, ace(), SOUND)?;
         assert!(rt; is_refused(&outcome, said), "{line}");
-        let outcome = run_line(rt.alloc(), line, ace(), closed)?;
+        let outcome = run_line(&rt, rt.alloc(), line, ace(), closed)?;
         assert!(rt; is_refused(&outcome, ""), "{line}");
     }
     Ok(())
@@ -173,13 +174,13 @@ fn a_device_that_fails_is_named_and_the_run_ends_with_1(rt: HostRuntime) -> Resu
         ),
     ];
     for (line, devices, ending, written, said) in rows {
-        let outcome = run_line(rt.alloc(), line, ace(), devices)?;
+        let outcome = run_line(&rt, rt.alloc(), line, ace(), devices)?;
         assert!(rt; has_failed(&outcome, ending, written, said), "{line}");
         let closed = Devices {
             errors: 0,
             ..devices
         };
-        let outcome = run_line(rt.alloc(), line, ace(), closed)?;
+        let outcome = run_line(&rt, rt.alloc(), line, ace(), closed)?;
         assert!(rt; has_failed(&outcome, ending, written, ""), "{line}");
     }
     Ok(())
@@ -187,9 +188,9 @@ fn a_device_that_fails_is_named_and_the_run_ends_with_1(rt: HostRuntime) -> Resu
 
 #[test]
 fn words_that_cannot_be_had_are_a_bad_line_or_want_of_memory(rt: HostRuntime) {
-    let outcome = run_over(rt.alloc(), Err(WordsFault::NotText), ace(), SOUND);
+    let outcome = run_over(&rt, rt.alloc(), Err(WordsFault::NotText), ace(), SOUND);
     assert!(rt; is_refused(&outcome, "a word of the command line is not UTF-8 text"));
-    let outcome = run_over(rt.alloc(), Err(WordsFault::OutOfMemory), ace(), SOUND);
+    let outcome = run_over(&rt, rt.alloc(), Err(WordsFault::OutOfMemory), ace(), SOUND);
     let said = "ddserve: out of memory\n";
     assert!(rt; has_failed(&outcome, Ending::OutOfMemory, "", said));
     assert_eq!(rt; outcome.unread, ace().len());
@@ -245,15 +246,21 @@ fn first_of_all() -> &'static str {
     "{\"do\":\"solve\",\"deal\":\"N:.64.J7. AJT..2. 2.5..T5 .7.K.74\",\"trump\":0,\"first\":0,\"solutions\":1}\n"
 }
 
+// The same with other low hearts, asked for all: what is known of the one holds, but the two aren't alike.
 fn all() -> &'static str {
-    "{\"do\":\"solve\",\"deal\":\"N:.64.J7. AJT..2. 2.5..T5 .7.K.74\",\"trump\":0,\"first\":0,\"solutions\":3}\n"
+    "{\"do\":\"solve\",\"deal\":\"N:.65.J7. AJT..2. 2.4..T5 .7.K.74\",\"trump\":0,\"first\":0,\"solutions\":3}\n"
 }
 
 // The least budget, below 100, with which the last of these lines is answered.
-fn least_budget(alloc: Global, entries: u32, lines: &str) -> Result<Option<u32>, AllocError> {
+fn least_budget<W: Wait>(
+    rt: &W,
+    alloc: Global,
+    entries: u32,
+    lines: &str,
+) -> Result<Option<u32>, AllocError> {
     for budget in 0u32..100 {
         let line = format!(in alloc; "ddserve solve --entries {entries} --budget {budget}")?;
-        let outcome = run_line(alloc, line.as_str(), lines, SOUND)?;
+        let outcome = run_line(rt, alloc, line.as_str(), lines, SOUND)?;
         if !outcome.output.ends_with(spent_reply().as_bytes()) {
             return Ok(Some(budget));
         }
@@ -266,8 +273,8 @@ fn a_line_that_comes_again_needs_fewer_positions(rt: HostRuntime) -> Result<(), 
     let alloc = rt.alloc();
     let line = three_classes();
     let twice = format!(in alloc; "{line}{line}")?;
-    let first = least_budget(alloc, 2, line)?.ok_or("a budget")?;
-    let second = least_budget(alloc, 2, twice.as_str())?.ok_or("a budget")?;
+    let first = least_budget(&rt, alloc, 2, line)?.ok_or("a budget")?;
+    let second = least_budget(&rt, alloc, 2, twice.as_str())?.ok_or("a budget")?;
     assert!(rt; second < first);
     Ok(())
 }
@@ -277,8 +284,8 @@ fn a_table_of_one_entry_forgets_the_shape_before(rt: HostRuntime) -> Result<(), 
     let alloc = rt.alloc();
     let (first, other, last) = (first_of_all(), ace(), all());
     let lines = format!(in alloc; "{first}{other}{last}")?;
-    let one = least_budget(alloc, 1, lines.as_str())?.ok_or("a budget")?;
-    let two = least_budget(alloc, 2, lines.as_str())?.ok_or("a budget")?;
+    let one = least_budget(&rt, alloc, 1, lines.as_str())?.ok_or("a budget")?;
+    let two = least_budget(&rt, alloc, 2, lines.as_str())?.ok_or("a budget")?;
     assert!(rt; two < one);
     Ok(())
 }

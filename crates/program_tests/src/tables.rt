@@ -2,11 +2,11 @@ use dd_cache::Cache;
 use dd_cards::{Card, Rank, Seat, Strain, Suit};
 use dd_pbn::read_deal;
 use dd_play::{Interval, Position, TrickStart};
-use dd_program::OneShard;
 use dd_rank::OwnerStrings;
 use dd_reply::{Request, solve, write_answer};
 use dd_search::{Bounds, Endless, NoTable, start_value};
 use dd_shard::Shard;
+use dd_table::SharedTable;
 use std::alloc::AllocError;
 use std::process::Abort;
 
@@ -34,88 +34,6 @@ fn answers<B: Bounds>(table: &mut B, deal: &str, first: Seat, want: &str) -> boo
         Ok(solved) => write_answer(solved.answer()).as_str() == want,
         Err(_) => false,
     }
-}
-
-// The bounds that the table tells of the start of a trick.
-fn bounds_told(table: &mut OneShard, start: &TrickStart) -> Option<(u8, u8)> {
-    let (interval, _) = table.look(start)?;
-    Some((interval.lo, interval.hi))
-}
-
-// A table over which the king that is caught before ace and queen was solved.
-fn table_after_caught(rt: &(impl Abort + AllocGlobal)) -> Result<OneShard, AllocError> {
-    let mut table = OneShard::new(rt.alloc(), 4096)?;
-    assert!(rt;
-        table.look(&start(rt, CAUGHT, Seat::North)).is_none(),
-        "it remembers nothing"
-    );
-    let want = r#"{"cards":[{"equals":4,"rank":3,"score":2,"suit":0}]}"#;
-    assert!(rt; answers(&mut table, CAUGHT, Seat::North, want));
-    Ok(table)
-}
-
-#[test]
-fn a_solved_position_is_remembered_for_those_alike(rt: HostRuntime) -> Result<(), AllocError> {
-    let mut table = table_after_caught(&rt)?;
-    let deal = "N:64... J7... AT... 98...";
-    let other = start(&rt, deal, Seat::North);
-    let told = table
-        .look(&other)
-        .expect(&rt, "other ranks in the same order");
-    assert_eq!(rt; (told.0.lo, told.0.hi), (2, 2));
-    let shapes = table.len();
-    table.note(&other, told.1, told.0);
-    assert_eq!(rt; table.len(), shapes, "the shape is there");
-    let want = r#"{"cards":[{"equals":16,"rank":6,"score":2,"suit":0}]}"#;
-    assert!(rt; answers(&mut table, deal, Seat::North, want));
-    Ok(())
-}
-
-#[test]
-fn a_solved_position_is_remembered_for_other_low_cards(rt: HostRuntime) -> Result<(), AllocError> {
-    let mut table = table_after_caught(&rt)?;
-    let deal = "N:62... K3... AQ... 54...";
-    let other = start(&rt, deal, Seat::North);
-    assert_eq!(rt;
-        bounds_told(&mut table, &other),
-        Some((2, 2)),
-        "before it is solved"
-    );
-    let want =
-        r#"{"cards":[{"equals":0,"rank":6,"score":2,"suit":0},{"equals":0,"rank":2,"score":2,"suit":0}]}"#;
-    assert!(rt; answers(&mut table, deal, Seat::North, want));
-    Ok(())
-}
-
-#[test]
-fn a_solved_position_is_remembered_with_turned_seats(rt: HostRuntime) -> Result<(), AllocError> {
-    let mut table = table_after_caught(&rt)?;
-    let deal = "E:32... K4... AQ... 65...";
-    let other = start(&rt, deal, Seat::East);
-    assert_eq!(rt; bounds_told(&mut table, &other), Some((2, 2)));
-    let want = r#"{"cards":[{"equals":4,"rank":3,"score":2,"suit":0}]}"#;
-    assert!(rt; answers(&mut table, deal, Seat::East, want));
-    Ok(())
-}
-
-#[test]
-fn a_table_of_one_shape_drops_the_one_before(rt: HostRuntime) -> Result<(), AllocError> {
-    let mut table = OneShard::new(rt.alloc(), 1)?;
-    let want = r#"{"cards":[{"equals":4,"rank":3,"score":2,"suit":0}]}"#;
-    assert!(rt; answers(&mut table, CAUGHT, Seat::North, want));
-    assert_eq!(rt;
-        bounds_told(&mut table, &start(&rt, CAUGHT, Seat::North)),
-        Some((2, 2))
-    );
-    let want = r#"{"cards":[{"equals":0,"rank":14,"score":1,"suit":0}]}"#;
-    assert!(rt; answers(&mut table, "N:A... K... Q... J...", Seat::North, want));
-    assert_eq!(rt; table.len(), 1);
-    assert_eq!(rt;
-        bounds_told(&mut table, &start(&rt, CAUGHT, Seat::North)),
-        None,
-        "another shape"
-    );
-    Ok(())
 }
 
 // Remembers the value of the start of a trick, with the depths that it rests on.
@@ -170,19 +88,16 @@ fn a_shape_keeps_a_value_for_each_cover(rt: HostRuntime) -> Result<(), AllocErro
 fn the_cache_and_the_table_behind_it_remember_a_solved_position(
     rt: HostRuntime,
 ) -> Result<(), AllocError> {
-    let table = OneShard::new(rt.alloc(), 4096)?;
-    let mut table = Cache::new(rt.alloc(), table)?;
+    let table = SharedTable::new(rt.alloc(), 1, 4096)?;
+    let mut cache = Cache::new(rt.alloc(), table.view(&rt))?;
     let want = r#"{"cards":[{"equals":4,"rank":3,"score":2,"suit":0}]}"#;
-    assert!(rt; answers(&mut table, CAUGHT, Seat::North, want));
+    assert!(rt; answers(&mut cache, CAUGHT, Seat::North, want));
     let lower = start(&rt, "N:62... K3... AQ... 54...", Seat::North);
     assert!(rt;
-        table.settle(&lower, &OwnerStrings::of(&lower), 2).is_some(),
+        cache.settle(&lower, &OwnerStrings::of(&lower), 2).is_some(),
         "the cache"
     );
-    assert_eq!(rt;
-        bounds_told(table.behind(), &lower),
-        Some((2, 2)),
-        "the table behind"
-    );
+    let (interval, _) = cache.behind().look(&lower).expect(&rt, "the table behind");
+    assert_eq!(rt; (interval.lo, interval.hi), (2, 2));
     Ok(())
 }
