@@ -1,5 +1,5 @@
 -- What holds of every world that is reached.
-use Rattle.std.proofs.Common.{◌≡◌, ℕ, ◌+◌, ◌-◌, Bool, true, false, cond, arith, refl, sym, ap, ◌∙◌, subst, List, [], ◌∷◌, ◌++◌, Contains, Some, None, Option, ◌⊎◌, inl, inr}
+use Rattle.std.proofs.Common.{◌≡◌, ℕ, ◌+◌, Bool, true, false, cond, refl, sym, ap, ◌∙◌, subst, List, [], ◌∷◌, ◌++◌, Contains, Some, None, Option, ◌⊎◌, inl, inr}
 use Rattle.std.specs.Prelude.{slice_get}
 use Rattle.std.specs.List.{list_all}
 use Rattle.std.proofs.lemmas.List.Elements.{Contains-append_left, Contains-push, Contains-push_cases}
@@ -8,18 +8,17 @@ use Rattle.dd_play.specs.Value.{lead}
 use Rattle.dd_reply.specs.declared.asked.Asked.{Asked}
 use Rattle.dd_shard.specs.Entries.{Entries, Entry, Notes, Told}
 use Rattle.dd_book.specs.declared.call.Call.{Call}
-use Rattle.dd_book.specs.declared.call.Call.TheVariants.{Submit, Fetch}
+use Rattle.dd_book.specs.declared.call.Call.TheVariants.{Submit}
 use Rattle.dd_book.specs.declared.call.JobState.{JobState}
 use Rattle.dd_book.specs.declared.call.JobState.TheVariants as shown
 use Rattle.dd_book.specs.declared.call.Reply.{Reply}
 use Rattle.dd_book.specs.declared.call.Reply.TheVariants.{Submitted, State}
 use Rattle.dd_book.specs.declared.job.Stage.{Stage}
 use Rattle.dd_book.specs.declared.job.Stage.TheVariants.{Open, Done, TableDone, Cancelled, Spent}
-use Rattle.dd_book.specs.declared.parts.Part.{Part}
 use Rattle.dd_book.specs.Limits.{LimitsOf}
 use Rattle.dd_book.specs.Parts.{is_waiting}
 use Rattle.dd_book.specs.Jobs.{JobOf, is_open, job_at, shown_stage}
-use Rattle.dd_book.specs.Calls.{BookOf, after, empty_book, reply_of}
+use Rattle.dd_book.specs.Calls.{BookOf, after, empty_book}
 use Rattle.dd_desk.specs.Events.{EventOf, IsBy, event}
 use Rattle.dd_work.specs.Worlds.{Exact, Places, World}
 use Rattle.dd_work.specs.Steps.{CarriesRight, Does, Exchanges, HoldsFor, IsAllowed, IsWithin, Step, call, get, look, note, set}

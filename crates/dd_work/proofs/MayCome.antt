@@ -8,11 +8,11 @@ use Rattle.dd_play.specs.Value.{lead}
 use Rattle.dd_rank.specs.Alike.{AreAlike}
 use Rattle.dd_rank.specs.Depths.{Covers, all_cards, depth_in}
 use Rattle.dd_rank.specs.Strings.{shape_of}
-use Rattle.dd_shard.specs.Entries.{Entries, Entry, Looks, Notes, Pair, Told, pair_at}
+use Rattle.dd_shard.specs.Entries.{Entries, Entry, Looks, Notes, Told, pair_at}
 use Rattle.dd_book.specs.Calls.{after, reply_of}
 use Rattle.dd_desk.specs.Events.{event}
-use Rattle.dd_work.specs.Worlds.{Exact, Places, World}
-use Rattle.dd_work.specs.Steps.{Exchanges, HasDepths, HoldsFor, IsStart, call, exact, get, look, note, set}
+use Rattle.dd_work.specs.Worlds.{Exact, World}
+use Rattle.dd_work.specs.Steps.{Exchanges, IsStart, exact}
 use Rattle.dd_work.specs.Runs.{CallsMayCome, Leads, NotesMayBeTold, SetsMayBeTold}
 use Rattle.dd_work.proofs.Lists.{Contains-nil}
 

@@ -1,15 +1,15 @@
 -- What the entries of the shards and the cells of the front tell holds.
-use Rattle.std.proofs.Common.{◌≡◌, ℕ, ◌+◌, ◌≤◌, arith, refl, sym, ap, ◌∙◌, subst, List, [], ◌∷◌, ◌++◌, take, max, min, Contains, Some, None, Option, ◌⊎◌, inl, inr}
+use Rattle.std.proofs.Common.{◌≡◌, ℕ, ◌+◌, arith, sym, ap, ◌∙◌, subst, List, [], ◌∷◌, ◌++◌, Contains, Some, None, Option, inl, inr}
 use Rattle.dd_play.specs.Board.{Board, IsBoard}
 use Rattle.dd_play.specs.Value.{lead}
 use Rattle.dd_rank.specs.Alike.{AreAlike}
 use Rattle.dd_rank.specs.Depths.{Covers, FourDepths, depth_in}
 use Rattle.dd_rank.proofs.CallerLemmas.{covers-chain}
-use Rattle.dd_shard.specs.Entries.{Entries, Entry, IsSound, Looks, Notes, Pair, PutsFirst, Tells, Told, cover_of, most_pairs, narrowed_pair, pair_at, told_by}
+use Rattle.dd_shard.specs.Entries.{Entries, Entry, IsSound, Looks, Notes, Pair, PutsFirst, Told, cover_of, most_pairs, narrowed_pair, pair_at, told_by}
 use Rattle.dd_rank.specs.Cover.{IsSameCover}
 use Rattle.dd_work.specs.Worlds.{Exact}
 use Rattle.dd_work.specs.Steps.{Gets, HoldsFor, IsWithin, Sets, exact}
-use Rattle.dd_work.proofs.Lists.{Contains-cons, Contains-head, Contains-middle, Contains-take, beside}
+use Rattle.dd_work.proofs.Lists.{Contains-cons, Contains-middle, Contains-take, beside}
 
 -- ---- shards
 

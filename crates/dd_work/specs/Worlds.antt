@@ -1,5 +1,5 @@
 -- A world: all that the threads of a server share.
-use Rattle.std.specs.Prelude.{◌≡◌, ℕ, List, Option}
+use Rattle.std.specs.Prelude.{ℕ, List, Option}
 use Rattle.dd_play.specs.Board.{Board}
 use Rattle.dd_book.specs.Calls.{BookOf}
 use Rattle.dd_desk.specs.Events.{EventOf}
