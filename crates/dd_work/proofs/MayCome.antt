@@ -11,7 +11,8 @@ use Rattle.dd_rank.specs.Strings.{shape_of}
 use Rattle.dd_shard.specs.Entries.{Entries, Entry, Looks, Notes, Told, pair_at}
 use Rattle.dd_book.specs.Calls.{after, reply_of}
 use Rattle.dd_desk.specs.Events.{event}
-use Rattle.dd_work.specs.Worlds.{Exact, World}
+use Rattle.dd_table.specs.Front.{Exact}
+use Rattle.dd_work.specs.Worlds.{World}
 use Rattle.dd_work.specs.Steps.{Exchanges, IsStart, exact}
 use Rattle.dd_work.specs.Runs.{CallsMayCome, Leads, NotesMayBeTold, SetsMayBeTold}
 use Rattle.dd_work.proofs.Lists.{Contains-nil}

@@ -18,7 +18,8 @@ use Rattle.dd_book.specs.Jobs.{JobOf, is_open, job_at}
 use Rattle.dd_book.specs.Calls.{empty_book, reply_of}
 use Rattle.dd_desk.specs.Events.{AnswersAreOwn, EventOf, IsBy, IsLegal, event, replay}
 use Rattle.dd_desk.specs.Receipts.{receipts_of, told_by}
-use Rattle.dd_work.specs.Worlds.{Exact, Places, World}
+use Rattle.dd_table.specs.Front.{Exact}
+use Rattle.dd_work.specs.Worlds.{Places, World}
 use Rattle.dd_work.specs.Steps.{CarriesRight, Does, HasDepths, HoldsFor, IsAllowed, IsStart, IsWithin, Step, call, get, look, note, set}
 
 -- these steps lead from one world to the other, one after the other, and each was allowed
