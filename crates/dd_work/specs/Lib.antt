@@ -2,3 +2,4 @@ pub mod Worlds
 pub mod Steps
 pub mod Runs
 pub mod Rounds
+pub mod MayCome

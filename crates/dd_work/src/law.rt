@@ -1,5 +1,6 @@
 //! What holds of every run, whatever the order of its steps: laws over definitions alone.
-ghost use Rattle.dd_work.specs.Runs.{CallsMayCome, NotesMayBeTold, SetsMayBeTold, WorldLaw};
+ghost use Rattle.dd_work.specs.MayCome.{CallsMayCome, NotesMayBeTold, SetsMayBeTold};
+ghost use Rattle.dd_work.specs.Runs.{WorldLaw};
 
 use dd_rank::{alike_positions, covered_positions};
 
