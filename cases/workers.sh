@@ -44,3 +44,12 @@ PY
 cmp "$work/replies" "$work/jobs.expected"
 echo "workers: $(wc -l < "$work/jobs.jsonl") replies of four workers agree"
 echo "workers: $(python3 "$top/bench/workers/replay.py" < "$work/told")"
+# What no run of the list replies is refused: a call left out, another reply, and a receipt left out.
+for edit in '2d' '0,/\tclosing$/s//\tnothing waits/' '0,/\trecorded$/s//\tstale/' '0,/^receipt/{/^receipt/d}'; do
+    sed "$edit" "$work/told" > "$work/altered"
+    if cmp -s "$work/told" "$work/altered" || python3 "$top/bench/workers/replay.py" < "$work/altered" > "$work/said" 2>&1; then
+        echo "cases: the journal altered by $edit is replayed" >&2
+        exit 1
+    fi
+done
+echo "workers: four altered journals are refused"
