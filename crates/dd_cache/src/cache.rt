@@ -1,5 +1,6 @@
 //! A table of one thread before another.
 ghost use Rattle.std.specs.Prelude.{◌≡◌, ◌<◌, ◌≤◌, ◌⊎◌, IfSome};
+ghost use Rattle.dd_cards.specs.declared.suit.Suit.{Suit};
 ghost use Rattle.dd_play.specs.Board.{Board, IsBoard};
 ghost use Rattle.dd_play.specs.Covers.{count_of};
 ghost use Rattle.dd_play.specs.Value.{lead};
@@ -22,7 +23,7 @@ const PAGES: u32 = 0x1_0000;
 
 const PLACES: usize = 0x1_0000;
 
-// From so many tricks on the table behind is asked and told too: to ask it of all took longer on the deals tried.
+// From so many tricks on the table behind takes part in a search: to ask and tell it of all took longer on the deals tried.
 const WORTH_SHARING: u8 = 10;
 
 // So many pages at most are looked at in one place.
@@ -105,6 +106,26 @@ impl<B> Cache<B> {
 }
 
 impl<B> Cache<B> {
+    // Keeps bounds of each position that the one with these strings covers at these depths.
+    fn learn(
+        &mut self,
+        start: &TrickStart,
+        strings: &OwnerStrings,
+        depths: Depths,
+        interval: Interval,
+    )
+        requires strings { strings.now ≡ strings_of start.now }
+        requires within { (u : Suit) → depth_in depths u ≤ count_of u (all_cards start.now) }
+        requires holds { (q : Board) → IsBoard q → Covers start.now (depth_in depths) q
+            → Holds interval (lead q) }
+    {
+        // The proof reads here that it is a start of a trick, and what a position covers.
+        let _ = start.position();
+        covered_positions();
+        let firsts = FirstOwners::of(*strings, depths);
+        self.keep(strings.shape(), Told { firsts, interval });
+    }
+
     // Keeps bounds of a shape: on the newest page of the shape, or on a new page.
     fn keep(&mut self, shape: Shape, new: Told)
         requires { IsSound shape new }
@@ -174,7 +195,7 @@ impl<B: Bounds> Bounds for Cache<B> {
         match self.own(strings, need) {
             Some(told) => Some(told),
             None => {
-                if start.position().tricks_left() < WORTH_SHARING {
+                if !is_worth_sharing(start) {
                     return None;
                 }
                 self.behind.settle(start, strings, need)
@@ -182,8 +203,14 @@ impl<B: Bounds> Bounds for Cache<B> {
         }
     }
 
+    /// Keeps it, and tells the table behind of it where it is a value: that of a whole search is worth it at any number of
+    /// tricks.
     fn note(&mut self, start: &TrickStart, depths: Depths, interval: Interval) {
-        self.note_by(start, &OwnerStrings::of(start), depths, interval);
+        let strings = OwnerStrings::of(start);
+        self.learn(start, &strings, depths, interval);
+        if interval.lo == interval.hi || is_worth_sharing(start) {
+            self.behind.note_by(start, &strings, depths, interval);
+        }
     }
 
     fn note_by(
@@ -193,15 +220,17 @@ impl<B: Bounds> Bounds for Cache<B> {
         depths: Depths,
         interval: Interval,
     ) {
-        let _ = start.position();
-        covered_positions();
-        let firsts = FirstOwners::of(*strings, depths);
-        self.keep(strings.shape(), Told { firsts, interval });
-        let exact = interval.lo == interval.hi;
-        if exact || start.position().tricks_left() >= WORTH_SHARING {
+        self.learn(start, strings, depths, interval);
+        if is_worth_sharing(start) {
             self.behind.note_by(start, strings, depths, interval);
         }
     }
+}
+
+// Does the table behind take part in a search of this position?
+#[inline]
+fn is_worth_sharing(start: &TrickStart) -> bool {
+    start.position().tricks_left() >= WORTH_SHARING
 }
 
 // Where the pages of a shape with this mixing number are found.

@@ -6,7 +6,7 @@ ghost use Rattle.dd_play.specs.Covers.{count_of};
 ghost use Rattle.dd_play.specs.Value.{lead};
 ghost use Rattle.dd_play.specs.Intervals.{Holds};
 ghost use Rattle.dd_rank.specs.Depths.{depth_in, all_cards, Covers};
-ghost use Rattle.dd_rank.specs.Strings.{shape_of};
+ghost use Rattle.dd_rank.specs.Strings.{shape_of, strings_of};
 ghost use Rattle.dd_shard.specs.Entries.{Pair, Entry, IsAbsent, AreEntries, Looks, Notes};
 ghost use Rattle.dd_shard.specs.Slots.{told_of};
 
@@ -64,10 +64,25 @@ impl Shard {
         ensures within { IfSome result (λ told. (u : Suit)
             → depth_in told.1 u ≤ count_of u (all_cards position.now)) }
     {
+        self.look_by(position, &OwnerStrings::of(position))
+    }
+
+    /// The same, where the position's strings are known.
+    pub fn look_by(
+        &mut self,
+        position: &TrickStart,
+        strings: &OwnerStrings,
+    ) -> Option<(Interval, Depths)>
+        requires { strings.now ≡ strings_of position.now }
+        ensures looks { Looks position.now (option_map told_of result) self.old self.new }
+        ensures holds { IfSome result (λ told. (q : Board) → IsBoard q
+            → Covers position.now (depth_in told.1) q → Holds told.0 (lead q)) }
+        ensures within { IfSome result (λ told. (u : Suit)
+            → depth_in told.1 u ≤ count_of u (all_cards position.now)) }
+    {
         // The proof reads here that the position is a legal one.
         let _ = position.position();
-        let strings = OwnerStrings::of(position);
-        self.cache.get(&strings.shape())?.look(&strings)
+        self.cache.get(&strings.shape())?.look(strings)
     }
 
     /// Remembers bounds of the value of each position that this one covers at these depths, beside what is known of its
@@ -88,10 +103,31 @@ impl Shard {
         ensures succeeds { (e : Entry) → Contains self.old.list e → e.shape ≡ shape_of position.now
             → IsOk result }
     {
+        self.note_by(position, &OwnerStrings::of(position), depths, interval)
+    }
+
+    /// The same, where the position's strings are known.
+    pub fn note_by(
+        &mut self,
+        position: &TrickStart,
+        strings: &OwnerStrings,
+        depths: Depths,
+        interval: Interval,
+    ) -> Result<(), AllocError>
+        requires strings { strings.now ≡ strings_of position.now }
+        requires within { (u : Suit) → depth_in depths u ≤ count_of u (all_cards position.now) }
+        requires holds { (q : Board) → IsBoard q → Covers position.now (depth_in depths) q
+            → Holds interval (lead q) }
+        ensures ok { OnOk result
+            (Notes position.now (told_of (interval, depths)) self.old self.new) }
+        ensures err { OnErr result ((self.new ≡ self.old)
+            × IsAbsent (shape_of position.now) self.old.list) }
+        ensures succeeds { (e : Entry) → Contains self.old.list e → e.shape ≡ shape_of position.now
+            → IsOk result }
+    {
         // The proof reads here that the position is a legal one.
         let _ = position.position();
-        let strings = OwnerStrings::of(position);
-        let cover = Cover::new(position, depths, strings);
+        let cover = Cover::new(position, depths, *strings);
         let slot = self.cache.get_or_insert_mut(strings.shape(), Slot::new)?;
         slot.note(cover, interval);
         Ok(())

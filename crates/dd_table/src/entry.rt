@@ -2,6 +2,7 @@
 ghost use Rattle.std.specs.Prelude.{◌≡◌, IfNone, IfSome};
 ghost use Rattle.dd_play.specs.Value.{lead};
 ghost use Rattle.dd_rank.specs.Alike.{AreAlike};
+ghost use Rattle.dd_rank.specs.Strings.{strings_of};
 ghost use Rattle.dd_table.specs.Front.{IsExact};
 
 use dd_play::TrickStart;
@@ -32,9 +33,10 @@ impl Model for FrontEntry {
 }
 
 impl FrontEntry {
-    /// An entry of this position, with its value.
-    pub(crate) fn new(start: &TrickStart, value: u8) -> FrontEntry
-        requires { value ≡ lead start.now }
+    /// An entry of this position with these strings, with its value.
+    pub(crate) fn new(start: &TrickStart, strings: &OwnerStrings, value: u8) -> FrontEntry
+        requires strings { strings.now ≡ strings_of start.now }
+        requires value { value ≡ lead start.now }
         ensures { result ≡ record { board = start.now; value = value } }
     {
         // The proof reads here that it is a legal state of play, and that alike positions have one value.
@@ -42,7 +44,7 @@ impl FrontEntry {
         alike_positions();
         FrontEntry {
             start: start.copy(),
-            strings: OwnerStrings::of(start),
+            strings: *strings,
             value,
         }
     }
@@ -69,11 +71,22 @@ impl FrontEntry {
             × (value ≡ self.now.value)) }
         ensures none { IfNone result (¬ AreAlike self.now.board start.now) }
     {
+        self.value_by(start, &OwnerStrings::of(start))
+    }
+
+    // The same, where the strings of the position are known.
+    pub(crate) fn value_by(&self, start: &TrickStart, strings: &OwnerStrings) -> Option<u8>
+        requires { strings.now ≡ strings_of start.now }
+        ensures value { IfSome result (λ value. value ≡ lead start.now) }
+        ensures some { IfSome result (λ value. AreAlike self.now.board start.now
+            × (value ≡ self.now.value)) }
+        ensures none { IfNone result (¬ AreAlike self.now.board start.now) }
+    {
         // The proof reads here that both are legal states of play, and that equal strings are those of alike positions.
         let _ = self.start.position();
         let _ = start.position();
         alike_strings();
-        if OwnerStrings::of(start) == self.strings {
+        if *strings == self.strings {
             Some(self.value)
         } else {
             None

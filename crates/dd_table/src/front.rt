@@ -1,8 +1,10 @@
 //! The front of a table: exact values that are read and set without waiting.
 ghost use Rattle.std.specs.Prelude.{◌≡◌, ◌<◌, Some, IfSome, IfNone, IfOk, OnErr, MatchOption, true};
 ghost use Rattle.std.specs.declared.option.Option.TheVariants.{None};
+ghost use Rattle.dd_play.specs.Board.{Board};
 ghost use Rattle.dd_play.specs.Value.{lead};
 ghost use Rattle.dd_rank.specs.Alike.{AreAlike};
+ghost use Rattle.dd_rank.specs.Strings.{strings_of};
 ghost use Rattle.dd_table.specs.Front.{Exact, Gets, IsNoteOf};
 ghost use Rattle.dd_table.specs.Places.{slot_of};
 
@@ -14,12 +16,20 @@ use dd_rank::OwnerStrings;
 use std::alloc::AllocError;
 
 /// The slot of a position, 0 to 4,095: one for all positions that are alike.
-#[tactic(auto, unfolding(crate::specs::Places::slot_of))]
 pub fn front_slot(start: &TrickStart) -> u16
     ensures slot { result ≡ slot_of start.now }
     ensures bound { result < FRONT_CELLS }
 {
-    ((OwnerStrings::of(start).mixing_number() >> 32) % FRONT_CELLS as u64) as u16
+    slot_by(&OwnerStrings::of(start))
+}
+
+// The slot of a position with these strings.
+#[tactic(auto, unfolding(crate::specs::Places::slot_of))]
+pub(crate) fn slot_by(strings: &OwnerStrings) -> u16
+    ensures slot { (p : Board) → strings.now ≡ strings_of p → result ≡ slot_of p }
+    ensures bound { result < FRONT_CELLS }
+{
+    ((strings.mixing_number() >> 32) % FRONT_CELLS as u64) as u16
 }
 
 // None of these calls takes a lock: a cell is read and set by one atomic step.
@@ -88,7 +98,30 @@ impl SharedTable {
         ensures same { IfSome note.old.known (λ e. note.new.known ≡ Some e) }
         ensures err { OnErr result (note.new ≡ note.old) }
     {
-        let entry = Box::new(self.alloc, FrontEntry::new(start, value))?;
+        self.offer_by(note, start, &OwnerStrings::of(start), value)
+    }
+
+    // The same, where the strings of the position are known.
+    pub(crate) fn offer_by(
+        &self,
+        note: &mut FrontNote,
+        start: &TrickStart,
+        strings: &OwnerStrings,
+        value: u8,
+    ) -> Result<bool, AllocError>
+        requires strings { strings.now ≡ strings_of start.now }
+        requires table { IsNoteOf self.now note.old }
+        requires slot { note.old.slot ≡ slot_of start.now }
+        requires value { value ≡ lead start.now }
+        ensures table { IsNoteOf self.now note.new }
+        ensures slot { note.new.slot ≡ note.old.slot }
+        ensures taken { IfOk result (λ taken. taken ≡ true
+            → (note.old.known ≡ None) × (note.new.known ≡ Some (record { board = start.now; value = value }))) }
+        ensures some { IfOk result (λ taken. (e : Exact) × (note.new.known ≡ Some e)) }
+        ensures same { IfSome note.old.known (λ e. note.new.known ≡ Some e) }
+        ensures err { OnErr result (note.new ≡ note.old) }
+    {
+        let entry = Box::new(self.alloc, FrontEntry::new(start, strings, value))?;
         let FrontNote { slot, note } = note;
         Ok(self.front[*slot as usize].set_as(entry, note).is_ok())
     }

@@ -6,6 +6,7 @@ ghost use Rattle.dd_play.specs.Covers.{count_of};
 ghost use Rattle.dd_play.specs.Intervals.{Holds};
 ghost use Rattle.dd_play.specs.Value.{lead};
 ghost use Rattle.dd_rank.specs.Depths.{all_cards, depth_in, Covers};
+ghost use Rattle.dd_rank.specs.Strings.{strings_of};
 ghost use Rattle.dd_table.specs.Places.{shard_of};
 
 use crate::entry::FrontEntry;
@@ -71,20 +72,43 @@ impl SharedTable {
         ensures within { IfSome result (λ told. (u : Suit)
             → depth_in told.1 u ≤ count_of u (all_cards start.now)) }
     {
-        let shape = OwnerStrings::of(start).shape();
-        self.shard(shape).lock(rt).look(start)
+        self.look_by(rt, start, &OwnerStrings::of(start))
     }
 
-    /// Tells the shard of the position, under one lock, bounds of the value of each position that this one covers at these
-    /// depths. Where there is no memory for them nothing is kept.
-    pub fn note<R: Wait>(&self, rt: &R, start: &TrickStart, depths: Depths, interval: Interval)
+    // The same, where the strings of the position are known.
+    pub(crate) fn look_by<R: Wait>(
+        &self,
+        rt: &R,
+        start: &TrickStart,
+        strings: &OwnerStrings,
+    ) -> Option<(Interval, Depths)>
+        requires { strings.now ≡ strings_of start.now }
+        ensures holds { IfSome result (λ told. (q : Board) → IsBoard q
+            → Covers start.now (depth_in told.1) q → Holds told.0 (lead q)) }
+        ensures within { IfSome result (λ told. (u : Suit)
+            → depth_in told.1 u ≤ count_of u (all_cards start.now)) }
+    {
+        self.shard(strings.shape()).lock(rt).look_by(start, strings)
+    }
+
+    // Tells the shard of the position with these strings, under one lock, bounds of the value of each position that this
+    // one covers at these depths. Where there is no memory for them nothing is kept.
+    pub(crate) fn note_by<R: Wait>(
+        &self,
+        rt: &R,
+        start: &TrickStart,
+        strings: &OwnerStrings,
+        depths: Depths,
+        interval: Interval,
+    )
+        requires strings { strings.now ≡ strings_of start.now }
         requires within { (u : Suit) → depth_in depths u ≤ count_of u (all_cards start.now) }
         requires holds { (q : Board) → IsBoard q → Covers start.now (depth_in depths) q
             → Holds interval (lead q) }
     {
-        let shape = OwnerStrings::of(start).shape();
+        let mut shard = self.shard(strings.shape()).lock(rt);
         // Bounds more that find no memory are bounds less to look at, and no fault.
-        let _ = self.shard(shape).lock(rt).note(start, depths, interval);
+        let _ = shard.note_by(start, strings, depths, interval);
     }
 
     /// The number of shapes in all shards, added up one shard after the other: while others note it may be no moment's.

@@ -6,11 +6,12 @@ ghost use Rattle.dd_play.specs.Covers.{count_of};
 ghost use Rattle.dd_play.specs.Intervals.{Holds};
 ghost use Rattle.dd_play.specs.Value.{lead};
 ghost use Rattle.dd_rank.specs.Depths.{all_cards, depth_in, Covers};
+ghost use Rattle.dd_rank.specs.Strings.{strings_of};
 
-use crate::front::front_slot;
+use crate::front::slot_by;
 use crate::shared_table::SharedTable;
 use dd_play::{Interval, TrickStart};
-use dd_rank::{Depths, covered_positions};
+use dd_rank::{Depths, OwnerStrings, covered_positions};
 use dd_search::Bounds;
 use std::sync::Wait;
 
@@ -27,8 +28,10 @@ impl SharedTable {
         View { table: self, rt }
     }
 
-    // What the front tells of a position, at the depths of all cards.
-    fn exact(&self, start: &TrickStart) -> Option<(Interval, Depths)>
+    // What the front tells of a position with these strings: its value, at the depths of all cards.
+    fn exact(&self, start: &TrickStart, strings: &OwnerStrings) -> Option<(Interval, Depths)>
+        requires { strings.now ≡ strings_of start.now }
+        ensures exact { IfSome result (λ told. told.0.lo ≡ told.0.hi) }
         ensures holds { IfSome result (λ told. (q : Board) → IsBoard q
             → Covers start.now (depth_in told.1) q → Holds told.0 (lead q)) }
         ensures within { IfSome result (λ told. (u : Suit)
@@ -36,8 +39,8 @@ impl SharedTable {
     {
         // The proof reads here that it is a legal state of play.
         let _ = start.position();
-        let mut note = self.front_note(front_slot(start));
-        let value = self.front_get(&mut note, start)?;
+        let mut note = self.front_note(slot_by(strings));
+        let value = self.front_held(&mut note)?.value_by(start, strings)?;
         let interval = Interval {
             lo: value,
             hi: value,
@@ -45,14 +48,15 @@ impl SharedTable {
         Some((interval, Depths::full(start)))
     }
 
-    // Offers the value of a position to its cell, where that is empty.
-    fn offer(&self, start: &TrickStart, value: u8)
-        requires { value ≡ lead start.now }
+    // Offers the value of a position with these strings to its cell, where that is empty.
+    fn offer(&self, start: &TrickStart, strings: &OwnerStrings, value: u8)
+        requires strings { strings.now ≡ strings_of start.now }
+        requires value { value ≡ lead start.now }
     {
-        let mut note = self.front_note(front_slot(start));
+        let mut note = self.front_note(slot_by(strings));
         if self.front_held(&mut note).is_none() {
             // A value that finds no memory is not kept.
-            let _ = self.front_offer(&mut note, start, value);
+            let _ = self.offer_by(&mut note, start, strings, value);
         }
     }
 }
@@ -71,20 +75,44 @@ impl<'a, R: Wait> Bounds for View<'a, R> {
 
     /// What the shard of the position tells, and where that is nothing, its value if the front has it.
     fn look(&mut self, start: &TrickStart) -> Option<(Interval, Depths)> {
-        match self.table.look(self.rt, start) {
+        let strings = OwnerStrings::of(start);
+        match self.table.look_by(self.rt, start, &strings) {
             Some(told) => Some(told),
-            None => self.table.exact(start),
+            None => self.table.exact(start, &strings),
+        }
+    }
+
+    /// The same, where what the shard tells has to settle the question: else the front is asked, whose values always do.
+    fn settle(
+        &mut self,
+        start: &TrickStart,
+        strings: &OwnerStrings,
+        need: u8,
+    ) -> Option<(Interval, Depths)> {
+        match self.table.look_by(self.rt, start, strings) {
+            Some(told) if need <= told.0.lo || told.0.hi < need => Some(told),
+            _ => self.table.exact(start, strings),
         }
     }
 
     /// Tells the shard of the position, and offers a value to the front.
     fn note(&mut self, start: &TrickStart, depths: Depths, interval: Interval) {
+        self.note_by(start, &OwnerStrings::of(start), depths, interval);
+    }
+
+    fn note_by(
+        &mut self,
+        start: &TrickStart,
+        strings: &OwnerStrings,
+        depths: Depths,
+        interval: Interval,
+    ) {
         // The proof reads here that a position covers itself.
         let _ = start.position();
         covered_positions();
-        self.table.note(self.rt, start, depths, interval);
+        self.table.note_by(self.rt, start, strings, depths, interval);
         if interval.lo == interval.hi {
-            self.table.offer(start, interval.lo);
+            self.table.offer(start, strings, interval.lo);
         }
     }
 }

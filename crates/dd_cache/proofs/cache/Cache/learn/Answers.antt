@@ -1,6 +1,6 @@
 use Rattle.std.proofs.Common.{◌≤◌, arith}
 use Rattle.dd_cache.proofs.Sound.{noted-sound}
-use Rattle.dd_cache.proofs.cache.CacheBounds.note_by.Goals as goal
+use Rattle.dd_cache.proofs.cache.Cache.learn.Goals as goal
 
 pub of-firsts-requires : goal.of-firsts-requires
 of-firsts-requires g c = λ u. (let few = c.covered_positions.ensures.few c.args.start.now c.position.ensures.board u in let within = c.requires.within u in omega (arith, few, within))

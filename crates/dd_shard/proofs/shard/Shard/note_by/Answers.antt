@@ -13,15 +13,15 @@ use Rattle.dd_rank.specs.Strings.{same_shape}
 use Rattle.dd_shard.proofs.Lists.{missing, on-error}
 use Rattle.dd_shard.proofs.Told.{same-holds}
 use Rattle.dd_shard.proofs.Kept.{absent, IsOpen, opened, open-pairs, note-kept, note-notes}
-use Rattle.dd_shard.proofs.shard.Shard.note.Goals as goal
-use Rattle.dd_shard.proofs.shard.Shard.note.Goals.{In_ok-slot}
+use Rattle.dd_shard.proofs.shard.Shard.note_by.Goals as goal
+use Rattle.dd_shard.proofs.shard.Shard.note_by.Goals.{In_ok-slot}
 
 -- where the note fails the shape is new
 none-there : (c : goal.After-from_residual) → IsAbsent (shape_of c.args.position.now) c.args.self.now.list
 none-there c =
     let none : lookup (same_shape c.shape.result) c.self.inside.cache.entries ≡ None = missing _ (λ some. let no = c.in_err-slot.ensures.succeeds some in absurd (cc)) in
     rw (← c.self.view_is)
-    (subst (λ (k : ShapeOf). IsAbsent k (entries_of c.self.inside.cache).list) (c.shape.ensures ∙ ap shape_in c.of-strings.ensures) (absent c.shape.result c.self.inside.cache.entries none))
+    (subst (λ (k : ShapeOf). IsAbsent k (entries_of c.self.inside.cache).list) (c.shape.ensures ∙ ap shape_in c.requires.strings) (absent c.shape.result c.self.inside.cache.entries none))
 
 pub returns-in_err-slot-clause-err : goal.returns-in_err-slot-clause-err
 returns-in_err-slot-clause-err c = on-error c.from_residual.result _ (c.self.view_is, none-there c)
@@ -35,7 +35,7 @@ slot c = opened c.shape.result c.self.inside.cache.entries _ c.in_ok-slot.slot.n
 
 pub note-requires-clause-shape : goal.note-requires-clause-shape
 note-requires-clause-shape c = λ x has.
-    ((open-pairs c.shape.result c.self.inside.cache c.in_ok-slot.slot.now c.self.invariant (slot c)).1 x has).of_shape ∙ c.shape.ensures ∙ ap shape_in c.of-strings.ensures ∙ ap shape_of (sym c.new-cover.ensures.0)
+    ((open-pairs c.shape.result c.self.inside.cache c.in_ok-slot.slot.now c.self.invariant (slot c)).1 x has).of_shape ∙ c.shape.ensures ∙ ap shape_in c.requires.strings ∙ ap shape_of (sym c.new-cover.ensures.0)
 
 pub note-requires-clause-known : goal.note-requires-clause-known
 note-requires-clause-known c = λ x has same.
@@ -62,7 +62,7 @@ invariant_of-self-2 c =
     (record {
       board = c.position.ensures.board;
       no_trick = c.position.ensures.start;
-      of_shape = sym (c.shape.ensures ∙ ap shape_in c.of-strings.ensures);
+      of_shape = sym (c.shape.ensures ∙ ap shape_in c.requires.strings);
       within = c.requires.within;
       sound = c.requires.holds;
     })
@@ -71,5 +71,5 @@ invariant_of-self-2 c =
 pub returns-clause-ok : goal.returns-clause-ok
 returns-clause-ok c =
     rw (← c.self.view_is)
-    (note-notes c.args.position.now c.shape.result c.self.inside.cache (told_of (c.args.interval, c.args.depths)) c.in_ok-slot.slot.now c.note.new.self (c.shape.ensures ∙ ap shape_in c.of-strings.ensures)
+    (note-notes c.args.position.now c.shape.result c.self.inside.cache (told_of (c.args.interval, c.args.depths)) c.in_ok-slot.slot.now c.note.new.self (c.shape.ensures ∙ ap shape_in c.requires.strings)
     c.self.invariant (slot (goal.at.returns-clause-ok c).In_ok-slot) (puts c))
