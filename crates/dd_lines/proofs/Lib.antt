@@ -5,4 +5,5 @@ pub mod Kept
 pub mod Pieces
 pub mod Replied
 pub mod Serving
+pub mod Solving
 pub mod Writing
