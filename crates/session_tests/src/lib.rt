@@ -1,0 +1,11 @@
+//! Tests of sessions, by their public surface.
+#![tactic(auto)]
+
+#[cfg(test)]
+mod lines;
+#[cfg(test)]
+mod messages;
+#[cfg(test)]
+mod replies;
+#[cfg(test)]
+mod rows;
