@@ -1,2 +1,3 @@
+pub mod Gaining
 pub mod Saying
 pub mod Telling

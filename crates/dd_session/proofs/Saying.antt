@@ -47,15 +47,15 @@ said-way : (leave : Bool) (bytes line text : List ℕ) (port : PortOf) → AreKe
     → SessionWay leave port line text port
 said-way leave bytes line text port kept follows =
     elim follows [
-      | inl told ↦ inl (told.2.0, kept-means leave bytes line (Err told.2.0) kept (subst (MeansWant leave bytes) told.2.1 told.1), told.2.2, refl)
+      | inl told ↦ inl (told.2.0, inl (kept-means leave bytes line (Err told.2.0) kept (subst (MeansWant leave bytes) told.2.1 told.1)), told.2.2, refl)
       | inr memory ↦ (
           let same : bytes ≡ line = AreKept-short bytes line kept memory.1 in
-          inr (inl (
-            subst (λ (l : List ℕ). 0 < length l) same memory.0,
-            subst (λ (l : List ℕ). length l ≤ longest_line) same memory.1,
+          inl (
+            OutOfMemory,
+            inr (refl, subst (λ (l : List ℕ). 0 < length l) same memory.0, subst (λ (l : List ℕ). length l ≤ longest_line) same memory.1),
             IfErr-at_err (λ fault. text ≡ fault_text fault) (sym memory.2.1) memory.2.2,
             refl,
-          ))
+          )
           )
     ]
 
@@ -66,7 +66,7 @@ asked-way : (leave : Bool) (bytes line text : List ℕ) (want : Want) (said : Re
     → text ≡ said_text said → Tells before want said after → SessionWay leave before line text after
 asked-way leave bytes line text want said before after kept follows is tells =
     elim follows [
-      | inl asked ↦ inr (inr (want, said, kept-means leave bytes line (Ok want) kept (subst (MeansWant leave bytes) asked.2 asked.1), is, tells))
+      | inl asked ↦ inr (want, said, kept-means leave bytes line (Ok want) kept (subst (MeansWant leave bytes) asked.2 asked.1), is, tells)
       | inr memory ↦ absurd (IfOk-at_ok (λ (w : Want). ⊥) memory.2 tt)
     ]
 
