@@ -1,2 +1,4 @@
+pub mod Ports
 pub mod ReplyTexts
+pub mod Serving
 pub mod Sessions
