@@ -1,6 +1,7 @@
 //! What follows a line.
 use crate::rows::{after_bar, before_bar, plain};
-use dd_session::Session;
+use dd_reply::Want;
+use dd_session::{Session, Step};
 use std::alloc::{AllocError, Global};
 use std::test::Fail;
 
@@ -67,7 +68,10 @@ fn a_line_has_at_most_4096_bytes(rt: HostRuntime) -> Result<(), Fail> {
     line[..SERVED.len()].copy_from_slice(SERVED);
     let longest = plain(rt.alloc(), &session.on_line(&line[..4_096]))?;
     let longer = plain(rt.alloc(), &session.on_line(&line))?;
-    assert_eq!(rt; (longest.as_str(), longer.as_str()), ("solve", r#"{"fault":2}"#));
+    assert_eq!(rt;
+        (longest.as_str(), longer.as_str()),
+        ("solve", r#"{"fault":2}"#)
+    );
     Ok(())
 }
 
@@ -93,7 +97,10 @@ fn hostile_lines_have_their_faults(rt: HostRuntime) -> Result<(), Fail> {
     for (line, fault) in [
         (deep.as_bytes(), r#"{"fault":1}"#),
         (less.as_bytes(), r#"{"fault":3}"#),
-        (b"{\"do\":\"table\",\"deal\":\"N:A... K... Q... J...\xff\"}", r#"{"fault":1}"#),
+        (
+            b"{\"do\":\"table\",\"deal\":\"N:A... K... Q... J...\xff\"}",
+            r#"{"fault":1}"#,
+        ),
         (b"{\"do\":\"stop\xff\"}", r#"{"fault":1}"#),
     ] {
         let step = plain(rt.alloc(), &session.on_line(line))?;
@@ -110,4 +117,21 @@ fn a_line_cut_short_is_no_object(rt: HostRuntime) -> Result<(), Fail> {
         assert_eq!(rt; step.as_str(), r#"{"fault":1}"#, "at {end}");
     }
     Ok(())
+}
+
+// Does the line ask, and is it told that memory ran out?
+fn asks_or_is_refused(session: &Session, line: &[u8]) -> (bool, bool) {
+    match session.on_line(line) {
+        Step::Ask(want) => (matches!(want, Want::Submit(_)), false),
+        Step::Say(text) => (false, text.as_str() == r#"{"fault":19}"#),
+    }
+}
+
+// `rt try --test --fail-alloc N` refuses the Nth growth; `rt test` refuses none.
+#[test]
+fn a_line_that_finds_no_memory_asks_when_it_comes_again(rt: HostRuntime) {
+    let session = Session::new(rt.alloc(), false);
+    let (asks, refused) = asks_or_is_refused(&session, SERVED);
+    let (again, _) = asks_or_is_refused(&session, SERVED);
+    assert_eq!(rt; (asks || refused, again), (true, true));
 }

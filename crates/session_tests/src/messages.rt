@@ -34,9 +34,12 @@ fn a_text_or_a_binary_message_is_a_line(rt: HostRuntime) -> Result<(), Fail> {
 #[test]
 fn other_messages_are_no_lines(rt: HostRuntime) -> Result<(), Fail> {
     let bytes = Bytes::copy_from_slice(rt.alloc(), br#"{"do":"stop"}"#)?;
-    let ping = follows(rt.alloc(), &Message::Ping(bytes.clone()))?;
+    let ping = follows(rt.alloc(), &Message::Ping(bytes.clone()?))?;
     let pong = follows(rt.alloc(), &Message::Pong(bytes))?;
     let close = follows(rt.alloc(), &Message::Close(None))?;
-    assert_eq!(rt; (ping.as_str(), pong.as_str(), close.as_str()), ("nothing", "nothing", "nothing"));
+    assert_eq!(rt;
+        (ping.as_str(), pong.as_str(), close.as_str()),
+        ("nothing", "nothing", "nothing")
+    );
     Ok(())
 }
