@@ -2,6 +2,8 @@
 #![tactic(auto)]
 
 #[cfg(test)]
+mod faults;
+#[cfg(test)]
 mod lines;
 #[cfg(test)]
 mod messages;
@@ -9,3 +11,9 @@ mod messages;
 mod replies;
 #[cfg(test)]
 mod rows;
+#[cfg(test)]
+mod served;
+#[cfg(test)]
+mod sockets;
+#[cfg(test)]
+mod worked;
