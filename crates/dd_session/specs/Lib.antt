@@ -1,0 +1,5 @@
+pub mod Ports
+pub mod ReplyTexts
+pub mod Served
+pub mod Serving
+pub mod Sessions
