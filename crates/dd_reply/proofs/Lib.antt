@@ -13,3 +13,4 @@ pub mod Parts
 pub mod RequestExamples
 pub mod Starts
 pub mod Texts
+pub mod WantMeanings

@@ -70,14 +70,14 @@ at-err (Err e) P holds = holds
 
 -- ---- every line has a meaning
 -- some meaning is such
-abbrev SomeMeaning : {A : Type 0} → (Result A Fault → Type 0) → Type 0
+abbrev pub SomeMeaning : {A : Type 0} → (Result A Fault → Type 0) → Type 0
 SomeMeaning {A} Is = (meaning : Result A Fault) × Is meaning
 
-by-test : {A : Type 0} (b : Bool) (P Q : Result A Fault → Type 0) → (b ≡ true → SomeMeaning P) → (b ≡ false → SomeMeaning Q) → SomeMeaning (λ m. MatchBool b (P m) (Q m))
+pub by-test : {A : Type 0} (b : Bool) (P Q : Result A Fault → Type 0) → (b ≡ true → SomeMeaning P) → (b ≡ false → SomeMeaning Q) → SomeMeaning (λ m. MatchBool b (P m) (Q m))
 by-test true P Q held failed = held refl
 by-test false P Q held failed = failed refl
 
-by-option : {A B : Type 0} (o : Option A) (P : Result B Fault → Type 0) (Q : A → Result B Fault → Type 0)
+pub by-option : {A B : Type 0} (o : Option A) (P : Result B Fault → Type 0) (Q : A → Result B Fault → Type 0)
     → SomeMeaning P → ((x : A) → o ≡ Some x → SomeMeaning (Q x)) → SomeMeaning (λ m. MatchOption o (P m) (λ x. Q x m))
 by-option None P Q none some = none
 by-option (Some x) P Q none some = some x refl
@@ -261,7 +261,7 @@ some-way : {A : Type 0} (way : A → Asked) (Is : Result A Fault → Type 0) →
 some-way way Is asked = (asked_as way asked.0, (asked.0, asked.1, refl))
 
 -- the members of an object ask something, or have a fault
-some-object : (members : Members) → SomeMeaning (MeansObject members)
+pub some-object : (members : Members) → SomeMeaning (MeansObject members)
 some-object members =
     by-option (table_deal members) _ _
     (by-option (solve_fields members) _ _ (Err WrongField, refl) (λ fields _. some-way Solve (MeansFields fields) (some-deal fields.deal (MeansHands fields) (some-hands fields))))
@@ -317,7 +317,7 @@ table-memory hands means = elim (hands-decided hands) [
   ]
 ]
 
-by-fields : {A : Type 0} (o : Option A) (P : Type 0) (Q : A → Type 0) → (P → ⊥) → ((x : A) → Q x → ⊥) → MatchOption o P Q → ⊥
+pub by-fields : {A : Type 0} (o : Option A) (P : Type 0) (Q : A → Type 0) → (P → ⊥) → ((x : A) → Q x → ⊥) → MatchOption o P Q → ⊥
 by-fields None P Q p q held = p held
 by-fields (Some x) P Q p q held = q x held
 

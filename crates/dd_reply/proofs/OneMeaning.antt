@@ -26,18 +26,18 @@ use Rattle.dd_reply.specs.Requests.{SolveFields, Means, MeansObject, MeansDeal, 
 use Rattle.dd_reply.proofs.Meanings.{none-twice-decided, even-decided, hands-decided}
 
 -- two meanings that are one value are one
-both : {A : Type 0} (value a b : Result A Fault) → a ≡ value → b ≡ value → a ≡ b
+pub both : {A : Type 0} (value a b : Result A Fault) → a ≡ value → b ≡ value → a ≡ b
 both value a b is_a is_b = is_a ∙ sym is_b
 
 -- at most one meaning is such
-abbrev AtMostOne : {A : Type 0} → (Result A Fault → Type 0) → Type 0
+abbrev pub AtMostOne : {A : Type 0} → (Result A Fault → Type 0) → Type 0
 AtMostOne {A} Is = (a b : Result A Fault) → Is a → Is b → a ≡ b
 
-one-by-test : {A : Type 0} (t : Bool) (P Q : Result A Fault → Type 0) → AtMostOne P → AtMostOne Q → AtMostOne (λ m. MatchBool t (P m) (Q m))
+pub one-by-test : {A : Type 0} (t : Bool) (P Q : Result A Fault → Type 0) → AtMostOne P → AtMostOne Q → AtMostOne (λ m. MatchBool t (P m) (Q m))
 one-by-test true P Q one_p one_q = one_p
 one-by-test false P Q one_p one_q = one_q
 
-one-by-option : {A B : Type 0} (o : Option A) (P : Result B Fault → Type 0) (Q : A → Result B Fault → Type 0) → AtMostOne P → ((x : A) → AtMostOne (Q x)) → AtMostOne (λ m. MatchOption o (P m) (λ x. Q x m))
+pub one-by-option : {A B : Type 0} (o : Option A) (P : Result B Fault → Type 0) (Q : A → Result B Fault → Type 0) → AtMostOne P → ((x : A) → AtMostOne (Q x)) → AtMostOne (λ m. MatchOption o (P m) (λ x. Q x m))
 one-by-option None P Q one_p one_q = one_p
 one-by-option (Some x) P Q one_p one_q = one_q x
 
@@ -155,7 +155,7 @@ one-table hands a b means_a means_b =
 one-way : {A : Type 0} (way : A → Asked) (Is : Result A Fault → Type 0) → AtMostOne Is → AtMostOne (λ m. (asked : Result A Fault) × Is asked × (m ≡ asked_as way asked))
 one-way way Is one a b (x, is_x, e) (y, is_y, f) = e ∙ ap (asked_as way) (one x y is_x is_y) ∙ sym f
 
-one-object : (members : Members) → AtMostOne (MeansObject members)
+pub one-object : (members : Members) → AtMostOne (MeansObject members)
 one-object members =
     one-by-option (table_deal members) _ _
     (one-by-option (solve_fields members) _ _ (both _) (λ fields. one-way Solve (MeansFields fields) (one-deal fields.deal (MeansHands fields) (one-hands fields))))

@@ -2,6 +2,7 @@ pub mod Faults
 pub mod Questions
 pub mod Results
 pub mod Requests
+pub mod Wants
 pub mod Reading
 pub mod ScoredClasses
 pub mod Classes

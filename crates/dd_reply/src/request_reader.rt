@@ -47,7 +47,7 @@ pub fn read_request(alloc: Global, line: &[u8]) -> Result<Asked, Fault>
 }
 
 // What the members of an object ask, or their first fault.
-fn asked_by(object: &Map<String, Value>) -> Result<Asked, Fault>
+pub(crate) fn asked_by(object: &Map<String, Value>) -> Result<Asked, Fault>
     ensures { MeansObject (members_view object.now.entries) result }
 {
     match table_deal(object) {
@@ -59,7 +59,7 @@ fn asked_by(object: &Map<String, Value>) -> Result<Asked, Fault>
 // ---- The line as JSON.
 
 // The line as a JSON object.
-fn read_object(alloc: Global, line: &[u8]) -> Result<Map<String, Value>, Fault>
+pub(crate) fn read_object(alloc: Global, line: &[u8]) -> Result<Map<String, Value>, Fault>
     ensures ok { IfOk result (λ object. object_of line.now ≡ Some (members_view object.entries)) }
     ensures err { IfErr result (IsUnread line.now) }
 {
@@ -161,7 +161,7 @@ fn is_solve_key(key: &str) -> bool
     )
 }
 
-fn text_at<'a>(object: &'a Map<String, Value>, key: &str) -> Option<&'a str>
+pub(crate) fn text_at<'a>(object: &'a Map<String, Value>, key: &str) -> Option<&'a str>
     ensures { option_map (λ text. text.now) result ≡
         text_at (members_view object.now.entries) key.now }
 {
@@ -169,7 +169,7 @@ fn text_at<'a>(object: &'a Map<String, Value>, key: &str) -> Option<&'a str>
 }
 
 // The whole number at this key, written with digits alone.
-fn whole_number_at(object: &Map<String, Value>, key: &str) -> Option<u64>
+pub(crate) fn whole_number_at(object: &Map<String, Value>, key: &str) -> Option<u64>
     ensures { result ≡ whole_number_at (members_view object.now.entries) key.now }
 {
     member_at(object, key)?.as_u64()

@@ -1,6 +1,6 @@
 //! Lines through `solve_lines`, over devices of memory that give and take little and fail in time.
 mod counted_device;
-mod devices;
 mod faults;
+mod runs;
 mod served;
 mod tables;

@@ -1,5 +1,6 @@
-use super::devices::{Outcome, Pieces, run};
+use super::runs::{Outcome, run};
 use super::served::{good, many_lines, many_replies};
+use crate::devices::Pieces;
 use dd_lines::LineFault;
 use std::test::Fail;
 

@@ -1,4 +1,5 @@
-use super::devices::{Outcome, Pieces, run, run_within};
+use super::runs::{Outcome, run, run_within};
+use crate::devices::Pieces;
 use std::alloc::{AllocError, Global};
 use std::test::Fail;
 

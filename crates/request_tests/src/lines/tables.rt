@@ -1,5 +1,6 @@
 //! Lines that ask for a table, each answered in its turn.
-use super::devices::{Pieces, run, run_within};
+use super::runs::{run, run_within};
+use crate::devices::Pieces;
 
 /// Tables counted by hand, between a position and faults.
 const LINES: &[u8] = br#"{"do":"table","deal":"N:A... K... Q... J..."}

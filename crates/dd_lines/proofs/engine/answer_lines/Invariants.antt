@@ -2,12 +2,12 @@ use Rattle.std.proofs.Common.{◌≡◌, ◌<◌, ◌≤◌, length}
 use Rattle.dd_lines.specs.CountedDevices.{device_of, failures_of, calls_of, most_calls}
 use Rattle.dd_lines.specs.declared.engine.TheConstants.{PIECE}
 use Rattle.dd_lines.proofs.Serving.{Serving}
-use Rattle.dd_lines.proofs.engine.solve_lines.Given as goal
+use Rattle.dd_lines.proofs.engine.answer_lines.Given as goal
 
 abbrev pub invariant-loop : goal.invariant-loop
 invariant-loop g l =
     record {
-      so_far : Serving l.fn.budget (g.R.Read.remaining (device_of l.fn.reader)) (g.R.Read.remaining (device_of l.reader)) (g.W.Write.contents (device_of l.fn.writer)) (g.W.Write.contents (device_of l.writer)) l.line;
+      so_far : Serving (g.A.Answering.way l.answering) (g.A.Answering.state l.fn.context) (g.A.Answering.state l.context) (g.R.Read.remaining (device_of l.fn.reader)) (g.R.Read.remaining (device_of l.reader)) (g.W.Write.contents (device_of l.fn.writer)) (g.W.Write.contents (device_of l.writer)) l.line;
       reads : failures_of l.reader ≡ failures_of l.fn.reader;
       writes : failures_of l.writer ≡ failures_of l.fn.writer;
       turns : l.counter ≤ calls_of l.reader;

@@ -2,10 +2,10 @@ use Rattle.std.proofs.Common.{◌≡◌, ◌+◌, ◌*◌, ◌≤◌, ◌++◌, 
 use Rattle.std.specs.Prelude.{codes}
 use Rattle.std.specs.List.{join_with_byte}
 use Rattle.dd_reply.specs.Replies.{class_text}
-use Rattle.dd_reply.proofs.reply.write_answer.Given as goal
+use Rattle.dd_reply.proofs.reply.push_cards.Given as goal
 
 abbrev pub invariant-loop-place : goal.invariant-loop-place
 invariant-loop-place l = record {
-  written : l.text.bytes ≡ codes "{\"cards\":[" ++ join_with_byte 44 (map class_text (take l.place l.answer));
-  short : length l.text.bytes ≤ 10 + 57 * l.place;
+  written : l.text.bytes ≡ (l.fn.text.bytes ++ codes "\"cards\":[") ++ join_with_byte 44 (map class_text (take l.place l.answer));
+  short : length l.text.bytes ≤ length l.fn.text.bytes + 9 + 57 * l.place;
 }

@@ -1,7 +1,4 @@
-//! A reader and a writer of memory.
-use dd_lines::{CountedDevice, LineFault, solve_lines};
-use dd_search::NoTable;
-use std::alloc::Global;
+//! A reader and a writer of memory, which give and take little and fail in time.
 use std::io;
 use std::io::{Error, ErrorKind, Read, Write};
 
@@ -59,44 +56,5 @@ impl Write for Taker {
 
     fn flush(&mut self) -> io::Result<()> {
         Ok(())
-    }
-}
-
-/// How a run over these devices ended, the failed calls of its reader and of its writer, how many bytes were not read,
-/// and what was written.
-#[derive(Drop)]
-pub struct Outcome {
-    pub result: Result<(), LineFault>,
-    pub failed_reads: u64,
-    pub failed_writes: u64,
-    pub unread: usize,
-    pub written: Vec<u8>,
-}
-
-/// A run without a budget.
-pub fn run(alloc: Global, pieces: Pieces<'_>, most: usize, room: usize) -> Outcome {
-    run_within(alloc, pieces, most, room, None)
-}
-
-pub fn run_within(
-    alloc: Global,
-    pieces: Pieces<'_>,
-    most: usize,
-    room: usize,
-    budget: Option<u64>,
-) -> Outcome {
-    let mut reader = CountedDevice::new(pieces);
-    let mut writer = CountedDevice::new(Taker {
-        taken: Vec::new(alloc),
-        most,
-        room,
-    });
-    let result = solve_lines(alloc, &mut reader, &mut writer, &mut NoTable, budget);
-    Outcome {
-        result,
-        failed_reads: reader.failures(),
-        failed_writes: writer.failures(),
-        unread: reader.into_inner().bytes.len(),
-        written: writer.into_inner().taken,
     }
 }

@@ -5,8 +5,8 @@ use Rattle.std.proofs.lemmas.List.FromFn.{get_or-range_with_len}
 use Rattle.arrayvec.specs.ArrayString.{ArrayString}
 use Rattle.dd_reply.specs.Replies.{list_text, of_strain}
 use Rattle.dd_reply.proofs.Texts.{join-first, join-next}
-use Rattle.dd_reply.proofs.reply.write_table.Goals as goal
-use Rattle.dd_reply.proofs.reply.write_table.Goals.{then-strain-gt0, else-strain-gt0}
+use Rattle.dd_reply.proofs.reply.push_table.Goals as goal
+use Rattle.dd_reply.proofs.reply.push_table.Goals.{then-strain-gt0, else-strain-gt0}
 
 pub loop-strain-preserved : goal.loop-strain-preserved
 loop-strain-preserved c =
@@ -17,7 +17,7 @@ loop-strain-preserved c =
     let before : List ℕ = c.loop-strain.text.bytes in
     let within : strain < 5 = c.loop-strain-test.true in
     let here : strain ≡ get_or strains strain 0 = (let from_zero : strain ≡ 0 + strain = omega arith in from_zero ∙ sym (get_or-range_with_len 0 5 strain 0 within)) in
-    let head : List ℕ = codes "{\"table\":[" in
+    let head : List ℕ = c.args.text.now.bytes ++ codes "\"table\":[" in
     let slice : List ℕ = slice_range c.as_slice-tricks.result.now (4 * strain) (4 * strain + 4) in
     let same : slice ≡ of_strain results strain = ap (λ rs. slice_range rs (4 * strain) (4 * strain + 4)) c.as_slice-tricks.ensures.tricks in
     let pushed = c.push_list.ensures.bytes in

@@ -4,13 +4,14 @@ use Rattle.arrayvec.specs.ArrayString.{ArrayString}
 use Rattle.dd_reply.specs.ScoredClasses.{ScoredClass}
 use Rattle.dd_reply.specs.Replies.{class_text}
 use Rattle.dd_reply.proofs.Texts.{join-first, join-next}
-use Rattle.dd_reply.proofs.reply.write_answer.Goals as goal
-use Rattle.dd_reply.proofs.reply.write_answer.Goals.{then-place-gt0, else-place-gt0}
+use Rattle.dd_reply.proofs.reply.push_cards.Goals as goal
+use Rattle.dd_reply.proofs.reply.push_cards.Goals.{then-place-gt0, else-place-gt0}
 
 pub loop-place-preserved : goal.loop-place-preserved
 loop-place-preserved c =
     let items : List ScoredClass = c.args.answer.now in
     let place : ℕ = c.loop-place.place in
+    let head : List ℕ = c.args.text.now.bytes ++ codes "\"cards\":[" in
     let scored : ScoredClass = c.scored-item.result in
     let before : List ℕ = c.loop-place.text.bytes in
     let same = c.as_slice-scored-items.ensures.classes in
@@ -25,7 +26,7 @@ loop-place-preserved c =
           let longer = w.push_str-then-place-gt0.ensures.len in
           let size = ap (λ (t : ArrayString). length t.bytes) w.text-is in
           record {
-            written = pushed ∙ ap (λ t. t ++ class_text scored) text ∙ ap (λ s. (before ++ 44 ∷ []) ++ class_text s) here ∙ join-next 44 class_text items place scored (codes "{\"cards\":[") before w.if-place-gt0.true within c.loop-place.invariant.written;
+            written = pushed ∙ ap (λ t. t ++ class_text scored) text ∙ ap (λ s. (before ++ 44 ∷ []) ++ class_text s) here ∙ join-next 44 class_text items place scored head before w.if-place-gt0.true within c.loop-place.invariant.written;
             short = omega arith;
           })
       | else-place-gt0 w ↦ (
@@ -33,7 +34,7 @@ loop-place-preserved c =
           let size = ap (λ (t : ArrayString). length t.bytes) w.text-is in
           let none : place ≡ 0 = (let k = w.if-place-gt0.false in omega arith) in
           record {
-            written = pushed ∙ ap (λ t. t ++ class_text scored) text ∙ ap (λ s. before ++ class_text s) here ∙ join-first 44 class_text items place scored (codes "{\"cards\":[") before none within c.loop-place.invariant.written;
+            written = pushed ∙ ap (λ t. t ++ class_text scored) text ∙ ap (λ s. before ++ class_text s) here ∙ join-first 44 class_text items place scored head before none within c.loop-place.invariant.written;
             short = omega arith;
           })
     ]

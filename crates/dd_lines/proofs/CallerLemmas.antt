@@ -1,0 +1,5 @@
+-- What the crates above may cite of these proofs: they import nothing else of them.
+
+-- ---- What the bytes that are kept of a line tell of it.
+-- a line of which no more bytes are kept than a line may have is these bytes; one of which more are kept is longer
+pub use Rattle.dd_lines.proofs.Kept.{AreKept-short, AreKept-long}

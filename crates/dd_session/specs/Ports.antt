@@ -1,0 +1,50 @@
+-- What a port tells of the book behind it.
+use Rattle.std.specs.Prelude.{◌≡◌, ℕ, List, [], ◌∷◌, ◌++◌, Result, Ok, Err}
+use Rattle.dd_book.specs.declared.call.Call.{Call}
+use Rattle.dd_book.specs.declared.call.Reply.{Reply}
+use Rattle.dd_desk.specs.declared.fault.Fault.{Fault}
+use Rattle.dd_desk.specs.Faults.{IsOfCall}
+use Rattle.dd_desk.specs.Receipts.{ReceiptOf}
+use Rattle.dd_lines.specs.CountedDevices.{one_more}
+use Rattle.dd_reply.specs.declared.want.Want.{Want}
+
+-- a call that was made over a port, with its reply
+abbrev pub Told : Type 0
+Told = Want × Reply
+
+-- what a port tells: the calls that were made over it, in order, and how many it refused
+pub record PortOf : Type 0 where
+  pub told : List Told
+  pub refusals : ℕ
+
+abbrev pub port_of : List Told → ℕ → PortOf
+port_of told refusals = record { told = told; refusals = refusals }
+
+-- The port before and after it is asked: the call was made and its reply is told; or it was refused, since the journal is
+-- full or memory ran out, and that is counted.
+abbrev pub Tells : PortOf → Want → Result Reply Fault → PortOf → Type 0
+Tells before want (Ok reply) after = after ≡ port_of (before.told ++ (want, reply) ∷ []) before.refusals
+Tells before want (Err fault) after = IsOfCall fault × (after ≡ port_of before.told (one_more before.refusals))
+
+-- ---- over a desk
+
+-- the call that makes a want known to the book, by this caller
+abbrev pub call_by : ℕ → Want → Call
+call_by caller (Want.Submit asked) = Call.Submit caller asked
+call_by caller (Want.Cancel job) = Call.Cancel caller job
+call_by caller (Want.Fetch job) = Call.Fetch caller job
+call_by caller Want.Stop = Call.Shut
+
+-- what a call with this reply tells: its want, whoever called; a worker's calls make no want known
+abbrev pub told_of : Call → Reply → List Told
+told_of (Call.Submit caller asked) reply = (Want.Submit asked, reply) ∷ []
+told_of (Call.Claim worker) reply = []
+told_of (Call.Finish worker job claim outcome) reply = []
+told_of (Call.Cancel caller job) reply = (Want.Cancel job, reply) ∷ []
+told_of (Call.Fetch caller job) reply = (Want.Fetch job, reply) ∷ []
+told_of Call.Shut reply = (Want.Stop, reply) ∷ []
+
+-- what receipts tell, in order
+abbrev pub told_in : List ReceiptOf → List Told
+told_in [] = []
+told_in (r ∷ rs) = told_of r.call r.reply ++ told_in rs

@@ -1,0 +1,19 @@
+//! Tests of sessions, by their public surface.
+#![tactic(auto)]
+
+#[cfg(test)]
+mod faults;
+#[cfg(test)]
+mod lines;
+#[cfg(test)]
+mod messages;
+#[cfg(test)]
+mod replies;
+#[cfg(test)]
+mod rows;
+#[cfg(test)]
+mod served;
+#[cfg(test)]
+mod sockets;
+#[cfg(test)]
+mod worked;
