@@ -1,10 +1,10 @@
 -- What a port tells of the book behind it.
-use Rattle.std.specs.Prelude.{◌≡◌, ℕ, List, [], ◌∷◌, ◌++◌, Result, Ok, Err}
+use Rattle.std.specs.Prelude.{◌≡◌, ℕ, List, [], ◌∷◌, ◌++◌, length, drop, Result, Ok, Err}
 use Rattle.dd_book.specs.declared.call.Call.{Call}
 use Rattle.dd_book.specs.declared.call.Reply.{Reply}
 use Rattle.dd_desk.specs.declared.fault.Fault.{Fault}
 use Rattle.dd_desk.specs.Faults.{IsOfCall}
-use Rattle.dd_desk.specs.Receipts.{ReceiptOf}
+use Rattle.dd_desk.specs.Receipts.{ReceiptOf, PassOf}
 use Rattle.dd_lines.specs.CountedDevices.{one_more}
 use Rattle.dd_reply.specs.declared.want.Want.{Want}
 
@@ -48,3 +48,17 @@ told_of Call.Shut reply = (Want.Stop, reply) ∷ []
 abbrev pub told_in : List ReceiptOf → List Told
 told_in [] = []
 told_in (r ∷ rs) = told_of r.call r.reply ++ told_in rs
+
+-- a port over a desk: its pass, how many receipts this had when the port was made, and how many calls were refused
+pub record DeskPortOf : Type 0 where
+  pub pass : PassOf
+  pub before : ℕ
+  pub refusals : ℕ
+
+-- such a port that has just been made
+abbrev pub new_port : PassOf → DeskPortOf
+new_port pass = record { pass = pass; before = length pass.receipts; refusals = 0 }
+
+-- what it tells: the receipts that the pass has gained in the port
+abbrev pub told_at : DeskPortOf → List Told
+told_at port = told_in (drop port.before port.pass.receipts)

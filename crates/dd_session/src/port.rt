@@ -1,11 +1,12 @@
 //! The job book as one session sees it.
-ghost use Rattle.std.specs.Prelude.{◌≡◌, ◌≤◌, length, drop};
+ghost use Rattle.std.specs.Prelude.{◌≡◌};
 ghost use Rattle.dd_desk.specs.Replies.{IsTold};
-ghost use Rattle.dd_session.specs.Ports.{call_by};
+ghost use Rattle.dd_session.specs.Ports.{call_by, new_port};
 
 use dd_book::Reply;
 use dd_desk::{Desk, Fault, Naming, Pass};
 use dd_reply::Want;
+use std::marker::Model;
 use std::sync::Wait;
 
 /// The job book as one caller sees it, or what stands for it.
@@ -34,15 +35,23 @@ pub struct DeskPort<'a, J: Naming, R: Wait> {
     // The receipts that the pass had when the port was made.
     before: usize,
     refusals: u64,
-    pub ghost begun: { before ≤ length pass.receipts },
+}
+
+impl<'a, J: Naming, R: Wait> Model for DeskPort<'a, J, R> {
+    ghost use Rattle.std.specs.Prelude.{◌≤◌, length};
+    ghost use Rattle.dd_session.specs.Ports.{DeskPortOf};
+
+    ghost Value = { DeskPortOf };
+
+    ghost view = { λ p. record { pass = p.pass; before = p.before; refusals = p.refusals } };
+
+    ghost invariant = { λ p. p.before ≤ length p.pass.receipts };
 }
 
 impl<'a, J: Naming, R: Wait> DeskPort<'a, J, R> {
     /// A port that has told nothing and refused nothing. It takes no memory.
     pub fn new(rt: &'a R, desk: &'a Desk<J>, pass: Pass<J>) -> DeskPort<'a, J, R>
-        ensures pass { result.pass ≡ pass }
-        ensures before { result.before ≡ length pass.receipts }
-        ensures refusals { result.refusals ≡ 0 }
+        ensures { result ≡ new_port pass }
     {
         let before = pass.receipts().len();
         DeskPort {
@@ -70,10 +79,9 @@ impl<'a, J: Naming, R: Wait> DeskPort<'a, J, R> {
 }
 
 impl<'a, J: Naming, R: Wait> BookPort for DeskPort<'a, J, R> {
-    ghost use Rattle.std.specs.Prelude.{drop};
-    ghost use Rattle.dd_session.specs.Ports.{told_in};
+    ghost use Rattle.dd_session.specs.Ports.{told_at};
 
-    ghost told = { λ p. told_in (drop p.before p.pass.receipts) };
+    ghost told = { λ p. told_at p };
 
     ghost refusals = { λ p. p.refusals };
 
