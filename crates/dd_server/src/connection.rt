@@ -3,7 +3,7 @@ use crate::house::House;
 use crate::stop::StopPort;
 use dd_desk::{Fault, Naming, Pass};
 use dd_lines::{CountedDevice, write_whole};
-use dd_session::{DeskPort, serve_lines, serve_socket};
+use dd_session::{DeskPort, serve_lines, serve_socket, write_refusal};
 use std::net::TcpStream;
 use std::sync::Wait;
 use std::sync::atomic::Ordering;
@@ -59,14 +59,8 @@ fn refuse<J: Naming, R: Eprint>(rt: &R, house: &House<J>, stream: &TcpStream, fa
         );
     }
     if !house.args.websocket {
-        let _ = write_whole(&mut CountedDevice::new(stream), refusal(fault));
-    }
-}
-
-fn refusal(fault: Fault) -> &'static [u8] {
-    match fault {
-        Fault::NoPass => b"{\"fault\":14}\n",
-        Fault::JournalFull => b"{\"fault\":15}\n",
-        Fault::Memory => b"{\"fault\":19}\n",
+        let mut line = write_refusal(fault);
+        line.push_str("\n");
+        let _ = write_whole(&mut CountedDevice::new(stream), line.as_bytes());
     }
 }

@@ -1,7 +1,8 @@
 //! The server over a bound listener.
-ghost use Rattle.std.specs.Prelude.{◌≡◌, ◌<◌, ◌≤◌, map, IfOk};
+ghost use Rattle.std.specs.Prelude.{◌≡◌, ◌<◌, map, IfOk};
 ghost use Rattle.once_cell.specs.Once.{cell_name};
 ghost use Rattle.dd_server.specs.Journals.{IsLengthOfJournal};
+ghost use Rattle.dd_server.specs.ServeArgs.{HasTableSize};
 
 use crate::accepting::accept_connections;
 use crate::args::{ServeArgs, ServeFault};
@@ -32,8 +33,7 @@ pub fn run_server<R: Threads + Wait + Clock + Eprint + Sync, G: Gate + Sync>(
     gate: &G,
 ) -> Result<u64, ServeFault>
     requires passes { args.workers < limits.passes }
-    requires shards { (1 ≤ args.shards) × (args.shards ≤ 256) }
-    requires entries { (1 ≤ args.entries) × (args.entries ≤ 65536) }
+    requires table { HasTableSize args }
     ensures { IfOk result (IsLengthOfJournal limits) }
 {
     let Ok(stop) = Stop::new(alloc, &listener) else {

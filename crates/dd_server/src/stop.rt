@@ -2,7 +2,8 @@
 use crate::open_streams::OpenStreams;
 use dd_book::Reply;
 use dd_desk::Fault;
-use dd_session::{BookPort, Want};
+use dd_reply::Want;
+use dd_session::BookPort;
 use std::alloc::Global;
 use std::io;
 use std::net::{Shutdown, TcpListener, TcpStream};
@@ -78,6 +79,10 @@ impl<'a, P, R> StopPort<'a, P, R> {
 }
 
 impl<'a, P: BookPort, R: Wait> BookPort for StopPort<'a, P, R> {
+    ghost told = { λ s. P.told s.port };
+
+    ghost refusals = { λ s. P.refusals s.port };
+
     fn ask(&mut self, want: Want) -> Result<Reply, Fault> {
         let stops = matches!(&want, Want::Stop);
         let reply = self.port.ask(want);
