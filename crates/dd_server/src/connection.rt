@@ -1,0 +1,66 @@
+//! One connection.
+use crate::house::House;
+use crate::stop::StopPort;
+use dd_desk::{Fault, Naming, Pass};
+use dd_lines::{CountedDevice, write_whole};
+use dd_session::{DeskPort, serve_lines, serve_socket, write_refusal};
+use std::net::TcpStream;
+use std::sync::Wait;
+use std::sync::atomic::Ordering;
+use std::time::Duration;
+
+// For how many seconds a client may take no byte of a reply.
+const WRITE_LIMIT: u64 = 60;
+
+/// Serves a connection to its end, by a pass of its own. Where none can be had the client is told why, unless it is to shake
+/// hands first.
+pub(crate) fn serve_connection<J: Naming, R: Wait + Eprint>(
+    rt: &R,
+    house: &House<J>,
+    stream: &TcpStream,
+) {
+    // Without these it is served too.
+    let _ = stream.set_nodelay(true);
+    let _ = stream.set_write_timeout(Some(Duration::from_secs(WRITE_LIMIT)));
+    match house.enrol(rt) {
+        Ok(pass) => {
+            let pass = serve_session(rt, house, stream, pass);
+            house.take_back(rt, pass)
+        }
+        Err(fault) => refuse(rt, house, stream, fault),
+    }
+}
+
+// The session of a pass, which comes back.
+fn serve_session<J: Naming, R: Wait>(
+    rt: &R,
+    house: &House<J>,
+    stream: &TcpStream,
+    pass: Pass<J>,
+) -> Pass<J> {
+    let port = DeskPort::new(rt, &house.desk, pass);
+    let mut port = StopPort::new(rt, port, &house.stop);
+    let allow_stop = house.args.allow_stop;
+    if house.args.websocket {
+        let _ = serve_socket(house.alloc, stream, &mut port, allow_stop);
+    } else {
+        let mut reader = CountedDevice::new(stream);
+        let mut writer = CountedDevice::new(stream);
+        let _ = serve_lines(house.alloc, &mut reader, &mut writer, &mut port, allow_stop);
+    }
+    port.into_inner().into_pass()
+}
+
+// The one line of a connection that gets no pass.
+fn refuse<J: Naming, R: Eprint>(rt: &R, house: &House<J>, stream: &TcpStream, fault: Fault) {
+    if matches!(fault, Fault::NoPass) && !house.told_full.swap(true, Ordering::SeqCst) {
+        let _ = rt.eprintln(
+            "ddserve: as many connections were served as there may be; each more is refused",
+        );
+    }
+    if !house.args.websocket {
+        let mut line = write_refusal(fault);
+        line.push_str("\n");
+        let _ = write_whole(&mut CountedDevice::new(stream), line.as_bytes());
+    }
+}

@@ -1,0 +1,15 @@
+//! The server: connections and workers, each on a thread of its own, over one desk.
+#![tactic(auto)]
+
+mod accepting;
+mod args;
+mod connection;
+mod house;
+mod open_streams;
+mod returned;
+mod server;
+mod stop;
+mod working;
+
+pub use args::{ServeArgs, ServeFault};
+pub use server::run_server;

@@ -1,0 +1,95 @@
+//! How a run is stopped.
+use crate::open_streams::OpenStreams;
+use dd_book::Reply;
+use dd_desk::Fault;
+use dd_reply::Want;
+use dd_session::BookPort;
+use std::alloc::Global;
+use std::io;
+use std::net::{Shutdown, TcpListener, TcpStream};
+use std::os::fd::OwnedFd;
+use std::sync::atomic::{AtomicBool, Ordering};
+use std::sync::{Mutex, Wait};
+
+/// Ends what a run waits for: a search by the flag, the accept by shutting the listener, each session's read by shutting its
+/// stream. None of it needs a descriptor, which may all be in use.
+#[derive(Drop)]
+pub(crate) struct Stop {
+    flag: AtomicBool,
+    // A second handle of the listener, as a stream, which alone can be shut.
+    listener: TcpStream,
+    streams: Mutex<OpenStreams>,
+}
+
+impl Stop {
+    /// Nothing is stopped yet.
+    pub(crate) fn new(alloc: Global, listener: &TcpListener) -> io::Result<Stop> {
+        Ok(Stop {
+            flag: AtomicBool::new(false),
+            listener: TcpStream::from(OwnedFd::from(listener.try_clone()?)),
+            streams: Mutex::new(OpenStreams::new(alloc)),
+        })
+    }
+
+    /// Stops the run.
+    pub(crate) fn stop<R: Wait>(&self, rt: &R) {
+        self.flag.store(true, Ordering::SeqCst);
+        // A listener that is shut already stays so.
+        let _ = self.listener.shutdown(Shutdown::Both);
+        self.streams.lock(rt).stop();
+    }
+
+    /// Whether the run is stopped.
+    pub(crate) fn is_stopped(&self) -> bool {
+        self.flag.load(Ordering::SeqCst)
+    }
+
+    /// The flag that ends a search.
+    pub(crate) fn flag(&self) -> &AtomicBool {
+        &self.flag
+    }
+
+    /// The streams of the connections that are served.
+    pub(crate) fn streams(&self) -> &Mutex<OpenStreams> {
+        &self.streams
+    }
+}
+
+/// A port whose stop ends the run too.
+pub(crate) struct StopPort<'a, P, R> {
+    port: P,
+    rt: &'a R,
+    stop: &'a Stop,
+}
+
+impl<'a, P, R> StopPort<'a, P, R> {
+    pub(crate) fn new(rt: &'a R, port: P, stop: &'a Stop) -> StopPort<'a, P, R> {
+        StopPort { port, rt, stop }
+    }
+
+    /// The port within.
+    pub(crate) fn into_inner(self) -> P {
+        let StopPort {
+            port,
+            rt: _,
+            stop: _,
+        } = self;
+        port
+    }
+}
+
+impl<'a, P: BookPort, R: Wait> BookPort for StopPort<'a, P, R> {
+    ghost told = { λ s. P.told s.port };
+
+    ghost refusals = { λ s. P.refusals s.port };
+
+    fn ask(&mut self, want: Want) -> Result<Reply, Fault> {
+        let stops = matches!(&want, Want::Stop);
+        let reply = self.port.ask(want);
+        // Where memory ran out the book was not shut.
+        if stops && !matches!(&reply, Err(Fault::Memory)) {
+            self.stop.stop(self.rt);
+        }
+        reply
+    }
+}

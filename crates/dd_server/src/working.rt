@@ -1,0 +1,73 @@
+//! The workers of a run.
+use crate::args::ServeFault;
+use crate::house::House;
+use dd_cache::Cache;
+use dd_desk::{Naming, Pass};
+use dd_table::View;
+use dd_work::{Gate, worker};
+use std::sync::Wait;
+use std::thread::{Scope, Threads};
+
+/// Starts a worker for each that is asked for. Where one can't be had the book is shut, so that those before it leave.
+pub(crate) fn start_workers<'s, E, J, R, G>(
+    rt: &'s R,
+    scope: &Scope<'s, E>,
+    house: &'s House<J>,
+    own: &mut Pass<J>,
+    gate: &'s G,
+) -> Result<(), ServeFault>
+where
+    J: Naming + Send + Sync,
+    R: Threads + Wait + Sync,
+    G: Gate + Sync,
+{
+    for _ in 0..house.args.workers {
+        if let Err(fault) = start_worker(rt, scope, house, own, gate) {
+            house.shut(rt, own);
+            return Err(fault);
+        }
+    }
+    Ok(())
+}
+
+// One worker, on a thread of its own, with a cache of its own before the table that all share.
+fn start_worker<'s, E, J, R, G>(
+    rt: &'s R,
+    scope: &Scope<'s, E>,
+    house: &'s House<J>,
+    own: &mut Pass<J>,
+    gate: &'s G,
+) -> Result<(), ServeFault>
+where
+    J: Naming + Send + Sync,
+    R: Threads + Wait + Sync,
+    G: Gate + Sync,
+{
+    let Ok(cache) = Cache::new(house.alloc, house.table.view(rt)) else {
+        return Err(ServeFault::Memory);
+    };
+    let Ok(pass) = house.enrol(rt) else {
+        return Err(ServeFault::Memory);
+    };
+    if let Err(refused) = scope.spawn(move || work(rt, house, cache, pass, gate)) {
+        // After the shut it leaves at once, and its pass comes back.
+        house.shut(rt, own);
+        (refused.value)();
+        return Err(ServeFault::Memory);
+    }
+    Ok(())
+}
+
+// The rounds of a worker, until it leaves and its pass comes back.
+fn work<J: Naming, R: Wait, G: Gate>(
+    rt: &R,
+    house: &House<J>,
+    mut cache: Cache<View<'_, R>>,
+    pass: Pass<J>,
+    gate: &G,
+) {
+    let budget = house.args.budget;
+    let stop = house.stop.flag();
+    let pass = worker(rt, &house.desk, &mut cache, pass, gate, budget, stop);
+    house.take_back(rt, pass)
+}
