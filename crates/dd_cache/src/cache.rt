@@ -13,6 +13,7 @@ ghost use Rattle.dd_cache.specs.Told.{ToldOf, IsSound};
 use crate::head::Head;
 use crate::page::Page;
 use crate::told::Told;
+use dd_cards::Seat;
 use dd_play::{Interval, TrickStart};
 use dd_rank::{Depths, FirstOwners, OwnerStrings, Shape, alike_strings, covered_positions};
 use dd_search::Bounds;
@@ -40,6 +41,16 @@ pub struct Cache<B> {
     pages: Vec<Page>,
     // the number of the next page; the first one has the number PAGES
     next: u32,
+    // the deal of which the last look was
+    deal: Deal,
+}
+
+// What tells deals apart: the strain and two hands of it.
+#[derive(Clone, Copy, Debug)]
+struct Deal {
+    strain: u8,
+    north: u64,
+    east: u64,
 }
 
 impl<B: Drop> Cache<B> {
@@ -55,6 +66,11 @@ impl<B: Drop> Cache<B> {
             heads,
             pages,
             next: PAGES,
+            deal: Deal {
+                strain: 0,
+                north: 0,
+                east: 0,
+            },
         })
     }
 }
@@ -63,6 +79,19 @@ impl<B> Cache<B> {
     /// The table behind.
     pub fn behind(&mut self) -> &mut B {
         &mut self.behind
+    }
+
+    // A search of this position begins. Where it is of another deal than the last one its pages go to the places of the first
+    // ones again: what these know serves it no more than others, and few places stay in the processor's caches.
+    fn begin(&mut self, start: &TrickStart) {
+        let deal = Deal::of(start);
+        if !deal.is_later_in(&self.deal) {
+            self.deal = deal;
+            let over = self.next % PAGES;
+            if over != 0 {
+                self.next = self.next.wrapping_add(PAGES - over);
+            }
+        }
     }
 
     // Where the page of this number stands, if it is not yet overwritten.
@@ -180,6 +209,7 @@ impl<B: Bounds> Bounds for Cache<B> {
     ghost holds = { λ cache p depths interval q told. told q };
 
     fn look(&mut self, start: &TrickStart) -> Option<(Interval, Depths)> {
+        self.begin(start);
         self.behind.look(start)
     }
 
@@ -231,6 +261,25 @@ impl<B: Bounds> Bounds for Cache<B> {
 #[inline]
 fn is_worth_sharing(start: &TrickStart) -> bool {
     start.position().tricks_left() >= WORTH_SHARING
+}
+
+impl Deal {
+    fn of(start: &TrickStart) -> Deal {
+        let position = start.position();
+        let hands = position.hands();
+        Deal {
+            strain: position.strain().code(),
+            north: hands.hand(Seat::North).mask(),
+            east: hands.hand(Seat::East).mask(),
+        }
+    }
+
+    // Is it what is left of the other deal, or all of it?
+    fn is_later_in(&self, other: &Deal) -> bool {
+        self.strain == other.strain
+            && self.north & !other.north == 0
+            && self.east & !other.east == 0
+    }
 }
 
 // Where the pages of a shape with this mixing number are found.
