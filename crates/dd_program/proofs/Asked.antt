@@ -1,9 +1,10 @@
 -- What the program makes of a line that the parser let through.
-use Rattle.std.proofs.Common.{◌≡◌, ◌∙◌, ◌⊎◌, ℕ, Bool, codes, true, false, ◌||◌, refl, sym, ap, subst, inl, inr, arith, true≢false, List, [], ◌∷◌, ◌++◌, Option, Some, None}
-use Rattle.std.specs.Prelude.{IfErr, IfSome, IsErrAnd, Result, Ok, Err, option_map, take, length, unwrap_or}
+use Rattle.std.proofs.Common.{◌≡◌, ◌∙◌, ◌⊎◌, ℕ, Bool, codes, true, false, ◌||◌, ◌&&◌, ◌==◌, ◌≤◌, not, is_some, refl, sym, ap, subst, inl, inr, arith, true≢false, List, [], ◌∷◌, ◌++◌, Option, Some, None}
+use Rattle.std.proofs.Math.Seq.{take-append_seam, take-length}
+use Rattle.std.specs.Prelude.{IfErr, fold, slice_index, IfSome, IsErrAnd, Result, Ok, Err, option_map, take, length, unwrap_or}
 use Rattle.std.specs.List.{list_any}
 use Rattle.std.specs.Str.{bytes_eq}
-use Rattle.clap.specs.Walk.{Row, Text, rows_of}
+use Rattle.clap.specs.Walk.{Row, Rule, Text, arg_by_long, arg_by_short, first_of, has_long, has_row, nothing_held, one_of, rows_of, walk_from, walked}
 use Rattle.std.specs.Box.{box_value}
 use Rattle.clap.specs.Matches.{found_of, subcommand_name_of}
 use Rattle.clap.specs.Simple.{App, HasMatchesOf, subcommand_of, subcommand_rows_of}
@@ -14,12 +15,21 @@ use Rattle.clap.specs.declared.error.Error.{Error}
 use Rattle.clap.specs.declared.error.kind.ErrorKind.TheVariants.{OutOfMemory}
 use Rattle.clap.specs.declared.parser.matches.ArgMatches.{ArgMatches}
 use Rattle.clap.specs.declared.parser.matches.ArgMatches.TheViews.{out-ArgMatches, out-SubCommand}
-use Rattle.dd_program.specs.CommandLine.{Asks, AsksToSolve, GivesOption, HasDefaults, IsInRange, IsLeftOut, IsTableSize}
+use Rattle.dd_program.specs.CommandLine.{Asks, AsksToSolve, GivesOption, HasDefaults, IsBudget, IsInRange, IsLeftOut, IsSame, IsTableSize}
+use Rattle.dd_program.specs.ServeWords.{AsksToServeBy, HasNumber, IsGiven, budget_in, is_set}
 use Rattle.dd_program.specs.Program.{number_of, program_app}
 use Rattle.dd_program.specs.declared.command_line.Args.{Args}
-use Rattle.dd_program.specs.declared.command_line.Args.TheVariants.{Solve}
+use Rattle.dd_program.specs.declared.command_line.Args.TheVariants.{Serve, Solve}
+use Rattle.dd_program.specs.declared.command_line.TheConstants.{MOST_WORKERS}
+use Rattle.dd_table.specs.declared.shared_table.TheConstants.{MOST_SHARDS}
+use Rattle.dd_shard.specs.declared.shard.TheConstants.{MOST_SHAPES}
 use Rattle.dd_program.proofs.Lines.{Asked, asked-of, one-meaning, walked-line}
-use Rattle.dd_program.proofs.Programs.{Solves, solve_rows, solves-free, solves-of, subcommand-rows}
+use Rattle.dd_program.proofs.Programs.{Serves, Solves, line-of, serve-rows, serve_rows, serve_rules, solve_rows, solves-free, subcommand-rows}
+use Rattle.dd_program.proofs.ServeWords.{budget-fits, given-one, no-row, none-given, number-default, number-fits, number-one}
+use Rattle.dd_program.proofs.LeftOut.{Avoids, Each, NamesOther, defaults-lack, find-has, neither, settled-lacks, walk-clean}
+use Rattle.dd_program.proofs.Words.{long_of-is, with_value}
+use Rattle.std.proofs.lemmas.Slice.Eq.{bytes_eq-Decides}
+use Rattle.clap.specs.Lexer.{long_of}
 use Rattle.dd_program.proofs.Runs.{faultless-runs}
 
 -- ---- the subcommand
@@ -28,12 +38,25 @@ use Rattle.dd_program.proofs.Runs.{faultless-runs}
 enters : (words : List Text) (s : Solves words) → subcommand_of program_app words ≡ Some (codes "solve", solve_rows s.rest)
 enters words s = ap (subcommand_of program_app) s.line ∙ subcommand-rows s.program s.rest
 
--- a line without a fault is one of `solve`, and the parse has its rows
-met : (app : App) (words : List Text) (m : ArgMatches) → app ≡ program_app → fault_of app words ≡ [] → HasMatchesOf app words m
-    → (s : Solves words) × (subcommand_rows_of m ≡ Some (codes "solve", solve_rows s.rest))
-met app words m is free matches =
-    let s = solves-of words (subst (λ a. fault_of a words ≡ []) is free) in
-    (s, (subst (λ a. HasMatchesOf a words m) is matches refl).1 ∙ enters words s)
+-- the same of `serve`
+enters-serve : (words : List Text) (s : Serves words) → subcommand_of program_app words ≡ Some (codes "serve", serve_rows s.rest)
+enters-serve words s = ap (subcommand_of program_app) s.line ∙ serve-rows s.program s.rest
+
+-- the parse has the rows of the line
+has-rows : (app : App) (words : List Text) (m : ArgMatches) → app ≡ program_app → HasMatchesOf app words m → subcommand_rows_of m ≡ subcommand_of program_app words
+has-rows app words m is matches = (subst (λ a. HasMatchesOf a words m) is matches refl).1
+
+-- a line without a fault is one of `solve` or of `serve`
+line-free : (app : App) (words : List Text) → app ≡ program_app → fault_of app words ≡ [] → Solves words ⊎ Serves words
+line-free app words is free = line-of words (subst (λ a. fault_of a words ≡ []) is free)
+
+-- two letters that differ
+apart : (a b : ℕ) → a ≡ 111 → b ≡ 101 → a ≡ b → ⊥
+apart a b is-a is-b same = omega arith
+
+-- `solve` is not `serve`
+pub other-name : codes "solve" ≡ codes "serve" → ⊥
+other-name e = apart (slice_index (codes "solve") 1) (slice_index (codes "serve") 1) refl refl (ap (λ xs. slice_index xs 1) e)
 
 -- the first part of a value's two
 first-part : {X A B : Type 0} (o : Option X) (f : X → A) (g : X → B) → option_map f o ≡ option_map (λ (p : A × B). p.0) (option_map (λ x. (f x, g x)) o)
@@ -44,19 +67,48 @@ first-part (Some x) f g = refl
 same-name : (m : ArgMatches) → subcommand_name_of m ≡ option_map (λ p. p.0) (subcommand_rows_of m)
 same-name m = first-part (out-ArgMatches m).subcommand (λ b. (out-SubCommand (box_value b)).name.now) (λ b. rows_of (found_of (out-SubCommand (box_value b)).matches))
 
--- the parse of a line without a fault met `solve`
-pub meets-solve : (app : App) (words : List Text) (m : ArgMatches) → app ≡ program_app → fault_of app words ≡ [] → HasMatchesOf app words m → subcommand_name_of m ≡ Some (codes "solve")
-meets-solve app words m is free matches = same-name m ∙ ap (option_map (λ p. p.0)) (met app words m is free matches).1
+-- the parse of a line without a fault met `solve` or `serve`
+pub meets : (app : App) (words : List Text) (m : ArgMatches) → app ≡ program_app → fault_of app words ≡ [] → HasMatchesOf app words m
+    → (subcommand_name_of m ≡ Some (codes "solve")) ⊎ (subcommand_name_of m ≡ Some (codes "serve"))
+meets app words m is free matches = elim (line-free app words is free) [
+  | inl s ↦ inl (same-name m ∙ ap (option_map (λ p. p.0)) (has-rows app words m is matches ∙ enters words s))
+  | inr s ↦ inr (same-name m ∙ ap (option_map (λ p. p.0)) (has-rows app words m is matches ∙ enters-serve words s))
+]
 
--- the rows that the parse met are what the line asks for
+-- the name that the parse met, and its rows, are those of the line
+entered-is : (app : App) (words : List Text) (m : ArgMatches) (name : Text) (rows : List Row) (entered : Text × List Row) → app ≡ program_app → HasMatchesOf app words m
+    → subcommand_of program_app words ≡ Some entered → subcommand_name_of m ≡ Some name → Some rows ≡ option_map (λ p. p.1) (subcommand_rows_of m)
+    → (name ≡ entered.0) × (rows ≡ entered.1)
+entered-is app words m name rows entered is matches line named has =
+    let parse : subcommand_rows_of m ≡ Some entered = has-rows app words m is matches ∙ line in
+    let names : Some name ≡ Some entered.0 = sym named ∙ same-name m ∙ ap (option_map (λ p. p.0)) parse in
+    let all-rows : Some rows ≡ Some entered.1 = has ∙ ap (option_map (λ p. p.1)) parse in
+    (let e : name ≡ entered.0 = cc in e, let e : rows ≡ entered.1 = cc in e)
+
+-- the rows that the parse of a line of `solve` met are what the line asks for
 pub asked-rows : (app : App) (words : List Text) (m : ArgMatches) (rows : List Row) → app ≡ program_app → fault_of app words ≡ [] → HasMatchesOf app words m
-    → Some rows ≡ option_map (λ p. p.1) (subcommand_rows_of m) → Asked words rows
-asked-rows app words m rows is free matches has =
-    let found = met app words m is free matches in
-    let same : Some rows ≡ Some (solve_rows found.0.rest) = has ∙ ap (option_map (λ p. p.1)) found.1 in
-    let rows-are : rows ≡ solve_rows found.0.rest = cc in
-    subst (Asked words) (sym rows-are)
-    (asked-of found.0.program found.0.rest words _ found.0.line (faultless-runs found.0.rest [] found.0.faultless))
+    → subcommand_name_of m ≡ Some (codes "solve") → Some rows ≡ option_map (λ p. p.1) (subcommand_rows_of m) → Asked words rows
+asked-rows app words m rows is free matches named has = elim (line-free app words is free) [
+  | inl s ↦
+      let met = entered-is app words m (codes "solve") rows (codes "solve", solve_rows s.rest) is matches (enters words s) named has in
+      subst (Asked words) (sym met.1) (asked-of s.program s.rest words _ s.line (faultless-runs s.rest [] s.faultless))
+  | inr s ↦
+      let met = entered-is app words m (codes "solve") rows (codes "serve", serve_rows s.rest) is matches (enters-serve words s) named has in
+      absurd (other-name met.0)
+]
+
+-- the parse of a line of `serve` has the rows that the line has
+pub serve-has : (app : App) (words : List Text) (m : ArgMatches) (rows : List Row) → app ≡ program_app → fault_of app words ≡ [] → HasMatchesOf app words m
+    → subcommand_name_of m ≡ Some (codes "serve") → Some rows ≡ option_map (λ p. p.1) (subcommand_rows_of m)
+    → (fault_of program_app words ≡ []) × (subcommand_of program_app words ≡ Some (codes "serve", rows))
+serve-has app words m rows is free matches named has = elim (line-free app words is free) [
+  | inl s ↦
+      let met = entered-is app words m (codes "serve") rows (codes "solve", solve_rows s.rest) is matches (enters words s) named has in
+      absurd (other-name (sym met.0))
+  | inr s ↦
+      let met = entered-is app words m (codes "serve") rows (codes "serve", serve_rows s.rest) is matches (enters-serve words s) named has in
+      (subst (λ a. fault_of a words ≡ []) is free, enters-serve words s ∙ ap (λ r. Some (codes "serve", r)) (sym met.1))
+]
 
 -- ---- the arguments
 
@@ -75,15 +127,56 @@ table-in-range : (e : Option ℕ) → IfSome e IsTableSize → IsTableSize (unwr
 table-in-range None fits = (omega arith, omega arith)
 table-in-range (Some entries) fits = fits
 
+-- arguments of the rows of `serve` are what the line asks for
+pub asks-serve : (words : List Text) (rows : List Row) (args : Args) → (fault_of program_app words ≡ []) × (subcommand_of program_app words ≡ Some (codes "serve", rows))
+    → AsksToServeBy rows args → Asks words args
+asks-serve words rows (Solve budget entries) line by = absurd by
+asks-serve words rows (Serve listen workers shards entries budget websocket allow_stop) line by = (rows, line.0, line.1, by)
+
 -- the numbers of a line that asks lie in their ranges
 pub in-range : (words : List Text) (args : Args) → Asks words args → IsInRange args
 in-range words (Solve budget entries) asks = (asks.1.budget_fits, subst IsTableSize (sym asks.2) (table-in-range asks.0 asks.1.entries_fit))
+in-range words (Serve listen workers shards entries budget websocket allow_stop) (rows, free, line, by) =
+    let workers-fit = subst (λ n. (1 ≤ n) × (n ≤ MOST_WORKERS)) (sym by.1.2) (number-fits MOST_WORKERS 4 by.1.0 (omega arith) (omega arith)) in
+    let shards-fit = subst (λ n. (1 ≤ n) × (n ≤ MOST_SHARDS)) (sym by.2.2) (number-fits MOST_SHARDS 16 by.2.0 (omega arith) (omega arith)) in
+    let entries-fit = subst IsTableSize (sym by.3.2) (number-fits MOST_SHAPES 4096 by.3.0 (omega arith) (omega arith)) in
+    (workers-fit.0, workers-fit.1, shards-fit.0, shards-fit.1, entries-fit, subst (λ b. IfSome b IsBudget) (sym by.4.2) (budget-fits by.4.0))
+
+-- the name of what a line enters
+abbrev entered_name : Option (Text × List Row) → Text
+entered_name None = []
+entered_name (Some entered) = entered.0
+
+abbrev entered_rows : Option (Text × List Row) → List Row
+entered_rows None = []
+entered_rows (Some entered) = entered.1
+
+-- a line of `solve` is none of `serve`
+solve-only : (words : List Text) (b e : Option ℕ) (rows : List Row) → AsksToSolve words b e → subcommand_of program_app words ≡ Some (codes "serve", rows) → ⊥
+solve-only words b e rows asks line =
+    let solve = walked-line words b e asks in
+    let as-solve : subcommand_of program_app words ≡ Some (codes "solve", solve_rows solve.1) = ap (subcommand_of program_app) solve.2 ∙ subcommand-rows solve.0 solve.1 in
+    let both : codes "solve" ≡ codes "serve" = ap entered_name (sym as-solve ∙ line) in
+    other-name both
 
 -- a line asks for one thing
-pub asks-one : (words : List Text) (args other : Args) → Asks words args → Asks words other → other ≡ args
+pub asks-one : (words : List Text) (args other : Args) → Asks words args → Asks words other → IsSame other args
 asks-one words (Solve b e) (Solve c f) asks also =
     let same = one-meaning words b asks.0 c also.0 asks.1 also.1 in
     (λ i. Solve (sym same.0 i) ((also.2 ∙ sym same.1 ∙ sym asks.2) i))
+asks-one words (Solve b e) (Serve m x t f c j d) asks also = solve-only words b asks.0 also.0 asks.1 also.2
+asks-one words (Serve l w s e b k a) (Solve c f) asks also = solve-only words c also.0 asks.0 also.1 asks.2
+asks-one words (Serve l w s e b k a) (Serve m x t f c j d) (rows, free, line, by) (rows2, free2, line2, by2) =
+    let same : rows2 ≡ rows = ap entered_rows (sym line2 ∙ line) in
+    let also = subst (λ r. AsksToServeBy r (Serve m x t f c j d)) same by2 in (
+      also.0 ∙ sym by.0,
+      number-one (codes "workers") rows MOST_WORKERS 4 x w also.1 by.1,
+      number-one (codes "shards") rows MOST_SHARDS 16 t s also.2 by.2,
+      number-one (codes "entries") rows MOST_SHAPES 4096 f e also.3 by.3,
+      also.4.2 ∙ ap budget_in (given-one 64 (one_of (codes "budget") rows) also.4.0 by.4.0 also.4.1 by.4.1) ∙ sym by.4.2,
+      also.5 ∙ sym by.5,
+      also.6 ∙ sym by.6,
+    )
 
 -- ---- what is left out
 
@@ -150,12 +243,104 @@ no-entries words b None asks out = refl
 no-entries words b (Some number) asks out =
     absurd (true≢false (sym (in-line (begins (codes "--entries")) words b (Some number) asks (inr (entries-stand number asks.of_entries asks.gives_entries))) ∙ out))
 
+-- the rules of `serve` avoid a short flag or a place for this option, and have no default for it
+serve-avoids : (o : Text) → bytes_eq (codes "help") o ≡ false → Avoids serve_rules o
+serve-avoids o other = record {
+  short = λ x. only-help x (104 == x) refl;
+  index = λ i. refl;
+}
+  where
+    only-help : (x : ℕ) (b : Bool) → (104 == x) ≡ b → IfSome (arg_by_short serve_rules x) (λ a. bytes_eq a.id o ≡ false)
+    only-help x true is = rw is other
+    only-help x false is = rw is tt
+
+-- what two tests let through passes the second
+and-right : (a b : Bool) → (a && b) ≡ true → b ≡ true
+and-right true b e = e
+and-right false b e = absurd (true≢false (sym e))
+
+or-false : (a : Bool) → (a || false) ≡ true → a ≡ true
+or-false true e = refl
+or-false false e = e
+
+-- an option with what follows it begins with the option
+begins-with : (o : Text) (v : Option Text) → bytes_eq (take (length (45 ∷ 45 ∷ o)) (45 ∷ 45 ∷ with_value o v)) (45 ∷ 45 ∷ o) ≡ true
+begins-with o None = (bytes_eq-Decides (take (length (45 ∷ 45 ∷ o)) (45 ∷ 45 ∷ o)) (45 ∷ 45 ∷ o)).1 (take-length (45 ∷ 45 ∷ o))
+begins-with o (Some value) =
+    (bytes_eq-Decides (take (length (45 ∷ 45 ∷ o)) ((45 ∷ 45 ∷ o) ++ 61 ∷ value)) (45 ∷ 45 ∷ o)).1 (take-append_seam (45 ∷ 45 ∷ o) (61 ∷ value))
+
+-- the long name of each argument of `serve` is its id, and it has no other
+IsNamedById : Rule → Type 0
+IsNamedById a = (a.long ≡ Some a.id) × (a.aliases ≡ [])
+
+all-named : Each IsNamedById serve_rules
+unfolding IsNamedById
+all-named = ((refl, refl), ((refl, refl), ((refl, refl), ((refl, refl), ((refl, refl), ((refl, refl), ((refl, refl), ((refl, refl), tt))))))))
+
+-- so the argument that a long name finds has that name for its id
+long-found : (name : Text) (a : Rule) → arg_by_long serve_rules name ≡ Some a → a.id ≡ name
+unfolding IsNamedById
+long-found name a e =
+    let found = find-has (λ (r : Rule). not (is_some r.index) && has_long r name) IsNamedById serve_rules a e all-named in
+    let long : has_long a name ≡ true = and-right (not (is_some a.index)) (has_long a name) found.0 in
+    (bytes_eq-Decides a.id name).0 (or-false (bytes_eq a.id name) (rw (found.1.0, found.1.1) at long))
+
+-- a word that does not begin with the option's name names another, or none
+word-other : (o word : Text) → bytes_eq (take (length (45 ∷ 45 ∷ o)) word) (45 ∷ 45 ∷ o) ≡ false → NamesOther serve_rules o word
+word-other o word out = first (long_of word) refl
+  where
+    begins-so : (v : Option Text) → word ≡ 45 ∷ 45 ∷ with_value o v → ⊥
+    begins-so v is = true≢false (sym (begins-with o v) ∙ sym (ap (λ w. bytes_eq (take (length (45 ∷ 45 ∷ o)) w) (45 ∷ 45 ∷ o)) is) ∙ out)
+
+    third : (name : Text) (v : Option Text) (a : Rule) → word ≡ 45 ∷ 45 ∷ with_value name v → a.id ≡ name → (b : Bool) → bytes_eq a.id o ≡ b → bytes_eq a.id o ≡ false
+    third name v a word-is named false is = is
+    third name v a word-is named true is =
+        let same : name ≡ o = sym named ∙ (bytes_eq-Decides a.id o).0 is in
+        absurd (begins-so v (word-is ∙ ap (λ n. 45 ∷ 45 ∷ with_value n v) same))
+
+    second : (name : Text) (v : Option Text) → word ≡ 45 ∷ 45 ∷ with_value name v → (found : Option Rule) → arg_by_long serve_rules name ≡ found → IfSome found (λ a. bytes_eq a.id o ≡ false)
+    second name v word-is None e = tt
+    second name v word-is (Some a) e = third name v a word-is (long-found name a e) (bytes_eq a.id o) refl
+
+    first : (p : Option (Text × Option Text)) → long_of word ≡ p → IfSome p (λ q. IfSome (arg_by_long serve_rules q.0) (λ a. bytes_eq a.id o ≡ false))
+    first None e = tt
+    first (Some (name, v)) e = second name v (long_of-is word name v e) (arg_by_long serve_rules name) refl
+
+-- the same of each word of a line
+words-other : (o : Text) (words : List Text) → list_any (begins (45 ∷ 45 ∷ o)) words ≡ false → Each (NamesOther serve_rules o) words
+words-other o [] out = tt
+words-other o (word ∷ rest) out =
+    let parts = neither (begins (45 ∷ 45 ∷ o) word) (list_any (begins (45 ∷ 45 ∷ o)) rest) out in
+    (word-other o word parts.0, words-other o rest parts.1)
+
+-- an option that is left out has no row
+left-out : (words : List Text) (s : Serves words) (rows : List Row) (o : Text) → subcommand_of program_app words ≡ Some (codes "serve", rows) → bytes_eq (codes "help") o ≡ false
+    → Each (λ a. (bytes_eq a.id o ≡ false) ⊎ (a.defaults ≡ [])) serve_rules → IsLeftOut (45 ∷ 45 ∷ o) words → one_of o rows ≡ None
+left-out words s rows o line other none out =
+    let rows-are : rows ≡ serve_rows s.rest = ap entered_rows (sym line ∙ enters-serve words s) in
+    let from-line : list_any (begins (45 ∷ 45 ∷ o)) (s.program ∷ codes "serve" ∷ s.rest) ≡ false = subst (λ ws. list_any (begins (45 ∷ 45 ∷ o)) ws ≡ false) s.line out in
+    let after-program = (neither (begins (45 ∷ 45 ∷ o) s.program) _ from-line).1 in
+    let after-name = (neither (begins (45 ∷ 45 ∷ o) (codes "serve")) (list_any (begins (45 ∷ 45 ∷ o)) s.rest) after-program).1 in
+    let end = walk-clean serve_rules o (serve-avoids o other) s.rest (walk_from nothing_held) (words-other o s.rest after-name)
+    (record { goes_on = refl; lacks = (refl, tt); waits_other = tt }) in
+    let lacks : has_row o (serve_rows s.rest) ≡ false = defaults-lack o serve_rules _ none (settled-lacks serve_rules o (fold (walked serve_rules []) (walk_from nothing_held) s.rest).held end.lacks) in
+    no-row o rows (subst (λ r. has_row o r ≡ false) (sym rows-are) lacks)
+
 -- an option that is left out of a line that asks has its default
 pub has-defaults : (words : List Text) (args : Args) → Asks words args → HasDefaults words args
 has-defaults words (Solve budget entries) asks = (
   no-budget words budget asks.0 asks.1,
   λ out. asks.2 ∙ no-entries words budget asks.0 asks.1 out,
 )
+has-defaults words (Serve listen workers shards entries budget websocket allow_stop) (rows, free, line, by) = elim (line-of words free) [
+  | inl s ↦ absurd (other-name (ap entered_name (sym (enters words s) ∙ line)))
+  | inr s ↦ (
+    λ out. number-default (codes "workers") rows MOST_WORKERS 4 workers (left-out words s rows (codes "workers") line refl (inr refl, (inr refl, (inr refl, (inr refl, (inr refl, (inl refl, (inl refl, (inr refl, tt)))))))) out) by.1,
+    λ out. number-default (codes "shards") rows MOST_SHARDS 16 shards (left-out words s rows (codes "shards") line refl (inr refl, (inr refl, (inr refl, (inr refl, (inr refl, (inl refl, (inl refl, (inr refl, tt)))))))) out) by.2,
+    λ out. number-default (codes "entries") rows MOST_SHAPES 4096 entries (left-out words s rows (codes "entries") line refl (inr refl, (inr refl, (inr refl, (inr refl, (inr refl, (inl refl, (inl refl, (inr refl, tt)))))))) out) by.3,
+    λ out. by.4.2 ∙ ap budget_in (none-given 64 (one_of (codes "budget") rows) by.4.0 (left-out words s rows (codes "budget") line refl (inr refl, (inr refl, (inr refl, (inr refl, (inr refl, (inl refl, (inl refl, (inr refl, tt)))))))) out) by.4.1),
+  )
+]
 
 -- ---- what is refused
 
@@ -164,6 +349,7 @@ pub asks-free : (app : App) (words : List Text) (args : Args) → app ≡ progra
 asks-free app words (Solve budget entries) is asks =
     let line = walked-line words budget asks.0 asks.1 in
     subst (λ a. fault_of a words ≡ []) (sym is) (subst (λ ws. fault_of program_app ws ≡ []) (sym line.2) (solves-free line.0 line.1 line.3.faultless))
+asks-free app words (Serve listen workers shards entries budget websocket allow_stop) is asks = subst (λ a. fault_of a words ≡ []) (sym is) asks.1
 
 -- the parser's error says that memory ran out, or the line asks for nothing
 abbrev pub Refuses : List Text → Error → Type 0
@@ -173,6 +359,10 @@ Refuses words error = (kind_of error ≡ OutOfMemory) ⊎ ((args : Args) → ¬ 
 pub refusal : (app : App) (words : List Text) (error : Error) → app ≡ program_app → HasKind (fault_of app words) error → Refuses words error
 refusal app words error is (inl memory) = inl memory
 refusal app words error is (inr among) = inr (λ args asks. subst (IsAmong (kind_of error)) (asks-free app words args is asks) among)
+
+-- two that are there are the same
+pub some-same : {a b : Text} → Some a ≡ Some b → a ≡ b
+some-same e = cc
 
 -- an error is passed up as it is
 pub passed-up : {T : Type 0} (result : Result T Error) (error : Error) (P : Error → Type 0) → IsErrAnd result (λ other. other ≡ error) → P error → IfErr result P

@@ -1,9 +1,12 @@
 mod Asked
+mod Attended
 mod Given
+mod LeftOut
 mod Lines
 mod Numbers
 mod Options
 mod Programs
 mod Runs
+mod ServeWords
 mod Steps
 mod Words

@@ -5,12 +5,12 @@ use Rattle.std.specs.Option.{option_map_or}
 use Rattle.std.specs.Str.{bytes_eq, chars}
 use Rattle.std.proofs.lemmas.Slice.Eq.{bytes_eq-Decides}
 use Rattle.clap.specs.Lexer.{long_of, short_of}
-use Rattle.clap.specs.Walk.{Held, Names, Row, Rule, Text, Walk, arg_by_long, arg_by_short, finished, has_row, idle, long_or_other, nothing_held, settled, short_or_plain, walk_from, walked, with_default}
-use Rattle.clap.specs.Simple.{Shape, built, entered, filled, help_rule, version_rule, names_of, subcommand_of}
+use Rattle.clap.specs.Walk.{Held, Names, Row, Rule, Text, Walk, arg_by_long, arg_by_short, finished, has_row, idle, long_or_other, nothing_held, rows_after, settled, short_or_plain, walk_from, walked, with_default}
+use Rattle.clap.specs.Simple.{Shape, built, built_leaf, entered, inherited, filled, help_rule, version_rule, names_of, subcommand_of}
 use Rattle.clap.specs.Kinds.{Kinds, or_else}
 use Rattle.clap.specs.Faults.{bundle_fault, check_fault, default_fault, defaults_fault, given_default_fault, entered_fault, fault_of, flag_word_fault, is_simple_and_free, level_fault, long_fault, settle_fault, short_fault, step_fault, turn_fault, walk_fault}
 use Rattle.clap.proofs.OnLiterals.{clap_on_literals}
-use Rattle.dd_program.specs.Program.{program_app}
+use Rattle.dd_program.specs.Program.{program_app, serve_app}
 use Rattle.dd_program.proofs.Options.{IsFaultless, budget, entries, here, rows_at_end, rule_for, solve_rules, solve_shape}
 use Rattle.dd_program.proofs.Runs.{both-free}
 use Rattle.dd_program.proofs.Given.{with_defaults}
@@ -92,16 +92,17 @@ program-other-fails : (word : Text) (long : Option (Text × Option Text))
 program-other-fails word None e = program-short-fails word (short_of word) e
 program-other-fails word (Some (name, value)) e = program-long-fails name value (first-free _ _ e)
 
--- the first word without a fault is `solve` or `--`
-first-form : (word : Text) → turn_fault program_shape names (walk_from nothing_held) word ≡ [] → (word ≡ codes "solve") ⊎ (word ≡ codes "--")
-first-form word e = go (bytes_eq (codes "solve") word) refl (bytes_eq (codes "help") word) refl (bytes_eq word (codes "--")) refl
+-- the first word without a fault is `solve`, `serve` or `--`
+first-form : (word : Text) → turn_fault program_shape names (walk_from nothing_held) word ≡ [] → (word ≡ codes "solve") ⊎ ((word ≡ codes "serve") ⊎ (word ≡ codes "--"))
+first-form word e = go (bytes_eq (codes "solve") word) refl (bytes_eq (codes "serve") word) refl (bytes_eq (codes "help") word) refl (bytes_eq word (codes "--")) refl
   where
-    go : (s : Bool) → bytes_eq (codes "solve") word ≡ s → (h : Bool) → bytes_eq (codes "help") word ≡ h → (d : Bool) → bytes_eq word (codes "--") ≡ d
-        → (word ≡ codes "solve") ⊎ (word ≡ codes "--")
-    go true is-s h is-h d is-d = inl (sym ((bytes_eq-Decides (codes "solve") word).0 is-s))
-    go false is-s true is-h d is-d = let bad = rw (is-s, is-h) at e in cc
-    go false is-s false is-h true is-d = inr ((bytes_eq-Decides word (codes "--")).0 is-d)
-    go false is-s false is-h false is-d = absurd (program-other-fails word (long_of word) (rw (is-s, is-h, is-d) at e))
+    go : (s : Bool) → bytes_eq (codes "solve") word ≡ s → (v : Bool) → bytes_eq (codes "serve") word ≡ v → (h : Bool) → bytes_eq (codes "help") word ≡ h
+        → (d : Bool) → bytes_eq word (codes "--") ≡ d → (word ≡ codes "solve") ⊎ ((word ≡ codes "serve") ⊎ (word ≡ codes "--"))
+    go true is-s v is-v h is-h d is-d = inl (sym ((bytes_eq-Decides (codes "solve") word).0 is-s))
+    go false is-s true is-v h is-h d is-d = inr (inl (sym ((bytes_eq-Decides (codes "serve") word).0 is-v)))
+    go false is-s false is-v true is-h d is-d = let bad = rw (is-s, is-v, is-h) at e in cc
+    go false is-s false is-v false is-h true is-d = inr (inr ((bytes_eq-Decides word (codes "--")).0 is-d))
+    go false is-s false is-v false is-h false is-d = absurd (program-other-fails word (long_of word) (rw (is-s, is-v, is-h, is-d) at e))
 
 -- ---- a line without a fault
 
@@ -110,6 +111,12 @@ solve-stops : (rest : List Text)
     → fold (walked program_rules names) (walk_from nothing_held) (codes "solve" ∷ rest) ≡ record (walk_from nothing_held) { stopped = Some (codes "solve", rest) }
 unfolding walked
 solve-stops rest = stopped-walk (walk_from nothing_held) (codes "solve") [] rest
+
+-- the same of `serve`
+serve-stops : (rest : List Text)
+    → fold (walked program_rules names) (walk_from nothing_held) (codes "serve" ∷ rest) ≡ record (walk_from nothing_held) { stopped = Some (codes "serve", rest) }
+unfolding walked
+serve-stops rest = stopped-walk (walk_from nothing_held) (codes "serve") [] rest
 
 -- the walk's faults over such a line are those of `solve`
 abbrev solve_faults : List Text → Kinds
@@ -137,27 +144,47 @@ solve-free program rest e =
     let below = first-free (entered_fault (built program_app) (fold (walked program_rules names) (walk_from nothing_held) (codes "solve" ∷ rest)).stopped) _ after in
     sym (ap (λ (w : Walk). entered_fault (built program_app) w.stopped) (solve-stops rest)) ∙ below
 
--- a line without a fault goes on after its first word as one of `solve`
-line-from : (program word : Text) (rest : List Text) → (word ≡ codes "solve") ⊎ (word ≡ codes "--") → fault_of program_app (program ∷ word ∷ rest) ≡ [] → Solves (program ∷ word ∷ rest)
+-- the rules of `serve` once it is built
+abbrev pub serve_rules : List Rule
+serve_rules = (built_leaf (inherited program_app.top serve_app.top)).rules
+
+-- `serve` got these rows
+abbrev pub serve_rows : List Text → List Row
+serve_rows rest = rows_after serve_rules [] rest
+
+-- the words are the program's name, `serve` and others
+pub record Serves (words : List Text) : Type 0 where
+  pub program : Text
+  pub rest : List Text
+  pub line : words ≡ program ∷ codes "serve" ∷ rest
+
+-- the parse of a line of `serve` enters it with its rows
+pub serve-rows : (program : Text) (rest : List Text) → subcommand_of program_app (program ∷ codes "serve" ∷ rest) ≡ Some (codes "serve", serve_rows rest)
+serve-rows program rest = ap (λ (w : Walk). entered (built program_app) w.stopped) (serve-stops rest)
+
+-- a line without a fault goes on after its first word as one of `solve` or of `serve`
+line-from : (program word : Text) (rest : List Text) → (word ≡ codes "solve") ⊎ ((word ≡ codes "serve") ⊎ (word ≡ codes "--")) → fault_of program_app (program ∷ word ∷ rest) ≡ []
+    → Solves (program ∷ word ∷ rest) ⊎ Serves (program ∷ word ∷ rest)
 unfolding clap_on_literals
 line-from program word rest (inl is) e =
     let free = solve-free program rest (subst (λ w. fault_of program_app (program ∷ w ∷ rest) ≡ []) is e) in
     let after = second-free (walk_fault solve_shape [] (walk_from nothing_held) rest) _ free in
-    record {
+    inl (record {
       program = program;
       rest = rest;
       line = ap (λ w. program ∷ w ∷ rest) is;
       faultless = (first-free _ _ free, first-free _ _ after);
-    }
-line-from program word [] (inr is) e = let bad = subst (λ w. fault_of program_app (program ∷ w ∷ []) ≡ []) is e in cc
-line-from program word (x ∷ xs) (inr is) e = let bad = subst (λ w. fault_of program_app (program ∷ w ∷ x ∷ xs) ≡ []) is e in cc
+    })
+line-from program word rest (inr (inl is)) e = inr (record { program = program; rest = rest; line = ap (λ w. program ∷ w ∷ rest) is })
+line-from program word [] (inr (inr is)) e = let bad = subst (λ w. fault_of program_app (program ∷ w ∷ []) ≡ []) is e in cc
+line-from program word (x ∷ xs) (inr (inr is)) e = let bad = subst (λ w. fault_of program_app (program ∷ w ∷ x ∷ xs) ≡ []) is e in cc
 
--- a line without a fault is one of `solve`
-pub solves-of : (words : List Text) → fault_of program_app words ≡ [] → Solves words
+-- a line without a fault is one of `solve` or of `serve`
+pub line-of : (words : List Text) → fault_of program_app words ≡ [] → Solves words ⊎ Serves words
 unfolding clap_on_literals
-solves-of [] e = cc
-solves-of (program ∷ []) e = cc
-solves-of (program ∷ word ∷ rest) e =
+line-of [] e = cc
+line-of (program ∷ []) e = cc
+line-of (program ∷ word ∷ rest) e =
     let walk-free = first-free (walk_fault program_shape names (walk_from nothing_held) (word ∷ rest)) _ e in
     line-from program word rest (first-form word (first-free _ _ walk-free)) e
 

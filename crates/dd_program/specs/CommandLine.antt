@@ -1,11 +1,14 @@
 -- What a command line asks for.
-use Rattle.std.specs.Prelude.{◌≡◌, ◌≤◌, ◌⊎◌, ℕ, false, List, [], ◌∷◌, ◌++◌, Option, Some, None, IfSome, unwrap_or, take, length, codes}
+use Rattle.std.specs.Prelude.{◌≡◌, ◌≤◌, ◌⊎◌, ℕ, false, List, [], ◌∷◌, ◌++◌, Option, Some, None, IfSome, unwrap_or, take, length, codes, string_bytes}
 use Rattle.std.specs.List.{list_any}
 use Rattle.std.specs.Str.{bytes_eq}
 use Rattle.std.specs.Str.Parse.{IsNumeral, digits_value, without_leading_plus}
 use Rattle.dd_shard.specs.declared.shard.TheConstants.{MOST_SHAPES}
 use Rattle.dd_program.specs.declared.command_line.Args.{Args}
-use Rattle.dd_program.specs.declared.command_line.Args.TheVariants.{Solve}
+use Rattle.dd_program.specs.declared.command_line.Args.TheVariants.{Serve, Solve}
+use Rattle.dd_program.specs.declared.command_line.TheConstants.{MOST_WORKERS}
+use Rattle.dd_table.specs.declared.shared_table.TheConstants.{MOST_SHARDS}
+use Rattle.dd_program.specs.ServeWords.{AsksToServe}
 
 -- the bytes of a word
 abbrev pub Text : Type 0
@@ -45,10 +48,21 @@ pub record AsksToSolve (words : List Text) (budget entries : Option ℕ) : Type 
 -- The line asks for this. Without `--budget` there is no limit, and without `--entries` there are 4,096 of them.
 abbrev pub Asks : List Text → Args → Type 0
 Asks words (Solve budget entries) = (given : Option ℕ) × AsksToSolve words budget given × (entries ≡ unwrap_or given 4096)
+Asks words (Serve listen workers shards entries budget websocket allow_stop) = AsksToServe words (Serve listen workers shards entries budget websocket allow_stop)
+
+-- the same is asked for: the same numbers, and an address of the same text
+abbrev pub IsSame : Args → Args → Type 0
+IsSame (Solve b e) (Solve c f) = Solve b e ≡ Solve c f
+IsSame (Serve l w s e b k a) (Serve m x t f c j d) =
+    (string_bytes l ≡ string_bytes m) × (w ≡ x) × (s ≡ t) × (e ≡ f) × (b ≡ c) × (k ≡ j) × (a ≡ d)
+IsSame (Solve b e) (Serve m x t f c j d) = ⊥
+IsSame (Serve l w s e b k a) (Solve c f) = ⊥
 
 -- each number lies in its range
 abbrev pub IsInRange : Args → Type 0
 IsInRange (Solve budget entries) = IfSome budget IsBudget × IsTableSize entries
+IsInRange (Serve listen workers shards entries budget websocket allow_stop) =
+    (1 ≤ workers) × (workers ≤ MOST_WORKERS) × (1 ≤ shards) × (shards ≤ MOST_SHARDS) × IsTableSize entries × IfSome budget IsBudget
 
 -- no word is the option's name or begins with it
 abbrev pub IsLeftOut : Text → List Text → Type 0
@@ -58,3 +72,6 @@ IsLeftOut option words = list_any (λ word. bytes_eq (take (length option) word)
 abbrev pub HasDefaults : List Text → Args → Type 0
 HasDefaults words (Solve budget entries) =
     (IsLeftOut (codes "--budget") words → budget ≡ None) × (IsLeftOut (codes "--entries") words → entries ≡ 4096)
+HasDefaults words (Serve listen workers shards entries budget websocket allow_stop) =
+    (IsLeftOut (codes "--workers") words → workers ≡ 4) × (IsLeftOut (codes "--shards") words → shards ≡ 16)
+    × (IsLeftOut (codes "--entries") words → entries ≡ 4096) × (IsLeftOut (codes "--budget") words → budget ≡ None)

@@ -1,5 +1,5 @@
 -- How the program ends, and what it leaves of its streams.
-use Rattle.std.specs.Prelude.{◌≡◌, ◌⊎◌, ℕ, List, [], Option, Result, Ok, Err, Vec, String, codes, map, string_bytes}
+use Rattle.std.specs.Prelude.{◌≡◌, ◌⊎◌, ℕ, List, [], Option, Result, Ok, Err, Vec, String, codes, map, string_bytes, decimal, ◌++◌}
 use Rattle.std.specs.Io.KnownBytes.{Appends}
 use Rattle.clap.specs.Kinds.{IsAmong}
 use Rattle.clap.specs.Faults.{fault_of}
@@ -9,20 +9,25 @@ use Rattle.dd_lines.specs.declared.counted_device.CountedDevice.{CountedDevice}
 use Rattle.dd_lines.specs.CountedDevices.{bytes_of, failures_of, FailedOnce}
 use Rattle.dd_lines.specs.Served.{ServedAll, ServedBeginning, WroteText}
 use Rattle.dd_program.specs.declared.command_line.Args.{Args}
-use Rattle.dd_program.specs.declared.command_line.Args.TheVariants.{Solve}
+use Rattle.dd_program.specs.declared.command_line.Args.TheVariants.{Serve, Solve}
 use Rattle.dd_program.specs.declared.command_line.WordsFault.{WordsFault}
 use Rattle.dd_program.specs.declared.command_line.WordsFault.TheVariants.{NotText, OutOfMemory as NoMemory}
 use Rattle.dd_program.specs.declared.ending.Ending.{Ending}
-use Rattle.dd_program.specs.declared.ending.Ending.TheVariants.{Answered, Shown, BadLine, ReadFailed, WriteFailed, OutOfMemory}
+use Rattle.dd_program.specs.declared.ending.Ending.TheVariants.{Answered, Shown, Closed, BadLine, ReadFailed, WriteFailed, ListenFailed, OutOfMemory}
 use Rattle.dd_program.specs.CommandLine.{Text, Asks}
 use Rattle.dd_program.specs.Program.{program_app}
+use Rattle.dd_server.specs.Journals.{IsLengthOfJournal}
+use Rattle.dd_book.specs.Limits.{LimitsOf, limits_of}
+use Rattle.dd_book.specs.declared.limits.TheConstants.{MOST_OPEN_JOBS, MOST_JOBS, MOST_PASSES, MOST_EVENTS}
 
 -- the program's status after this ending
 abbrev pub status_of : Ending → ℕ
 status_of Answered = 0
 status_of Shown = 0
+status_of Closed = 0
 status_of ReadFailed = 1
 status_of WriteFailed = 1
+status_of ListenFailed = 1
 status_of OutOfMemory = 1
 status_of BadLine = 2
 
@@ -30,6 +35,7 @@ status_of BadLine = 2
 abbrev pub line_of : Ending → List ℕ
 line_of ReadFailed = codes "ddserve: read failed\n"
 line_of WriteFailed = codes "ddserve: write failed\n"
+line_of ListenFailed = codes "ddserve: listen failed\n"
 line_of OutOfMemory = codes "ddserve: out of memory\n"
 line_of _ = []
 
@@ -112,42 +118,96 @@ pub record RunsOut (old new : Streams) : Type 0 where
 
 -- ---- lines are answered
 
--- the budget of each line
-abbrev pub budget_of : Args → Option ℕ
-budget_of (Solve budget entries) = budget
-
 -- all that came was read, each line of it was answered, and no call failed
-pub record Serves (args : Args) (old new : Streams) : Type 0 where
-  pub served : ServedAll (budget_of args) old.input.bytes new.input.bytes old.output.bytes new.output.bytes
+pub record SolvesAll (budget : Option ℕ) (old new : Streams) : Type 0 where
+  pub served : ServedAll budget old.input.bytes new.input.bytes old.output.bytes new.output.bytes
   pub reads : new.input.failures ≡ old.input.failures
   pub writes : new.output.failures ≡ old.output.failures
 
 -- what was written is a beginning of the replies to what was read
-abbrev pub ServesBeginning : Args → Streams → Streams → Type 0
-ServesBeginning args old new =
-    ServedBeginning (budget_of args) old.input.bytes new.input.bytes old.output.bytes new.output.bytes
+abbrev pub SolvesBeginning : Option ℕ → Streams → Streams → Type 0
+SolvesBeginning budget old new =
+    ServedBeginning budget old.input.bytes new.input.bytes old.output.bytes new.output.bytes
 
 -- a read failed, and what was written is a beginning of the replies
-pub record FailsToRead (args : Args) (old new : Streams) : Type 0 where
-  pub served : ServesBeginning args old new
+pub record FailsToRead (budget : Option ℕ) (old new : Streams) : Type 0 where
+  pub served : SolvesBeginning budget old new
   pub reads : Fails old.input new.input
   pub writes : new.output.failures ≡ old.output.failures
   pub said : Writes (line_of ReadFailed) old.errors new.errors
 
 -- a write failed, and what was written is a beginning of the replies
-pub record FailsToWrite (args : Args) (old new : Streams) : Type 0 where
-  pub served : ServesBeginning args old new
+pub record FailsToWrite (budget : Option ℕ) (old new : Streams) : Type 0 where
+  pub served : SolvesBeginning budget old new
   pub reads : new.input.failures ≡ old.input.failures
   pub writes : Fails old.output new.output
   pub said : Writes (line_of WriteFailed) old.errors new.errors
 
--- the lines of the input are answered as the arguments ask, up to this ending
+-- the lines of the input are answered, each within the budget, up to this ending
+abbrev pub SolvesUntil : Option ℕ → Streams → Streams → Ending → Type 0
+SolvesUntil budget old new Answered = SolvesAll budget old new × (new.errors ≡ old.errors)
+SolvesUntil budget old new ReadFailed = FailsToRead budget old new
+SolvesUntil budget old new WriteFailed = FailsToWrite budget old new
+SolvesUntil budget old new OutOfMemory = RunsOut old new
+SolvesUntil budget old new _ = ⊥
+
+-- ---- clients are served
+
+-- what is told of the address that is listened at, and at the end of the number of events
+abbrev pub listening_text : List ℕ → List ℕ
+listening_text address = codes "listening on " ++ address ++ codes "\n"
+
+abbrev pub closed_text : ℕ → List ℕ
+closed_text events = codes "closed after " ++ decimal events ++ codes " events\n"
+
+-- the most that a book and its callers may hold
+abbrev pub greatest_limits : LimitsOf
+greatest_limits = limits_of MOST_OPEN_JOBS MOST_JOBS MOST_PASSES MOST_EVENTS
+
+-- the address was told, and at the end how many events the journal has
+pub record Serves (old new : Streams) : Type 0 where
+  pub input : new.input ≡ old.input
+  pub address : List ℕ
+  pub between : Device
+  pub listens : WritesAll (listening_text address) old.output between
+  pub events : ℕ
+  pub journal : IsLengthOfJournal greatest_limits events
+  pub closes : WritesAll (closed_text events) between new.output
+  pub errors : new.errors ≡ old.errors
+
+-- one of the two could not be told whole
+pub record FailsToTell (old new : Streams) : Type 0 where
+  pub input : new.input ≡ old.input
+  pub output : ((address : List ℕ) × WritesBeginning (listening_text address) old.output new.output)
+      ⊎ ((address : List ℕ) × (between : Device) × WritesAll (listening_text address) old.output between
+      × (events : ℕ) × WritesBeginning (closed_text events) between new.output)
+  pub said : Writes (line_of WriteFailed) old.errors new.errors
+
+-- the number of events was told, up to this ending
+abbrev pub TellsEnd : ℕ → Device → Device → Device → Device → Ending → Type 0
+TellsEnd events output output2 errors errors2 Closed = WritesAll (closed_text events) output output2 × (errors2 ≡ errors)
+TellsEnd events output output2 errors errors2 WriteFailed =
+    WritesBeginning (closed_text events) output output2 × Writes (line_of WriteFailed) errors errors2
+TellsEnd events output output2 errors errors2 _ = ⊥
+
+-- it ended badly, perhaps after the address was told, and that was said
+pub record FailsToServe (ending : Ending) (old new : Streams) : Type 0 where
+  pub input : new.input ≡ old.input
+  pub output : (new.output ≡ old.output) ⊎ ((address : List ℕ) × WritesAll (listening_text address) old.output new.output)
+  pub said : Writes (line_of ending) old.errors new.errors
+
+-- clients are served, up to this ending
+abbrev pub ServesUntil : Streams → Streams → Ending → Type 0
+ServesUntil old new Closed = Serves old new
+ServesUntil old new WriteFailed = FailsToTell old new
+ServesUntil old new ListenFailed = FailsToServe ListenFailed old new
+ServesUntil old new OutOfMemory = FailsToServe OutOfMemory old new
+ServesUntil old new _ = ⊥
+
+-- what the arguments ask for is done, up to this ending
 abbrev pub AnswersUntil : Args → Streams → Streams → Ending → Type 0
-AnswersUntil args old new Answered = Serves args old new × (new.errors ≡ old.errors)
-AnswersUntil args old new ReadFailed = FailsToRead args old new
-AnswersUntil args old new WriteFailed = FailsToWrite args old new
-AnswersUntil args old new OutOfMemory = RunsOut old new
-AnswersUntil args old new _ = ⊥
+AnswersUntil (Solve budget entries) old new ending = SolvesUntil budget old new ending
+AnswersUntil (Serve listen workers shards entries budget websocket allow_stop) old new ending = ServesUntil old new ending
 
 -- ---- an error is shown
 
@@ -182,7 +242,7 @@ ShowsUntil error old new _ = ⊥
 
 -- ---- the run
 
--- What a run does up to its ending: it answers lines where the words ask for that, and else shows their error; or memory ran
+-- What a run does up to its ending: it answers lines or serves clients where the words ask for that, and else shows their error; or memory ran
 -- out before either.
 abbrev pub Runs : Words → Streams → Streams → Ending → Type 0
 Runs words old new ending =

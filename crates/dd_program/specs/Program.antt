@@ -7,6 +7,9 @@ use Rattle.clap.specs.declared.builder.arg.Arg.{Arg}
 use Rattle.clap.specs.declared.builder.command.Command.{Command}
 use Rattle.clap.specs.declared.builder.command.Command.TheViews.{out-Command}
 use Rattle.clap.specs.declared.builder.value_parser.ValueParser.TheVariants.{Signed, Unsigned}
+use Rattle.clap.specs.declared.builder.action.ArgAction.TheVariants.{SetTrue}
+use Rattle.dd_program.specs.declared.command_line.TheConstants.{MOST_WORKERS}
+use Rattle.dd_table.specs.declared.shared_table.TheConstants.{MOST_SHARDS}
 
 -- `--budget N`
 abbrev pub budget_rule : Rule
@@ -29,13 +32,54 @@ entries_rule = record (new_rule (codes "entries")) {
 abbrev pub solve_app : App
 solve_app = with_rule (with_rule (new_app (codes "solve")) budget_rule) entries_rule
 
+-- `--listen ADDR`
+abbrev pub listen_rule : Rule
+listen_rule = record (new_rule (codes "listen")) { long = Some (codes "listen"); value_names = 1; required = true }
+
+-- `--workers N`
+abbrev pub workers_rule : Rule
+workers_rule = record (new_rule (codes "workers")) {
+  long = Some (codes "workers");
+  value_names = 1;
+  parser = Some (Signed (pos 1) (pos MOST_WORKERS));
+}
+
+-- `--shards N`
+abbrev pub shards_rule : Rule
+shards_rule = record (new_rule (codes "shards")) {
+  long = Some (codes "shards");
+  value_names = 1;
+  parser = Some (Signed (pos 1) (pos MOST_SHARDS));
+}
+
+-- `--entries N` of `serve`
+abbrev pub shard_entries_rule : Rule
+shard_entries_rule = record (new_rule (codes "entries")) {
+  long = Some (codes "entries");
+  value_names = 1;
+  parser = Some (Signed (pos 1) (pos MOST_SHAPES));
+}
+
+-- `--websocket`
+abbrev pub websocket_rule : Rule
+websocket_rule = record (new_rule (codes "websocket")) { long = Some (codes "websocket"); action = Some SetTrue }
+
+-- `--allow-stop`
+abbrev pub allow_stop_rule : Rule
+allow_stop_rule = record (new_rule (codes "allow-stop")) { long = Some (codes "allow-stop"); action = Some SetTrue }
+
+-- `serve` with its options
+abbrev pub serve_app : App
+serve_app =
+    with_rule (with_rule (with_rule (with_rule (with_rule (with_rule (with_rule (new_app (codes "serve")) listen_rule) workers_rule) shards_rule) shard_entries_rule) budget_rule) websocket_rule) allow_stop_rule
+
 -- the program without a subcommand, which it wants
 abbrev pub bare_app : App
 bare_app = record { top = record (new_app (codes "ddserve")).top { has_version = true; subcommand_required = true }; subs = [] }
 
 -- the program
 abbrev pub program_app : App
-program_app = with_subcommand bare_app solve_app.top
+program_app = with_subcommand (with_subcommand bare_app solve_app.top) serve_app.top
 
 -- the argument is that of the rule, at its own command alone
 abbrev pub IsOption : Arg → Rule → Type 0

@@ -1,13 +1,15 @@
 //! The words that the program is started with.
-ghost use Rattle.std.specs.Prelude.{◌≡◌, ◌⊎◌, IfOk, IfErr, Some, codes, map, string_bytes};
+ghost use Rattle.std.specs.Prelude.{◌≡◌, ◌⊎◌, ◌≤◌, IfOk, IfErr, Some, codes, map, string_bytes};
 ghost use Rattle.clap.specs.Words.{app_of, fault_of, found_of, kind_of, rows_of, HasKind};
-ghost use Rattle.dd_program.specs.CommandLine.{Asks, HasDefaults, IsInRange};
-ghost use Rattle.dd_program.specs.Program.{budget_rule, entries_rule, program_app, solve_app, number_of, HasNumbers, IsOption, IsSubcommand};
+ghost use Rattle.dd_program.specs.CommandLine.{Asks, HasDefaults, IsInRange, IsSame};
+ghost use Rattle.dd_program.specs.Program.{allow_stop_rule, budget_rule, entries_rule, listen_rule, program_app, serve_app, shard_entries_rule, shards_rule, solve_app, websocket_rule, workers_rule, number_of, HasNumbers, IsOption, IsSubcommand};
+ghost use Rattle.dd_program.specs.ServeWords.{budget_in, is_set, number_in, AsksToServeBy, IsGiven};
 
 use crate::help::requests;
 use clap::error::ErrorKind;
-use clap::{Arg, ArgMatches, Command, Error, value_parser};
+use clap::{Arg, ArgAction, ArgMatches, Command, Error, value_parser};
 use dd_shard::MOST_SHAPES;
+use dd_table::MOST_SHARDS;
 use std::alloc::{AllocError, Global};
 use std::rt::Env;
 use std::{env, io};
@@ -15,11 +17,14 @@ use std::{env, io};
 /// The most positions of a budget.
 const MOST_POSITIONS: i64 = 1_000_000_000_000;
 
+/// The most workers of `serve`.
+pub const MOST_WORKERS: u32 = 64;
+
 /// The program's version, as `CHANGELOG.md` has it.
 pub const VERSION: &str = "0.2.0";
 
 /// What the program is asked to do.
-#[derive(Clone, Copy, Debug, PartialEq, Eq)]
+#[derive(Debug, Drop, PartialEq, Eq)]
 pub enum Args {
     /// Answers the request lines of the standard input.
     Solve {
@@ -27,6 +32,24 @@ pub enum Args {
         budget: Option<u64>,
         /// The entries of the transposition table, 1 to `MOST_SHAPES`.
         entries: u32,
+    },
+    /// Answers the connections of an address.
+    Serve {
+        /// The address as it was given.
+        listen: String,
+        /// The threads that search, 1 to 64.
+        workers: u32,
+        /// The shards of the transposition table, 1 to 256.
+        shards: u32,
+        /// The entries of each shard, 1 to `MOST_SHAPES`.
+        entries: u32,
+        /// The most positions that the search may come to for each job or part of one, 0 to 1,000,000,000,000. `None` is no
+        /// limit.
+        budget: Option<u64>,
+        /// Each connection is a WebSocket.
+        websocket: bool,
+        /// A client may stop the program.
+        allow_stop: bool,
     },
 }
 
@@ -57,7 +80,7 @@ pub fn read_args(alloc: Global, words: &[String]) -> Result<Args, Error>
     ensures asked { IfOk result (Asks (map string_bytes words.now)) }
     // The line asks for nothing else.
     ensures only { IfOk result (λ args. (other : Args) → Asks (map string_bytes words.now) other
-        → other ≡ args) }
+        → IsSame other args) }
     // A line that asks for something is refused for want of memory alone.
     ensures refused { IfErr result (λ error. (kind_of error ≡ ErrorKind.OutOfMemory)
         ⊎ ((args : Args) → ¬ Asks (map string_bytes words.now) args)) }
@@ -70,6 +93,7 @@ pub fn read_args(alloc: Global, words: &[String]) -> Result<Args, Error>
     let (name, options) = matches.subcommand().unwrap();
     match name {
         "solve" => Ok(solve_args(options)),
+        "serve" => Ok(serve_args(alloc, options)?),
         _ => unreachable!(),
     }
 }
@@ -106,6 +130,65 @@ fn solve_args(options: &ArgMatches) -> Args
     }
 }
 
+/// The number that the option's text writes.
+fn number_of(options: &ArgMatches, option: &str) -> Option<u32>
+    ensures { IsGiven 32 option.now (rows_of (found_of options.now)) result }
+{
+    options.get_one(option)
+}
+
+/// The number of positions that the option's text writes.
+fn positions_of(options: &ArgMatches, option: &str) -> Option<u64>
+    ensures { IsGiven 64 option.now (rows_of (found_of options.now)) result }
+{
+    options.get_one(option)
+}
+
+/// Whether the flag was given.
+fn is_set(options: &ArgMatches, flag: &str) -> bool
+    ensures { result ≡ is_set flag.now (rows_of (found_of options.now)) }
+{
+    match options.get_str(flag) {
+        Some(text) => text == "true",
+        None => false,
+    }
+}
+
+/// The number that was given, which the parser of words has held to its range, or the default.
+fn number_in(given: Option<u32>, most: u32, default: u32) -> u32
+    ensures { result ≡ number_in most default given }
+{
+    match given {
+        Some(number) if 1 <= number && number <= most => number,
+        _ => default,
+    }
+}
+
+/// The budget that was given, which the parser of words has held to its range, or none.
+fn budget_in(given: Option<u64>) -> Option<u64>
+    ensures { result ≡ budget_in given }
+{
+    match given {
+        Some(positions) if positions <= MOST_POSITIONS as u64 => Some(positions),
+        _ => None,
+    }
+}
+
+/// What the options of `serve` ask for.
+fn serve_args(alloc: Global, options: &ArgMatches) -> Result<Args, AllocError>
+    ensures { IfOk result (AsksToServeBy (rows_of (found_of options.now))) }
+{
+    Ok(Args::Serve {
+        listen: String::from_str(alloc, options.get_str("listen").unwrap_or(""))?,
+        workers: number_in(number_of(options, "workers"), MOST_WORKERS, 4),
+        shards: number_in(number_of(options, "shards"), MOST_SHARDS, 16),
+        entries: number_in(number_of(options, "entries"), MOST_SHAPES, 4_096),
+        budget: budget_in(positions_of(options, "budget")),
+        websocket: is_set(options, "websocket"),
+        allow_stop: is_set(options, "allow-stop"),
+    })
+}
+
 fn program<'a>(alloc: Global) -> Result<Command<'a>, AllocError>
     ensures { IfOk result (λ command. app_of command ≡ program_app) }
 {
@@ -116,7 +199,8 @@ fn program<'a>(alloc: Global) -> Result<Command<'a>, AllocError>
         .version(VERSION)
         .after_help("'ddserve solve --help' says what a request and a reply are.")
         .subcommand_required(true)
-        .subcommand(solve_command(alloc)?)
+        .subcommand(solve_command(alloc)?)?
+        .subcommand(serve_command(alloc)?)
 }
 
 fn solve_command<'a>(alloc: Global) -> Result<Command<'a>, AllocError>
@@ -129,6 +213,22 @@ fn solve_command<'a>(alloc: Global) -> Result<Command<'a>, AllocError>
         .after_help(requests())
         .arg(budget_option(alloc))?
         .arg(entries_option(alloc))
+}
+
+fn serve_command<'a>(alloc: Global) -> Result<Command<'a>, AllocError>
+    ensures { IfOk result (λ command. IsSubcommand command serve_app.top) }
+{
+    Command::new(alloc, "serve")
+        .about(
+            "Answers the clients of an address, with a job for each position and workers that search",
+        )
+        .arg(listen_option(alloc))?
+        .arg(workers_option(alloc))?
+        .arg(shards_option(alloc))?
+        .arg(shard_entries_option(alloc))?
+        .arg(budget_option(alloc))?
+        .arg(websocket_flag(alloc))?
+        .arg(allow_stop_flag(alloc))
 }
 
 fn budget_option<'a>(alloc: Global) -> Arg<'a>
@@ -150,4 +250,63 @@ fn entries_option<'a>(alloc: Global) -> Arg<'a>
         .value_parser(value_parser!(u32).range(1..=MOST_SHAPES as i64))
         .default_value("4096")
         .help("The entries of the transposition table, 1 to 65536")
+}
+
+fn listen_option<'a>(alloc: Global) -> Arg<'a>
+    ensures { IsOption result listen_rule }
+{
+    Arg::new(alloc, "listen")
+        .long("listen")
+        .value_name("ADDR")
+        .required(true)
+        .help("The address to listen at, as 127.0.0.1:4100; port 0 picks a free one")
+}
+
+fn workers_option<'a>(alloc: Global) -> Arg<'a>
+    ensures { IsOption result workers_rule }
+{
+    Arg::new(alloc, "workers")
+        .long("workers")
+        .value_name("N")
+        .value_parser(value_parser!(u32).range(1..=MOST_WORKERS as i64))
+        .help("The threads that search, 1 to 64 [default: 4]")
+}
+
+fn shards_option<'a>(alloc: Global) -> Arg<'a>
+    ensures { IsOption result shards_rule }
+{
+    Arg::new(alloc, "shards")
+        .long("shards")
+        .value_name("N")
+        .value_parser(value_parser!(u32).range(1..=MOST_SHARDS as i64))
+        .help("The shards of the transposition table, 1 to 256 [default: 16]")
+}
+
+fn shard_entries_option<'a>(alloc: Global) -> Arg<'a>
+    ensures { IsOption result shard_entries_rule }
+{
+    let most = MOST_SHAPES as i64;
+    Arg::new(alloc, "entries")
+        .long("entries")
+        .value_name("N")
+        .value_parser(value_parser!(u32).range(1..=most))
+        .help("The entries of each shard, 1 to 65536 [default: 4096]")
+}
+
+fn websocket_flag<'a>(alloc: Global) -> Arg<'a>
+    ensures { IsOption result websocket_rule }
+{
+    Arg::new(alloc, "websocket")
+        .long("websocket")
+        .action(ArgAction::SetTrue)
+        .help("Each connection is a WebSocket, with a message for each line")
+}
+
+fn allow_stop_flag<'a>(alloc: Global) -> Arg<'a>
+    ensures { IsOption result allow_stop_rule }
+{
+    Arg::new(alloc, "allow-stop")
+        .long("allow-stop")
+        .action(ArgAction::SetTrue)
+        .help("Clients may stop the program")
 }

@@ -12,13 +12,17 @@ pub enum Ending {
     Answered,
     /// Help or the version was asked for, and shown.
     Shown,
+    /// Clients were served until one of them stopped the program.
+    Closed,
     /// The words ask for nothing that the program does.
     BadLine,
     /// A read of the input failed.
     ReadFailed,
     /// A write of the output failed.
     WriteFailed,
-    /// Memory ran out outside a line.
+    /// The address could not be listened at, or no more connections could be accepted.
+    ListenFailed,
+    /// Memory ran out outside a line, or a worker's thread could not be had.
     OutOfMemory,
 }
 
@@ -31,18 +35,21 @@ impl Ending {
         match self {
             Ending::ReadFailed => "ddserve: read failed\n",
             Ending::WriteFailed => "ddserve: write failed\n",
+            Ending::ListenFailed => "ddserve: listen failed\n",
             Ending::OutOfMemory => "ddserve: out of memory\n",
-            Ending::Answered | Ending::Shown | Ending::BadLine => "",
+            Ending::Answered | Ending::Shown | Ending::Closed | Ending::BadLine => "",
         }
     }
 
-    /// 0 where what the words ask for was done, 1 after a device's fault or want of memory, 2 at a bad line.
+    /// 0 where what the words ask for was done, 1 after a fault of a device or of the listener or want of memory, 2 at
+    /// a bad line.
     pub fn status(self) -> u8
         ensures { result ≡ status_of self }
     {
         match self {
-            Ending::Answered | Ending::Shown => 0,
-            Ending::ReadFailed | Ending::WriteFailed | Ending::OutOfMemory => 1,
+            Ending::Answered | Ending::Shown | Ending::Closed => 0,
+            Ending::ReadFailed | Ending::WriteFailed | Ending::ListenFailed | Ending::OutOfMemory =>
+                1,
             Ending::BadLine => 2,
         }
     }

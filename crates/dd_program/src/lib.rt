@@ -5,7 +5,8 @@ mod command_line;
 mod ending;
 mod help;
 mod run;
+mod serving;
 
-pub use command_line::{Args, VERSION, WordsFault, given_words, not_text, read_args};
+pub use command_line::{Args, MOST_WORKERS, VERSION, WordsFault, given_words, not_text, read_args};
 pub use ending::Ending;
 pub use run::run_words;

@@ -2,23 +2,33 @@
 ghost use Rattle.std.specs.Prelude.{◌≡◌, ◌≤◌, IfOk, IfErr};
 ghost use Rattle.clap.specs.Words.{kind_of};
 ghost use Rattle.dd_program.specs.CommandLine.{IsInRange, IsTableSize};
-ghost use Rattle.dd_program.specs.Endings.{line_of, state_of, streams, words_of, Device, AskFor, Explains, Writes, AnswersUntil, ShowsUntil, Runs};
+ghost use Rattle.dd_program.specs.Endings.{line_of, state_of, streams, words_of, Device, AskFor, Explains, Writes, SolvesUntil, ShowsUntil, Runs};
 
 use crate::command_line::{Args, WordsFault, not_text, read_args};
 use crate::ending::Ending;
+use crate::serving::serve;
 use clap::Error;
 use clap::error::ErrorKind;
 use dd_cache::Cache;
 use dd_lines::{CountedDevice, LineFault, solve_lines, write_whole};
 use dd_search::Bounds;
+use dd_server::ServeArgs;
 use dd_table::SharedTable;
 use std::alloc::{AllocError, Global};
 use std::io::{Read, Write};
+use std::net::{Net, TcpListener, TcpStream};
 use std::sync::Wait;
+use std::thread::Threads;
+use std::time::Clock;
 
-/// Does what the words ask for: answers the lines of the input on the output, shows help or the version there, or says on
-/// the standard error what is wrong with the words.
-pub fn run_words<W: Wait, R: Read, O: Write, E: Write>(
+/// Does what the words ask for: answers the lines of the input on the output, serves the clients of an address, shows help
+/// or the version on the output, or says on the standard error what is wrong with the words.
+pub fn run_words<
+    W: Threads + Wait + Clock + Eprint + Net<Listener = TcpListener, Stream = TcpStream> + Sync,
+    R: Read,
+    O: Write,
+    E: Write,
+>(
     rt: &W,
     alloc: Global,
     words: Result<Vec<String>, WordsFault>,
@@ -33,7 +43,30 @@ pub fn run_words<W: Wait, R: Read, O: Write, E: Write>(
         (state_of E.contents errors.new)) result }
 {
     match args_of(alloc, words) {
-        Ok(args) => answer(rt, alloc, args, reader, output, errors),
+        Ok(Args::Solve { budget, entries }) => {
+            solve(rt, alloc, budget, entries, reader, output, errors)
+        }
+        Ok(
+            Args::Serve {
+                listen,
+                workers,
+                shards,
+                entries,
+                budget,
+                websocket,
+                allow_stop,
+            },
+        ) => {
+            let args = ServeArgs {
+                workers,
+                shards,
+                entries,
+                budget,
+                websocket,
+                allow_stop,
+            };
+            serve(rt, alloc, listen.as_str(), args, output, errors)
+        }
         Err(error) => match error.kind() {
             ErrorKind::OutOfMemory => fail(errors, Ending::OutOfMemory),
             _ => show(alloc, &error, output, errors),
@@ -54,48 +87,47 @@ fn args_of(alloc: Global, words: Result<Vec<String>, WordsFault>) -> Result<Args
     }
 }
 
-/// Answers the lines of the input as the arguments ask, over a view of a table of one shard, behind a cache.
-fn answer<W: Wait, R: Read, O: Write, E: Write>(
+/// Answers the lines of the input, each within the budget, over a view of a table of one shard, behind a cache.
+fn solve<W: Wait, R: Read, O: Write, E: Write>(
     rt: &W,
     alloc: Global,
-    args: Args,
+    budget: Option<u64>,
+    entries: u32,
     reader: &mut CountedDevice<R>,
     output: &mut CountedDevice<O>,
     errors: &mut CountedDevice<E>,
 ) -> Ending
-    requires { IsInRange args }
-    ensures { AnswersUntil args
+    requires { IsTableSize entries }
+    ensures { SolvesUntil budget
         (streams (state_of R.remaining reader.old) (state_of O.contents output.old)
         (state_of E.contents errors.old))
         (streams (state_of R.remaining reader.new) (state_of O.contents output.new)
         (state_of E.contents errors.new)) result }
 {
-    let Args::Solve { budget: _, entries } = args;
     let Ok(table) = SharedTable::new(alloc, 1, entries) else {
         return fail(errors, Ending::OutOfMemory);
     };
     let Ok(mut cache) = Cache::new(alloc, table.view(rt)) else {
         return fail(errors, Ending::OutOfMemory);
     };
-    answer_over(alloc, args, reader, output, errors, &mut cache)
+    solve_over(alloc, budget, reader, output, errors, &mut cache)
 }
 
 /// Answers the lines of the input over a table, each within the budget.
-fn answer_over<B: Bounds, R: Read, O: Write, E: Write>(
+fn solve_over<B: Bounds, R: Read, O: Write, E: Write>(
     alloc: Global,
-    args: Args,
+    budget: Option<u64>,
     reader: &mut CountedDevice<R>,
     output: &mut CountedDevice<O>,
     errors: &mut CountedDevice<E>,
     table: &mut B,
 ) -> Ending
-    ensures { AnswersUntil args
+    ensures { SolvesUntil budget
         (streams (state_of R.remaining reader.old) (state_of O.contents output.old)
         (state_of E.contents errors.old))
         (streams (state_of R.remaining reader.new) (state_of O.contents output.new)
         (state_of E.contents errors.new)) result }
 {
-    let Args::Solve { budget, entries: _ } = args;
     match solve_lines(alloc, reader, output, table, budget) {
         Ok(()) => Ending::Answered,
         Err(LineFault::Read) => fail(errors, Ending::ReadFailed),
@@ -133,7 +165,7 @@ fn show<O: Write, E: Write>(
 }
 
 /// Says on the standard error why the program ends before its work is done, and ends so.
-fn fail<E: Write>(errors: &mut CountedDevice<E>, ending: Ending) -> Ending
+pub(crate) fn fail<E: Write>(errors: &mut CountedDevice<E>, ending: Ending) -> Ending
     ensures ending { result ≡ ending }
     ensures says { Writes (line_of ending)
         (state_of E.contents errors.old) (state_of E.contents errors.new) }

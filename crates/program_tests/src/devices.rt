@@ -4,7 +4,10 @@ use dd_program::{Ending, WordsFault, run_words};
 use std::alloc::{AllocError, Global};
 use std::io;
 use std::io::{Error, ErrorKind, Read, Write};
+use std::net::{Net, TcpListener, TcpStream};
 use std::sync::Wait;
+use std::thread::Threads;
+use std::time::Clock;
 
 /// Gives its bytes, and fails once it has had its calls.
 #[derive(Drop)]
@@ -84,7 +87,9 @@ pub fn words_in(alloc: Global, line: &str) -> Result<Vec<String>, AllocError> {
 }
 
 /// A run of these words over this input.
-pub fn run_over<W: Wait>(
+pub fn run_over<
+    W: Threads + Wait + Clock + Eprint + Net<Listener = TcpListener, Stream = TcpStream> + Sync,
+>(
     rt: &W,
     alloc: Global,
     words: Result<Vec<String>, WordsFault>,
@@ -113,13 +118,9 @@ pub fn run_over<W: Wait>(
 }
 
 /// A run of the words of this line over this input.
-pub fn run_line<W: Wait>(
-    rt: &W,
-    alloc: Global,
-    line: &str,
-    input: &str,
-    devices: Devices,
-) -> Result<Outcome, AllocError> {
+pub fn run_line<
+    W: Threads + Wait + Clock + Eprint + Net<Listener = TcpListener, Stream = TcpStream> + Sync,
+>(rt: &W, alloc: Global, line: &str, input: &str, devices: Devices) -> Result<Outcome, AllocError> {
     let words = words_in(alloc, line)?;
     Ok(run_over(rt, alloc, Ok(words), input, devices))
 }

@@ -2,9 +2,12 @@ use crate::devices::{Devices, Outcome, SOUND, run_line, run_over};
 use dd_program::{Ending, VERSION, WordsFault, given_words};
 use std::alloc::{AllocError, Global};
 use std::env::FillError;
+use std::net::{Net, TcpListener, TcpStream};
 use std::rt::Env;
 use std::sync::Wait;
 use std::test::Fail;
+use std::thread::Threads;
+use std::time::Clock;
 
 // Lines and replies are what functions answer, so that the proof of a test meets a value and no text.
 
@@ -252,12 +255,9 @@ fn all() -> &'static str {
 }
 
 // The least budget, below 100, with which the last of these lines is answered.
-fn least_budget<W: Wait>(
-    rt: &W,
-    alloc: Global,
-    entries: u32,
-    lines: &str,
-) -> Result<Option<u32>, AllocError> {
+fn least_budget<
+    W: Threads + Wait + Clock + Eprint + Net<Listener = TcpListener, Stream = TcpStream> + Sync,
+>(rt: &W, alloc: Global, entries: u32, lines: &str) -> Result<Option<u32>, AllocError> {
     for budget in 0u32..100 {
         let line = format!(in alloc; "ddserve solve --entries {entries} --budget {budget}")?;
         let outcome = run_line(rt, alloc, line.as_str(), lines, SOUND)?;

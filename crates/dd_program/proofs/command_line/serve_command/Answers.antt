@@ -1,0 +1,17 @@
+use Rattle.std.proofs.Common.{◌≡◌, codes, rules}
+use Rattle.clap.specs.Words.{App, app_of, new_app, with_rule}
+use Rattle.clap.specs.declared.builder.command.Command.{Command}
+use Rattle.dd_program.specs.Program.{listen_rule, workers_rule, shards_rule, shard_entries_rule, budget_rule, websocket_rule, allow_stop_rule}
+use Rattle.dd_program.proofs.ServeWords.{Holds, adds, adds-last}
+use Rattle.dd_program.proofs.command_line.serve_command.Goals as goal
+
+pub returns : goal.returns
+returns c =
+    let bare : Holds (new_app (codes "serve")) c.about.result = search rules in
+    let one = adds (new_app (codes "serve")) listen_rule _ c.listen_option.result c.in_ok-arg.field-0 c.in_ok-arg.ensures c.listen_option.ensures bare in
+    let two = adds _ workers_rule _ c.workers_option.result c.in_ok-arg-2.field-0 c.in_ok-arg-2.ensures c.workers_option.ensures one in
+    let three = adds _ shards_rule _ c.shards_option.result c.in_ok-arg-3.field-0 c.in_ok-arg-3.ensures c.shards_option.ensures two in
+    let four = adds _ shard_entries_rule _ c.shard_entries_option.result c.in_ok-arg-4.field-0 c.in_ok-arg-4.ensures c.shard_entries_option.ensures three in
+    let five = adds _ budget_rule _ c.budget_option.result c.in_ok-arg-5.field-0 c.in_ok-arg-5.ensures c.budget_option.ensures four in
+    let six = adds _ websocket_rule _ c.websocket_flag.result c.in_ok-arg-6.field-0 c.in_ok-arg-6.ensures c.websocket_flag.ensures five in
+    adds-last _ allow_stop_rule _ c.allow_stop_flag.result c.arg-7.result c.arg-7.ensures c.allow_stop_flag.ensures six

@@ -1,0 +1,57 @@
+-- What a command line of `serve` asks for.
+use Rattle.std.specs.Prelude.{◌≡◌, ◌<◌, ◌^◌, ◌⊎◌, ◌&&◌, ℕ, List, [], ◌∷◌, Bool, true, false, Option, Some, None, codes, nat_le, option_map, if◌then◌else◌, unwrap_or, string_bytes}
+use Rattle.std.specs.Str.Parse.{digits_value, without_leading_plus}
+use Rattle.clap.specs.Words.{App, Row, first_of, one_of, subcommand_of}
+use Rattle.clap.specs.Faults.{fault_of}
+use Rattle.dd_shard.specs.declared.shard.TheConstants.{MOST_SHAPES}
+use Rattle.dd_program.specs.declared.command_line.Args.{Args}
+use Rattle.dd_program.specs.declared.command_line.Args.TheVariants.{Serve, Solve}
+use Rattle.dd_program.specs.declared.command_line.TheConstants.{MOST_WORKERS}
+use Rattle.dd_table.specs.declared.shared_table.TheConstants.{MOST_SHARDS}
+use Rattle.dd_program.specs.Program.{program_app, FitsBits}
+use Rattle.std.specs.Option.{option_map_or}
+use Rattle.std.specs.Str.{bytes_eq}
+
+-- the number that is given, where it is 1 to so many; else the default
+abbrev pub number_in : ℕ → ℕ → Option ℕ → ℕ
+number_in most default None = default
+number_in most default (Some number) = (if nat_le 1 number && nat_le number most then number else default)
+
+-- the budget that is given, where it is 0 to 1,000,000,000,000
+abbrev pub budget_in : Option ℕ → Option ℕ
+budget_in None = None
+budget_in (Some positions) = (if nat_le positions 1000000000000 then Some positions else None)
+
+-- what a text gives: the number that it writes, or none, where it writes none of so many bits
+abbrev pub IsGivenBy : ℕ → Option (List ℕ) → Option ℕ → Type 0
+IsGivenBy bits text (Some number) = (t : List ℕ) × (text ≡ Some t) × FitsBits bits t × (number ≡ digits_value 10 (without_leading_plus t))
+IsGivenBy bits text None = (t : List ℕ) → text ≡ Some t → ¬ FitsBits bits t
+
+-- what the option gives, by the text in its row
+abbrev pub IsGiven : ℕ → List ℕ → List Row → Option ℕ → Type 0
+IsGiven bits option rows given = IsGivenBy bits (one_of option rows) given
+
+-- the same of a number of 1 to so many, with its default
+abbrev pub HasNumber : List ℕ → List Row → ℕ → ℕ → ℕ → Type 0
+HasNumber option rows most default number = (given : Option ℕ) × IsGiven 32 option rows given × (number ≡ number_in most default given)
+
+-- the flag's text
+abbrev pub is_set : List ℕ → List Row → Bool
+is_set flag rows = option_map_or (λ text. bytes_eq text (codes "true")) (first_of flag rows) false
+
+-- what the options of `serve` ask for, by the rows that the parser of words gave them
+abbrev pub AsksToServeBy : List Row → Args → Type 0
+AsksToServeBy rows (Solve budget entries) = ⊥
+AsksToServeBy rows (Serve listen workers shards entries budget websocket allow_stop) =
+    (string_bytes listen ≡ unwrap_or (first_of (codes "listen") rows) [])
+    × HasNumber (codes "workers") rows MOST_WORKERS 4 workers
+    × HasNumber (codes "shards") rows MOST_SHARDS 16 shards
+    × HasNumber (codes "entries") rows MOST_SHAPES 4096 entries
+    × ((given : Option ℕ) × IsGiven 64 (codes "budget") rows given × (budget ≡ budget_in given))
+    × (websocket ≡ is_set (codes "websocket") rows)
+    × (allow_stop ≡ is_set (codes "allow-stop") rows)
+
+-- The line is one of `serve`: the parser of words finds no fault in it, and the arguments are what it makes of the options.
+abbrev pub AsksToServe : List (List ℕ) → Args → Type 0
+AsksToServe words args =
+    (rows : List Row) × (fault_of program_app words ≡ []) × (subcommand_of program_app words ≡ Some (codes "serve", rows)) × AsksToServeBy rows args
