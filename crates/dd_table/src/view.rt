@@ -110,7 +110,8 @@ impl<'a, R: Wait> Bounds for View<'a, R> {
         // The proof reads here that a position covers itself.
         let _ = start.position();
         covered_positions();
-        self.table.note_by(self.rt, start, strings, depths, interval);
+        self.table
+            .note_by(self.rt, start, strings, depths, interval);
         if interval.lo == interval.hi {
             self.table.offer(start, strings, interval.lo);
         }
