@@ -1,4 +1,4 @@
-//! Tests of requests, replies and lines, by their public surfaces, and devices of memory for tests.
+//! Tests of requests, replies and lines, by their public surfaces, with devices of memory and rows for tests.
 #![tactic(auto)]
 
 pub mod devices;
@@ -6,3 +6,4 @@ pub mod devices;
 mod lines;
 #[cfg(test)]
 mod reply;
+pub mod rows;

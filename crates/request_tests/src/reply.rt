@@ -6,19 +6,3 @@ mod solving;
 mod spelled;
 mod tables;
 mod worked;
-
-/// The part of a row before its first bar.
-pub fn before_bar(row: &[u8]) -> &[u8] {
-    match row.iter().position(|byte| *byte == b'|') {
-        Some(place) => &row[..place],
-        None => row,
-    }
-}
-
-/// The part of a row after its first bar.
-pub fn after_bar(row: &[u8]) -> &[u8] {
-    match row.iter().position(|byte| *byte == b'|') {
-        Some(place) => &row[place + 1..],
-        None => &[],
-    }
-}

@@ -10,10 +10,10 @@ mod messages;
 #[cfg(test)]
 mod replies;
 #[cfg(test)]
-mod rows;
-#[cfg(test)]
 mod served;
 #[cfg(test)]
 mod sockets;
+#[cfg(test)]
+mod words;
 #[cfg(test)]
 mod worked;

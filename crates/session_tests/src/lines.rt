@@ -1,7 +1,8 @@
 //! What follows a line.
-use crate::rows::{after_bar, before_bar, plain};
+use crate::words::plain;
 use dd_reply::Want;
 use dd_session::{Session, Step};
+use request_tests::rows::{after_bar, before_bar};
 use std::alloc::{AllocError, Global};
 use std::test::Fail;
 

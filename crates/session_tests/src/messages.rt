@@ -1,5 +1,5 @@
 //! What follows a message.
-use crate::rows::plain;
+use crate::words::plain;
 use dd_session::Session;
 use std::alloc::{AllocError, Global};
 use std::test::Fail;

@@ -1,8 +1,8 @@
 //! The texts of a book's replies.
-use crate::rows::{after_bar, before_bar};
 use book_tests::words::call;
 use dd_book::{Book, Limits};
 use dd_session::Session;
+use request_tests::rows::{after_bar, before_bar};
 use std::alloc::Global;
 
 // Each row is a call of the book, in the words of its tests, a bar and the text of the reply.

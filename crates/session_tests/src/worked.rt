@@ -90,7 +90,7 @@ fn the_last_line_may_lack_its_end(rt: HostRuntime) -> Result<(), Fail> {
     let whole = serves(
         &rt,
         rt.alloc(),
-        b"{\"do\":\"table\",\"deal\":\"N:A... K... Q... J...\"}",
+        br#"{"do":"solve","deal":"N:A... K... Q... J...","trump":4,"first":0,"solutions":3}"#,
         b"{\"job\":1}\n",
         1,
     )?;

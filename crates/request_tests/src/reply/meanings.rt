@@ -1,4 +1,4 @@
-use super::{after_bar, before_bar};
+use crate::rows::{after_bar, before_bar};
 use dd_cards::{Card, Rank, Seat, Suit};
 use dd_reply::{Asked, Request, read_request};
 use std::alloc::{AllocError, Global};

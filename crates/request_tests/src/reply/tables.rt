@@ -1,7 +1,7 @@
 //! Tables whose results can be counted by hand, and the parts that make one.
 ghost use Rattle.std.specs.Prelude.{◌≤◌};
 
-use super::{after_bar, before_bar};
+use crate::rows::{after_bar, before_bar};
 use dd_pbn::read_deal;
 use dd_play::PlayFault;
 use dd_reply::{SolvedPart, SolvedTable, TableRequest, reply_to_line, solve_part};

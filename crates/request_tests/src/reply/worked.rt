@@ -1,5 +1,5 @@
 //! Requests whose answers can be counted by hand.
-use super::{after_bar, before_bar};
+use crate::rows::{after_bar, before_bar};
 use dd_reply::reply_to_line;
 use dd_search::NoTable;
 use std::alloc::Global;

@@ -1,23 +1,7 @@
-//! Rows of two parts, as tables of bytes: the proof of a test then meets one literal and one loop, and not each row.
+//! What follows a line, in words.
 use dd_reply::{Asked, Want};
 use dd_session::Step;
 use std::alloc::{AllocError, Global};
-
-/// The part of a row before its first bar.
-pub fn before_bar(row: &[u8]) -> &[u8] {
-    match row.iter().position(|byte| *byte == b'|') {
-        Some(place) => &row[..place],
-        None => row,
-    }
-}
-
-/// The part of a row after its first bar.
-pub fn after_bar(row: &[u8]) -> &[u8] {
-    match row.iter().position(|byte| *byte == b'|') {
-        Some(place) => &row[place + 1..],
-        None => &[],
-    }
-}
 
 /// A step in a word: what is wanted, with the job that it names, or the text that is said.
 pub fn plain(alloc: Global, step: &Step) -> Result<String, AllocError> {
