@@ -128,11 +128,12 @@ fn asks_or_is_refused(session: &Session, line: &[u8]) -> (bool, bool) {
     }
 }
 
-// `rt try --test --fail-alloc N` refuses the Nth growth; `rt test` refuses none.
+// `rt try --test --fail-alloc N` refuses the Nth growth; `rt test` refuses none. So one of the two asks, and the other
+// may be refused.
 #[test]
 fn a_line_that_finds_no_memory_asks_when_it_comes_again(rt: HostRuntime) {
     let session = Session::new(rt.alloc(), false);
     let (asks, refused) = asks_or_is_refused(&session, SERVED);
-    let (again, _) = asks_or_is_refused(&session, SERVED);
-    assert_eq!(rt; (asks || refused, again), (true, true));
+    let (asks_again, refused_again) = asks_or_is_refused(&session, SERVED);
+    assert!(rt; asks && (asks_again || refused_again) || refused && asks_again);
 }
