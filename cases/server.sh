@@ -4,6 +4,7 @@
 # address in use; and more clients than descriptors. Wants python3 with the package `websockets`.
 set -eu
 here=$(cd -- "$(dirname -- "$0")" && pwd)
+export PYTHONDONTWRITEBYTECODE=1
 python=${PYTHON:-python3}
 "$python" -c 'import websockets' 2> /dev/null || { echo 'cases: the package websockets of python3 is missing' >&2; exit 1; }
 for script in answers crowds sockets; do

@@ -1,5 +1,6 @@
 //! One connection.
 use crate::house::House;
+use crate::session_stream::SessionStream;
 use crate::stop::StopPort;
 use dd_desk::{Fault, Naming, Pass};
 use dd_lines::{CountedDevice, write_whole};
@@ -42,9 +43,10 @@ fn serve_session<J: Naming, R: Wait>(
     let mut port = StopPort::new(rt, port, &house.stop);
     let allow_stop = house.args.allow_stop;
     if house.args.websocket {
+        let stream = SessionStream::new(stream, &house.stop);
         let _ = serve_socket(house.alloc, stream, &mut port, allow_stop);
     } else {
-        let mut reader = CountedDevice::new(stream);
+        let mut reader = CountedDevice::new(SessionStream::new(stream, &house.stop));
         let mut writer = CountedDevice::new(stream);
         let _ = serve_lines(house.alloc, &mut reader, &mut writer, &mut port, allow_stop);
     }

@@ -8,6 +8,7 @@ mod house;
 mod open_streams;
 mod returned;
 mod server;
+mod session_stream;
 mod stop;
 mod working;
 

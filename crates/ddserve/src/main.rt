@@ -1,8 +1,8 @@
-//! `ddserve solve` answers the request lines of the standard input on the standard output; `ddserve serve` answers the
-//! clients of an address until one of them stops it.
+//! The line tool: `ddserve solve` answers the request lines of the standard input on the standard output; and the server:
+//! `ddserve serve` answers the clients of an address.
 //!
-//! It ends with status 0 at the end of the input, after a stop and after help, 1 where a device or the listener failed or
-//! memory ran out outside a line, and 2 at a bad line of arguments.
+//! It ends with status 0 at the end of the input, after a client's stop and after help, 1 where a device or the listener
+//! failed or memory ran out outside a line, and 2 at a bad line of arguments.
 #![tactic(auto)]
 
 use dd_lines::CountedDevice;

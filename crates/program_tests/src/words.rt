@@ -47,6 +47,26 @@ fn an_option_that_is_left_out_has_its_default(rt: HostRuntime) {
     assert_eq!(rt; found, [true; 3]);
 }
 
+#[test]
+fn a_line_of_serve_has_its_options_and_the_defaults_of_the_others(rt: HostRuntime) {
+    let line = "ddserve serve --listen 127.0.0.1:0 --workers 2 --allow-stop";
+    let found = match read(rt.alloc(), line) {
+        Ok(
+            Args::Serve {
+                listen,
+                workers: 2,
+                shards: 16,
+                entries: 4_096,
+                budget: None,
+                websocket: false,
+                allow_stop: true,
+            },
+        ) => listen.as_str() == "127.0.0.1:0",
+        _ => false,
+    };
+    assert!(rt; found);
+}
+
 // Does each of these lines, one a row, have an error of this kind, which ends with this status?
 fn end_with(alloc: Global, lines: &str, kind: ErrorKind, status: i32) -> bool {
     for line in lines.split('\n') {

@@ -1,0 +1,52 @@
+//! A connection's stream, as its session sees it.
+use crate::stop::Stop;
+use std::io;
+use std::io::{Read, Write};
+use std::net::TcpStream;
+
+// The most bytes that are read after a stop, more than Linux keeps for a stream: what was received before the stop is
+// answered, and a client that goes on sending holds nothing up.
+const READ_AFTER_STOP: usize = 16_777_216;
+
+/// A stream that ends soon after a stop, whatever its client still sends.
+#[derive(Drop)]
+pub(crate) struct SessionStream<'a> {
+    stream: &'a TcpStream,
+    stop: &'a Stop,
+    // The bytes that may be read after a stop.
+    left: usize,
+}
+
+impl<'a> SessionStream<'a> {
+    pub(crate) fn new(stream: &'a TcpStream, stop: &'a Stop) -> SessionStream<'a> {
+        SessionStream {
+            stream,
+            stop,
+            left: READ_AFTER_STOP,
+        }
+    }
+}
+
+impl Read for SessionStream<'_> {
+    fn read(&mut self, buf: &mut [u8]) -> io::Result<usize> {
+        let mut stream = self.stream;
+        if !self.stop.is_stopped() {
+            return stream.read(buf);
+        }
+        let most = buf.len().min(self.left);
+        let count = stream.read(&mut buf[..most])?;
+        self.left -= count;
+        Ok(count)
+    }
+}
+
+impl Write for SessionStream<'_> {
+    fn write(&mut self, buf: &[u8]) -> io::Result<usize> {
+        let mut stream = self.stream;
+        stream.write(buf)
+    }
+
+    fn flush(&mut self) -> io::Result<()> {
+        Ok(())
+    }
+}
