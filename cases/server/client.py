@@ -130,8 +130,11 @@ class Lines:
         self.stream.sendall("".join(f"{line}\n" for line in lines).encode())
 
     def line(self):
-        """The next line, or None at the end."""
-        line = self.reader.readline()
+        """The next line, or None at the end, which is a reset where the program had not read all that was sent."""
+        try:
+            line = self.reader.readline()
+        except ConnectionError:
+            return None
         return line.decode()[:-1] if line.endswith(b"\n") else None
 
     def lines(self):
