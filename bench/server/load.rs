@@ -1,9 +1,8 @@
 //! Clients of `ddserve serve`, each on a thread of its own: PORT KIND CLIENTS REQUESTS, and request lines on the standard input.
 //!
-//! KIND `done`: each client sends one request, fetches its job until it is done, 0.1 ms apart, and goes on
-//! with the next. `submit`: it sends
-//! submits alone, each after the reply to the last. `deals`: the clients take the lines in turn, submit theirs at once, up to 64,
-//! and fetch each until it is done; the answers go to the standard output, as the line tool writes them, in the lines' order.
+//! KIND `done`: each client sends one request, fetches its job until it is done, 0.1 ms apart, and goes on with the
+//! next. `submit`: it sends submits alone, each after the reply to the last. `deals`: the clients take the lines in turn, submit
+//! theirs at once, up to 64, and fetch each until it is done, 1 ms apart; the answers go to the standard output, as the line tool writes them, in the lines' order.
 //! REQUESTS is the number of all clients together. On the standard error: nanoseconds, requests, fetches, refused submits, and the
 //! median and the greatest nanoseconds of one request.
 use std::io::{BufRead, BufReader, Read, Write};

@@ -6,7 +6,7 @@ import time
 
 CASES = os.path.join(os.path.dirname(os.path.abspath(__file__)), "..", "..", "cases")
 sys.path.insert(0, os.path.join(CASES, "server"))
-from client import CLOSING, PROGRAM, STOP, Server, check, fetch, more_descriptors  # noqa: E402
+from client import CLOSING, PROGRAM, STOP, Frames, Server, check, fetch, more_descriptors  # noqa: E402
 
 WORKERS = 4
 runs, requests, work = int(sys.argv[1]), int(sys.argv[2]), sys.argv[3]
@@ -53,17 +53,10 @@ def memory():
     print("\nconnections  resident MB")
     for options in ((), ("--websocket",)):
         server = Server("--allow-stop", *options, workers=WORKERS)
-        if options:
-            from client import Frames
-
-            def connect():
-                return Frames(server.stream())
-        else:
-            connect = server.connect
         clients = []
         for count in (1, 1_000):
             while len(clients) < count:
-                clients.append(connect())
+                clients.append(Frames(server.stream()) if options else server.connect())
             for client in clients:
                 check("a fetch", client.ask(fetch(0)), '{"fault":16}')
             print(f"{count:11}  {server.resident():11.1f}{'  over WebSockets' if options else ''}")

@@ -143,17 +143,29 @@ def slow(account, connection, over):
     connection.close()
 
 
-def never_reads(account, stream, send, ends):
-    """Sends until no more is taken, and reads nothing: the connection ends after the limit."""
-    stream.settimeout(WRITE_LIMIT * 2 + 30)
-    since, sent = time.monotonic(), 0
+def never_reads(place, stream, send, taken, ends):
+    """Sends until no more is taken, and reads nothing: the connection ends once a write was held for the limit, or two where a
+    reply fits in part."""
+    stream.settimeout(2 * WRITE_LIMIT + 30)
+    since, taken[place] = time.monotonic(), 0
     try:
-        while sent < 200_000_000:
-            sent += stream.send(send)
+        while True:
+            taken[place] += stream.send(send)
+            since = time.monotonic()
     except ConnectionError:
         pass
-    ends.append((time.monotonic() - since, sent))
+    ends.append(time.monotonic() - since)
     stream.close()
+
+
+def held(taken):
+    """Waits until nothing more is taken of those who never read."""
+    for _ in range(40):
+        before = dict(taken)
+        time.sleep(3)
+        if taken == before:
+            return
+    sys.exit("cases/server: those who never read are not held")
 
 
 def reads_late(account, connection, over):
@@ -232,17 +244,19 @@ def crowd(websocket):
         if websocket and place % 2:
             stream = Frames(stream).stream
         stream.sendall([[b"", b'{"do":"fet', b" "], [b"", b"", b"GET / HT", b"\x81\xff"]][websocket][place % (3 + websocket)])
-    told, ends = [], []
+    told, taken, ends = [], {}, []
     first = [account.run(honest, account, connect(), over, told)]
     waiting = [account.run(slow, account, server.connect(120), over) for _ in range(50)] if not websocket else []
     waiting += [account.run(reads_late, account, connect(), over) for _ in range(20)]
-    bad = b"{}\n" * 1_000
-    if websocket:
-        bad = Frames.frame(Frames.TEXT, b"{}") * 1_000
+    # Each has a longer reply than most: the program's room for them is soon full.
+    bad = Frames.frame(Frames.PING, b"p" * 125) * 100 if websocket else b"{}\n" * 1_000
     stuck = []
-    for _ in range(5):
-        stream = connect()
-        stuck.append(account.run(never_reads, account, stream.frames.stream if websocket else stream.stream, bad, ends))
+    for place in range(5):
+        stream = socket.socket()
+        # Little room, so that the program's replies soon find none.
+        stream.setsockopt(socket.SOL_SOCKET, socket.SO_RCVBUF, 4_096)
+        stream.connect(("127.0.0.1", server.port))
+        stuck.append(account.run(never_reads, place, Frames(stream).stream if websocket else stream, bad, taken, ends))
     greedy = [Greedy(connect(), seed) for seed in range(GREEDY)]
     extra = [server.stream(120) for _ in range(CROWD - IDLE - GREEDY + 50)]
     connected = time.monotonic() - start
@@ -253,6 +267,7 @@ def crowd(websocket):
     worked = time.monotonic() - start - connected
     check("the program still runs", server.runs(), True)
     resident = server.resident()
+    held(taken)
     over.set()
     for thread in first + waiting:
         thread.join()
@@ -263,12 +278,13 @@ def crowd(websocket):
     for thread in stuck:
         thread.join()
     check("what went wrong", account.failed, [])
-    server.end_after(account.events + 1, timeout=2 * WRITE_LIMIT + 30)
+    check(f"the limit on writing: {ends}", all(WRITE_LIMIT - 5 < end < 2 * WRITE_LIMIT + 20 for end in ends), True)
+    server.end_after(account.events + 1)
     (jobs, slowest), = told
     name = "WebSockets" if websocket else "lines"
     print(f"{name}: {len(idle) + len(extra) + len(greedy) + len(waiting) + len(stuck) + 1} connections at once ({connected:.1f} s), {account.lines} lines by {GREEDY} clients in {worked:.1f} s, "
           f"{jobs} jobs of an honest one, each right, the slowest after {slowest:.2f} s; {resident:.0f} MB")
-    print(f"{name}: those who never read were cut off after {min(end for end, _ in ends):.0f} to {max(end for end, _ in ends):.0f} s, {max(sent for _, sent in ends) / 1e6:.1f} MB taken at most")
+    print(f"{name}: those who never read were cut off after {min(ends):.0f} to {max(ends):.0f} s, {max(taken.values()) / 1e6:.1f} MB taken at most")
     print(f"{name}: {account.events + 1 + WORKERS} events, each accounted for")
     for stream in idle + extra:
         stream.close()
