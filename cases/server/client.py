@@ -1,66 +1,31 @@
-"""A client of `ddserve serve`, and the program as a process of its own."""
+"""The built program as a process, and its clients: by lines over TCP, and by the frames of a WebSocket, written by hand.
+
+What a journal holds follows from what the clients were replied: `is_event` says which replies are to a call of the book. Each
+solve job that is done adds a claim and a finish, each table twenty of both, and each worker a last claim that finds the book
+shut."""
+import base64
 import os
 import re
+import resource
 import socket
+import struct
 import subprocess
 import sys
+import time
 
 CASES = os.path.dirname(os.path.dirname(os.path.abspath(__file__)))
-PROGRAM = os.path.join(os.path.dirname(CASES), "ddserve")
-WORKERS = 4
+PROGRAM = os.environ.get("DDSERVE") or os.path.join(os.path.dirname(CASES), "ddserve")
+ONE_CARD = '{"do":"solve","deal":"N:A... K... Q... J...","trump":4,"first":0,"solutions":3}'
+ONE_CARD_REPLY = '{"cards":[{"equals":0,"rank":14,"score":1,"suit":0}]}'
+STOP = '{"do":"stop"}'
+CLOSING = '{"closing":true}'
+# The replies to lines that made no call of the book, and to calls that left no event.
+NO_EVENT = {f'{{"fault":{number}}}' for number in (*range(1, 13), 15, 19)}
+NOT_DONE = ("waiting", "running")
 
 
-class Server:
-    """The program, started with these options besides the address, and the calls that its clients made of the book."""
-
-    def __init__(self, *options, **more):
-        command = [PROGRAM, "serve", "--listen", "127.0.0.1:0", *options]
-        self.process = subprocess.Popen(command, stdout=subprocess.PIPE, stderr=subprocess.PIPE, text=True, **more)
-        line = self.process.stdout.readline()
-        found = re.fullmatch(r"listening on 127\.0\.0\.1:(\d+)\n", line)
-        if not found:
-            sys.exit(f"cases/server: in place of its address the program told {line!r}: {self.process.stderr.read()}")
-        self.port = int(found.group(1))
-
-    def connect(self, timeout=60):
-        return Lines(socket.create_connection(("127.0.0.1", self.port), timeout=timeout))
-
-    def end(self, timeout=60):
-        """The events that the program told, the status, and what it said on the standard error."""
-        try:
-            told, said = self.process.communicate(timeout=timeout)
-        except subprocess.TimeoutExpired:
-            self.process.kill()
-            sys.exit("cases/server: the program did not end")
-        found = re.fullmatch(r"closed after (\d+) events\n", told)
-        return int(found.group(1)) if found else told, self.process.returncode, said
-
-
-class Lines:
-    """A connection, a line at a time."""
-
-    def __init__(self, stream):
-        self.stream = stream
-        self.rest = b""
-
-    def send(self, line):
-        self.stream.sendall(line.encode() + b"\n")
-
-    def line(self):
-        while b"\n" not in self.rest:
-            piece = self.stream.recv(65536)
-            if not piece:
-                return None
-            self.rest += piece
-        line, self.rest = self.rest.split(b"\n", 1)
-        return line.decode()
-
-    def ask(self, line):
-        self.send(line)
-        return self.line()
-
-    def close(self):
-        self.stream.close()
+def is_event(reply):
+    return reply not in NO_EVENT
 
 
 def check(what, got, wanted):
@@ -68,12 +33,195 @@ def check(what, got, wanted):
         sys.exit(f"cases/server: {what}: {got!r} in place of {wanted!r}")
 
 
+def recorded(name, count=None):
+    """Request lines with the line tool's replies."""
+    with open(os.path.join(CASES, f"{name}.jsonl")) as requests, open(os.path.join(CASES, f"{name}.expected")) as replies:
+        return list(zip(requests.read().splitlines(), replies.read().splitlines(), strict=True))[:count]
+
+
 def done(expected, job):
-    """The reply to a fetch of a job, where the line tool replies so to its request."""
+    """The reply to a fetch of a job that is done, where the line tool replies so to its request."""
+    if expected.startswith('{"table"'):
+        return f'{{"job":{job},"state":"done",{expected[1:]}'
     return f'{expected[:-1]},"job":{job},"state":"done"}}'
 
 
-def recorded(name, count=None):
-    """Request lines with their replies by the line tool."""
-    with open(os.path.join(CASES, f"{name}.jsonl")) as requests, open(os.path.join(CASES, f"{name}.expected")) as replies:
-        return list(zip(requests.read().splitlines(), replies.read().splitlines()))[:count]
+def fetch(job):
+    return f'{{"do":"fetch","job":{job}}}'
+
+
+def cancel(job):
+    return f'{{"do":"cancel","job":{job}}}'
+
+
+def state(job, name):
+    return f'{{"job":{job},"state":"{name}"}}'
+
+
+def number_of(reply):
+    """The job of `{"job":j}`."""
+    found = re.fullmatch(r'\{"job":(\d+)\}', reply or "")
+    if not found:
+        sys.exit(f"cases/server: a submit was replied {reply!r}")
+    return int(found.group(1))
+
+
+def more_descriptors(count=20_000):
+    most = resource.getrlimit(resource.RLIMIT_NOFILE)[1]
+    count = count if most == resource.RLIM_INFINITY else min(count, most)
+    resource.setrlimit(resource.RLIMIT_NOFILE, (count, most))
+    return count
+
+
+class Server:
+    """The program, serving at a free port with these options."""
+
+    def __init__(self, *options, workers=2, descriptors=None):
+        def limit():
+            if descriptors:
+                resource.setrlimit(resource.RLIMIT_NOFILE, (descriptors, descriptors))
+
+        self.workers = workers
+        command = [PROGRAM, "serve", "--listen", "127.0.0.1:0", "--workers", str(workers), *options]
+        self.process = subprocess.Popen(command, stdout=subprocess.PIPE, stderr=subprocess.PIPE, text=True, preexec_fn=limit)
+        line = self.process.stdout.readline()
+        found = re.fullmatch(r"listening on 127\.0\.0\.1:(\d+)\n", line)
+        if not found:
+            sys.exit(f"cases/server: in place of its address the program told {line!r}: {self.process.stderr.read()}")
+        self.port = int(found.group(1))
+
+    def connect(self, timeout=60):
+        return Lines(self.stream(timeout))
+
+    def stream(self, timeout=60):
+        return socket.create_connection(("127.0.0.1", self.port), timeout=timeout)
+
+    def resident(self):
+        """The memory in use, in MB."""
+        with open(f"/proc/{self.process.pid}/status") as file:
+            return int(re.search(r"VmRSS:\s+(\d+) kB", file.read()).group(1)) / 1024
+
+    def runs(self):
+        return self.process.poll() is None
+
+    def end(self, timeout=60):
+        """What the program told as its number of events, its status, and what it said on the standard error."""
+        try:
+            told, said = self.process.communicate(timeout=timeout)
+        except subprocess.TimeoutExpired:
+            self.process.kill()
+            sys.exit(f"cases/server: the program did not end within {timeout} seconds")
+        found = re.fullmatch(r"closed after (\d+) events\n", told)
+        return int(found.group(1)) if found else told, self.process.returncode, said
+
+    def end_after(self, events, timeout=60):
+        """Checks that the program ends well, with these events besides each worker's last claim."""
+        check("the end", self.end(timeout), (events + self.workers, 0, ""))
+
+
+class Lines:
+    """A connection by lines."""
+
+    def __init__(self, stream):
+        self.stream = stream
+        self.reader = stream.makefile("rb")
+
+    def send(self, *lines):
+        self.stream.sendall("".join(f"{line}\n" for line in lines).encode())
+
+    def line(self):
+        """The next line, or None at the end, which is a reset where the program had not read all that was sent."""
+        try:
+            line = self.reader.readline()
+        except ConnectionError:
+            return None
+        return line.decode()[:-1] if line.endswith(b"\n") else None
+
+    def lines(self):
+        """All lines up to the end."""
+        return list(iter(self.line, None))
+
+    def ask(self, line):
+        self.send(line)
+        return self.line()
+
+    def until_done(self, job, most=1_000_000):
+        """Fetches the job until it neither waits nor runs: the last reply, and how many fetches it took."""
+        for asked in range(1, most):
+            reply = self.ask(fetch(job))
+            if reply not in (state(job, "waiting"), state(job, "running")):
+                return reply, asked
+            time.sleep(0 if asked < 50 else 0.002)
+        sys.exit(f"cases/server: job {job} is not done after {most} fetches")
+
+    def finish(self):
+        """Says that nothing more comes."""
+        self.stream.shutdown(socket.SHUT_WR)
+
+    def close(self):
+        self.reader.close()
+        self.stream.close()
+
+    def __enter__(self):
+        return self
+
+    def __exit__(self, *_):
+        self.close()
+
+
+class Frames:
+    """A connection by WebSocket frames."""
+
+    TEXT, BINARY, CLOSE, PING, PONG = 1, 2, 8, 9, 10
+
+    def __init__(self, stream, origin=None):
+        self.stream = stream
+        self.reader = stream.makefile("rb")
+        key = base64.b64encode(os.urandom(16)).decode()
+        head = ["GET / HTTP/1.1", "Host: 127.0.0.1", "Connection: Upgrade", "Upgrade: websocket", "Sec-WebSocket-Version: 13", f"Sec-WebSocket-Key: {key}"]
+        if origin:
+            head.append(f"Origin: {origin}")
+        stream.sendall("".join(f"{line}\r\n" for line in [*head, ""]).encode())
+        while (line := self.reader.readline()) != b"\r\n":
+            if not line:
+                raise ConnectionError("no handshake")
+
+    @staticmethod
+    def frame(kind, data, last=True):
+        mask = b"\1\2\3\4"
+        size = len(data)
+        if size < 126:
+            head = bytes([0x80 | size])
+        elif size < 65_536:
+            head = bytes([0x80 | 126]) + struct.pack(">H", size)
+        else:
+            head = bytes([0x80 | 127]) + struct.pack(">Q", size)
+        return bytes([0x80 * last | kind]) + head + mask + bytes(byte ^ mask[place % 4] for place, byte in enumerate(data))
+
+    def send(self, kind, data, last=True):
+        self.stream.sendall(self.frame(kind, data, last))
+
+    def receive(self):
+        """The kind and the bytes of the next frame, or None at the end."""
+        try:
+            head = self.reader.read(2)
+            if len(head) < 2:
+                return None
+            size = head[1]
+            if size == 126:
+                (size,) = struct.unpack(">H", self.reader.read(2))
+            return head[0] & 15, self.reader.read(size)
+        except ConnectionError:
+            return None
+
+    def text(self):
+        frame = self.receive()
+        return frame[1].decode() if frame and frame[0] == self.TEXT else frame
+
+    def ask(self, line):
+        self.send(self.TEXT, line.encode())
+        return self.text()
+
+    def close(self):
+        self.reader.close()
+        self.stream.close()

@@ -1,58 +1,143 @@
-"""Recorded positions as jobs of a client over a WebSocket, and what such a client may send."""
+"""Clients over WebSockets: Python's package `websockets`, and frames written by hand."""
 import asyncio
+import socket
+import sys
+import time
 import websockets
-from client import WORKERS, Server, check, done, recorded
+from client import CLOSING, ONE_CARD, ONE_CARD_REPLY, STOP, Frames, Server, cancel, check, done, fetch, number_of, recorded, state
+
+LONGEST_MESSAGE = 65_536
 
 
-async def work(server, rows):
-    """Does as a client of lines does, with a message for each line, and counts its fetches."""
-    fetches = 0
-    async with websockets.connect(f"ws://127.0.0.1:{server.port}/") as socket:
+class Work:
+    """The package's client, which counts the events that it causes."""
 
-        async def ask(message):
-            await socket.send(message)
-            return await socket.recv()
+    def __init__(self, port):
+        self.address, self.events = f"ws://127.0.0.1:{port}/", 0
 
-        for request, expected in rows:
-            job = int((await ask(request))[len('{"job":'):-1])
-            reply = f'{{"job":{job},"state":"waiting"}}'
-            while reply in (f'{{"job":{job},"state":"waiting"}}', f'{{"job":{job},"state":"running"}}'):
-                reply = await ask(f'{{"do":"fetch","job":{job}}}')
-                fetches += 1
-            check(f"job {job}", reply, done(expected, job))
-        check("bytes", await ask(b'{"do":"cancel","job":0}'), '{"fault":16}')
-        check("an empty message", await ask(""), '{"fault":1}')
-        check("4,096 bytes", await ask(" " * 4_096), '{"fault":1}')
-        check("4,097 bytes", await ask(" " * 4_097), '{"fault":2}')
-        check("65,536 bytes", await ask(" " * 65_536), '{"fault":2}')
-        check("a message in pieces", await ask(['{"do":"can', 'cel","job":0}']), '{"fault":16}')
-        await (await socket.ping())
-    return fetches + 2
+    def connect(self, **more):
+        return websockets.connect(self.address, max_size=None, **more)
+
+    async def ask(self, connection, message):
+        await connection.send(message)
+        return await connection.recv()
+
+    async def until_done(self, connection, job):
+        while True:
+            reply = await self.ask(connection, fetch(job))
+            self.events += 1
+            if reply not in (state(job, "waiting"), state(job, "running")):
+                return reply
+
+    async def jobs(self, rows):
+        async with self.connect() as connection:
+            for request, expected in rows:
+                job = number_of(await self.ask(connection, request))
+                check(request, await self.until_done(connection, job), done(expected, job))
+                self.events += 1 + 2 * (20 if "table" in request else 1)
+
+    async def messages(self):
+        """What each kind of message is replied."""
+        async with self.connect() as connection:
+            if connection.extensions:
+                sys.exit(f"cases/server: the server took the extensions {connection.extensions}")
+            for message, reply in [
+                ("", '{"fault":1}'), (b"", '{"fault":1}'), ("solve", '{"fault":1}'), (cancel(0) + "\n", '{"fault":16}'), (cancel(0).encode(), '{"fault":16}'),
+                (" " * 4_096, '{"fault":1}'), (" " * 4_097, '{"fault":2}'), (b"\xff" * 4_097, '{"fault":2}'), ("x" * LONGEST_MESSAGE, '{"fault":2}'),
+                (b'{"do":"\xff"}', '{"fault":1}'), (cancel(0) + "\n" + cancel(0), '{"fault":1}'), (['{"do":"can', 'cel","jo', 'b":0}'], '{"fault":16}'),
+                (cancel(0) + " " * (4_096 - len(cancel(0))), '{"fault":16}'),
+            ]:
+                check(f"{message[:50]!r}", await self.ask(connection, message), reply)
+                self.events += reply == '{"fault":16}'
+            await (await connection.ping(b"x" * 125))
+            # Replies in the order of the messages.
+            rows = [(fetch(0), '{"fault":16}'), ("{}", '{"fault":3}')] * 500
+            for message, _ in rows:
+                await connection.send(message)
+            check("all at once", [await connection.recv() for _ in rows], [reply for _, reply in rows])
+            self.events += 500
+            await connection.close(1000, "bye")
+            check("the close", (connection.close_code, connection.close_reason), (1000, "bye"))
+
+    async def origin(self):
+        async with self.connect(origin="http://example.com") as connection:
+            check("a stop with an origin", await self.ask(connection, STOP), '{"fault":3}')
+            check("a fetch with an origin", await self.ask(connection, fetch(0)), '{"fault":16}')
+            self.events += 1
+
+    async def all(self):
+        small = recorded("small")[::3]
+        await asyncio.gather(*(self.jobs(small[part::4]) for part in range(4)))
+        await self.jobs(recorded("tables", 2))
+        await self.messages()
+        await self.origin()
 
 
-async def all_work(server):
-    fetches = await asyncio.gather(*(work(server, rows[part::4]) for part in range(4)))
-    # A page of any site may have asked for this one.
-    async with websockets.connect(f"ws://127.0.0.1:{server.port}/", origin="http://example.com") as socket:
-        await socket.send('{"do":"stop"}')
-        check("a stop with an origin", await socket.recv(), '{"fault":3}')
-    async with websockets.connect(f"ws://127.0.0.1:{server.port}/") as socket:
-        await socket.send("x" * 65_537)
+def ends(what, connection):
+    """The connection ends with no further reply, whether by a close frame or without."""
+    frame = connection.receive()
+    if frame and frame[0] != Frames.CLOSE:
+        sys.exit(f"cases/server: {what}: {frame} in place of the end")
+    connection.close()
+
+
+def frames(server):
+    """Frames that the package doesn't send; the number of events."""
+    connection = Frames(server.stream())
+    text = cancel(0).encode()
+    connection.send(Frames.TEXT, text[:4], last=False)
+    connection.send(Frames.PING, b"between")
+    connection.send(0, text[4:9], last=False)
+    connection.send(0, text[9:])
+    check("the pong", connection.receive(), (Frames.PONG, b"between"))
+    check("fragments", connection.text(), '{"fault":16}')
+    for byte in Frames.frame(Frames.BINARY, text):
+        connection.stream.sendall(bytes([byte]))
+        time.sleep(0.001)
+    check("single bytes", connection.text(), '{"fault":16}')
+    connection.send(Frames.PONG, b"unasked")
+    check("after a pong", connection.ask(ONE_CARD.replace("4", "5")), '{"fault":9}')
+    connection.send(Frames.CLOSE, b"\x03\xe8bye")
+    check("the close", connection.receive(), (Frames.CLOSE, b"\x03\xe8bye"))
+    ends("after the close", connection)
+    for what, frame in [
+        ("65,537 bytes", Frames.frame(Frames.TEXT, b" " * (LONGEST_MESSAGE + 1))), ("a text that is no UTF-8", Frames.frame(Frames.TEXT, b"a\xff")),
+        ("an unmasked frame", b"\x81\x02{}"), ("fragments past 65,536 bytes", b"".join(Frames.frame(Frames.TEXT if n == 0 else 0, b" " * 1_000, last=False) for n in range(70))),
+        ("a fragment of nothing", Frames.frame(0, b"x")), ("a kind of frame that is none", Frames.frame(3, b"{}")),
+    ]:
+        connection = Frames(server.stream())
         try:
-            await socket.recv()
-            check("65,537 bytes", "a reply", "the end")
-        except websockets.ConnectionClosed:
+            connection.stream.sendall(frame)
+        except ConnectionError:
             pass
-    silent = server.connect()
-    async with websockets.connect(f"ws://127.0.0.1:{server.port}/") as socket:
-        await socket.send('{"do":"stop"}')
-        check("a stop", await socket.recv(), '{"closing":true}')
-    check("a client that shook no hands", silent.line(), None)
-    return sum(fetches)
+        ends(what, connection)
+    connection = Frames(server.stream())
+    connection.stream.sendall(Frames.frame(Frames.TEXT, b" " * 200)[:50])
+    connection.stream.shutdown(socket.SHUT_WR)
+    ends("inside a frame", connection)
+    for what, sent in [("no handshake", b"GET / HTTP/1.1\r\nHost: x\r\n\r\n"), ("lines", fetch(0).encode() + b"\n\r\n")]:
+        with server.stream() as stream:
+            stream.sendall(sent)
+            stream.shutdown(socket.SHUT_WR)
+            try:
+                if b" 101 " in stream.recv(4_096):
+                    sys.exit(f"cases/server: {what}: a handshake")
+            except ConnectionError:
+                pass
+    return 2
 
 
-rows = recorded("small", 200)
-server = Server("--workers", str(WORKERS), "--websocket", "--allow-stop")
-calls = asyncio.run(all_work(server))
-check("the end", server.end(), (3 * len(rows) + calls + 1 + WORKERS, 0, ""))
-print(f"sockets: {len(rows)} jobs of 4 clients, and each event is accounted for")
+server = Server("--websocket", "--allow-stop", workers=4)
+work = Work(server.port)
+asyncio.run(work.all())
+events = work.events + frames(server)
+silent, last = server.stream(), Frames(server.stream())
+check("a job", number_of(last.ask(ONE_CARD)) > 0, True)
+events += 3
+job = 200 + 2 + 1
+while (reply := last.ask(fetch(job))) != done(ONE_CARD_REPLY, job):
+    check("a job of its own", reply in (state(job, "waiting"), state(job, "running")), True)
+    events += 1
+check("a stop", last.ask(STOP), CLOSING)
+server.end_after(events + 2)
+print(f"sockets: {job} jobs, messages and frames of every kind, {events + 2 + 4} events, each accounted for")

@@ -1,0 +1,25 @@
+#!/usr/bin/env bash
+# The built program as a server with 4 workers, by clients in Rust (`load.rs`). Requests a second for positions of one card and of
+# six cards a hand, no deal twice, by 1, 8 and 64 connections, the greatest rate of several runs, each against a fresh program: a
+# request is a submit and the fetches until its job is done, 0.1 ms apart; then submits alone, of which some are refused where a
+# client has 64 jobs open. Memory with 1 and with 1,000 connections. Then 40 full deals by
+# 1 and 4 workers beside the line tool on the same lines, in turns in one run, the least time of each: where a reply isn't the
+# recorded one it ends with status 1. Words: the number of runs (3), the requests of one (10,000).
+set -eu
+here=$(cd -- "$(dirname -- "$0")" && pwd)
+top=$(cd -- "$here/../.." && pwd)
+runs=${1:-3}
+requests=${2:-10000}
+
+for tool in python3 rustc; do
+    command -v "$tool" > /dev/null || { echo "bench/server: the command $tool is missing" >&2; exit 1; }
+done
+export DDSERVE=${DDSERVE:-$top/ddserve} PYTHONDONTWRITEBYTECODE=1
+"$DDSERVE" --version > /dev/null
+work=$(mktemp -d)
+trap 'rm -rf "$work"' EXIT
+rustc -O --edition 2021 -o "$work/load" "$here/load.rs"
+for cards in 1 6; do
+    python3 "$top/bench/deals.py" "$cards" "$requests" --seed $((1700 + cards)) --requests > "$work/$cards.jsonl"
+done
+python3 "$here/measure.py" "$runs" "$requests" "$work"
