@@ -1,7 +1,7 @@
 //! A connection's stream, as its session sees it.
 use crate::stop::Stop;
 use std::io;
-use std::io::{Read, Write};
+use std::io::{Error, ErrorKind, Read, Write};
 use std::net::TcpStream;
 
 // The most bytes that are read after a stop, more than Linux keeps for a stream: what was received before the stop is
@@ -41,9 +41,16 @@ impl Read for SessionStream<'_> {
 }
 
 impl Write for SessionStream<'_> {
+    // A write whose time ran out is no `WouldBlock` here: after one, a WebSocket reads on, and a client that sends pings and
+    // reads nothing would never be cut off.
     fn write(&mut self, buf: &[u8]) -> io::Result<usize> {
         let mut stream = self.stream;
-        stream.write(buf)
+        match stream.write(buf) {
+            Err(error) if error.kind() == ErrorKind::WouldBlock => {
+                Err(Error::from(ErrorKind::TimedOut))
+            }
+            result => result,
+        }
     }
 
     fn flush(&mut self) -> io::Result<()> {
