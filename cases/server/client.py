@@ -3,6 +3,7 @@
 What a journal holds follows from what the clients were replied: `is_event` says which replies are to a call of the book. Each
 solve job that is done adds a claim and a finish, each table twenty of both, and each worker a last claim that finds the book
 shut."""
+import atexit
 import base64
 import os
 import re
@@ -84,6 +85,8 @@ class Server:
         self.workers = workers
         command = [PROGRAM, "serve", "--listen", "127.0.0.1:0", "--workers", str(workers), *options]
         self.process = subprocess.Popen(command, stdout=subprocess.PIPE, stderr=subprocess.PIPE, text=True, preexec_fn=limit)
+        # No program outlives a check that failed.
+        atexit.register(self.process.kill)
         line = self.process.stdout.readline()
         found = re.fullmatch(r"listening on 127\.0\.0\.1:(\d+)\n", line)
         if not found:

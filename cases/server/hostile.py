@@ -127,6 +127,8 @@ def honest(account, connection, over, told):
             events += 1
         check(request, reply, done(expected, job))
         jobs, events, slowest = jobs + 1, events + 3, max(slowest, time.monotonic() - since)
+        # Alone it would fill the journal while others are waited for.
+        over.wait(0.01)
     account.add(events)
     connection.close()
     told.append((jobs, slowest))
@@ -144,8 +146,8 @@ def slow(account, connection, over):
 
 
 def never_reads(place, stream, send, taken, ends):
-    """Sends until no more is taken, and reads nothing: the connection ends once a write was held for the limit, or two where a
-    reply fits in part."""
+    """Sends until no more is taken, and reads nothing. The connection ends when the program has waited for the limit to write, or
+    twice, where a reply fits in part; how long after the last piece that was taken."""
     stream.settimeout(2 * WRITE_LIMIT + 30)
     since, taken[place] = time.monotonic(), 0
     try:
@@ -158,14 +160,14 @@ def never_reads(place, stream, send, taken, ends):
     stream.close()
 
 
-def held(taken):
-    """Waits until nothing more is taken of those who never read."""
-    for _ in range(40):
-        before = dict(taken)
-        time.sleep(3)
-        if taken == before:
+def cut_off(ends):
+    """Waits until one of those who never read is cut off: the limit on writing, without a stop."""
+    for _ in range(2 * WRITE_LIMIT + 30):
+        if ends:
+            check(f"cut off after {min(ends):.1f} s", min(ends) > WRITE_LIMIT - 5, True)
             return
-    sys.exit("cases/server: those who never read are not held")
+        time.sleep(1)
+    sys.exit("cases/server: of those who never read none is cut off")
 
 
 def reads_late(account, connection, over):
@@ -267,24 +269,25 @@ def crowd(websocket):
     worked = time.monotonic() - start - connected
     check("the program still runs", server.runs(), True)
     resident = server.resident()
-    held(taken)
+    cut_off(ends)
     over.set()
     for thread in first + waiting:
         thread.join()
     stopper = connect()
     stopper.send(STOP)
     check("a stop", stopper.line(), CLOSING)
-    # Those who never read end by the limit on writing, a stop or not.
+    since = time.monotonic()
+    # Those who never read end by the stop, or by the limit on writing.
     for thread in stuck:
         thread.join()
     check("what went wrong", account.failed, [])
-    check(f"the limit on writing: {ends}", all(WRITE_LIMIT - 5 < end < 2 * WRITE_LIMIT + 20 for end in ends), True)
     server.end_after(account.events + 1)
+    ended = time.monotonic() - since
     (jobs, slowest), = told
     name = "WebSockets" if websocket else "lines"
     print(f"{name}: {len(idle) + len(extra) + len(greedy) + len(waiting) + len(stuck) + 1} connections at once ({connected:.1f} s), {account.lines} lines by {GREEDY} clients in {worked:.1f} s, "
           f"{jobs} jobs of an honest one, each right, the slowest after {slowest:.2f} s; {resident:.0f} MB")
-    print(f"{name}: those who never read were cut off after {min(ends):.0f} to {max(ends):.0f} s, {max(taken.values()) / 1e6:.1f} MB taken at most")
+    print(f"{name}: those who never read were cut off after {min(ends):.0f} to {max(ends):.0f} s, {max(taken.values()) / 1e6:.1f} MB taken at most; the program ended {ended:.1f} s after the stop")
     print(f"{name}: {account.events + 1 + WORKERS} events, each accounted for")
     for stream in idle + extra:
         stream.close()
