@@ -22,7 +22,6 @@ STOP = '{"do":"stop"}'
 CLOSING = '{"closing":true}'
 # The replies to lines that made no call of the book, and to calls that left no event.
 NO_EVENT = {f'{{"fault":{number}}}' for number in (*range(1, 13), 15, 19)}
-NOT_DONE = ("waiting", "running")
 
 
 def is_event(reply):
@@ -57,6 +56,11 @@ def cancel(job):
 
 def state(job, name):
     return f'{{"job":{job},"state":"{name}"}}'
+
+
+def is_open(reply, job):
+    """The job waits or runs."""
+    return reply in (state(job, "waiting"), state(job, "running"))
 
 
 def number_of(reply):
@@ -152,7 +156,7 @@ class Lines:
         """Fetches the job until it neither waits nor runs: the last reply, and how many fetches it took."""
         for asked in range(1, most):
             reply = self.ask(fetch(job))
-            if reply not in (state(job, "waiting"), state(job, "running")):
+            if not is_open(reply, job):
                 return reply, asked
             time.sleep(0 if asked < 50 else 0.002)
         sys.exit(f"cases/server: job {job} is not done after {most} fetches")

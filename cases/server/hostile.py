@@ -9,7 +9,7 @@ import struct
 import sys
 import threading
 import time
-from client import CLOSING, STOP, Frames, Server, cancel, check, done, fetch, is_event, more_descriptors, number_of, recorded, state
+from client import CLOSING, STOP, Frames, Server, cancel, check, done, fetch, is_event, is_open, more_descriptors, number_of, recorded
 
 CROWD = 1_000
 IDLE = 900
@@ -41,7 +41,8 @@ class Account:
             except Exception as fault:  # A client that is refused or cut off, too.
                 self.failed.append(f"{work.__name__}: {fault!r}")
 
-        thread = threading.Thread(target=guarded)
+        # A check that fails doesn't wait for the others.
+        thread = threading.Thread(target=guarded, daemon=True)
         thread.start()
         return thread
 
@@ -74,7 +75,7 @@ class Greedy:
             self.events += 2
         elif kind == "fault":
             check("a fault", reply, f'{{"fault":{of}}}')
-        elif of in self.open and reply not in (state(of, "waiting"), state(of, "running")):
+        elif of in self.open and not is_open(reply, of):
             check(f"job {of}", reply, done(self.open.pop(of), of))
             self.ended.append(of)
 
@@ -121,7 +122,7 @@ def honest(account, connection, over, told):
         connection.send(request)
         job = number_of(connection.line())
         reply = None
-        while reply in (None, state(job, "waiting"), state(job, "running")):
+        while reply is None or is_open(reply, job):
             connection.send(fetch(job))
             reply = connection.line()
             events += 1
