@@ -17,8 +17,10 @@ GREEDY = 50
 LINES_EACH = 2_000
 WORKERS = 4
 PINGS = 10_000
-# The seconds for which a client may take no byte of a reply.
+# The seconds that a write waits for a client, and how many such writes there may be: the system answers a part of a reply that
+# fits after that time, takes what there is room for by then, and waits once or twice more.
 WRITE_LIMIT = 60
+WAITS = 3
 
 
 class Account:
@@ -147,9 +149,9 @@ def slow(account, connection, over):
 
 
 def never_reads(place, stream, send, taken, ends):
-    """Sends until no more is taken, and reads nothing. The connection ends when the program has waited for the limit to write, or
-    twice, where a reply fits in part; how long after the last piece that was taken."""
-    stream.settimeout(2 * WRITE_LIMIT + 30)
+    """Sends until no more is taken, and reads nothing. The connection ends when the program has waited to write; `ends` gains
+    how long after the last piece that was taken."""
+    stream.settimeout(WAITS * WRITE_LIMIT + 60)
     since, taken[place] = time.monotonic(), 0
     try:
         while True:
@@ -163,7 +165,7 @@ def never_reads(place, stream, send, taken, ends):
 
 def cut_off(ends):
     """Waits until one of those who never read is cut off: the limit on writing, without a stop."""
-    for _ in range(2 * WRITE_LIMIT + 30):
+    for _ in range(WAITS * WRITE_LIMIT + 30):
         if ends:
             check(f"cut off after {min(ends):.1f} s", min(ends) > WRITE_LIMIT - 5, True)
             return
