@@ -1,16 +1,17 @@
 //! Clients of `ddserve serve`, each on a thread of its own: PORT KIND CLIENTS REQUESTS, and request lines on the standard input.
 //!
-//! KIND `done`: each client sends one request, fetches its job until it is done, 0.1 ms apart, and goes on with the
-//! next. `submit`: it sends submits alone, each after the reply to the last. `deals`: the clients take the lines in turn, submit
-//! theirs at once, up to 64, and fetch each until it is done, 1 ms apart; the answers go to the standard output, as the line tool writes them, in the lines' order.
+//! KIND `done`: each client sends one request, fetches its job until it is done, and goes on with the next. `submit`: it sends
+//! submits alone, each after the reply to the last. `deals`: the clients take the lines in turn, submit theirs at once, up to 64,
+//! and fetch each until it is done; the answers go to the standard output, as the line tool writes them, in the lines' order.
 //! REQUESTS is the number of all clients together. On the standard error: nanoseconds, requests, fetches, refused submits, and the
 //! median and the greatest nanoseconds of one request.
 use std::io::{BufRead, BufReader, Read, Write};
 use std::net::TcpStream;
 use std::time::{Duration, Instant};
 
-/// What a client waits after a fetch of a job that is not done.
+/// What a client waits after the first fetch of a job that is not done, and each time twice as long, up to the greatest.
 const PAUSE: Duration = Duration::from_micros(100);
+const GREATEST_PAUSE: Duration = Duration::from_micros(6_400);
 
 struct Client {
     stream: TcpStream,
@@ -45,7 +46,7 @@ impl Client {
     }
 
     /// The reply to the last fetch.
-    fn until_done(&mut self, job: u64, pause: Duration) -> String {
+    fn until_done(&mut self, job: u64, mut pause: Duration) -> String {
         let line = format!("{{\"do\":\"fetch\",\"job\":{job}}}\n");
         let open = [format!("{{\"job\":{job},\"state\":\"waiting\"}}"), format!("{{\"job\":{job},\"state\":\"running\"}}")];
         loop {
@@ -56,6 +57,7 @@ impl Client {
                 return reply.replace(&format!(",\"job\":{job},\"state\":\"done\""), "");
             }
             std::thread::sleep(pause);
+            pause = GREATEST_PAUSE.min(2 * pause);
         }
     }
 }
@@ -82,7 +84,7 @@ fn main() {
                         for piece in own.chunks(64) {
                             let jobs: Vec<u64> = piece.iter().map(|&number| Client::job(client.ask(&lines[number])).expect("no job")).collect();
                             for (&number, job) in piece.iter().zip(jobs) {
-                                answers.push((number, client.until_done(job, 10 * PAUSE)));
+                                answers.push((number, client.until_done(job, GREATEST_PAUSE)));
                             }
                         }
                     } else {

@@ -3,6 +3,7 @@
 What a journal holds follows from what the clients were replied: `is_event` says which replies are to a call of the book. Each
 solve job that is done adds a claim and a finish, each table twenty of both, and each worker a last claim that finds the book
 shut."""
+import atexit
 import base64
 import os
 import re
@@ -21,7 +22,6 @@ STOP = '{"do":"stop"}'
 CLOSING = '{"closing":true}'
 # The replies to lines that made no call of the book, and to calls that left no event.
 NO_EVENT = {f'{{"fault":{number}}}' for number in (*range(1, 13), 15, 19)}
-NOT_DONE = ("waiting", "running")
 
 
 def is_event(reply):
@@ -58,6 +58,11 @@ def state(job, name):
     return f'{{"job":{job},"state":"{name}"}}'
 
 
+def is_open(reply, job):
+    """The job waits or runs."""
+    return reply in (state(job, "waiting"), state(job, "running"))
+
+
 def number_of(reply):
     """The job of `{"job":j}`."""
     found = re.fullmatch(r'\{"job":(\d+)\}', reply or "")
@@ -84,6 +89,8 @@ class Server:
         self.workers = workers
         command = [PROGRAM, "serve", "--listen", "127.0.0.1:0", "--workers", str(workers), *options]
         self.process = subprocess.Popen(command, stdout=subprocess.PIPE, stderr=subprocess.PIPE, text=True, preexec_fn=limit)
+        # No program outlives a check that failed.
+        atexit.register(self.process.kill)
         line = self.process.stdout.readline()
         found = re.fullmatch(r"listening on 127\.0\.0\.1:(\d+)\n", line)
         if not found:
@@ -149,7 +156,7 @@ class Lines:
         """Fetches the job until it neither waits nor runs: the last reply, and how many fetches it took."""
         for asked in range(1, most):
             reply = self.ask(fetch(job))
-            if reply not in (state(job, "waiting"), state(job, "running")):
+            if not is_open(reply, job):
                 return reply, asked
             time.sleep(0 if asked < 50 else 0.002)
         sys.exit(f"cases/server: job {job} is not done after {most} fetches")

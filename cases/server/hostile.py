@@ -9,7 +9,7 @@ import struct
 import sys
 import threading
 import time
-from client import CLOSING, STOP, Frames, Server, cancel, check, done, fetch, is_event, more_descriptors, number_of, recorded, state
+from client import CLOSING, STOP, Frames, Server, cancel, check, done, fetch, is_event, is_open, more_descriptors, number_of, recorded
 
 CROWD = 1_000
 IDLE = 900
@@ -17,8 +17,10 @@ GREEDY = 50
 LINES_EACH = 2_000
 WORKERS = 4
 PINGS = 10_000
-# The seconds for which a client may take no byte of a reply.
+# The seconds that a write waits for a client, and how many such writes there may be: the system answers a part of a reply that
+# fits after that time, takes what there is room for by then, and waits once or twice more.
 WRITE_LIMIT = 60
+WAITS = 3
 
 
 class Account:
@@ -41,7 +43,8 @@ class Account:
             except Exception as fault:  # A client that is refused or cut off, too.
                 self.failed.append(f"{work.__name__}: {fault!r}")
 
-        thread = threading.Thread(target=guarded)
+        # A check that fails doesn't wait for the others.
+        thread = threading.Thread(target=guarded, daemon=True)
         thread.start()
         return thread
 
@@ -74,7 +77,7 @@ class Greedy:
             self.events += 2
         elif kind == "fault":
             check("a fault", reply, f'{{"fault":{of}}}')
-        elif of in self.open and reply not in (state(of, "waiting"), state(of, "running")):
+        elif of in self.open and not is_open(reply, of):
             check(f"job {of}", reply, done(self.open.pop(of), of))
             self.ended.append(of)
 
@@ -121,12 +124,14 @@ def honest(account, connection, over, told):
         connection.send(request)
         job = number_of(connection.line())
         reply = None
-        while reply in (None, state(job, "waiting"), state(job, "running")):
+        while reply is None or is_open(reply, job):
             connection.send(fetch(job))
             reply = connection.line()
             events += 1
         check(request, reply, done(expected, job))
         jobs, events, slowest = jobs + 1, events + 3, max(slowest, time.monotonic() - since)
+        # Alone it would fill the journal while others are waited for.
+        over.wait(0.01)
     account.add(events)
     connection.close()
     told.append((jobs, slowest))
@@ -144,9 +149,9 @@ def slow(account, connection, over):
 
 
 def never_reads(place, stream, send, taken, ends):
-    """Sends until no more is taken, and reads nothing: the connection ends once a write was held for the limit, or two where a
-    reply fits in part."""
-    stream.settimeout(2 * WRITE_LIMIT + 30)
+    """Sends until no more is taken, and reads nothing. The connection ends when the program has waited to write; `ends` gains
+    how long after the last piece that was taken."""
+    stream.settimeout(WAITS * WRITE_LIMIT + 60)
     since, taken[place] = time.monotonic(), 0
     try:
         while True:
@@ -158,14 +163,14 @@ def never_reads(place, stream, send, taken, ends):
     stream.close()
 
 
-def held(taken):
-    """Waits until nothing more is taken of those who never read."""
-    for _ in range(40):
-        before = dict(taken)
-        time.sleep(3)
-        if taken == before:
+def cut_off(ends):
+    """Waits until one of those who never read is cut off: the limit on writing, without a stop."""
+    for _ in range(WAITS * WRITE_LIMIT + 30):
+        if ends:
+            check(f"cut off after {min(ends):.1f} s", min(ends) > WRITE_LIMIT - 5, True)
             return
-    sys.exit("cases/server: those who never read are not held")
+        time.sleep(1)
+    sys.exit("cases/server: of those who never read none is cut off")
 
 
 def reads_late(account, connection, over):
@@ -267,24 +272,25 @@ def crowd(websocket):
     worked = time.monotonic() - start - connected
     check("the program still runs", server.runs(), True)
     resident = server.resident()
-    held(taken)
+    cut_off(ends)
     over.set()
     for thread in first + waiting:
         thread.join()
     stopper = connect()
     stopper.send(STOP)
     check("a stop", stopper.line(), CLOSING)
-    # Those who never read end by the limit on writing, a stop or not.
+    since = time.monotonic()
+    # Those who never read end by the stop, or by the limit on writing.
     for thread in stuck:
         thread.join()
     check("what went wrong", account.failed, [])
-    check(f"the limit on writing: {ends}", all(WRITE_LIMIT - 5 < end < 2 * WRITE_LIMIT + 20 for end in ends), True)
     server.end_after(account.events + 1)
+    ended = time.monotonic() - since
     (jobs, slowest), = told
     name = "WebSockets" if websocket else "lines"
     print(f"{name}: {len(idle) + len(extra) + len(greedy) + len(waiting) + len(stuck) + 1} connections at once ({connected:.1f} s), {account.lines} lines by {GREEDY} clients in {worked:.1f} s, "
           f"{jobs} jobs of an honest one, each right, the slowest after {slowest:.2f} s; {resident:.0f} MB")
-    print(f"{name}: those who never read were cut off after {min(ends):.0f} to {max(ends):.0f} s, {max(taken.values()) / 1e6:.1f} MB taken at most")
+    print(f"{name}: those who never read were cut off after {min(ends):.0f} to {max(ends):.0f} s, {max(taken.values()) / 1e6:.1f} MB taken at most; the program ended {ended:.1f} s after the stop")
     print(f"{name}: {account.events + 1 + WORKERS} events, each accounted for")
     for stream in idle + extra:
         stream.close()

@@ -3,7 +3,7 @@
 # WebSockets, by Python's `websockets` (package python3-websockets) and by frames written by hand; a page in headless Chromium
 # (package chromium). Answers are compared with those of DDS 2.9 in this repository, and each program's last line with the events
 # that its clients can account for. Packages that are missing are installed where this may be done. Words: which of `lines`,
-# `stops`, `sockets`, `page` to run (all). It takes about a minute.
+# `stops`, `sockets`, `page` to run (all). It takes some twenty seconds.
 set -eu
 here=$(cd -- "$(dirname -- "$0")" && pwd)
 . "$here/needs.sh"

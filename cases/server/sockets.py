@@ -4,7 +4,7 @@ import socket
 import sys
 import time
 import websockets
-from client import CLOSING, ONE_CARD, ONE_CARD_REPLY, STOP, Frames, Server, cancel, check, done, fetch, number_of, recorded, state
+from client import CLOSING, ONE_CARD, ONE_CARD_REPLY, STOP, Frames, Server, cancel, check, done, fetch, is_open, number_of, recorded
 
 LONGEST_MESSAGE = 65_536
 
@@ -26,7 +26,7 @@ class Work:
         while True:
             reply = await self.ask(connection, fetch(job))
             self.events += 1
-            if reply not in (state(job, "waiting"), state(job, "running")):
+            if not is_open(reply, job):
                 return reply
 
     async def jobs(self, rows):
@@ -132,11 +132,10 @@ work = Work(server.port)
 asyncio.run(work.all())
 events = work.events + frames(server)
 silent, last = server.stream(), Frames(server.stream())
-check("a job", number_of(last.ask(ONE_CARD)) > 0, True)
+job = number_of(last.ask(ONE_CARD))
 events += 3
-job = 200 + 2 + 1
 while (reply := last.ask(fetch(job))) != done(ONE_CARD_REPLY, job):
-    check("a job of its own", reply in (state(job, "waiting"), state(job, "running")), True)
+    check("a job of its own", is_open(reply, job), True)
     events += 1
 check("a stop", last.ask(STOP), CLOSING)
 server.end_after(events + 2)

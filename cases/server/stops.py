@@ -1,5 +1,4 @@
 """How a run ends: by a stop, without leave to stop, by SIGTERM, and where it can't begin."""
-import resource
 import signal
 import subprocess
 import time
