@@ -6,7 +6,7 @@ OPEN_JOBS = 64
 
 
 def deal(text, **fields):
-    """A request on this deal, with Row 1's other fields where none is given."""
+    """A request on this deal, with the first worked row's other fields where none is given."""
     shown = {"trump": "4", "first": "0", "solutions": "3", **fields}
     return f'{{"do":"solve","deal":"{text}",' + ",".join(f'"{name}":{value}' for name, value in shown.items()) + "}"
 
