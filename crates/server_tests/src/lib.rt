@@ -1,0 +1,7 @@
+//! Runs of the server, with a client of the same process.
+#![tactic(auto)]
+
+#[cfg(test)]
+mod client;
+#[cfg(test)]
+mod rows;
