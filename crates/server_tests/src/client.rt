@@ -60,9 +60,9 @@ pub fn converse<R: Net<Stream = TcpStream>>(
     let submitted = asked(alloc, &stream, &mut reader, LAST_TRICK)?;
     let mut fetched = String::new(alloc);
     let mut fetches = 0;
-    for _ in 0..MOST_FETCHES {
+    for turn in 1..=MOST_FETCHES {
         fetched = asked(alloc, &stream, &mut reader, r#"{"do":"fetch","job":1}"#)?;
-        fetches += 1;
+        fetches = turn;
         if fetched.as_str() == ANSWER || fetched.as_str().starts_with("{\"fault\"") {
             break;
         }
