@@ -1,92 +1,120 @@
-//! A client of lines, and a server of one worker.
-use dd_book::Limits;
-use dd_server::{ServeArgs, run_server};
-use dd_work::NoGate;
+//! A client, by lines or by messages of a WebSocket as RFC 6455 has them, with masks of zeros.
 use std::alloc::Global;
 use std::io;
-use std::io::{BufRead, BufReader, Write};
-use std::net::{Net, SocketAddr, TcpListener, TcpStream};
-use std::sync::Wait;
-use std::thread::Threads;
-use std::time::Clock;
-
-/// The position of which the ace of spades wins the last trick.
-pub const LAST_TRICK: &str =
-    r#"{"do":"solve","deal":"N:A... K... Q... J...","trump":4,"first":0,"solutions":3}"#;
-
-/// Its answer, as job 1.
-pub const ANSWER: &str =
-    r#"{"cards":[{"equals":0,"rank":14,"score":1,"suit":0}],"job":1,"state":"done"}"#;
+use std::io::{BufRead, BufReader, Read, Write};
+use std::net::TcpStream;
 
 /// How often a job is asked for.
-pub const MOST_FETCHES: u64 = 1_000_000;
+pub const MOST_FETCHES: u32 = 500_000;
 
-/// The replies of a client, and how often it asked for the job.
+// The most lines of the server's part of the handshake.
+const MOST_HEADERS: u32 = 32;
+
+const HANDSHAKE: &[u8] =
+    b"GET / HTTP/1.1\r\nHost: a\r\nUpgrade: websocket\r\nConnection: Upgrade\r\n\
+Sec-WebSocket-Key: dGhlIHNhbXBsZSBub25jZQ==\r\nSec-WebSocket-Version: 13\r\n\r\n";
+
+/// How a client and the server talk.
+#[derive(Clone, Copy, Debug, PartialEq, Eq)]
+pub enum Way {
+    Lines,
+    Messages,
+}
+
+/// A client that sends a request only when the one before it was replied to.
 #[derive(Drop)]
-pub struct Talk {
-    pub submitted: String,
-    pub fetched: String,
-    pub fetches: u64,
-    pub stopped: String,
+pub struct Client<'a> {
+    alloc: Global,
+    way: Way,
+    stream: &'a TcpStream,
+    reader: BufReader<&'a TcpStream>,
 }
 
-/// Serves with one worker and at most so many events: the number of events at the end.
-pub fn serve<R: Threads + Wait + Clock + Eprint + Sync>(
-    rt: &R,
-    alloc: Global,
-    listener: TcpListener,
-    events: u64,
-) -> Option<u64> {
-    let limits = Limits::new(4, 4, 8, events)?;
-    let args = ServeArgs {
-        workers: 1,
-        shards: 1,
-        entries: 16,
-        budget: None,
-        websocket: false,
-        allow_stop: true,
-    };
-    run_server(rt, alloc, listener, limits, args, &NoGate).ok()
+/// The last reply to a fetch that was sent again and again.
+#[derive(Drop)]
+pub struct Fetched {
+    pub reply: String,
+    pub fetches: u32,
 }
 
-/// Submits a job, asks for it until it is done or refused, and stops the server.
-pub fn converse<R: Net<Stream = TcpStream>>(
-    rt: &R,
+impl<'a> Client<'a> {
+    /// A client of this stream. By messages it shakes hands first.
+    pub fn new(alloc: Global, way: Way, stream: &'a TcpStream) -> io::Result<Client<'a>> {
+        stream.set_nodelay(true)?;
+        let mut reader = BufReader::new(alloc, stream)?;
+        if way == Way::Messages {
+            shake_hands(alloc, stream, &mut reader)?;
+        }
+        Ok(Client {
+            alloc,
+            way,
+            stream,
+            reader,
+        })
+    }
+
+    /// The reply to a request of at most 125 bytes.
+    pub fn ask(&mut self, request: &str) -> io::Result<String> {
+        match self.way {
+            Way::Lines => self.ask_by_line(request),
+            Way::Messages => self.ask_by_message(request),
+        }
+    }
+
+    /// Sends this fetch until the job no longer waits or runs.
+    pub fn fetch(&mut self, request: &str) -> io::Result<Fetched> {
+        let mut reply = String::new(self.alloc);
+        let mut fetches = 0;
+        for turn in 1..=MOST_FETCHES {
+            reply = self.ask(request)?;
+            fetches = turn;
+            if !is_open(reply.as_str()) {
+                break;
+            }
+        }
+        Ok(Fetched { reply, fetches })
+    }
+
+    fn ask_by_line(&mut self, request: &str) -> io::Result<String> {
+        self.stream.write_all(request.as_bytes())?;
+        self.stream.write_all(b"\n")?;
+        let mut reply = String::new(self.alloc);
+        self.reader.read_line(&mut reply)?;
+        Ok(String::from_str(self.alloc, reply.as_str().trim_end())?)
+    }
+
+    // One frame there, and one back.
+    fn ask_by_message(&mut self, request: &str) -> io::Result<String> {
+        let length = (request.len() & 0x7f) as u8;
+        self.stream.write_all(&[0x81, 0x80 | length, 0, 0, 0, 0])?;
+        self.stream.write_all(request.as_bytes())?;
+        let mut head = [0; 2];
+        self.reader.read_exact(&mut head)?;
+        let mut reply = String::new(self.alloc);
+        let mut text = self.reader.by_ref().take(u64::from(head[1]));
+        text.read_to_string(&mut reply)?;
+        Ok(reply)
+    }
+}
+
+// Does the reply say that the job waits or runs?
+fn is_open(reply: &str) -> bool {
+    reply.ends_with("\"state\":\"waiting\"}") || reply.ends_with("\"state\":\"running\"}")
+}
+
+// The server's part is read to its empty line.
+fn shake_hands(
     alloc: Global,
-    address: SocketAddr,
-) -> io::Result<Talk> {
-    let stream = TcpStream::connect(rt, address)?;
-    let mut reader = BufReader::new(alloc, &stream)?;
-    let submitted = asked(alloc, &stream, &mut reader, LAST_TRICK)?;
-    let mut fetched = String::new(alloc);
-    let mut fetches = 0;
-    for turn in 1..=MOST_FETCHES {
-        fetched = asked(alloc, &stream, &mut reader, r#"{"do":"fetch","job":1}"#)?;
-        fetches = turn;
-        if fetched.as_str() == ANSWER || fetched.as_str().starts_with("{\"fault\"") {
+    mut stream: &TcpStream,
+    reader: &mut BufReader<&TcpStream>,
+) -> io::Result<()> {
+    stream.write_all(HANDSHAKE)?;
+    for _ in 0..MOST_HEADERS {
+        let mut line = String::new(alloc);
+        reader.read_line(&mut line)?;
+        if line.as_str() == "\r\n" {
             break;
         }
     }
-    let stopped = asked(alloc, &stream, &mut reader, r#"{"do":"stop"}"#)?;
-    Ok(Talk {
-        submitted,
-        fetched,
-        fetches,
-        stopped,
-    })
-}
-
-// The reply to a line, without its line feed.
-fn asked(
-    alloc: Global,
-    stream: &TcpStream,
-    reader: &mut BufReader<&TcpStream>,
-    line: &str,
-) -> io::Result<String> {
-    let mut writer = stream;
-    writer.write_all(line.as_bytes())?;
-    writer.write_all(b"\n")?;
-    let mut reply = String::new(alloc);
-    reader.read_line(&mut reply)?;
-    Ok(String::from_str(alloc, reply.as_str().trim_end())?)
+    Ok(())
 }

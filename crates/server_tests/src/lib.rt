@@ -4,4 +4,8 @@
 #[cfg(test)]
 mod client;
 #[cfg(test)]
+mod gate;
+#[cfg(test)]
 mod rows;
+#[cfg(test)]
+mod serving;
