@@ -15,7 +15,7 @@ const HANDSHAKE: &[u8] =
 Sec-WebSocket-Key: dGhlIHNhbXBsZSBub25jZQ==\r\nSec-WebSocket-Version: 13\r\n\r\n";
 
 /// How a client and the server talk.
-#[derive(Clone, Copy, Debug, PartialEq, Eq)]
+#[derive(Clone, Copy)]
 pub enum Way {
     Lines,
     Messages,
@@ -42,7 +42,7 @@ impl<'a> Client<'a> {
     pub fn new(alloc: Global, way: Way, stream: &'a TcpStream) -> io::Result<Client<'a>> {
         stream.set_nodelay(true)?;
         let mut reader = BufReader::new(alloc, stream)?;
-        if way == Way::Messages {
+        if matches!(way, Way::Messages) {
             shake_hands(alloc, stream, &mut reader)?;
         }
         Ok(Client {

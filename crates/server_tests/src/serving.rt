@@ -9,7 +9,7 @@ use std::thread::Threads;
 use std::time::Clock;
 
 /// What a run of the server is asked for.
-#[derive(Clone, Copy, Debug, PartialEq, Eq)]
+#[derive(Clone, Copy)]
 pub struct Run {
     /// 1 or 2.
     pub workers: u32,
