@@ -238,61 +238,69 @@ def broken_lines(account, server):
     account.add(1)
 
 
-def crowd(websocket):
-    """Everything at once, at one server."""
-    server = Server("--allow-stop", *(["--websocket"] if websocket else []), workers=WORKERS)
-    start, account, over = time.monotonic(), Account(), threading.Event()
-    connect = (lambda: Messages(server.stream(120))) if websocket else (lambda: server.connect(120))
-    idle = [server.stream(120) for _ in range(IDLE - 50)]
-    for place, stream in enumerate(idle):
-        # Silent, or in the midst of a line, a handshake or a frame.
+def silent(server, websocket):
+    """Those who say nothing, or stop in the midst of a line, a handshake or a frame."""
+    parts = [b"", b"", b"GET / HT", b"\x81\xff"] if websocket else [b"", b'{"do":"fet', b" "]
+    streams = [server.stream(120) for _ in range(IDLE - 50)]
+    for place, stream in enumerate(streams):
         if websocket and place % 2:
-            stream = Frames(stream).stream
-        stream.sendall([[b"", b'{"do":"fet', b" "], [b"", b"", b"GET / HT", b"\x81\xff"]][websocket][place % (3 + websocket)])
-    told, taken, ends = [], {}, []
-    first = [account.run(honest, account, connect(), over, told)]
-    waiting = [account.run(slow, account, server.connect(120), over) for _ in range(50)] if not websocket else []
-    waiting += [account.run(reads_late, account, connect(), over) for _ in range(20)]
-    # Each has a longer reply than most: the program's room for them is soon full.
-    bad = Frames.frame(Frames.PING, b"p" * 125) * 100 if websocket else b"{}\n" * 1_000
-    stuck = []
+            Frames(stream)
+        stream.sendall(parts[place % len(parts)])
+    return streams
+
+
+def unreading(server, websocket, account, taken, ends):
+    """Those who never read. A piece of theirs has replies that soon fill what the system keeps for them."""
+    piece = Frames.frame(Frames.PING, b"p" * 125) * 100 if websocket else b"{}\n" * 1_000
     for place in range(5):
         stream = socket.socket()
-        # Little room, so that the program's replies soon find none.
+        # Little room.
         stream.setsockopt(socket.SOL_SOCKET, socket.SO_RCVBUF, 4_096)
         stream.connect(("127.0.0.1", server.port))
-        stuck.append(account.run(never_reads, place, Frames(stream).stream if websocket else stream, bad, taken, ends))
-    greedy = [Greedy(connect(), seed) for seed in range(GREEDY)]
-    extra = [server.stream(120) for _ in range(CROWD - IDLE - GREEDY + 50)]
-    connected = time.monotonic() - start
-    threads = [account.run(client.run, account, LINES_EACH) for client in greedy]
-    threads.append(account.run(broken_frames if websocket else broken_lines, account, server))
+        if websocket:
+            Frames(stream)
+        yield account.run(never_reads, place, stream, piece, taken, ends)
+
+
+def join(threads):
     for thread in threads:
         thread.join()
-    worked = time.monotonic() - start - connected
+
+
+def crowd(websocket):
+    """Everything at once, at one server."""
+    name = "WebSockets" if websocket else "lines"
+    server = Server("--allow-stop", *(["--websocket"] if websocket else []), workers=WORKERS)
+    connect = (lambda: Messages(server.stream(120))) if websocket else (lambda: server.connect(120))
+    start, account, over = time.monotonic(), Account(), threading.Event()
+    told, taken, ends = [], {}, []
+    idle = silent(server, websocket)
+    waiting = [account.run(honest, account, connect(), over, told)]
+    waiting += [account.run(slow, account, server.connect(120), over) for _ in range(0 if websocket else 50)]
+    waiting += [account.run(reads_late, account, connect(), over) for _ in range(20)]
+    stuck = list(unreading(server, websocket, account, taken, ends))
+    greedy = [Greedy(connect(), seed) for seed in range(GREEDY)]
+    idle += [server.stream(120) for _ in range(CROWD - len(idle) - len(waiting) - len(stuck) - len(greedy))]
+    connected = time.monotonic()
+    threads = [account.run(client.run, account, LINES_EACH) for client in greedy]
+    join([*threads, account.run(broken_frames if websocket else broken_lines, account, server)])
+    worked = time.monotonic()
     check("the program still runs", server.runs(), True)
-    resident = server.resident()
+    print(f"{name}: {CROWD} connections at once after {connected - start:.1f} s, {account.lines} lines by {GREEDY} clients in {worked - connected:.1f} s; {server.resident():.0f} MB", flush=True)
     cut_off(ends)
     over.set()
-    for thread in first + waiting:
-        thread.join()
+    join(waiting)
     stopper = connect()
     stopper.send(STOP)
     check("a stop", stopper.line(), CLOSING)
-    since = time.monotonic()
+    stopped = time.monotonic()
     # Those who never read end by the stop, or by the limit on writing.
-    for thread in stuck:
-        thread.join()
+    join(stuck)
     check("what went wrong", account.failed, [])
     server.end_after(account.events + 1)
-    ended = time.monotonic() - since
-    (jobs, slowest), = told
-    name = "WebSockets" if websocket else "lines"
-    print(f"{name}: {len(idle) + len(extra) + len(greedy) + len(waiting) + len(stuck) + 1} connections at once ({connected:.1f} s), {account.lines} lines by {GREEDY} clients in {worked:.1f} s, "
-          f"{jobs} jobs of an honest one, each right, the slowest after {slowest:.2f} s; {resident:.0f} MB")
-    print(f"{name}: those who never read were cut off after {min(ends):.0f} to {max(ends):.0f} s, {max(taken.values()) / 1e6:.1f} MB taken at most; the program ended {ended:.1f} s after the stop")
-    print(f"{name}: {account.events + 1 + WORKERS} events, each accounted for")
-    for stream in idle + extra:
+    print(f"{name}: those who never read were cut off after {min(ends):.0f} to {max(ends):.0f} s; the program ended {time.monotonic() - stopped:.1f} s after the stop")
+    print(f"{name}: {told[0][0]} jobs of an honest client, each right, the slowest after {told[0][1]:.2f} s; {account.events + 1 + WORKERS} events, each accounted for")
+    for stream in idle:
         stream.close()
 
 
