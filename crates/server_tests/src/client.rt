@@ -4,7 +4,7 @@ use std::io;
 use std::io::{BufRead, BufReader, Read, Write};
 use std::net::TcpStream;
 
-/// How often a job is asked for.
+/// The most fetches of a job.
 pub const MOST_FETCHES: u32 = 500_000;
 
 // The most lines of the server's part of the handshake.
