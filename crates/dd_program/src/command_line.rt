@@ -226,7 +226,7 @@ fn serve_command<'a>(alloc: Global) -> Result<Command<'a>, AllocError>
         .arg(workers_option(alloc))?
         .arg(shards_option(alloc))?
         .arg(shard_entries_option(alloc))?
-        .arg(budget_option(alloc))?
+        .arg(job_budget_option(alloc))?
         .arg(websocket_flag(alloc))?
         .arg(allow_stop_flag(alloc))
 }
@@ -291,6 +291,18 @@ fn shard_entries_option<'a>(alloc: Global) -> Arg<'a>
         .value_name("N")
         .value_parser(value_parser!(u32).range(1..=most))
         .help("The entries of each shard, 1 to 65536 [default: 4096]")
+}
+
+fn job_budget_option<'a>(alloc: Global) -> Arg<'a>
+    ensures { IsOption result budget_rule }
+{
+    Arg::new(alloc, "budget")
+        .long("budget")
+        .value_name("N")
+        .value_parser(value_parser!(u64).range(0..=MOST_POSITIONS))
+        .help(
+            "The most positions for each job and each of a table's twenty results, 0 to 1000000000000 [default: no limit]",
+        )
 }
 
 fn websocket_flag<'a>(alloc: Global) -> Arg<'a>
