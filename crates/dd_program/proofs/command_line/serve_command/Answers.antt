@@ -12,6 +12,6 @@ returns c =
     let two = adds _ workers_rule _ c.workers_option.result c.in_ok-arg-2.field-0 c.in_ok-arg-2.ensures c.workers_option.ensures one in
     let three = adds _ shards_rule _ c.shards_option.result c.in_ok-arg-3.field-0 c.in_ok-arg-3.ensures c.shards_option.ensures two in
     let four = adds _ shard_entries_rule _ c.shard_entries_option.result c.in_ok-arg-4.field-0 c.in_ok-arg-4.ensures c.shard_entries_option.ensures three in
-    let five = adds _ budget_rule _ c.budget_option.result c.in_ok-arg-5.field-0 c.in_ok-arg-5.ensures c.budget_option.ensures four in
+    let five = adds _ budget_rule _ c.job_budget_option.result c.in_ok-arg-5.field-0 c.in_ok-arg-5.ensures c.job_budget_option.ensures four in
     let six = adds _ websocket_rule _ c.websocket_flag.result c.in_ok-arg-6.field-0 c.in_ok-arg-6.ensures c.websocket_flag.ensures five in
     adds-last _ allow_stop_rule _ c.allow_stop_flag.result c.arg-7.result c.arg-7.ensures c.allow_stop_flag.ensures six
