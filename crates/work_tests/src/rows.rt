@@ -44,6 +44,16 @@ fn a_worker_answers_what_waits_and_leaves_after_a_shut(rt: HostRuntime) -> Resul
 }
 
 #[test]
+fn a_worker_answers_one_job_and_leaves_after_a_shut(rt: HostRuntime) -> Result<(), AllocError> {
+    let alloc = rt.alloc();
+    let rows = format!(in alloc;
+        "submits {CAUGHT} => job 1\nshuts => shut\nworks => 3 receipts\nfetches 1 => {CAUGHT_ANSWER}"
+    )?;
+    let ending = text(alloc, "6 events: 3 3")?;
+    follow(&rt, alloc, &script(&rt, 1_000, None, rows, ending))
+}
+
+#[test]
 fn a_budget_is_for_each_claim(rt: HostRuntime) -> Result<(), AllocError> {
     let alloc = rt.alloc();
     let rows = format!(in alloc;
