@@ -1,6 +1,6 @@
 //! A table of one thread before another.
 ghost use Rattle.std.specs.Prelude.{◌≡◌, ◌<◌, ◌≤◌, ◌⊎◌, IfSome};
-ghost use Rattle.dd_cards.specs.declared.suit.Suit.{Suit};
+ghost use Rattle.dd_cards.specs.declared.suit.Suit.{Suit as SuitOf};
 ghost use Rattle.dd_play.specs.Board.{Board, IsBoard};
 ghost use Rattle.dd_play.specs.Covers.{count_of};
 ghost use Rattle.dd_play.specs.Value.{lead};
@@ -13,10 +13,10 @@ ghost use Rattle.dd_cache.specs.Told.{ToldOf, IsSound};
 use crate::head::Head;
 use crate::page::Page;
 use crate::told::Told;
-use dd_cards::Seat;
+use dd_cards::{Seat, Suit};
 use dd_play::{Interval, TrickStart};
 use dd_rank::{Depths, FirstOwners, OwnerStrings, Shape, alike_strings, covered_positions};
-use dd_search::Bounds;
+use dd_search::{Bounds, SettlingLeads};
 use std::alloc::{AllocError, Global};
 
 // The pages that there may be, and the places at which they are found: powers of two.
@@ -41,6 +41,9 @@ pub struct Cache<B> {
     pages: Vec<Page>,
     // the number of the next page; the first one has the number PAGES
     next: u32,
+    // the suits of leads that settled starts of a trick lately: by place of their shapes, and of their outlines
+    of_shapes: Vec<Option<Suit>>,
+    of_outlines: Vec<Option<Suit>>,
     // the deal of which the last look was
     deal: Deal,
 }
@@ -60,12 +63,16 @@ impl<B: Drop> Cache<B> {
         let heads = Vec::with_capacity(alloc, PAGES as usize)?;
         let pages = Vec::with_capacity(alloc, PAGES as usize)?;
         let newest = vec![in alloc; 0; PLACES]?;
+        let of_shapes = vec![in alloc; None; PLACES]?;
+        let of_outlines = vec![in alloc; None; PLACES]?;
         Ok(Cache {
             behind,
             newest,
             heads,
             pages,
             next: PAGES,
+            of_shapes,
+            of_outlines,
             deal: Deal {
                 strain: 0,
                 north: 0,
@@ -90,6 +97,8 @@ impl<B> Cache<B> {
             let over = self.next % PAGES;
             if over != 0 {
                 self.next = self.next.wrapping_add(PAGES - over);
+                self.of_shapes.fill(None);
+                self.of_outlines.fill(None);
             }
         }
     }
@@ -144,7 +153,7 @@ impl<B> Cache<B> {
         interval: Interval,
     )
         requires strings { strings.now ≡ strings_of start.now }
-        requires within { (u : Suit) → depth_in depths u ≤ count_of u (all_cards start.now) }
+        requires within { (u : SuitOf) → depth_in depths u ≤ count_of u (all_cards start.now) }
         requires holds { (q : Board) → IsBoard q → Covers start.now (depth_in depths) q
             → Holds interval (lead q) }
     {
@@ -243,6 +252,18 @@ impl<B: Bounds> Bounds for Cache<B> {
         }
     }
 
+    fn settling_leads(&self, strings: &OwnerStrings) -> SettlingLeads {
+        SettlingLeads {
+            of_shape: lead_at(&self.of_shapes, strings.shape().mixing_number()),
+            of_outline: lead_at(&self.of_outlines, strings.outline_number()),
+        }
+    }
+
+    fn note_lead(&mut self, strings: &OwnerStrings, lead: Suit) {
+        put_lead(&mut self.of_shapes, strings.shape().mixing_number(), lead);
+        put_lead(&mut self.of_outlines, strings.outline_number(), lead);
+    }
+
     fn note_by(
         &mut self,
         start: &TrickStart,
@@ -254,6 +275,20 @@ impl<B: Bounds> Bounds for Cache<B> {
         if is_worth_sharing(start) {
             self.behind.note_by(start, strings, depths, interval);
         }
+    }
+}
+
+// The lead that stands at the place of this number.
+#[inline]
+fn lead_at(leads: &Vec<Option<Suit>>, mixed: u64) -> Option<Suit> {
+    *leads.get(place(mixed))?
+}
+
+// Puts the lead there.
+#[inline]
+fn put_lead(leads: &mut Vec<Option<Suit>>, mixed: u64, lead: Suit) {
+    if let Some(old) = leads.get_mut(place(mixed)) {
+        *old = Some(lead);
     }
 }
 

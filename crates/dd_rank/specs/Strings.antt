@@ -1,6 +1,6 @@
 -- The owner strings of a start of a trick: who holds the cards that are left, suit by suit, with the seats counted from the leader.
 use Rattle.std.proofs.Common.{refl, eqb-true}
-use Rattle.std.specs.Prelude.{◌≡◌, ◌&&◌, true, false, ℕ, ◌+◌, ◌-◌, ◌*◌, ◌/◌, ◌%◌, ◌^◌, bit_xor, nat_eq, ◌==◌, Bool, List, [], ◌∷◌, map}
+use Rattle.std.specs.Prelude.{◌≡◌, ◌&&◌, true, false, ℕ, ◌+◌, ◌-◌, ◌*◌, ◌/◌, ◌%◌, ◌^◌, bit_xor, bit_and, nat_eq, ◌==◌, Bool, List, [], ◌∷◌, map}
 use Rattle.std.specs.Cmp.{IsEquivalence, IsPartialEquivalence, partial_equiv_from_equiv, and_equiv, on_equiv, nat_eq_equiv}
 use Rattle.std.specs.Hash.{u64}
 use Rattle.std.specs.Ordering.{on, eq_of_both}
@@ -94,6 +94,11 @@ mixing_number_of s = mix (mix 0 (strain_code s.strain)) s.lengths
 -- the mixing number of strings
 abbrev pub mixing_number_in : Strings → ℕ
 mixing_number_in s = mix (mix (mixing_number_of (shape_in s)) (s.spades + 2 ^ 32 * s.hearts)) (s.diamonds + 2 ^ 32 * s.clubs)
+
+-- a number of strings' outline: of the strain, the leader's lengths and the owners of the highest cards
+abbrev pub outline_number_in : Strings → ℕ
+outline_number_in s = mix (mix (strain_code s.strain) (bit_and s.lengths 0x000F000F000F000F))
+    ((s.spades % 4 * 4 + s.hearts % 4) * 16 + (s.diamonds % 4 * 4 + s.clubs % 4))
 
 -- are strain, lengths and owners the same?
 abbrev pub same_strings : Strings → Strings → Bool

@@ -1,7 +1,7 @@
 //! Who holds the cards that are left, as one number a suit.
 
 ghost use Rattle.std.specs.Prelude.{◌≡◌};
-ghost use Rattle.dd_rank.specs.Strings.{strings_of, shape_in, mixing_number_in, same_strings, same-strings, same-strings-partial, string_in};
+ghost use Rattle.dd_rank.specs.Strings.{strings_of, shape_in, mixing_number_in, outline_number_in, same_strings, same-strings, same-strings-partial, string_in};
 
 use crate::lanes::{Places, suit_lengths};
 use crate::shape::{Shape, mix};
@@ -21,6 +21,9 @@ pub struct OwnerStrings {
     diamonds: u32,
     clubs: u32,
 }
+
+// The bits of the leader's lengths.
+const LEADERS: u64 = 0x000F_000F_000F_000F;
 
 impl Model for OwnerStrings {
     ghost use Rattle.dd_rank.specs.Strings.{Strings};
@@ -114,6 +117,19 @@ impl OwnerStrings {
         let majors = self.spades as u64 + self.hearts as u64 * 0x1_0000_0000;
         let minors = self.diamonds as u64 + self.clubs as u64 * 0x1_0000_0000;
         mix(mix(self.shape().mixing_number(), majors), minors)
+    }
+
+    /// A number of 64 bits over which outlines are spread: a strain, the leader's number of cards of each suit, and the holder
+    /// of the highest card of each suit.
+    #[inline]
+    pub fn outline_number(self) -> u64
+        ensures { result ≡ outline_number_in self }
+    {
+        let lengths = self.lengths & LEADERS;
+        let majors = (self.spades & 3) * 4 + (self.hearts & 3);
+        let minors = (self.diamonds & 3) * 4 + (self.clubs & 3);
+        let holders = (majors * 16 + minors) as u64;
+        mix(mix(self.strain.code() as u64, lengths), holders)
     }
 
     /// The owners of a suit: two bits for each card that is left, the highest card's the lowest.

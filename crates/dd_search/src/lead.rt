@@ -3,6 +3,7 @@ ghost use Rattle.std.specs.Prelude.{◌≡◌, ◌≤◌, true, IfSome};
 ghost use Rattle.dd_cards.specs.Cards.{has_card};
 
 use crate::holdings::code_of_highest;
+use crate::table::SettlingLeads;
 use arrayvec::ArrayVec;
 use dd_cards::{Card, Hand, Holding, Rank, Strain, Suit};
 use dd_play::Position;
@@ -121,13 +122,32 @@ const RUFF: u8 = 15;
 // What the best card of a suit weighs more: each suit is rather tried once before one is tried again.
 const BEST_OF_ITS_SUIT: u16 = 30;
 
+// What the cards of a suit weigh more that settled the last start of a trick of the same shape, or of the same outline.
+const SETTLED_SHAPE: u16 = 60;
+const SETTLED_OUTLINE: u16 = 40;
+
 /// Puts these cards of the mover into an empty list, with no card on the trick.
-pub(crate) fn weigh(position: &Position, choices: Hand, leads: &mut Leads) {
+pub(crate) fn weigh(
+    position: &Position,
+    settling: SettlingLeads,
+    choices: Hand,
+    leads: &mut Leads,
+) {
     let ruffs = Ruffs::of(position);
-    weigh_suit(position, &ruffs, Suit::Spades, choices, leads);
-    weigh_suit(position, &ruffs, Suit::Hearts, choices, leads);
-    weigh_suit(position, &ruffs, Suit::Diamonds, choices, leads);
-    weigh_suit(position, &ruffs, Suit::Clubs, choices, leads);
+    weigh_suit(position, &ruffs, settling, Suit::Spades, choices, leads);
+    weigh_suit(position, &ruffs, settling, Suit::Hearts, choices, leads);
+    weigh_suit(position, &ruffs, settling, Suit::Diamonds, choices, leads);
+    weigh_suit(position, &ruffs, settling, Suit::Clubs, choices, leads);
+}
+
+// What speaks for the suit by what settled starts of a trick like this one.
+#[inline]
+fn settled_before(settling: SettlingLeads, suit: Suit) -> u16
+    ensures { result ≤ 100 }
+{
+    let shape = if settling.of_shape == Some(suit) { SETTLED_SHAPE } else { 0 };
+    let outline = if settling.of_outline == Some(suit) { SETTLED_OUTLINE } else { 0 };
+    shape + outline
 }
 
 /// The best lead that was not tried yet.
@@ -148,14 +168,22 @@ pub(crate) fn best_lead(leads: &Leads, untried: Hand) -> Option<Card>
 }
 
 // Adds the choices of this suit.
-fn weigh_suit(position: &Position, ruffs: &Ruffs, suit: Suit, choices: Hand, leads: &mut Leads)
+fn weigh_suit(
+    position: &Position,
+    ruffs: &Ruffs,
+    settling: SettlingLeads,
+    suit: Suit,
+    choices: Hand,
+    leads: &mut Leads,
+)
     requires { ruffs.now.tricks ≤ 13 }
 {
     let mut rest = choices.holding(suit);
     let Some(lowest) = rest.pop_lowest() else {
         return;
     };
-    let view = suit_view(position, ruffs, suit);
+    let mut view = suit_view(position, ruffs, suit);
+    view.weight = view.weight.saturating_add(settled_before(settling, suit));
     let mut best = weighed(&view, suit, lowest);
     'ranks: while let Some(rank) = rest.pop_lowest() {
         let new = weighed(&view, suit, rank);

@@ -27,7 +27,7 @@ pub use laws::value_is_the_greatest_score;
 pub use meter::{Budget, Endless, Halt, Meter, Tick};
 pub use position_value::{value, value_near};
 pub use start::{start_scores, start_value};
-pub use table::{Bounds, NoTable};
+pub use table::{Bounds, NoTable, SettlingLeads};
 
 #[cfg(test)]
 mod tests;

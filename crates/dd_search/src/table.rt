@@ -1,6 +1,6 @@
 //! What a search is told of positions, and tells of them: the transposition table as it sees it.
 ghost use Rattle.std.specs.Prelude.{IfSome, ◌<◌, ◌≤◌, ◌⊎◌, true, ◌≡◌};
-ghost use Rattle.dd_cards.specs.declared.suit.Suit.{Suit};
+ghost use Rattle.dd_cards.specs.declared.suit.Suit.{Suit as SuitOf};
 ghost use Rattle.dd_play.specs.Board.{Board, IsBoard};
 ghost use Rattle.dd_play.specs.Covers.{count_of};
 ghost use Rattle.dd_play.specs.Value.{lead};
@@ -8,6 +8,7 @@ ghost use Rattle.dd_play.specs.Intervals.{Holds};
 ghost use Rattle.dd_rank.specs.Depths.{FourDepths, depth_in, all_cards, Covers};
 ghost use Rattle.dd_rank.specs.Strings.{strings_of};
 
+use dd_cards::Suit;
 use dd_play::{Interval, TrickStart};
 use dd_rank::{Depths, OwnerStrings};
 
@@ -22,7 +23,7 @@ pub trait Bounds {
     /// Bounds, with their depths, and nothing where none are known.
     fn look(&mut self, start: &TrickStart) -> Option<(Interval, Depths)>
         ensures told { IfSome result (λ told. tells self.old start.now told.1 told.0) }
-        ensures within { IfSome result (λ told. (u : Suit)
+        ensures within { IfSome result (λ told. (u : SuitOf)
             → depth_in told.1 u ≤ count_of u (all_cards start.now)) };
 
     /// Bounds that settle whether the leader's side takes at least `need` tricks, and nothing where none are known. The
@@ -35,7 +36,7 @@ pub trait Bounds {
     ) -> Option<(Interval, Depths)>
         requires { strings.now ≡ strings_of start.now }
         ensures told { IfSome result (λ told. tells self.old start.now told.1 told.0) }
-        ensures within { IfSome result (λ told. (u : Suit)
+        ensures within { IfSome result (λ told. (u : SuitOf)
             → depth_in told.1 u ≤ count_of u (all_cards start.now)) }
         ensures settles { IfSome result (λ told. (need ≤ told.0.lo) ⊎ (told.0.hi < need)) }
     {
@@ -49,7 +50,7 @@ pub trait Bounds {
 
     /// Hands over bounds, with their depths, which may be kept or not.
     fn note(&mut self, start: &TrickStart, depths: Depths, interval: Interval)
-        requires within { (u : Suit) → depth_in depths u ≤ count_of u (all_cards start.now) }
+        requires within { (u : SuitOf) → depth_in depths u ≤ count_of u (all_cards start.now) }
         requires holds { (q : Board) → IsBoard q → Covers start.now (depth_in depths) q
             → Holds interval (lead q) };
 
@@ -62,17 +63,35 @@ pub trait Bounds {
         interval: Interval,
     )
         requires strings { strings.now ≡ strings_of start.now }
-        requires within { (u : Suit) → depth_in depths u ≤ count_of u (all_cards start.now) }
+        requires within { (u : SuitOf) → depth_in depths u ≤ count_of u (all_cards start.now) }
         requires holds { (q : Board) → IsBoard q → Covers start.now (depth_in depths) q
             → Holds interval (lead q) }
     {
         self.note(start, depths, interval);
     }
 
+    /// The suits of leads that settled starts of a trick like the one with these strings. They serve the order of leads alone: no
+    /// answer rests on them, so any are right.
+    fn settling_leads(&self, _strings: &OwnerStrings) -> SettlingLeads {
+        SettlingLeads::default()
+    }
+
+    /// Hands over the suit of a lead that settled the start with these strings, which may be kept or not.
+    fn note_lead(&mut self, _strings: &OwnerStrings, _lead: Suit) {}
+
     /// what is told holds
     ghost holds: { (table : Self) (p : Board) (depths : FourDepths) (interval : Interval) (q :
         Board) → tells table p depths interval
         → IsBoard q → Covers p (depth_in depths) q → Holds interval (lead q) };
+}
+
+/// The suits of leads that settled starts of a trick, where some are known.
+#[derive(Clone, Copy, Debug, Default)]
+pub struct SettlingLeads {
+    /// the last one at a start of the same shape
+    pub of_shape: Option<Suit>,
+    /// the last one at a start of the same outline
+    pub of_outline: Option<Suit>,
 }
 
 /// Knows nothing and keeps nothing.

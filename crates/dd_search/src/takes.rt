@@ -15,7 +15,7 @@ use crate::lead::Leads;
 use crate::meter::{Halt, Meter, go_on};
 use crate::order::Outlook;
 use crate::rests::{settled_by, still_untried};
-use crate::table::Bounds;
+use crate::table::{Bounds, SettlingLeads};
 use dd_cards::{Card, Hand, Seat};
 use dd_equal::{tops, whole};
 use dd_play::{Position, TrickStart};
@@ -42,7 +42,7 @@ pub(crate) fn takes<B: Bounds, M: Meter>(
         if let Some(answer) = second_hands_answer(position, need) {
             return Ok(answer);
         }
-        return answer_by_play(position, need, table, meter);
+        return answer_by_play(position, None, need, table, meter);
     };
     answer_at_start(&start, need, table, meter)
 }
@@ -71,15 +71,17 @@ fn answer_at_start<B: Bounds, M: Meter>(
     if let Some(answer) = quick_answer(start, need) {
         return Ok(answer);
     }
-    let answer = answer_by_play(start.position(), need, table, meter)?;
+    let answer = answer_by_play(start.position(), Some(&strings), need, table, meter)?;
     note_answer(start, &strings, need, answer, table);
     Ok(answer)
 }
 
-// The answer by the cards: one of each class is tried until one settles it, but for those that a failure tells of too.
+// The answer by the cards: one of each class is tried until one settles it, but for those that a failure tells of too. The
+// strings of a start of a trick serve the order alone.
 #[cycle(takes)]
 fn answer_by_play<B: Bounds, M: Meter>(
     position: &Position,
+    strings: Option<&OwnerStrings>,
     need: u8,
     table: &mut B,
     meter: &mut M,
@@ -97,7 +99,7 @@ fn answer_by_play<B: Bounds, M: Meter>(
         Some(card) if others.is_empty() => answer_by_only_choice(
             position, card, need, table, meter,
         ),
-        _ => answer_by_choices(position, choices, need, table, meter),
+        _ => answer_by_choices(position, strings, choices, need, table, meter),
     }
 }
 
@@ -133,6 +135,7 @@ fn answer_by_only_choice<B: Bounds, M: Meter>(
 #[cycle(takes)]
 fn answer_by_choices<B: Bounds, M: Meter>(
     position: &Position,
+    strings: Option<&OwnerStrings>,
     choices: Hand,
     need: u8,
     table: &mut B,
@@ -148,12 +151,14 @@ fn answer_by_choices<B: Bounds, M: Meter>(
 {
     let north_south = position.mover().is_north_south();
     let mut leads = Leads::new();
-    let outlook = Outlook::of(position, choices, &mut leads);
+    let settling = settling_leads(strings, table);
+    let outlook = Outlook::of(position, settling, choices, &mut leads);
     let mut untried = choices;
     let mut cards = Hand::new();
     'tries: while let Some(card) = outlook.best(position, choices, untried, &leads) {
         let found = answer_after(position, card, need, table, meter)?;
         if found.yes == north_south {
+            note_lead(strings, card, table);
             return Ok(found);
         }
         cards = cards.union(found.cards);
@@ -163,6 +168,23 @@ fn answer_by_choices<B: Bounds, M: Meter>(
         yes: !north_south,
         cards: whole(position, cards),
     })
+}
+
+// The suits of leads that settled starts of a trick like this one; of another position none are known.
+#[inline]
+fn settling_leads<B: Bounds>(strings: Option<&OwnerStrings>, table: &B) -> SettlingLeads {
+    match strings {
+        Some(strings) => table.settling_leads(strings),
+        None => SettlingLeads::default(),
+    }
+}
+
+// Hands over the card that settled a start of a trick.
+#[inline]
+fn note_lead<B: Bounds>(strings: Option<&OwnerStrings>, card: Card, table: &mut B) {
+    if let Some(strings) = strings {
+        table.note_lead(strings, card.suit);
+    }
 }
 
 // What is answered when this card is played, and the cards on which that rests here, before it is.
