@@ -41,7 +41,8 @@ impl Model for Hand {
 impl Hand {
     ghost use Rattle.dd_cards.specs.HandMasks.{cards_of, IsHandMask};
 
-    pub(crate) fn of_mask(mask: u64) -> Hand
+    /// The cards of a mask: sixteen bits for each suit, the spades on top, and in them bit r for the rank r.
+    pub fn of_mask(mask: u64) -> Hand
         requires { IsHandMask mask }
         ensures { result ≡ cards_of mask }
     {

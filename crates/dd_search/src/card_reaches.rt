@@ -37,7 +37,7 @@ pub fn reaches<B: Bounds, M: Meter>(
     let rest = need.saturating_sub(trick_of(winner));
     let yes = match answer_by_counting(&next, rest) {
         Some(yes) => yes,
-        None => takes(&next, rest, table, meter)?.yes,
+        None => takes(&next, rest, table, meter)?.is_yes(),
     };
     Ok(yes == north_south)
 }

@@ -76,6 +76,17 @@ const FIRST_OF_ITS_SUIT: u16 = 55;
 const FOUR_TO_SPARE_FROM: u16 = 7;
 
 impl Discarding {
+    /// What cards are worth to a hand that doesn't discard.
+    #[inline]
+    pub(crate) fn nothing() -> Discarding {
+        Discarding {
+            trump: None,
+            worth: SECOND_HAND,
+            beaten: 0,
+            overruffs: 0,
+        }
+    }
+
     /// What the mover's cards are worth, of which none is of the suit led.
     pub(crate) fn of(view: &View) -> Discarding {
         let best = view.best.code();

@@ -20,6 +20,12 @@ pub(crate) struct Following {
 }
 
 impl Following {
+    /// The groups of a hand that doesn't follow.
+    #[inline]
+    pub(crate) fn nothing() -> Following {
+        first_of_all(Suit::Spades, Holding::new())
+    }
+
     /// The groups of these cards of the suit led.
     #[inline]
     pub(crate) fn of(own: Holding, view: &View) -> Following {

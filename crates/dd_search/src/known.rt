@@ -34,10 +34,10 @@ pub(crate) fn quick_answer(start: &TrickStart, need: u8) -> Option<Answer>
     let leaders = if leads { need } else { others };
     let against = if leads { others } else { need };
     if let Some(cards) = for_leader(start, leaders) {
-        return Some(Answer { yes: leads, cards });
+        return Some(Answer::new(leads, cards));
     }
     let cards = against_leader(start, against)?;
-    Some(Answer { yes: !leads, cards })
+    Some(Answer::new(!leads, cards))
 }
 
 /// The same by a look at a table, to which the start's strings are handed.
@@ -59,10 +59,7 @@ pub(crate) fn told_answer<B: Bounds>(
     let left = position.tricks_left();
     let leaders = if leads { need } else { left + 1 - need };
     match table.settle(start, strings, leaders) {
-        Some(told) => Some(Answer {
-            yes: (leaders <= told.0.lo) == leads,
-            cards: told.1.cards(start),
-        }),
+        Some(told) => Some(Answer::new((leaders <= told.0.lo) == leads, told.1.cards(start))),
         None => None,
     }
 }
@@ -82,7 +79,7 @@ pub(crate) fn second_hands_answer(position: &Position, need: u8) -> Option<Answe
     let left = position.tricks_left();
     let others = if leads { left + 1 - need } else { need };
     let cards = for_second_hand(position, others)?;
-    Some(Answer { yes: !leads, cards })
+    Some(Answer::new(!leads, cards))
 }
 
 /// Hands over what an answer proves of the value.
@@ -90,36 +87,36 @@ pub(crate) fn note_answer<B: Bounds>(
     start: &TrickStart,
     strings: &OwnerStrings,
     need: u8,
-    answer: Answer,
+    answer: &Answer,
     table: &mut B,
 )
     requires strings { strings.now ≡ strings_of start.now }
     requires low { 1 ≤ need }
     requires high { need ≤ left start.now }
-    requires answer { IsAnswerBy start.now need answer.cards answer.yes }
+    requires answer { IsAnswerBy start.now need answer.now.cards answer.now.yes }
 {
     let interval = interval_of(start, need, answer);
-    let depths = Depths::of_cards(start, answer.cards);
+    let depths = Depths::of_cards(start, answer.cards());
     table.note_by(start, strings, depths, interval);
 }
 
 /// The bounds that an answer proves of the value, and no more: at least `need` tricks for North and South, or fewer.
 #[inline]
-fn interval_of(start: &TrickStart, need: u8, answer: Answer) -> Interval
+fn interval_of(start: &TrickStart, need: u8, answer: &Answer) -> Interval
     requires low { 1 ≤ need }
     requires high { need ≤ left start.now }
-    requires answer { IsAnswerBy start.now need answer.cards answer.yes }
+    requires answer { IsAnswerBy start.now need answer.now.cards answer.now.yes }
     ensures board { IsBoard start.now }
-    ensures theirs { TakesBy (reach answer.cards) (side_of start.now.first) start.now result.lo }
-    ensures others { TakesBy (reach answer.cards) (other_side (side_of start.now.first)) start.now
+    ensures theirs { TakesBy (reach answer.now.cards) (side_of start.now.first) start.now result.lo }
+    ensures others { TakesBy (reach answer.now.cards) (other_side (side_of start.now.first)) start.now
         (left start.now - result.hi) }
-    ensures yes { OnTrue answer.yes ((n : ℕ) → Holds result n → need ≤ north_souths start.now n) }
-    ensures no { OnFalse answer.yes ((n : ℕ) → Holds result n → north_souths start.now n < need) }
+    ensures yes { OnTrue answer.now.yes ((n : ℕ) → Holds result n → need ≤ north_souths start.now n) }
+    ensures no { OnFalse answer.now.yes ((n : ℕ) → Holds result n → north_souths start.now n < need) }
 {
     let position = start.position();
     let leads = position.first().is_north_south();
     let left = position.tricks_left();
-    let window = if answer.yes {
+    let window = if answer.is_yes() {
         Interval { lo: need, hi: left }
     } else {
         Interval {

@@ -36,7 +36,10 @@ impl Default for Move {
 }
 
 /// The cards that may be led, in no order, each with how good it looks.
-pub(crate) type Leads = ArrayVec<Move, 13>;
+#[derive(Debug, Drop)]
+pub(crate) struct Leading {
+    leads: ArrayVec<Move, 13>,
+}
 
 #[derive(Clone, Copy, Debug)]
 struct SuitView {
@@ -124,20 +127,53 @@ const BEST_OF_ITS_SUIT: u16 = 30;
 
 // What the cards of a suit weigh more that settled the last start of a trick of the same shape, or of the same outline.
 const SETTLED_SHAPE: u16 = 60;
+
 const SETTLED_OUTLINE: u16 = 40;
 
-/// Puts these cards of the mover into an empty list, with no card on the trick.
-pub(crate) fn weigh(
-    position: &Position,
-    settling: SettlingLeads,
-    choices: Hand,
-    leads: &mut Leads,
-) {
-    let ruffs = Ruffs::of(position);
-    weigh_suit(position, &ruffs, settling, Suit::Spades, choices, leads);
-    weigh_suit(position, &ruffs, settling, Suit::Hearts, choices, leads);
-    weigh_suit(position, &ruffs, settling, Suit::Diamonds, choices, leads);
-    weigh_suit(position, &ruffs, settling, Suit::Clubs, choices, leads);
+impl Leading {
+    /// No cards yet.
+    #[inline]
+    pub(crate) fn new() -> Leading {
+        Leading {
+            leads: ArrayVec::new(),
+        }
+    }
+
+    /// Puts these cards of the mover into the empty list, with no card on the trick.
+    pub(crate) fn weigh(&mut self, position: &Position, settling: SettlingLeads, choices: Hand) {
+        let ruffs = Ruffs::of(position);
+        let leads = &mut self.leads;
+        weigh_suit(position, &ruffs, settling, Suit::Spades, choices, leads);
+        weigh_suit(position, &ruffs, settling, Suit::Hearts, choices, leads);
+        weigh_suit(position, &ruffs, settling, Suit::Diamonds, choices, leads);
+        weigh_suit(position, &ruffs, settling, Suit::Clubs, choices, leads);
+    }
+
+    /// The best lead that was not tried yet.
+    // Without a branch but the loop's: which lead is better is hardly foreseen.
+    #[inline]
+    pub(crate) fn best(&self, untried: Hand) -> Option<Card>
+        ensures { IfSome result (λ card. has_card untried card ≡ true) }
+    {
+        let mut best = Move {
+            card: Card::default(),
+            weight: 0,
+        };
+        for lead in self.leads.as_slice() {
+            let lead = *lead;
+            let weight = if untried.has(lead.card) {
+                lead.weight
+            } else {
+                0
+            };
+            best = if weight > best.weight { lead } else { best };
+        }
+        if best.weight > 0 {
+            Some(best.card)
+        } else {
+            None
+        }
+    }
 }
 
 // What speaks for the suit by what settled starts of a trick like this one.
@@ -145,26 +181,17 @@ pub(crate) fn weigh(
 fn settled_before(settling: SettlingLeads, suit: Suit) -> u16
     ensures { result ≤ 100 }
 {
-    let shape = if settling.of_shape == Some(suit) { SETTLED_SHAPE } else { 0 };
-    let outline = if settling.of_outline == Some(suit) { SETTLED_OUTLINE } else { 0 };
+    let shape = if settling.of_shape == Some(suit) {
+        SETTLED_SHAPE
+    } else {
+        0
+    };
+    let outline = if settling.of_outline == Some(suit) {
+        SETTLED_OUTLINE
+    } else {
+        0
+    };
     shape + outline
-}
-
-/// The best lead that was not tried yet.
-#[inline]
-pub(crate) fn best_lead(leads: &Leads, untried: Hand) -> Option<Card>
-    ensures { IfSome result (λ card. has_card untried card ≡ true) }
-{
-    let mut weight = 0;
-    let mut best = None;
-    for lead in leads.as_slice() {
-        let lead = *lead;
-        if lead.weight > weight && untried.has(lead.card) {
-            weight = lead.weight;
-            best = Some(lead.card);
-        }
-    }
-    best
 }
 
 // Adds the choices of this suit.
@@ -174,7 +201,7 @@ fn weigh_suit(
     settling: SettlingLeads,
     suit: Suit,
     choices: Hand,
-    leads: &mut Leads,
+    leads: &mut ArrayVec<Move, 13>,
 )
     requires { ruffs.now.tricks ≤ 13 }
 {
@@ -199,7 +226,7 @@ fn weigh_suit(
 
 // There is room for thirteen.
 #[inline]
-fn add(leads: &mut Leads, new: Move) {
+fn add(leads: &mut ArrayVec<Move, 13>, new: Move) {
     if !leads.is_full() {
         leads.push(new);
     }

@@ -82,15 +82,15 @@ pub(crate) fn north_souths_tricks<B: Bounds, M: Meter>(
     'window: while ours.tricks + theirs.tricks < left {
         need = next_question(need, ours.tricks, left - theirs.tricks);
         let answer = takes(position, need, table, meter)?;
-        if answer.yes {
+        if answer.is_yes() {
             ours = Claim {
                 tricks: need,
-                cards: answer.cards,
+                cards: answer.cards(),
             };
         } else {
             theirs = Claim {
                 tricks: left + 1 - need,
-                cards: answer.cards,
+                cards: answer.cards(),
             };
         }
     }

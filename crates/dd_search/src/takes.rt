@@ -11,7 +11,7 @@ ghost use Rattle.dd_search.specs.ClaimsBy.{IsAnswer, IsAnswerBy, IsAnswerAfter};
 
 use crate::answer::Answer;
 use crate::known::{note_answer, quick_answer, second_hands_answer, told_answer};
-use crate::lead::Leads;
+use crate::lead::Leading;
 use crate::meter::{Halt, Meter, go_on};
 use crate::order::Outlook;
 use crate::rests::{settled_by, still_untried};
@@ -72,7 +72,7 @@ fn answer_at_start<B: Bounds, M: Meter>(
         return Ok(answer);
     }
     let answer = answer_by_play(start.position(), Some(&strings), need, table, meter)?;
-    note_answer(start, &strings, need, answer, table);
+    note_answer(start, &strings, need, &answer, table);
     Ok(answer)
 }
 
@@ -122,13 +122,10 @@ fn answer_by_only_choice<B: Bounds, M: Meter>(
 {
     let north_south = position.mover().is_north_south();
     let found = answer_after(position, card, need, table, meter)?;
-    if found.yes == north_south {
+    if found.is_yes() == north_south {
         return Ok(found);
     }
-    Ok(Answer {
-        yes: !north_south,
-        cards: whole(position, found.cards),
-    })
+    Ok(Answer::new(!north_south, whole(position, found.cards())))
 }
 
 // The answer by these choices, the highest card of each class.
@@ -150,24 +147,22 @@ fn answer_by_choices<B: Bounds, M: Meter>(
     ensures ends { EndsAs (M.says meter.new) result }
 {
     let north_south = position.mover().is_north_south();
-    let mut leads = Leads::new();
+    let mut leading = Leading::new();
     let settling = settling_leads(strings, table);
-    let outlook = Outlook::of(position, settling, choices, &mut leads);
+    let outlook = Outlook::of(position, settling, choices, &mut leading);
     let mut untried = choices;
     let mut cards = Hand::new();
-    'tries: while let Some(card) = outlook.best(position, choices, untried, &leads) {
+    'tries: while let Some(card) = outlook.best(position, choices, untried, &leading) {
         let found = answer_after(position, card, need, table, meter)?;
-        if found.yes == north_south {
+        if found.is_yes() == north_south {
             note_lead(strings, card, table);
             return Ok(found);
         }
-        cards = cards.union(found.cards);
-        untried = still_untried(untried, card, found.cards);
+        let rests = found.cards();
+        cards = cards.union(rests);
+        untried = still_untried(untried, card, rests);
     }
-    Ok(Answer {
-        yes: !north_south,
-        cards: whole(position, cards),
-    })
+    Ok(Answer::new(!north_south, whole(position, cards)))
 }
 
 // The suits of leads that settled starts of a trick like this one; of another position none are known.
@@ -208,16 +203,13 @@ fn answer_after<B: Bounds, M: Meter>(
     let played = position.play(card);
     let rest = rest_after(need, played.1);
     let later = match answer_by_counting(&played.0, rest) {
-        Some(yes) => Answer {
-            yes,
-            cards: Hand::new(),
-        },
+        Some(yes) => Answer::new(yes, Hand::new()),
         None => takes(&played.0, rest, table, meter)?,
     };
-    Ok(Answer {
-        yes: later.yes,
-        cards: settled_by(position, card, played.1, later.cards),
-    })
+    Ok(Answer::new(
+        later.is_yes(),
+        settled_by(position, card, played.1, later.cards()),
+    ))
 }
 
 // How many tricks North and South still need when this seat has won one.

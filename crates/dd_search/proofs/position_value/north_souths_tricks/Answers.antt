@@ -1,7 +1,7 @@
 use Rattle.std.proofs.Common.{◌≡◌, ◌+◌, ◌-◌, true, false, sym, ap, ◌∙◌, subst, arith, Bool}
 use Rattle.dd_play.specs.Board.{left}
 use Rattle.dd_play.specs.Reach.{reach, TakesBy}
-use Rattle.dd_search.specs.ClaimsBy.{AnswerBy, ClaimBy, IsAnswerBy}
+use Rattle.dd_search.specs.ClaimsBy.{ClaimBy, IsAnswerBy}
 use Rattle.dd_search.proofs.Relied.{claims-within, claim-wider}
 use Rattle.dd_cards.specs.declared.side.Side.TheVariants.{NorthSouth, EastWest}
 use Rattle.dd_search.proofs.position_value.north_souths_tricks.Goals as goal
@@ -13,15 +13,15 @@ window-init g c = record {
   ticked = c.in_ok-go_on.ensures.ticked;
 }
 
-pub window-preserved-then-answer : goal.window-preserved-then-answer
-window-preserved-then-answer g c =
+pub window-preserved-then-is_yes : goal.window-preserved-then-is_yes
+window-preserved-then-is_yes g c =
     let p = c.args.position.now in
     let need = c.next_question-need.result in
-    let said : c.in_ok-answer.answer.yes ≡ true = sym (ap (λ (a : AnswerBy). a.yes) c.answer.view_is) ∙ c.if-answer.true in
-    let cards = ap (λ (a : AnswerBy). a.cards) (sym c.answer.view_is) in
+    let said : c.in_ok-answer.answer.yes ≡ true = sym c.is_yes.ensures ∙ c.if-is_yes.true in
+    let cards = sym c.cards.ensures in
     let answer : IsAnswerBy p need c.in_ok-answer.answer.cards true = subst (λ (b : Bool). IsAnswerBy p need c.in_ok-answer.answer.cards b) said c.in_ok-answer.ensures.rests in
-    let here : TakesBy (reach c.answer.inside.cards) NorthSouth p need = subst (λ x. TakesBy (reach x) NorthSouth p need) cards answer in
-    let ours : ClaimBy = record { tricks = need; cards = c.answer.inside.cards } in
+    let here : TakesBy (reach c.cards.result) NorthSouth p need = subst (λ x. TakesBy (reach x) NorthSouth p need) cards answer in
+    let ours : ClaimBy = record { tricks = need; cards = c.cards.result } in
     record {
       window = (here, c.window.invariant.window.1);
       within = claims-within p ours c.window.theirs c.tricks_left-left.ensures.board (here, c.window.invariant.window.1);
@@ -32,12 +32,12 @@ pub window-preserved : goal.window-preserved
 window-preserved g c =
     let p = c.args.position.now in
     let need = c.next_question-need.result in
-    let said : c.in_ok-answer.answer.yes ≡ false = sym (ap (λ (a : AnswerBy). a.yes) c.answer.view_is) ∙ c.if-answer.false in
-    let cards = ap (λ (a : AnswerBy). a.cards) (sym c.answer.view_is) in
+    let said : c.in_ok-answer.answer.yes ≡ false = sym c.is_yes.ensures ∙ c.if-is_yes.false in
+    let cards = sym c.cards-else-is_yes.ensures in
     let answer : IsAnswerBy p need c.in_ok-answer.answer.cards false = subst (λ (b : Bool). IsAnswerBy p need c.in_ok-answer.answer.cards b) said c.in_ok-answer.ensures.rests in
     let rest = ap (λ n. n + 1 - need) (sym c.tricks_left-left.ensures.tricks) in
-    let here : TakesBy (reach c.answer.inside.cards) EastWest p (c.tricks_left-left.result + 1 - need) = subst (λ n. TakesBy (reach c.answer.inside.cards) EastWest p n) rest (subst (λ x. TakesBy (reach x) EastWest p (left p + 1 - need)) cards answer) in
-    let theirs : ClaimBy = record { tricks = c.tricks_left-left.result + 1 - need; cards = c.answer.inside.cards } in
+    let here : TakesBy (reach c.cards-else-is_yes.result) EastWest p (c.tricks_left-left.result + 1 - need) = subst (λ n. TakesBy (reach c.cards-else-is_yes.result) EastWest p n) rest (subst (λ x. TakesBy (reach x) EastWest p (left p + 1 - need)) cards answer) in
+    let theirs : ClaimBy = record { tricks = c.tricks_left-left.result + 1 - need; cards = c.cards-else-is_yes.result } in
     record {
       window = (c.window.invariant.window.0, here);
       within = claims-within p c.window.ours theirs c.tricks_left-left.ensures.board (c.window.invariant.window.0, here);

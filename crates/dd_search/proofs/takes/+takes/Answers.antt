@@ -1,6 +1,6 @@
-use Rattle.std.proofs.Common.{◌≡◌, ◌+◌, ◌∙◌, ap, sym, subst, arith, List, Some, [], ◌∷◌, refl, true, inl, inr}
+use Rattle.std.proofs.Common.{◌≡◌, ◌+◌, ◌∙◌, ap, sym, subst, arith, List, Some, [], ◌∷◌, refl, true, Bool, inl, inr}
 use Rattle.std.specs.Prelude.{MatchOption}
-use mathlib.Core.Bool.{not}
+use mathlib.Core.Bool.{not, beq}
 use Rattle.dd_cards.specs.PlayingCard.{PlayingCard}
 use Rattle.dd_cards.specs.Cards.{has_card}
 use Rattle.dd_cards.specs.Seats.{is_north_south}
@@ -13,7 +13,7 @@ use Rattle.dd_search.proofs.Relied.{answer-here, one-more, answered-against, ans
 use Rattle.dd_search.proofs.Orders.{top-legal, has-only, is-only}
 use Rattle.dd_search.proofs.Scores.{needed-after}
 use Rattle.dd_search.proofs.takes.+takes.Goals as goal
-use Rattle.dd_search.proofs.takes.+takes.Goals.{answer_after-After-later, answer_after-in-Some, answer_after-in-None+in_ok-later-inside-in-None, answer_by_choices-In-Some}
+use Rattle.dd_search.proofs.takes.+takes.Goals.{answer_after-After-is_yes, answer_after-in-Some, answer_after-in-None+in_ok-later-in-None, answer_by_choices-In-Some}
 
 pub takes-answer_by_play-requires : goal.takes-answer_by_play-requires
 takes-answer_by_play-requires g t c κs within = (omega arith, (within.0, (within.1, (c.requires.low, c.requires.high))))
@@ -37,21 +37,21 @@ takes-returns-in-Some-second_hands_answer-clause-answer g t c =
     answer-here c.args.position.now c.args.need answer.cards answer.yes c.second_hands_answer.ensures.board c.in-Some-second_hands_answer.ensures.answer
 
 -- what was found after the card answers what is still needed then
-later-answer : (g : _) (t : _) (c : answer_after-After-later g t) → IsAnswerBy c.play-played.result.0 c.rest_after-rest.result c.later.inside.cards c.later.inside.yes
+later-answer : (g : _) (t : _) (c : answer_after-After-is_yes g t) → IsAnswerBy c.play-played.result.0 c.rest_after-rest.result c.match-answer_by_counting.later.cards c.match-answer_by_counting.later.yes
 later-answer g t c =
     let q = c.play-played.result.0 in
     let rest = c.rest_after-rest.result in
-    subst (λ (a : AnswerBy). IsAnswerBy q rest a.cards a.yes) (sym c.later.view_is) (elim c.match-answer_by_counting.branch [
-      | answer_after-in-Some w ↦ subst (λ (a : AnswerBy). IsAnswerBy q rest a.cards a.yes) (sym w.later-is) (subst (λ (cards : List PlayingCard). IsAnswerBy q rest cards w.in-Some.yes) (sym w.new.ensures) w.in-Some.ensures.rests)
-      | answer_after-in-None+in_ok-later-inside-in-None w ↦ subst (λ (a : AnswerBy). IsAnswerBy q rest a.cards a.yes) (sym w.later-is) w.in_ok-later-inside-in-None.ensures.rests
-    ])
+    elim c.match-answer_by_counting.branch [
+      | answer_after-in-Some w ↦ subst (λ (a : AnswerBy). IsAnswerBy q rest a.cards a.yes) (sym (w.later-is ∙ w.new-later.ensures)) (subst (λ (cards : List PlayingCard). IsAnswerBy q rest cards w.in-Some.yes) (sym w.new.ensures) w.in-Some.ensures.rests)
+      | answer_after-in-None+in_ok-later-in-None w ↦ subst (λ (a : AnswerBy). IsAnswerBy q rest a.cards a.yes) (sym w.later-is) w.in_ok-later-in-None.ensures.rests
+    ]
 
 -- what had ticked has ticked still
-later-ticked : (g : _) (t : _) (c : answer_after-After-later g t) (m : g.row.M.Denot) → g.M.Meter.ticked m c.args.meter.now → g.M.Meter.ticked m c.match-answer_by_counting.meter
+later-ticked : (g : _) (t : _) (c : answer_after-After-is_yes g t) (m : g.row.M.Denot) → g.M.Meter.ticked m c.args.meter.now → g.M.Meter.ticked m c.match-answer_by_counting.meter
 later-ticked g t c m before = elim c.match-answer_by_counting.branch [
   | answer_after-in-Some w ↦ subst (λ n. g.M.Meter.ticked m n) (sym w.meter-is) before
-  | answer_after-in-None+in_ok-later-inside-in-None w ↦ subst (λ n. g.M.Meter.ticked m n) (sym w.meter-is)
-      (g.met.M.Meter.later m c.args.meter.now w.takes.new.meter before w.in_ok-later-inside-in-None.ensures.ticked)
+  | answer_after-in-None+in_ok-later-in-None w ↦ subst (λ n. g.M.Meter.ticked m n) (sym w.meter-is)
+      (g.met.M.Meter.later m c.args.meter.now w.takes.new.meter before w.in_ok-later-in-None.ensures.ticked)
 ]
 
 pub answer_after-takes-requires : goal.answer_after-takes-requires
@@ -64,12 +64,16 @@ pub answer_after-returns-clause-found : goal.answer_after-returns-clause-found
 answer_after-returns-clause-found g t c =
     let at = goal.at.answer_after-returns-clause-found g t c in
     let p = c.args.position.now in
-    leads p c.play-played.result.0 c.args.need c.rest_after-rest.result c.args.card c.later.inside.cards c.settled_by.result c.later.inside.yes
+    let later = c.match-answer_by_counting.later in
+    let found = leads p c.play-played.result.0 c.args.need c.rest_after-rest.result c.args.card later.cards c.settled_by.result later.yes
     c.play-played.ensures.board c.requires.legal c.requires.low c.play-played.ensures.next
-    (needed-after p c.args.card _ _ _ c.rest_after-rest.ensures c.play-played.ensures.wins) (later-answer g t at.After-later) c.settled_by.ensures.more c.settled_by.ensures.settled
+    (needed-after p c.args.card _ _ _ c.rest_after-rest.ensures c.play-played.ensures.wins) (later-answer g t at.After-is_yes)
+    (λ d has. c.settled_by.ensures.more d (ap (λ cards. has_card cards d) c.cards.ensures ∙ has)) c.settled_by.ensures.settled in
+    subst (λ (a : AnswerBy). IsAnswerAfter p c.args.need c.args.card a.cards a.yes) (sym c.new-2.ensures)
+    (subst (λ (b : Bool). IsAnswerAfter p c.args.need c.args.card c.settled_by.result b) (sym c.is_yes.ensures) found)
 
 pub answer_after-returns-clause-ticked : goal.answer_after-returns-clause-ticked
-answer_after-returns-clause-ticked g t c = later-ticked g t (goal.at.answer_after-returns-clause-ticked g t c).After-later
+answer_after-returns-clause-ticked g t c = later-ticked g t (goal.at.answer_after-returns-clause-ticked g t c).After-is_yes
 
 -- ---- one choice
 
@@ -88,44 +92,43 @@ pub answer_by_choices-answer_after-requires : goal.answer_by_choices-answer_afte
 answer_by_choices-answer_after-requires g t c κs within =
     (omega arith, (within.0, (within.1, (tried-legal g t (goal.at.answer_by_choices-answer_after-requires g t c).In-Some, c.requires.low))))
 
-pub answer_by_choices-returns-then-found-north_south-clause-rests : goal.answer_by_choices-returns-then-found-north_south-clause-rests
-answer_by_choices-returns-then-found-north_south-clause-rests g t c =
-    let p = c.args.position.now in
-    let need = c.args.need in
-    let found = c.found.inside in
-    let here : IsAnswerAfter p need c.in-Some.card found.cards found.yes = subst (λ (a : AnswerBy). IsAnswerAfter p need c.in-Some.card a.cards a.yes) (sym c.found.view_is) c.in_ok-found.ensures.found in
-    subst (λ (a : AnswerBy). IsAnswerBy p need a.cards a.yes) c.found.view_is
-    (answered-for p need c.in-Some.card found.cards c.is_north_south-north_south.result found.yes
-    (tried-legal g t (goal.at.answer_by_choices-returns-then-found-north_south-clause-rests g t c).In-Some) (c.is_north_south-north_south.ensures ∙ ap is_north_south c.mover.ensures.seat) here c.if-found-north_south.true)
+pub answer_by_choices-returns-then-is_yes-north_south-clause-rests : goal.answer_by_choices-returns-then-is_yes-north_south-clause-rests
+answer_by_choices-returns-then-is_yes-north_south-clause-rests g t c =
+    let found = c.in_ok-found.found in
+    answered-for c.args.position.now c.args.need c.in-Some.card found.cards c.is_north_south-north_south.result found.yes
+    (tried-legal g t (goal.at.answer_by_choices-returns-then-is_yes-north_south-clause-rests g t c).In-Some) (c.is_north_south-north_south.ensures ∙ ap is_north_south c.mover.ensures.seat) c.in_ok-found.ensures.found
+    (ap (λ (x : Bool). beq x c.is_north_south-north_south.result) (sym c.is_yes.ensures) ∙ c.if-is_yes-north_south.true)
 
-pub answer_by_choices-returns-then-found-north_south-clause-answer : goal.answer_by_choices-returns-then-found-north_south-clause-answer
-answer_by_choices-returns-then-found-north_south-clause-answer g t c =
-    answer-here c.args.position.now c.args.need c.in_ok-found.found.cards c.in_ok-found.found.yes c.mover.ensures.board (answer_by_choices-returns-then-found-north_south-clause-rests g t c)
+pub answer_by_choices-returns-then-is_yes-north_south-clause-answer : goal.answer_by_choices-returns-then-is_yes-north_south-clause-answer
+answer_by_choices-returns-then-is_yes-north_south-clause-answer g t c =
+    answer-here c.args.position.now c.args.need c.in_ok-found.found.cards c.in_ok-found.found.yes c.mover.ensures.board (answer_by_choices-returns-then-is_yes-north_south-clause-rests g t c)
 
 pub answer_by_choices-tries-preserved : goal.answer_by_choices-tries-preserved
 answer_by_choices-tries-preserved g t c =
     let p = c.args.position.now in
     let need = c.args.need in
     let b = c.is_north_south-north_south.result in
-    let found = c.found.inside in
-    let here : IsAnswerAfter p need c.in-Some.card found.cards found.yes = subst (λ (a : AnswerBy). IsAnswerAfter p need c.in-Some.card a.cards a.yes) (sym c.found.view_is) c.in_ok-found.ensures.found in
+    let found = c.in_ok-found.found in
+    let rests = c.cards-rests.result in
+    let here : IsAnswerAfter p need c.in-Some.card rests found.yes = subst (λ (cards : List PlayingCard). IsAnswerAfter p need c.in-Some.card cards found.yes) (sym c.cards-rests.ensures) c.in_ok-found.ensures.found in
     record {
-      lead = one-more p need c.in-Some.card c.tries.untried c.still_untried-untried.result found.cards c.tries.cards c.union-cards.result (not b)
+      lead = one-more p need c.in-Some.card c.tries.untried c.still_untried-untried.result rests c.tries.cards c.union-cards.result (not b)
           c.still_untried-untried.ensures.told c.union-cards.ensures.left c.union-cards.ensures.right
-          (answered-against p need c.in-Some.card found.cards b found.yes here c.if-found-north_south.false) c.tries.invariant.lead;
+          (answered-against p need c.in-Some.card rests b found.yes here (ap (λ (x : Bool). beq x b) (sym c.is_yes.ensures) ∙ c.if-is_yes-north_south.false)) c.tries.invariant.lead;
       legal = λ d has. c.tries.invariant.legal d (c.still_untried-untried.ensures.among d has);
       ticked = λ m before. c.in_ok-found.ensures.ticked m (c.tries.invariant.ticked m before);
     }
 
 pub answer_by_choices-returns-clause-rests : goal.answer_by_choices-returns-clause-rests
 answer_by_choices-returns-clause-rests g t c =
-    all-tried c.args.position.now c.args.need c.tries.untried c.tries.cards c.whole.result c.is_north_south-north_south.result
+    subst (λ (a : AnswerBy). IsAnswerBy c.args.position.now c.args.need a.cards a.yes) (sym c.new.ensures)
+    (all-tried c.args.position.now c.args.need c.tries.untried c.tries.cards c.whole.result c.is_north_south-north_south.result
     c.mover.ensures.board (c.is_north_south-north_south.ensures ∙ ap is_north_south c.mover.ensures.seat) c.requires.low c.requires.high
-    c.in_default.ensures c.tries.invariant.lead c.whole.ensures.more c.whole.ensures.whole
+    c.in_default.ensures c.tries.invariant.lead c.whole.ensures.more c.whole.ensures.whole)
 
 pub answer_by_choices-returns-clause-answer : goal.answer_by_choices-returns-clause-answer
 answer_by_choices-returns-clause-answer g t c =
-    answer-here c.args.position.now c.args.need c.whole.result (not c.is_north_south-north_south.result) c.mover.ensures.board (answer_by_choices-returns-clause-rests g t c)
+    answer-here c.args.position.now c.args.need c.new.result.cards c.new.result.yes c.mover.ensures.board (answer_by_choices-returns-clause-rests g t c)
 
 -- ---- where there is one choice
 
@@ -141,32 +144,32 @@ pub answer_by_only_choice-answer_after-requires : goal.answer_by_only_choice-ans
 answer_by_only_choice-answer_after-requires g t c κs within =
     (omega arith, (within.0, (within.1, (only-legal c.args.position.now c.args.card c.requires.only, c.requires.low))))
 
-pub answer_by_only_choice-returns-then-found-north_south-clause-rests : goal.answer_by_only_choice-returns-then-found-north_south-clause-rests
-answer_by_only_choice-returns-then-found-north_south-clause-rests g t c =
+pub answer_by_only_choice-returns-then-is_yes-north_south-clause-rests : goal.answer_by_only_choice-returns-then-is_yes-north_south-clause-rests
+answer_by_only_choice-returns-then-is_yes-north_south-clause-rests g t c =
     let p = c.args.position.now in
-    let need = c.args.need in
-    let found = c.found.inside in
-    let here : IsAnswerAfter p need c.args.card found.cards found.yes = subst (λ (a : AnswerBy). IsAnswerAfter p need c.args.card a.cards a.yes) (sym c.found.view_is) c.in_ok-found.ensures.found in
-    subst (λ (a : AnswerBy). IsAnswerBy p need a.cards a.yes) c.found.view_is
-    (answered-for p need c.args.card found.cards c.is_north_south-north_south.result found.yes
-    (only-legal p c.args.card c.requires.only) (c.is_north_south-north_south.ensures ∙ ap is_north_south c.mover.ensures.seat) here c.if-found-north_south.true)
+    let found = c.in_ok-found.found in
+    answered-for p c.args.need c.args.card found.cards c.is_north_south-north_south.result found.yes
+    (only-legal p c.args.card c.requires.only) (c.is_north_south-north_south.ensures ∙ ap is_north_south c.mover.ensures.seat) c.in_ok-found.ensures.found
+    (ap (λ (x : Bool). beq x c.is_north_south-north_south.result) (sym c.is_yes.ensures) ∙ c.if-is_yes-north_south.true)
 
-pub answer_by_only_choice-returns-then-found-north_south-clause-answer : goal.answer_by_only_choice-returns-then-found-north_south-clause-answer
-answer_by_only_choice-returns-then-found-north_south-clause-answer g t c =
-    answer-here c.args.position.now c.args.need c.in_ok-found.found.cards c.in_ok-found.found.yes c.mover.ensures.board (answer_by_only_choice-returns-then-found-north_south-clause-rests g t c)
+pub answer_by_only_choice-returns-then-is_yes-north_south-clause-answer : goal.answer_by_only_choice-returns-then-is_yes-north_south-clause-answer
+answer_by_only_choice-returns-then-is_yes-north_south-clause-answer g t c =
+    answer-here c.args.position.now c.args.need c.in_ok-found.found.cards c.in_ok-found.found.yes c.mover.ensures.board (answer_by_only_choice-returns-then-is_yes-north_south-clause-rests g t c)
 
 pub answer_by_only_choice-returns-clause-rests : goal.answer_by_only_choice-returns-clause-rests
 answer_by_only_choice-returns-clause-rests g t c =
     let p = c.args.position.now in
     let need = c.args.need in
     let b = c.is_north_south-north_south.result in
-    let found = c.found.inside in
-    let here : IsAnswerAfter p need c.args.card found.cards found.yes = subst (λ (a : AnswerBy). IsAnswerAfter p need c.args.card a.cards a.yes) (sym c.found.view_is) c.in_ok-found.ensures.found in
-    all-tried p need [] found.cards c.whole.result b c.mover.ensures.board (c.is_north_south-north_south.ensures ∙ ap is_north_south c.mover.ensures.seat) c.requires.low c.requires.high refl
-    (λ d has. inr (subst (λ (x : PlayingCard). IsAnswerAfter p need x found.cards (not b)) (sym (is-only d c.args.card (ap (λ cards. has_card cards d) (sym c.requires.only) ∙ has)))
-    (answered-against p need c.args.card found.cards b found.yes here c.if-found-north_south.false)))
-    c.whole.ensures.more c.whole.ensures.whole
+    let found = c.in_ok-found.found in
+    let rests = c.cards.result in
+    let here : IsAnswerAfter p need c.args.card rests found.yes = subst (λ (cards : List PlayingCard). IsAnswerAfter p need c.args.card cards found.yes) (sym c.cards.ensures) c.in_ok-found.ensures.found in
+    subst (λ (a : AnswerBy). IsAnswerBy p need a.cards a.yes) (sym c.new.ensures)
+    (all-tried p need [] rests c.whole.result b c.mover.ensures.board (c.is_north_south-north_south.ensures ∙ ap is_north_south c.mover.ensures.seat) c.requires.low c.requires.high refl
+    (λ d has. inr (subst (λ (x : PlayingCard). IsAnswerAfter p need x rests (not b)) (sym (is-only d c.args.card (ap (λ cards. has_card cards d) (sym c.requires.only) ∙ has)))
+    (answered-against p need c.args.card rests b found.yes here (ap (λ (x : Bool). beq x b) (sym c.is_yes.ensures) ∙ c.if-is_yes-north_south.false))))
+    c.whole.ensures.more c.whole.ensures.whole)
 
 pub answer_by_only_choice-returns-clause-answer : goal.answer_by_only_choice-returns-clause-answer
 answer_by_only_choice-returns-clause-answer g t c =
-    answer-here c.args.position.now c.args.need c.whole.result (not c.is_north_south-north_south.result) c.mover.ensures.board (answer_by_only_choice-returns-clause-rests g t c)
+    answer-here c.args.position.now c.args.need c.new.result.cards c.new.result.yes c.mover.ensures.board (answer_by_only_choice-returns-clause-rests g t c)
