@@ -12,6 +12,8 @@ pub(crate) struct Head {
     before: u32,
     // what is seen at once of the page's bounds, by their places
     briefs: FirstBriefs,
+    // nothing: with it a head has a line of the processor's cache for itself
+    _rest_of_line: [u64; 3],
 }
 
 impl Head {
@@ -24,6 +26,7 @@ impl Head {
             tag,
             before,
             briefs,
+            _rest_of_line: [0; 3],
         }
     }
 
