@@ -274,15 +274,17 @@ struct FourHoldings {
     right: Holding,
 }
 
-// Whose a card is, seen from the leader.
-#[derive(Clone, Copy, Debug, PartialEq, Eq)]
-enum Owner {
-    Leader,
-    Left,
-    Partner,
-    Right,
-    Nobody,
-}
+// Whose a card is: how many places after the leader its hand is, and more where there is no card. Numbers, since a choice by them
+// is a look at a table and not a branch, which would hardly be foreseen.
+const LEADER: u8 = 0;
+
+const LEFT: u8 = 1;
+
+const PARTNER: u8 = 2;
+
+const RIGHT: u8 = 3;
+
+const NOBODY: u8 = 4;
 
 #[inline]
 fn four_holdings(position: &Position, suit: Suit) -> FourHoldings {
@@ -299,14 +301,20 @@ fn four_holdings(position: &Position, suit: Suit) -> FourHoldings {
 }
 
 #[inline]
-fn owner_of(holdings: &FourHoldings, rank: Option<Rank>) -> Owner {
-    match rank {
-        None => Owner::Nobody,
-        Some(rank) if holdings.own.has(rank) => Owner::Leader,
-        Some(rank) if holdings.left.has(rank) => Owner::Left,
-        Some(rank) if holdings.partner.has(rank) => Owner::Partner,
-        Some(_) => Owner::Right,
-    }
+fn owner_of(holdings: &FourHoldings, rank: Option<Rank>) -> u8
+    ensures { result ≤ 4 }
+{
+    let Some(rank) = rank else {
+        return NOBODY;
+    };
+    let left = if holdings.left.has(rank) { LEFT } else { 0 };
+    let partner = if holdings.partner.has(rank) {
+        PARTNER
+    } else {
+        0
+    };
+    let right = if holdings.right.has(rank) { RIGHT } else { 0 };
+    (left + partner + right).min(NOBODY)
 }
 
 #[inline]
@@ -323,8 +331,8 @@ fn suit_view(position: &Position, ruffs: &Ruffs, suit: Suit) -> SuitView
     };
     let top_owner = owner_of(&holdings, top);
     let second_owner = owner_of(&holdings, second);
-    let lone = top_owner == Owner::Left && holdings.left.len() == 1
-        || top_owner == Owner::Right && holdings.right.len() == 1;
+    let lone = top_owner == LEFT && holdings.left.len() == 1
+        || top_owner == RIGHT && holdings.right.len() == 1;
     let (worth, special) = worths(top_owner, second_owner, lone);
     let side = ruffs.trump != Some(suit);
     let ruffed = side && ruffs.opponents(&holdings);
@@ -335,7 +343,7 @@ fn suit_view(position: &Position, ruffs: &Ruffs, suit: Suit) -> SuitView
         weight
     };
     let single = holdings.own.len() == 1 && holdings.partner.len() > 1;
-    let weight = if single && top_owner == Owner::Partner && side && ruffs.leader {
+    let weight = if single && top_owner == PARTNER && side && ruffs.leader {
         weight.saturating_add(SINGLETON_TO_TOP)
     } else {
         weight
@@ -344,12 +352,12 @@ fn suit_view(position: &Position, ruffs: &Ruffs, suit: Suit) -> SuitView
         weight,
         worth,
         special,
-        own_top: if top_owner == Owner::Leader {
+        own_top: if top_owner == LEADER {
             code_of_highest(all)
         } else {
             0
         },
-        sequence: top_owner != Owner::Leader && second_owner == Owner::Leader,
+        sequence: top_owner != LEADER && second_owner == LEADER,
         own: holdings.own,
         others: theirs.union(holdings.partner),
         partner: if side && ruffs.partner && holdings.partner.is_empty() {
@@ -365,35 +373,66 @@ fn suit_view(position: &Position, ruffs: &Ruffs, suit: Suit) -> SuitView
     }
 }
 
-// What the cards of a suit are worth, and what the special ones are.
+// What the cards of a suit are worth, and what the special ones are, by whose the highest card is and whose the second.
+static WORTHS: [(Worth, Worth); 25] = [
+    // the leader's, and then the leader's, the left hand's, partner's, the right hand's, nobody's
+    (BELOW_OWN_TOP_CARD, OWN_TOP_CARD),
+    (BELOW_OWN_TOP_CARD, OWN_TOP_CARD),
+    (TOP_TWO_CARDS, TOP_TWO_CARDS),
+    (BELOW_OWN_TOP_CARD, OWN_TOP_CARD),
+    (BELOW_OWN_TOP_CARD, OWN_TOP_CARD),
+    // the left hand's
+    (ANY_OTHER, SEQUENCE),
+    (ANY_OTHER, ANY_OTHER),
+    (ANY_OTHER, ANY_OTHER),
+    (ANY_OTHER, ANY_OTHER),
+    (ANY_OTHER, ANY_OTHER),
+    // partner's
+    (TO_PARTNER, TO_PARTNER),
+    (TO_PARTNER, TO_PARTNER),
+    (TO_PARTNER, TO_PARTNER),
+    (TO_PARTNER, TO_PARTNER),
+    (TO_PARTNER, TO_PARTNER),
+    // the right hand's
+    (ANY_OTHER, SEQUENCE),
+    (ANY_OTHER, ANY_OTHER),
+    (ANY_OTHER, ANY_OTHER),
+    (ANY_OTHER, ANY_OTHER),
+    (ANY_OTHER, ANY_OTHER),
+    // nobody's
+    (ANY_OTHER, ANY_OTHER),
+    (ANY_OTHER, ANY_OTHER),
+    (ANY_OTHER, ANY_OTHER),
+    (ANY_OTHER, ANY_OTHER),
+    (ANY_OTHER, ANY_OTHER),
+];
+
+// The same, where an opponent's highest card may stand alone.
 #[inline]
-fn worths(top: Owner, second: Owner, lone: bool) -> (Worth, Worth) {
+fn worths(top: u8, second: u8, lone: bool) -> (Worth, Worth)
+    requires top { top ≤ 4 }
+    requires second { second ≤ 4 }
+{
     if lone {
         return (LONE_TOP_CARD, LONE_TOP_CARD);
     }
-    match (top, second) {
-        (Owner::Leader, Owner::Partner) => (TOP_TWO_CARDS, TOP_TWO_CARDS),
-        (Owner::Leader, _) => (BELOW_OWN_TOP_CARD, OWN_TOP_CARD),
-        (Owner::Partner, _) => (TO_PARTNER, TO_PARTNER),
-        (_, Owner::Leader) => (ANY_OTHER, SEQUENCE),
-        _ => (ANY_OTHER, ANY_OTHER),
-    }
+    WORTHS[(5 * top + second) as usize]
 }
 
 // How good the suit looks, but for ruffs.
 #[inline]
-fn suit_weight(tricks: u8, holdings: &FourHoldings, top: Owner, second: Owner) -> u16
+fn suit_weight(tricks: u8, holdings: &FourHoldings, top: u8, second: u8) -> u16
     requires { tricks ≤ 13 }
     ensures { 100 ≤ result }
 {
     let cards = opponents_cards(holdings.left, tricks) + opponents_cards(holdings.right, tricks);
     let mut weight = SUIT - OPPONENTS_CARD * cards;
-    if top == Owner::Right {
+    if top == RIGHT {
         weight -= LAST_HAND_HAS_TOP;
-    } else if second == Owner::Right {
+    } else if second == RIGHT {
         weight -= LAST_HAND_HAS_SECOND;
     }
-    if top == Owner::Left && second == Owner::Partner {
+    if top == LEFT && second == PARTNER {
         weight += THROUGH_TOP_TO_SECOND;
     }
     weight
