@@ -339,6 +339,13 @@ pub trait Bounds {
     fn settle(&mut self, position: &Position, need: u8) -> Option<(Interval, [u8; 4])> {
         self.look(position).filter(|told| need <= told.0.lo || told.0.hi < need)
     }
+
+    // The suits of leads that settled a start of the same shape, and one of the same outline.
+    fn settling_leads(&self, _position: &Position) -> [Option<Suit>; 2] {
+        [None; 2]
+    }
+
+    fn note_lead(&mut self, _position: &Position, _lead: Suit) {}
 }
 
 pub struct NoTable;
@@ -439,8 +446,14 @@ impl<B: Bounds> Search<B> {
         }
         let ours = position.mover().is_north_south();
         let (mut found, mut cards) = (None, 0);
-        let mut untried = position.tops_mask();
-        let plan = if self.legal { Plan::Listed } else { Plan::of(position, untried) };
+        let choices = position.tops_mask();
+        let mut untried = choices;
+        let plan = if self.legal {
+            Plan::Listed
+        } else {
+            let settling = if position.played == 0 { self.bounds.settling_leads(position) } else { [None; 2] };
+            Plan::of(position, untried, settling)
+        };
         while untried != 0 {
             let card = plan.next(untried);
             let (next, winner) = position.play(card);
@@ -451,6 +464,9 @@ impl<B: Bounds> Search<B> {
             };
             let by = settled_by(position, card, winner, later.cards);
             if later.yes == ours {
+                if position.played == 0 && choices & choices - 1 != 0 {
+                    self.bounds.note_lead(position, card.suit);
+                }
                 found = Some(by);
                 break;
             }

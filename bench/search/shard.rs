@@ -1,6 +1,6 @@
 //! The table of a thread: at most so many shapes, last used first, each with up to eight pairs, newest first; with the word
 //! `--cfg pages` for the compiler up to 64, nearly as many as a cache of pages keeps of a shape.
-use super::{Bounds, Interval, Position};
+use super::{Suit, Bounds, Interval, Position};
 use std::collections::HashMap;
 use std::fmt;
 use std::hash::{BuildHasherDefault, Hasher};
@@ -67,6 +67,9 @@ pub struct Shard {
     limit: usize,
     places: HashMap<Shape, u32, BuildHasherDefault<Mix>>,
     entries: Vec<Entry>,
+    // the suits of leads, by shape and by outline
+    of_shapes: HashMap<Shape, Suit, BuildHasherDefault<Mix>>,
+    of_outlines: HashMap<(u8, u64, [u32; 4]), Suit>,
     first: u32,
     last: u32,
     pub looks: u64,
@@ -142,7 +145,7 @@ impl Shard {
     pub fn new(limit: usize) -> Shard {
         let places = HashMap::with_capacity_and_hasher(limit, Default::default());
         let entries = Vec::with_capacity(limit);
-        Shard { limit, places, entries, first: NONE, last: NONE, looks: 0, found: 0, told: 0, notes: 0, dropped: 0 }
+        Shard { limit, places, entries, of_shapes: HashMap::default(), of_outlines: HashMap::new(), first: NONE, last: NONE, looks: 0, found: 0, told: 0, notes: 0, dropped: 0 }
     }
 
     pub fn clear(&mut self) {
@@ -150,6 +153,8 @@ impl Shard {
             self.places.clear();
             self.entries.clear();
         }
+        self.of_shapes.clear();
+        self.of_outlines.clear();
         (self.first, self.last) = (NONE, NONE);
         (self.looks, self.found, self.told, self.notes, self.dropped) = (0, 0, 0, 0, 0);
     }
@@ -215,6 +220,23 @@ impl Bounds for &mut Shard {
         Some(told)
     }
 
+    // The program's cache remembers leads, a shared table doesn't.
+    fn settling_leads(&self, position: &Position) -> [Option<Suit>; 2] {
+        if !cfg!(pages) {
+            return [None; 2];
+        }
+        let owners = owners(position);
+        [self.of_shapes.get(&owners.shape).copied(), self.of_outlines.get(&outline(&owners)).copied()]
+    }
+
+    fn note_lead(&mut self, position: &Position, lead: Suit) {
+        if cfg!(pages) {
+            let owners = owners(position);
+            self.of_shapes.insert(owners.shape, lead);
+            self.of_outlines.insert(outline(&owners), lead);
+        }
+    }
+
     fn note(&mut self, position: &Position, depths: [u8; 4], interval: Interval) {
         self.notes += 1;
         let owners = owners(position);
@@ -227,6 +249,11 @@ impl Bounds for &mut Shard {
             None => self.add(owners.shape, pair),
         }
     }
+}
+
+// The strain, the leader's lengths and the owners of the highest cards.
+fn outline(owners: &Owners) -> (u8, u64, [u32; 4]) {
+    (owners.shape.strain, owners.shape.lengths & 0x000f_000f_000f_000f, owners.suits.map(|suit| suit & 3))
 }
 
 impl fmt::Display for Shard {
