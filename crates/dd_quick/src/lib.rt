@@ -14,6 +14,3 @@ mod winners;
 
 pub use quick_tricks::{against_leader, bounds, for_leader};
 pub use second_hand::for_second_hand;
-
-#[cfg(test)]
-mod tests;

@@ -28,6 +28,3 @@ pub use meter::{Budget, Endless, Halt, Meter, Tick};
 pub use position_value::{value, value_near};
 pub use start::{start_scores, start_value};
 pub use table::{Bounds, NoTable, SettlingLeads};
-
-#[cfg(test)]
-mod tests;

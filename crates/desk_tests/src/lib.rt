@@ -1,11 +1,7 @@
-//! Tests of the desk, by its public surface.
+//! Tests of the desk and of the workers, by their public surfaces.
 #![tactic(auto)]
 
 #[cfg(test)]
-mod checked;
+mod desk;
 #[cfg(test)]
-mod rows;
-#[cfg(test)]
-mod threads;
-#[cfg(test)]
-mod worked;
+mod work;

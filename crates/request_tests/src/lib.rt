@@ -1,6 +1,8 @@
-//! Tests of requests, replies and lines, by their public surfaces, with devices of memory and rows for tests.
+//! Tests of requests, replies, lines and the job book, by their public surfaces, and what the tests of the crates above use
+//! of them: devices of memory, rows, and calls and replies in words and as plain values.
 #![tactic(auto)]
 
+pub mod book;
 pub mod devices;
 #[cfg(test)]
 mod lines;

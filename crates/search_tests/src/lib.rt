@@ -1,7 +1,25 @@
-//! Tests of the tables, by their public surfaces.
+//! Tests of cards, texts of deals, play, likeness, quick tricks and tables, by their public surfaces.
 #![tactic(auto)]
 
 #[cfg(test)]
 mod cache;
 #[cfg(test)]
+mod cards;
+#[cfg(test)]
+mod equal;
+#[cfg(test)]
+mod pbn;
+#[cfg(test)]
+mod play;
+#[cfg(test)]
+mod quick;
+#[cfg(test)]
+mod rank;
+#[cfg(test)]
+mod rows;
+#[cfg(test)]
+mod search;
+#[cfg(test)]
 mod shard;
+#[cfg(test)]
+mod table;

@@ -3,6 +3,7 @@ ghost use Rattle.dd_play.specs.Value.{lead};
 ghost use Rattle.dd_play.specs.Intervals.{Holds};
 ghost use Rattle.dd_play.specs.Deals.{spades, deal};
 
+use crate::rows::{is_line_feed, is_space};
 use dd_cards::{Card, Hand, Hands, Rank, Seat, Strain, Suit};
 use dd_play::{Interval, Position, TrickStart, worked_deals};
 use dd_rank::Depths;
@@ -253,14 +254,6 @@ fn asks(
         return Ok(true);
     }
     Ok(what == b"told".as_slice() && tells(shard, &start, want))
-}
-
-fn is_line_feed(byte: &u8) -> bool {
-    *byte == b'\n'
-}
-
-fn is_space(byte: &u8) -> bool {
-    *byte == b' '
 }
 
 // Does what a row says; false where the shard tells something else than the row. Notes are `most POSITION LETTER` and

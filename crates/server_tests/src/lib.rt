@@ -1,11 +1,9 @@
-//! Runs of the server, with a client of the same process.
+//! Tests of sessions, the server and the program, by their public surfaces.
 #![tactic(auto)]
 
 #[cfg(test)]
-mod client;
+mod program;
 #[cfg(test)]
-mod gate;
+mod server;
 #[cfg(test)]
-mod rows;
-#[cfg(test)]
-mod serving;
+mod session;

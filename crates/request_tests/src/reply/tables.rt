@@ -1,10 +1,10 @@
 //! Tables whose results can be counted by hand, and the parts that make one.
 ghost use Rattle.std.specs.Prelude.{◌≤◌};
 
-use crate::rows::{after_bar, before_bar};
+use super::worked::first_with_another_reply;
 use dd_pbn::read_deal;
 use dd_play::PlayFault;
-use dd_reply::{SolvedPart, SolvedTable, TableRequest, reply_to_line, solve_part};
+use dd_reply::{SolvedPart, SolvedTable, TableRequest, solve_part};
 use dd_search::{Budget, Endless, Halt, NoTable};
 use std::alloc::Global;
 use std::test::Fail;
@@ -41,21 +41,6 @@ const REPLIES_WITH_19_POSITIONS: &[u8] =
 const REPLIES_WITH_NO_POSITION: &[u8] =
     br#"{"do":"table","deal":"N:A... K... Q... J..."}|{"state":"spent"}
 {"do":"table","deal":"N:... ... ... ..."}|{"fault":8}"#;
-
-/// The first row whose line has another reply, or nothing.
-fn first_with_another_reply(
-    alloc: Global,
-    table: &'static [u8],
-    budget: Option<u64>,
-) -> Option<&'static [u8]> {
-    for row in table.split(|byte| *byte == b'\n') {
-        let reply = reply_to_line(alloc, before_bar(row), &mut NoTable, budget);
-        if reply.as_str().as_bytes() != after_bar(row) {
-            return Some(row);
-        }
-    }
-    None
-}
 
 #[test]
 fn worked_tables_have_their_replies(rt: HostRuntime) {

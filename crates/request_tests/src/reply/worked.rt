@@ -52,7 +52,7 @@ const REPLIES_WITH_10_000_POSITIONS: &[u8] =
     br#"{"do":"solve","deal":"N:AKQ.AKQ.AKQ.AKQJ J852.J85.J85.T74 T74.T742.T74.963 963.963.9632.852","trump":4,"first":0,"solutions":3}|{"cards":[{"equals":12288,"rank":14,"score":13,"suit":0},{"equals":12288,"rank":14,"score":13,"suit":1},{"equals":12288,"rank":14,"score":13,"suit":2},{"equals":14336,"rank":14,"score":13,"suit":3}]}"#;
 
 /// The first row whose line has another reply, or nothing.
-fn first_with_another_reply(
+pub(super) fn first_with_another_reply(
     alloc: Global,
     table: &'static [u8],
     budget: Option<u64>,

@@ -1,8 +1,0 @@
-use Rattle.std.proofs.Common.{arith}
-use Rattle.dd_search.proofs.tests.searching.exact_bounds.Goals as goal
-
-pub returns-in-Ok-clause-holds : goal.returns-in-Ok-clause-holds
-returns-in-Ok-clause-holds c = λ q good covers.
-    let value = c.in-Ok.ensures.value in
-    let same = c.in-Ok.ensures.depths q good covers in
-    (omega (arith, value, same), omega (arith, value, same))

@@ -1,0 +1,5 @@
+//! Tests of the desk.
+mod checked;
+mod rows;
+mod threads;
+pub mod worked;

@@ -1,0 +1,5 @@
+//! Tests of the workers.
+mod gate;
+mod lines;
+mod rows;
+mod worked;

@@ -1,0 +1,112 @@
+//! Worked rows of one worker.
+use crate::work::lines::{
+    ACE, CAUGHT, CAUGHT_ANSWER, LAST, LAST_ANSWER, RUFFED, RUFFED_ANSWER, SUITS, SUITS_ANSWER,
+};
+use crate::work::worked::{Script, follow};
+use dd_book::Limits;
+use std::alloc::{AllocError, Global};
+use std::process::Abort;
+
+// A script with so many events and this budget.
+fn script(
+    rt: &impl Abort,
+    events: u64,
+    budget: Option<u64>,
+    rows: String,
+    ending: String,
+) -> Script {
+    let limits = Limits::new(64, 1_000, 8, events).expect(rt, "limits in their ranges");
+    Script {
+        limits,
+        budget,
+        stops: false,
+        rows,
+        ending,
+    }
+}
+
+fn text(alloc: Global, words: &str) -> Result<String, AllocError> {
+    String::from_str(alloc, words)
+}
+
+#[test]
+fn a_worker_answers_what_waits_and_leaves_after_a_shut(rt: HostRuntime) -> Result<(), AllocError> {
+    let alloc = rt.alloc();
+    for budget in [None, Some(1_000u64)] {
+        let rows = format!(in alloc;
+            "submits {CAUGHT} => job 1\nsubmits {RUFFED} => job 2\nshuts => shut\nworks => 5 receipts\n\
+             fetches 1 => {CAUGHT_ANSWER}\nfetches 2 => {RUFFED_ANSWER}"
+        )?;
+        let ending = text(alloc, "10 events: 5 5")?;
+        follow(&rt, alloc, &script(&rt, 1_000, budget, rows, ending))?;
+    }
+    Ok(())
+}
+
+#[test]
+fn a_worker_answers_one_job_and_leaves_after_a_shut(rt: HostRuntime) -> Result<(), AllocError> {
+    let alloc = rt.alloc();
+    let rows = format!(in alloc;
+        "submits {CAUGHT} => job 1\nshuts => shut\nworks => 3 receipts\nfetches 1 => {CAUGHT_ANSWER}"
+    )?;
+    let ending = text(alloc, "6 events: 3 3")?;
+    follow(&rt, alloc, &script(&rt, 1_000, None, rows, ending))
+}
+
+#[test]
+fn a_budget_is_for_each_claim(rt: HostRuntime) -> Result<(), AllocError> {
+    let alloc = rt.alloc();
+    let rows = format!(in alloc;
+        "submits {LAST} => job 1\nsubmits {LAST} => job 2\nshuts => shut\nworks => 5 receipts\n\
+         fetches 1 => {LAST_ANSWER}\nfetches 2 => {LAST_ANSWER}"
+    )?;
+    let ending = text(alloc, "10 events: 5 5")?;
+    follow(&rt, alloc, &script(&rt, 1_000, Some(1), rows, ending))
+}
+
+#[test]
+fn a_search_whose_budget_is_spent_ends_its_job(rt: HostRuntime) -> Result<(), AllocError> {
+    let alloc = rt.alloc();
+    let rows = format!(in alloc;
+        "submits {LAST} => job 1\nshuts => shut\nworks => 3 receipts\nfetches 1 => spent"
+    )?;
+    let ending = text(alloc, "6 events: 3 3")?;
+    follow(&rt, alloc, &script(&rt, 1_000, Some(0), rows, ending))
+}
+
+#[test]
+fn a_worker_takes_the_parts_of_a_table(rt: HostRuntime) -> Result<(), AllocError> {
+    let alloc = rt.alloc();
+    let rows = format!(in alloc;
+        "submits {SUITS} => job 1\nshuts => shut\nworks => 41 receipts\nfetches 1 => {SUITS_ANSWER}"
+    )?;
+    let ending = text(alloc, "44 events: 3 41")?;
+    follow(&rt, alloc, &script(&rt, 1_000, None, rows, ending))
+}
+
+#[test]
+fn a_worker_leaves_where_the_journal_is_full(rt: HostRuntime) -> Result<(), AllocError> {
+    let alloc = rt.alloc();
+    let after_a_finish = format!(in alloc;
+        "submits {ACE} => job 1\nworks => 2 receipts\nfetches 1 => refused 15"
+    )?;
+    let ending = text(alloc, "3 events: 1 2")?;
+    follow(&rt, alloc, &script(&rt, 3, None, after_a_finish, ending))?;
+    let after_a_claim = format!(in alloc;
+        "submits {ACE} => job 1\nworks => 1 receipts\nfetches 1 => refused 15"
+    )?;
+    let ending = text(alloc, "2 events: 1 1")?;
+    follow(&rt, alloc, &script(&rt, 2, None, after_a_claim, ending))
+}
+
+#[test]
+fn a_worker_that_is_stopped_gives_its_job_back(rt: HostRuntime) -> Result<(), AllocError> {
+    let alloc = rt.alloc();
+    let rows = format!(in alloc;
+        "submits {CAUGHT} => job 1\nworks => 2 receipts\nfetches 1 => waiting"
+    )?;
+    let ending = text(alloc, "4 events: 2 2")?;
+    let mut stopped = script(&rt, 1_000, Some(1_000), rows, ending);
+    stopped.stops = true;
+    follow(&rt, alloc, &stopped)
+}

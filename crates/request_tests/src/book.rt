@@ -1,0 +1,11 @@
+//! Tests of the job book, and the plain forms of its calls and replies.
+pub mod drawn;
+pub mod made;
+#[cfg(test)]
+mod refused;
+pub mod second;
+#[cfg(test)]
+mod seeded;
+pub mod words;
+#[cfg(test)]
+mod worked;

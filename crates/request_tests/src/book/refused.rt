@@ -1,0 +1,126 @@
+//! Calls whose growth is refused, for a run in which each allocation fails in turn.
+use crate::book::made::{Asks, Ends, Made, Shows, Step, Told, make, plain, shown};
+use dd_book::{Book, Limits, Memory};
+use std::alloc::AllocError;
+use std::process::Abort;
+
+// What is seen of a book: claims, whether it is idle, and the states of the first three jobs.
+#[derive(Clone, Copy, Debug, PartialEq, Eq)]
+struct Seen {
+    claims: u64,
+    idle: bool,
+    first: Option<Shows>,
+    second: Option<Shows>,
+    third: Option<Shows>,
+}
+
+fn state(book: &Book, job: u64) -> Option<Shows> {
+    match book.state(job) {
+        Some(state) => Some(shown(&state)),
+        None => None,
+    }
+}
+
+fn look(book: &Book) -> Seen {
+    Seen {
+        claims: book.claims(),
+        idle: book.idle(),
+        first: state(book, 1),
+        second: state(book, 2),
+        third: state(book, 3),
+    }
+}
+
+// The call, again where its growth was refused: then the book is as it was before.
+fn follow(rt: &impl Abort, book: &mut Book, made: &Made, step: Step, wanted: Told) {
+    let before = look(book);
+    assert!(rt; book.claims() < 1_000);
+    let reply = match book.apply(made.call(step)) {
+        Ok(reply) => reply,
+        Err(Memory(call)) => {
+            assert_eq!(rt; look(book), before);
+            assert!(rt; book.claims() < 1_000);
+            let Ok(reply) = book.apply(call) else {
+                panic!(rt; "a growth is refused once");
+            };
+            reply
+        }
+    };
+    assert_eq!(rt; plain(&reply), wanted);
+}
+
+#[test]
+fn a_refused_growth_leaves_the_book(rt: HostRuntime) -> Result<(), AllocError> {
+    let alloc = rt.alloc();
+    // At most two open jobs: one that a refused submit left behind would be the third.
+    let limits = Limits::new(2, 3, 1, 1).expect(&rt, "limits in their ranges");
+    let made = make(alloc)?.expect(&rt, "hands in their forms");
+    let mut book = Book::new(alloc, limits);
+    let rows = [
+        (Step::Submit(1, Asks::Ace), Told::Job(1)),
+        (Step::Submit(1, Asks::Table), Told::Job(2)),
+        (Step::Submit(1, Asks::Ace), Told::Fault(13)),
+        (Step::Submit(2, Asks::Pair), Told::Job(3)),
+        (Step::Submit(3, Asks::Pair), Told::Fault(14)),
+        (Step::Claim(9), Told::Claimed(1, 1)),
+        (Step::Finish(9, 1, 1, Ends::Stopped), Told::Recorded),
+        (Step::Fetch(1, 1), Told::State(1, Shows::Waiting)),
+        (Step::Claim(9), Told::Claimed(1, 2)),
+        (Step::Claim(9), Told::ClaimedPart(2, 0, 3)),
+        (Step::Cancel(1, 2), Told::Cancelled(2)),
+        (Step::Claim(9), Told::Claimed(3, 4)),
+        (Step::Finish(9, 1, 2, Ends::Stopped), Told::Recorded),
+        (Step::Finish(9, 3, 4, Ends::Stopped), Told::Recorded),
+        (Step::Claim(9), Told::Claimed(1, 5)),
+        (Step::Claim(9), Told::Claimed(3, 6)),
+        (Step::Claim(9), Told::NothingWaits),
+    ];
+    for (step, wanted) in rows.iter() {
+        follow(&rt, &mut book, &made, *step, *wanted);
+    }
+    Ok(())
+}
+
+// Each of sixty jobs is claimed before the next is submitted, so that what waits has to grow when all of them are stopped.
+#[test]
+fn a_refused_growth_leaves_a_stopped_job_running(rt: HostRuntime) -> Result<(), AllocError> {
+    let alloc = rt.alloc();
+    let limits = Limits::new(2, 100, 1, 1).expect(&rt, "limits in their ranges");
+    let made = make(alloc)?.expect(&rt, "hands in their forms");
+    let mut book = Book::new(alloc, limits);
+    for job in 1..61u64 {
+        follow(
+            &rt,
+            &mut book,
+            &made,
+            Step::Submit(job, Asks::Ace),
+            Told::Job(job),
+        );
+        follow(
+            &rt,
+            &mut book,
+            &made,
+            Step::Claim(9),
+            Told::Claimed(job, job),
+        );
+    }
+    for job in 1..61u64 {
+        let stopped = Step::Finish(9, job, job, Ends::Stopped);
+        follow(
+            &rt,
+            &mut book,
+            &made,
+            Step::Fetch(job, job),
+            Told::State(job, Shows::Running),
+        );
+        follow(&rt, &mut book, &made, stopped, Told::Recorded);
+        follow(
+            &rt,
+            &mut book,
+            &made,
+            Step::Fetch(job, job),
+            Told::State(job, Shows::Waiting),
+        );
+    }
+    Ok(())
+}

@@ -1,0 +1,209 @@
+//! A second book: a plain list of jobs, walked along at each call.
+use crate::book::made::{Asks, Ends, Shows, Step, Told};
+use std::alloc::{AllocError, Global};
+
+#[derive(Clone, Copy, PartialEq, Eq)]
+enum Part {
+    Waiting,
+    /// By this worker under this claim number.
+    Running(u64, u64),
+    Ended,
+}
+
+// A job that has ended has no parts.
+#[derive(Drop)]
+struct Job {
+    owner: u64,
+    asks: Asks,
+    parts: Vec<Part>,
+    ended: Option<Shows>,
+}
+
+impl Job {
+    fn end(&mut self, shows: Shows) -> Told {
+        self.parts.clear();
+        self.ended = Some(shows);
+        Told::Recorded
+    }
+
+    fn shows(&self) -> Shows {
+        match self.ended {
+            Some(shows) => shows,
+            None if self.parts.iter().all(|part| *part == Part::Waiting) => Shows::Waiting,
+            None => Shows::Running,
+        }
+    }
+
+    fn set(&mut self, place: usize, state: Part) -> Told {
+        if let Some(part) = self.parts.get_mut(place) {
+            *part = state;
+        }
+        if self.parts.iter().all(|part| *part == Part::Ended) {
+            return self.end(Shows::TableDone);
+        }
+        Told::Recorded
+    }
+}
+
+/// A claim that was given: to a worker, of a part of a job.
+#[derive(Clone, Copy)]
+pub struct Given {
+    pub worker: u64,
+    pub job: u64,
+    pub part: u8,
+    pub asks: Asks,
+}
+
+#[derive(Drop)]
+pub struct Second {
+    alloc: Global,
+    most_open: usize,
+    most_jobs: usize,
+    jobs: Vec<Job>,
+    /// The claims in the order of their numbers 1, 2, ..
+    pub given: Vec<Given>,
+    shut: bool,
+}
+
+impl Second {
+    pub fn new(alloc: Global, most_open: usize, most_jobs: usize) -> Second {
+        Second {
+            alloc,
+            most_open,
+            most_jobs,
+            jobs: Vec::new(alloc),
+            given: Vec::new(alloc),
+            shut: false,
+        }
+    }
+
+    pub fn len(&self) -> usize {
+        self.jobs.len()
+    }
+
+    /// What the owner of the job of this number is shown.
+    pub fn shows(&self, job: u64) -> Option<Shows> {
+        let place = job.checked_sub(1)?;
+        let found = self.jobs.get(place as usize)?;
+        Some(found.shows())
+    }
+
+    pub fn apply(&mut self, step: Step) -> Result<Told, AllocError> {
+        match step {
+            Step::Submit(caller, asks) => self.submit(caller, asks),
+            Step::Claim(worker) => self.claim(worker),
+            Step::Finish(worker, job, claim, ends) => Ok(self.finish(worker, job, claim, ends)),
+            Step::Cancel(caller, job) => Ok(self.cancel(caller, job)),
+            Step::Fetch(caller, job) => Ok(match self.own(caller, job) {
+                Some(found) => Told::State(job, found.shows()),
+                None => Told::Fault(16),
+            }),
+            Step::Shut => {
+                self.shut = true;
+                Ok(Told::Shut)
+            }
+        }
+    }
+
+    fn job(&mut self, job: u64) -> Option<&mut Job> {
+        let place = job.checked_sub(1)?;
+        self.jobs.get_mut(place as usize)
+    }
+
+    fn own(&mut self, caller: u64, job: u64) -> Option<&mut Job> {
+        let found = self.job(job)?;
+        if found.owner == caller {
+            Some(found)
+        } else {
+            None
+        }
+    }
+
+    fn submit(&mut self, owner: u64, asks: Asks) -> Result<Told, AllocError> {
+        let open = self
+            .jobs
+            .iter()
+            .filter(|job| job.owner == owner && job.ended.is_none());
+        if self.shut {
+            return Ok(Told::Fault(18));
+        }
+        if self.most_open <= open.count() {
+            return Ok(Told::Fault(13));
+        }
+        if self.most_jobs <= self.jobs.len() {
+            return Ok(Told::Fault(14));
+        }
+        let mut parts = Vec::new(self.alloc);
+        for _ in 0..if asks == Asks::Table { 20 } else { 1 } {
+            parts.push(Part::Waiting)?;
+        }
+        let ended = None;
+        self.jobs.push(Job {
+            owner,
+            asks,
+            parts,
+            ended,
+        })?;
+        Ok(Told::Job(self.jobs.len() as u64))
+    }
+
+    fn claim(&mut self, worker: u64) -> Result<Told, AllocError> {
+        let claim = self.given.len() as u64 + 1;
+        let waits = |job: &Job| job.parts.iter().any(|part| *part == Part::Waiting);
+        let Some(place) = self.jobs.iter().position(waits) else {
+            return Ok(if self.shut {
+                Told::Closing
+            } else {
+                Told::NothingWaits
+            });
+        };
+        let found = &mut self.jobs[place];
+        let Some(part) = found.parts.iter().position(|part| *part == Part::Waiting) else {
+            return Ok(Told::NothingWaits);
+        };
+        found.set(part, Part::Running(worker, claim));
+        let (job, part, asks) = (place as u64 + 1, part.min(19) as u8, found.asks);
+        self.given.push(Given {
+            worker,
+            job,
+            part,
+            asks,
+        })?;
+        Ok(if asks == Asks::Table {
+            Told::ClaimedPart(job, part, claim)
+        } else {
+            Told::Claimed(job, claim)
+        })
+    }
+
+    fn finish(&mut self, worker: u64, job: u64, claim: u64, ends: Ends) -> Told {
+        let Some(found) = self.job(job) else {
+            return Told::Stale;
+        };
+        let running = Part::Running(worker, claim);
+        let Some(part) = found.parts.iter().position(|part| *part == running) else {
+            return Told::Stale;
+        };
+        match (found.asks, ends) {
+            (_, Ends::Spent) => found.end(Shows::Spent),
+            (_, Ends::Stopped) => found.set(part, Part::Waiting),
+            (Asks::Ace, Ends::Answer(Asks::Ace)) => found.end(Shows::Done(1)),
+            (Asks::Pair, Ends::Answer(Asks::Pair)) => found.end(Shows::Done(2)),
+            (Asks::Table, Ends::Part(number)) if number as usize == part => {
+                found.set(part, Part::Ended)
+            }
+            _ => Told::Stale,
+        }
+    }
+
+    fn cancel(&mut self, caller: u64, job: u64) -> Told {
+        match self.own(caller, job) {
+            None => Told::Fault(16),
+            Some(found) if found.ended.is_some() => Told::Fault(17),
+            Some(found) => {
+                found.end(Shows::Cancelled);
+                Told::Cancelled(job)
+            }
+        }
+    }
+}

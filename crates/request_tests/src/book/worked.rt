@@ -1,0 +1,170 @@
+//! Worked runs, by single calls and as lists.
+use crate::book::words::{call, told};
+use dd_book::{Book, Limits, run_calls};
+use std::alloc::{AllocError, Global};
+use std::process::Abort;
+
+// The rows are calls with their replies, a row a line: one by one, and then as one list.
+fn follow(rt: &impl Abort, alloc: Global, limits: Limits, rows: &str) -> Result<(), AllocError> {
+    let mut book = Book::new(alloc, limits);
+    let mut calls = Vec::new(alloc);
+    for row in rows.lines() {
+        let mut halves = row.split(": ");
+        let words = halves.next().expect(rt, "a call");
+        let wanted = halves.next().expect(rt, "a reply");
+        let call = call(words).expect(rt, "a call in words");
+        calls.push(call.copy())?;
+        assert!(rt; book.claims() < 1_000);
+        let reply = match book.apply(call) {
+            Ok(reply) => told(alloc, &reply)?,
+            Err(_) => return Err(AllocError),
+        };
+        assert_eq!(rt; reply.as_str(), wanted, "{words}");
+    }
+    assert!(rt; calls.len() < 1_000);
+    let Ok((_, replies)) = run_calls(alloc, Book::new(alloc, limits), calls.as_slice()) else {
+        return Err(AllocError);
+    };
+    for (row, reply) in rows.lines().zip(replies.iter()) {
+        let reply = told(alloc, reply)?;
+        assert!(rt; row.ends_with(reply.as_str()), "{row}");
+    }
+    Ok(())
+}
+
+fn ample(rt: &impl Abort) -> Limits {
+    Limits::new(64, 1_000, 1, 1).expect(rt, "limits in their ranges")
+}
+
+#[test]
+fn a_cancelled_claim_is_stale_and_the_next_job_is_done(rt: HostRuntime) -> Result<(), AllocError> {
+    let rows = "1 submits A: job 1
+1 submits B: job 2
+9 claims: job 1 claim 1
+1 cancels 1: cancelled 1
+9 finishes 1 1 A: stale
+9 claims: job 2 claim 2
+9 finishes 2 2 A: stale
+9 finishes 2 2 B: recorded
+1 fetches 2: done with 2
+1 fetches 1: cancelled
+1 cancels 2: fault 17
+2 fetches 2: fault 16
+2 cancels 1: fault 16
+1 fetches 0: fault 16
+1 fetches 3: fault 16
+9 claims: nothing waits";
+    follow(&rt, rt.alloc(), ample(&rt), rows)
+}
+
+#[test]
+fn two_jobs_of_one_request_are_told_apart(rt: HostRuntime) -> Result<(), AllocError> {
+    let rows = "1 submits A: job 1
+1 submits A: job 2
+9 claims: job 1 claim 1
+1 cancels 1: cancelled 1
+9 finishes 1 1 A: stale
+9 claims: job 2 claim 2
+9 finishes 2 2 A: recorded
+1 fetches 2: done with 1
+1 fetches 1: cancelled
+1 cancels 2: fault 17
+2 fetches 2: fault 16";
+    follow(&rt, rt.alloc(), ample(&rt), rows)
+}
+
+#[test]
+fn limits_and_a_shut_refuse_in_their_order(rt: HostRuntime) -> Result<(), AllocError> {
+    let rows = "1 submits A: job 1
+1 submits A: fault 13
+2 submits A: job 2
+3 submits A: fault 14
+2 submits A: fault 13
+0 shuts: shut
+3 submits A: fault 18
+9 claims: job 1 claim 1
+9 claims: job 2 claim 2
+9 claims: closing
+0 shuts: shut";
+    let limits = Limits::new(1, 2, 1, 1).expect(&rt, "limits in their ranges");
+    follow(&rt, rt.alloc(), limits, rows)
+}
+
+#[test]
+fn a_stopped_job_waits_before_the_others_under_a_new_claim(
+    rt: HostRuntime,
+) -> Result<(), AllocError> {
+    let rows = "1 submits A: job 1
+1 submits B: job 2
+9 claims: job 1 claim 1
+9 finishes 1 1 stopped: recorded
+1 fetches 1: waiting
+9 claims: job 1 claim 2
+9 finishes 1 1 A: stale
+8 finishes 1 2 A: stale
+9 finishes 1 2 spent: recorded
+1 fetches 1: spent
+9 finishes 1 2 spent: stale";
+    follow(&rt, rt.alloc(), ample(&rt), rows)
+}
+
+#[test]
+fn a_table_is_claimed_part_by_part_and_cancelled_whole(rt: HostRuntime) -> Result<(), AllocError> {
+    let rows = "1 submits T: job 1
+1 submits A: job 2
+8 claims: job 1 part 0 claim 1
+9 claims: job 1 part 1 claim 2
+8 finishes 1 1 stopped: recorded
+8 claims: job 1 part 0 claim 3
+1 fetches 1: running
+8 finishes 1 3 b: stale
+1 cancels 1: cancelled 1
+9 finishes 1 2 b: stale
+9 claims: job 2 claim 4";
+    follow(&rt, rt.alloc(), ample(&rt), rows)
+}
+
+#[test]
+fn a_full_table_is_claimed_so_too(rt: HostRuntime) -> Result<(), AllocError> {
+    let rows = "1 submits S: job 1
+1 submits A: job 2
+8 claims: job 1 part 0 claim 1
+9 claims: job 1 part 1 claim 2
+8 finishes 1 1 stopped: recorded
+8 claims: job 1 part 0 claim 3
+1 fetches 1: running
+1 cancels 1: cancelled 1
+9 finishes 1 2 S: stale
+9 claims: job 2 claim 4";
+    follow(&rt, rt.alloc(), ample(&rt), rows)
+}
+
+#[test]
+fn a_table_is_done_with_its_twentieth_part(rt: HostRuntime) -> Result<(), AllocError> {
+    let alloc = rt.alloc();
+    let mut rows = String::from_str(alloc, "1 submits T: job 1")?;
+    for part in 0..20u8 {
+        let claim = part + 1;
+        let letter = (b'a' + part) as char;
+        write_row(&mut rows, alloc, part, claim, letter)?;
+    }
+    rows.push_str("\n1 fetches 1: done with 1\n9 claims: nothing waits")?;
+    follow(&rt, alloc, ample(&rt), rows.as_str())
+}
+
+// A claim and the finish of a part; before each claim the job is not done.
+fn write_row(
+    rows: &mut String,
+    alloc: Global,
+    part: u8,
+    claim: u8,
+    letter: char,
+) -> Result<(), AllocError> {
+    let shown = if part == 0 { "waiting" } else { "running" };
+    let claimed = format!(in alloc;
+        "\n1 fetches 1: {shown}\n9 claims: job 1 part {part} claim {claim}"
+    )?;
+    rows.push_str(claimed.as_str())?;
+    let finished = format!(in alloc; "\n9 finishes 1 {claim} {letter}: recorded")?;
+    rows.push_str(finished.as_str())
+}

@@ -1,0 +1,74 @@
+use crate::table::positions::{BEHIND, CAUGHT, CAUGHT_ANSWER, LOWER, answers, start};
+use dd_cache::Cache;
+use dd_cards::{Card, Rank, Seat, Suit};
+use dd_play::{Interval, TrickStart};
+use dd_rank::OwnerStrings;
+use dd_search::{Bounds, Endless, NoTable, start_value};
+use dd_shard::Shard;
+use dd_table::SharedTable;
+use std::alloc::AllocError;
+
+// Remembers the value of the start of a trick, with the depths that it rests on.
+fn remember_value(shard: &mut Shard, start: &TrickStart) -> Option<u8> {
+    let (tricks, depths) = start_value(start, &mut NoTable, &mut Endless).ok()?;
+    let interval = Interval {
+        lo: tricks,
+        hi: tricks,
+    };
+    shard.note(start, depths, interval).ok()?;
+    Some(tricks)
+}
+
+#[test]
+fn a_shape_keeps_a_value_for_each_cover(rt: HostRuntime) -> Result<(), AllocError> {
+    let mut shard = Shard::new(rt.alloc(), 1)?;
+    let caught = start(&rt, CAUGHT, Seat::North);
+    let lower = start(&rt, LOWER, Seat::North);
+    let behind = start(&rt, BEHIND, Seat::North);
+    assert_eq!(rt; remember_value(&mut shard, &caught), Some(2));
+    let (interval, depths) = shard.look(&lower).expect(&rt, "it is covered");
+    assert_eq!(rt; (interval.lo, interval.hi), (2, 2));
+    assert_eq!(rt; depths.of(Suit::Spades), 3, "ace, king and queen");
+    assert_eq!(rt;
+        depths.of(Suit::Hearts) | depths.of(Suit::Diamonds) | depths.of(Suit::Clubs),
+        0
+    );
+    assert!(rt;
+        shard.look(&behind).is_none(),
+        "the king is behind ace and queen"
+    );
+    assert_eq!(rt; remember_value(&mut shard, &behind), Some(1));
+    assert_eq!(rt; shard.len(), 1, "one shape");
+    let (interval, _) = shard.look(&caught).expect(&rt, "its cover is there too");
+    assert_eq!(rt; (interval.lo, interval.hi), (2, 2));
+    let Some((newest, _, interval)) = shard.entry(0) else {
+        panic!(rt; "one shape");
+    };
+    let king = Card {
+        suit: Suit::Spades,
+        rank: Rank::of(13),
+    };
+    assert!(rt;
+        newest.position().hands().has(Seat::West, king),
+        "the one noted last"
+    );
+    assert_eq!(rt; (interval.lo, interval.hi), (1, 1));
+    Ok(())
+}
+
+#[test]
+fn the_cache_and_the_table_behind_it_remember_a_solved_position(
+    rt: HostRuntime,
+) -> Result<(), AllocError> {
+    let table = SharedTable::new(rt.alloc(), 1, 4096)?;
+    let mut cache = Cache::new(rt.alloc(), table.view(&rt))?;
+    assert!(rt; answers(&mut cache, CAUGHT, Seat::North, CAUGHT_ANSWER));
+    let lower = start(&rt, LOWER, Seat::North);
+    assert!(rt;
+        cache.settle(&lower, &OwnerStrings::of(&lower), 2).is_some(),
+        "the cache"
+    );
+    let (interval, _) = cache.behind().look(&lower).expect(&rt, "the table behind");
+    assert_eq!(rt; (interval.lo, interval.hi), (2, 2));
+    Ok(())
+}

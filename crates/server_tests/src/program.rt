@@ -1,0 +1,4 @@
+//! Tests of the program, by the words of its command line and its streams.
+mod devices;
+mod runs;
+mod words;

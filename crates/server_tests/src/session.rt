@@ -1,0 +1,9 @@
+//! Tests of sessions.
+mod faults;
+mod lines;
+mod messages;
+mod replies;
+mod served;
+mod sockets;
+mod words;
+mod worked;

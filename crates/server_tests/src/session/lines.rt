@@ -1,0 +1,139 @@
+//! What follows a line.
+use crate::session::words::plain;
+use dd_reply::Want;
+use dd_session::{Session, Step};
+use request_tests::rows::{after_bar, before_bar};
+use std::alloc::{AllocError, Global};
+use std::test::Fail;
+
+// Each row is what follows with leave to stop, a bar and a line.
+const LINES: &[u8] = br#"{"fault":1}|
+{"fault":3}|{}
+{"fault":1}|[1]
+solve|{"do":"solve","deal":"N:A... K... Q... J...","trump":4,"first":0,"solutions":3}
+{"fault":12}|{"do":"solve","deal":"N:A... K... Q... J...","trump":4,"first":0,"solutions":4}
+{"fault":3}|{"do":"solve","deal":"N:A... K... Q... J...","trump":4,"first":1.5,"solutions":3}
+{"fault":7}|{"do":"solve","deal":"N:A2... K... Q... J...","trump":4,"first":0,"solutions":3}
+table|{"do":"table","deal":"N:A... K... Q... J..."}
+{"fault":7}|{"do":"table","deal":"N:A2... K... Q... J..."}
+{"fault":8}|{"do":"table","deal":"N:... ... ... ..."}
+{"fault":3}|{"do":"table","deal":"N:A... K... Q... J...","trump":4}
+{"fault":3}|{"do":"table","deal":"N:A... K... Q... J...","job":1}
+fetch 0|{"do":"fetch","job":0}
+fetch 1| { "job" : 1 , "do" : "fetch" } 
+fetch 18446744073709551615|{"job":18446744073709551615,"do":"fetch"}
+{"fault":3}|{"job":18446744073709551616,"do":"fetch"}
+{"fault":3}|{"do":"fetch"}
+{"fault":3}|{"do":"fetch","job":-1}
+{"fault":3}|{"do":"fetch","job":1.0}
+{"fault":3}|{"do":"fetch","job":"1"}
+{"fault":3}|{"do":"fetch","job":1,"deal":"N:A... K... Q... J..."}
+{"fault":3}|{"do":"Fetch","job":1}
+{"fault":3}|{"job":1}
+cancel 7|{"do":"cancel","job":7}
+cancel 7|{"do":"fetch","job":7,"do":"cancel"}
+{"fault":3}|{"do":"cancel","job":[7]}
+{"fault":3}|{"do":"cancel"}
+{"fault":3}|{"do":["cancel"],"job":7}
+stop|{"do":"stop"}
+{"fault":3}|{"do":"stop","job":1}
+{"fault":3}|{"do":"stopped"}
+{"fault":3}|{"do":"claim"}
+{"fault":3}|{"do":"shut"}"#;
+
+#[test]
+fn each_line_asks_or_has_its_fault(rt: HostRuntime) -> Result<(), Fail> {
+    let session = Session::new(rt.alloc(), true);
+    for row in LINES.split(|byte| *byte == b'\n') {
+        let step = plain(rt.alloc(), &session.on_line(after_bar(row)))?;
+        assert_eq!(rt; step.as_bytes(), before_bar(row), "at {row:?}");
+    }
+    Ok(())
+}
+
+#[test]
+fn a_stop_without_leave_is_unknown(rt: HostRuntime) -> Result<(), Fail> {
+    let session = Session::new(rt.alloc(), false);
+    let stop = plain(rt.alloc(), &session.on_line(br#"{"do":"stop"}"#))?;
+    assert_eq!(rt; stop.as_str(), r#"{"fault":3}"#);
+    Ok(())
+}
+
+const SERVED: &[u8] =
+    br#"{"do":"solve","deal":"N:A... K... Q... J...","trump":4,"first":0,"solutions":3}"#;
+
+#[test]
+fn a_line_has_at_most_4096_bytes(rt: HostRuntime) -> Result<(), Fail> {
+    let session = Session::new(rt.alloc(), false);
+    let mut line = [b' '; 4_097];
+    line[..SERVED.len()].copy_from_slice(SERVED);
+    let longest = plain(rt.alloc(), &session.on_line(&line[..4_096]))?;
+    let longer = plain(rt.alloc(), &session.on_line(&line))?;
+    assert_eq!(rt;
+        (longest.as_str(), longer.as_str()),
+        ("solve", r#"{"fault":2}"#)
+    );
+    Ok(())
+}
+
+// An object whose field is a list in a list, this deep.
+fn nested(alloc: Global, depth: usize) -> Result<String, AllocError> {
+    let mut line = String::new(alloc);
+    line.push_str("{\"a\":")?;
+    for _ in 0..depth {
+        line.push('[')?;
+    }
+    for _ in 0..depth {
+        line.push(']')?;
+    }
+    line.push('}')?;
+    Ok(line)
+}
+
+#[test]
+fn hostile_lines_have_their_faults(rt: HostRuntime) -> Result<(), Fail> {
+    let session = Session::new(rt.alloc(), true);
+    let deep = nested(rt.alloc(), 200)?;
+    let less = nested(rt.alloc(), 100)?;
+    for (line, fault) in [
+        (deep.as_bytes(), r#"{"fault":1}"#),
+        (less.as_bytes(), r#"{"fault":3}"#),
+        (
+            b"{\"do\":\"table\",\"deal\":\"N:A... K... Q... J...\xff\"}",
+            r#"{"fault":1}"#,
+        ),
+        (b"{\"do\":\"stop\xff\"}", r#"{"fault":1}"#),
+    ] {
+        let step = plain(rt.alloc(), &session.on_line(line))?;
+        assert_eq!(rt; step.as_str(), fault, "at {line:?}");
+    }
+    Ok(())
+}
+
+#[test]
+fn a_line_cut_short_is_no_object(rt: HostRuntime) -> Result<(), Fail> {
+    let session = Session::new(rt.alloc(), true);
+    for end in 0..SERVED.len() {
+        let step = plain(rt.alloc(), &session.on_line(&SERVED[..end]))?;
+        assert_eq!(rt; step.as_str(), r#"{"fault":1}"#, "at {end}");
+    }
+    Ok(())
+}
+
+// Does the line ask, and is it told that memory ran out?
+fn asks_or_is_refused(session: &Session, line: &[u8]) -> (bool, bool) {
+    match session.on_line(line) {
+        Step::Ask(want) => (matches!(want, Want::Submit(_)), false),
+        Step::Say(text) => (false, text.as_str() == r#"{"fault":19}"#),
+    }
+}
+
+// `rt try --test --fail-alloc N` refuses the Nth growth; `rt test` refuses none. So one of the two asks, and the other
+// may be refused.
+#[test]
+fn a_line_that_finds_no_memory_asks_when_it_comes_again(rt: HostRuntime) {
+    let session = Session::new(rt.alloc(), false);
+    let (asks, refused) = asks_or_is_refused(&session, SERVED);
+    let (asks_again, refused_again) = asks_or_is_refused(&session, SERVED);
+    assert!(rt; asks && (asks_again || refused_again) || refused && asks_again);
+}

@@ -1,0 +1,113 @@
+//! Sessions over a WebSocket. What a client sends is by RFC 6455, with masks of zeros.
+use crate::session::served::{Client, End, Served, Way, serve};
+use dd_session::SocketEnd;
+use std::alloc::{AllocError, Global};
+use std::test::Fail;
+
+// A handshake with these headers more.
+fn handshake(alloc: Global, headers: &[u8]) -> Result<Vec<u8>, AllocError> {
+    let mut head = Vec::from_slice(
+        alloc,
+        b"GET / HTTP/1.1\r\nHost: a\r\nUpgrade: websocket\r\nConnection: Upgrade\r\n",
+    )?;
+    head.extend_from_slice(
+        b"Sec-WebSocket-Key: dGhlIHNhbXBsZSBub25jZQ==\r\nSec-WebSocket-Version: 13\r\n",
+    )?;
+    head.extend_from_slice(headers)?;
+    head.extend_from_slice(b"\r\n")?;
+    Ok(head)
+}
+
+// A frame with this first byte: the kind of the message. Its text has up to 125 bytes.
+fn push_frame(sent: &mut Vec<u8>, kind: u8, text: &[u8]) -> Result<(), AllocError> {
+    sent.push(kind)?;
+    sent.push(0x80 | (text.len() & 0x7f) as u8)?;
+    sent.extend_from_slice(&[0; 4])?;
+    sent.extend_from_slice(text)
+}
+
+const TEXT: u8 = 0x81;
+
+const BINARY: u8 = 0x82;
+
+const PING: u8 = 0x89;
+
+// A client that shakes hands in one piece and then sends frames: of a table, a ping, a fetch and a stop.
+fn client(alloc: Global, headers: &[u8]) -> Result<Client, AllocError> {
+    let mut sent = handshake(alloc, headers)?;
+    let most = sent.len();
+    push_frame(
+        &mut sent,
+        TEXT,
+        br#"{"do":"table","deal":"N:A... K... Q... J..."}"#,
+    )?;
+    push_frame(&mut sent, PING, b"{}")?;
+    push_frame(&mut sent, BINARY, br#"{"do":"fetch","job":1}"#)?;
+    push_frame(&mut sent, TEXT, br#"{"do":"stop"}"#)?;
+    Ok(Client {
+        way: Way::Socket,
+        sent,
+        most,
+        reads: usize::MAX,
+        room: usize::MAX,
+        events: 100,
+        allow_stop: true,
+    })
+}
+
+// Did the session end when nothing more was read, with these frames at the end of what it wrote?
+fn has_ended(served: &Option<Served>, frames: &[u8], events: usize) -> bool {
+    match served {
+        Some(served) => {
+            served.end == End::Socket(SocketEnd::Read)
+                && served.written.ends_with(frames)
+                && served.events == events
+        }
+        None => false,
+    }
+}
+
+#[test]
+fn each_message_has_its_reply(rt: HostRuntime) -> Result<(), Fail> {
+    let client = client(rt.alloc(), b"")?;
+    let served = serve(&rt, rt.alloc(), &client);
+    let frames =
+        b"\x81\x09{\"job\":1}\x8a\x02{}\x81\x1b{\"job\":1,\"state\":\"waiting\"}\x81\x10{\"closing\":true}";
+    assert!(rt; has_ended(&served, frames, 3));
+    Ok(())
+}
+
+#[test]
+fn a_page_may_not_stop(rt: HostRuntime) -> Result<(), Fail> {
+    let client = client(rt.alloc(), b"Origin: http://a\r\n")?;
+    let served = serve(&rt, rt.alloc(), &client);
+    assert!(rt;
+        has_ended(
+            &served,
+            b"\x81\x1b{\"job\":1,\"state\":\"waiting\"}\x81\x0b{\"fault\":3}",
+            2
+        )
+    );
+    Ok(())
+}
+
+#[test]
+fn a_peer_that_stops_inside_a_frame_has_no_reply_to_it(rt: HostRuntime) -> Result<(), Fail> {
+    let mut client = client(rt.alloc(), b"")?;
+    let _ = client.sent.pop();
+    let served = serve(&rt, rt.alloc(), &client);
+    assert!(rt; has_ended(&served, b"\x81\x1b{\"job\":1,\"state\":\"waiting\"}", 2));
+    Ok(())
+}
+
+#[test]
+fn without_a_handshake_there_is_no_session(rt: HostRuntime) -> Result<(), Fail> {
+    let mut client = client(rt.alloc(), b"")?;
+    client.sent = Vec::from_slice(rt.alloc(), b"{\"do\":\"stop\"}\n")?;
+    let served = serve(&rt, rt.alloc(), &client).expect(&rt, "memory");
+    assert_eq!(rt;
+        (served.end, served.events),
+        (End::Socket(SocketEnd::Handshake), 0)
+    );
+    Ok(())
+}

@@ -1,0 +1,142 @@
+//! Worked sessions over lines.
+use crate::session::served::{Client, End, Served, Way, serve};
+use std::alloc::{AllocError, Global};
+use std::sync::Wait;
+use std::test::Fail;
+
+/// A client with these lines, over a connection that bears all.
+pub fn client(alloc: Global, lines: &[u8]) -> Result<Client, AllocError> {
+    Ok(Client {
+        way: Way::Lines,
+        sent: Vec::from_slice(alloc, lines)?,
+        most: usize::MAX,
+        reads: usize::MAX,
+        room: usize::MAX,
+        events: 100,
+        allow_stop: true,
+    })
+}
+
+// Were all lines read, these replies written, and so many events journaled?
+fn has_served(served: &Option<Served>, written: &[u8], events: usize) -> bool {
+    match served {
+        Some(served) => {
+            served.end == End::Lines(Ok(()))
+                && served.written.as_slice() == written
+                && served.events == events
+        }
+        None => false,
+    }
+}
+
+fn serves<R: Wait>(
+    rt: &R,
+    alloc: Global,
+    lines: &[u8],
+    written: &[u8],
+    events: usize,
+) -> Result<bool, AllocError> {
+    let client = client(alloc, lines)?;
+    Ok(has_served(&serve(rt, alloc, &client), written, events))
+}
+
+#[test]
+fn a_job_is_submitted_fetched_and_cancelled(rt: HostRuntime) -> Result<(), Fail> {
+    let lines = br#"{"do":"fetch","job":0}
+{"do":"solve","deal":"N:A... K... Q... J...","trump":4,"first":0,"solutions":3}
+{"do":"fetch","job":1}
+{"do":"cancel","job":1}
+{"do":"cancel","job":1}
+"#;
+    let replies = br#"{"fault":16}
+{"job":1}
+{"job":1,"state":"waiting"}
+{"job":1,"state":"cancelled"}
+{"fault":17}
+"#;
+    assert!(rt; serves(&rt, rt.alloc(), lines, replies, 5)?);
+    Ok(())
+}
+
+#[test]
+fn lines_with_a_fault_ask_nothing(rt: HostRuntime) -> Result<(), Fail> {
+    let mut lines = Vec::from_slice(rt.alloc(), b"\n{}\n")?;
+    for _ in 0..4_097 {
+        lines.push(b'{')?;
+    }
+    lines.extend_from_slice(
+        br#"
+[1]
+{"do":"solve","deal":"N:A... K... Q... J...","trump":4,"first":0,"solutions":4}
+{"do":"solve","deal":"N:A... K... Q... J...","trump":4,"first":1.5,"solutions":3}
+{"do":"solve","deal":"N:A... K... Q... J...","trump":4,"first":0,"solutions":3}
+"#,
+    )?;
+    let replies = br#"{"fault":1}
+{"fault":3}
+{"fault":2}
+{"fault":1}
+{"fault":12}
+{"fault":3}
+{"job":1}
+"#;
+    assert!(rt; serves(&rt, rt.alloc(), &lines, replies, 1)?);
+    Ok(())
+}
+
+#[test]
+fn the_last_line_may_lack_its_end(rt: HostRuntime) -> Result<(), Fail> {
+    let broken = serves(&rt, rt.alloc(), b"{\"do\":\"sol", b"{\"fault\":1}\n", 0)?;
+    let whole = serves(
+        &rt,
+        rt.alloc(),
+        br#"{"do":"solve","deal":"N:A... K... Q... J...","trump":4,"first":0,"solutions":3}"#,
+        b"{\"job\":1}\n",
+        1,
+    )?;
+    let returned = serves(
+        &rt,
+        rt.alloc(),
+        b"{\"do\":\"table\",\"deal\":\"N:A... K... Q... J...\"}\r\n",
+        b"{\"job\":1}\n",
+        1,
+    )?;
+    assert_eq!(rt; (broken, whole, returned), (true, true, true));
+    Ok(())
+}
+
+#[test]
+fn nothing_is_submitted_after_a_stop(rt: HostRuntime) -> Result<(), Fail> {
+    let lines = br#"{"do":"stop"}
+{"do":"table","deal":"N:A... K... Q... J..."}
+{"do":"stop"}
+"#;
+    let mut client = client(rt.alloc(), lines)?;
+    let leave = serve(&rt, rt.alloc(), &client);
+    assert!(rt;
+        has_served(
+            &leave,
+            b"{\"closing\":true}\n{\"fault\":18}\n{\"closing\":true}\n",
+            3
+        )
+    );
+    client.allow_stop = false;
+    let none = serve(&rt, rt.alloc(), &client);
+    assert!(rt; has_served(&none, b"{\"fault\":3}\n{\"job\":1}\n{\"fault\":3}\n", 1));
+    Ok(())
+}
+
+#[test]
+fn a_full_journal_is_told(rt: HostRuntime) -> Result<(), Fail> {
+    let lines = br#"{"do":"table","deal":"N:A... K... Q... J..."}
+{"do":"stop"}
+{"do":"fetch","job":1}
+{"do":"fetch"}
+"#;
+    let mut client = client(rt.alloc(), lines)?;
+    client.events = 1;
+    let served = serve(&rt, rt.alloc(), &client);
+    let replies = b"{\"job\":1}\n{\"fault\":15}\n{\"fault\":15}\n{\"fault\":3}\n";
+    assert!(rt; has_served(&served, replies, 1));
+    Ok(())
+}
