@@ -17,7 +17,7 @@ ghost use Rattle.dd_quick.specs.QuickTricks.{is_entry, no_trumps, partners_cashe
 
 use crate::long_suit::unruffed;
 use crate::sharing::{Offer, Offers, Shares};
-use crate::winners::{below_run, length, next_run, run, trumps, unbeaten, with_highest};
+use crate::winners::{length, next_run, run, trumps, with_highest};
 use dd_cards::{Hand, Strain, Suit};
 use dd_play::Position;
 
@@ -60,7 +60,7 @@ pub(crate) fn crossing(position: &Position, most: u8) -> Partners
         → IsNext position.now Clubs result.next.clubs.tricks result.next.clubs.first }
     ensures bound { result.tricks ≤ 13 }
 {
-    if most == 0 || !may_cross(position) {
+    if most == 0 {
         return NO_PARTNERS;
     }
     let spades = next(position, Suit::Spades);
@@ -111,56 +111,8 @@ fn any(a: bool, b: bool, c: bool, d: bool) -> bool
     (a || b) || (c || d)
 }
 
-// Is there a suit in which the leader might cross? Mostly there is none, which is soon told.
-fn may_cross(position: &Position) -> bool
-    ensures { has_entry position.now ≡ true → result ≡ true }
-{
-    let major = may_enter(position, Suit::Spades) || may_enter(position, Suit::Hearts);
-    major || may_enter(position, Suit::Diamonds) || may_enter(position, Suit::Clubs)
-}
-
-// Has the partner a card of the suit that no opponent can beat, and can the leader lead to it?
-#[inline]
-fn may_enter(position: &Position, suit: Suit) -> bool
-    ensures { is_entry position.now suit ≡ true → result ≡ true }
-{
-    let partner = position.first().partner();
-    if unbeaten(position, partner, suit).len() == 0 {
-        return false;
-    }
-    may_lead(position, suit)
-}
-
-// Has the leader a card of the suit beside its run, and does nobody ruff it?
-fn may_lead(position: &Position, suit: Suit) -> bool
-    ensures { is_entry position.now suit ≡ true → result ≡ true }
-{
-    let leader = position.first();
-    if below_run(position, leader, suit).len() == 0 {
-        return false;
-    }
-    is_followed(position, suit)
-}
-
-// Does each opponent with trumps follow suit to one lead more than the leader's run? Not in trumps.
-fn is_followed(position: &Position, suit: Suit) -> bool
-    ensures { 1 ≤ partners_cashed position.now.strain position.now suit → result ≡ true }
-{
-    match position.strain() {
-        Strain::Notrump => true,
-        Strain::Trump(trump) if trump == suit => false,
-        Strain::Trump(trump) => {
-            let leader = position.first();
-            let left = leader.left();
-            let right = leader.right();
-            let leads = run(position, leader, suit).len() + 1;
-            let followed = unruffed(position, right, trump, suit, leads);
-            unruffed(position, left, trump, suit, followed) == leads
-        }
-    }
-}
-
 // What the partner takes in the suit, and whether the leader can cross there.
+#[inline(always)]
 fn next(position: &Position, suit: Suit) -> Offer
     ensures next { IsNext position.now suit result.tricks result.first }
     ensures bound { result.tricks ≤ 13 }
@@ -177,6 +129,7 @@ fn next(position: &Position, suit: Suit) -> Offer
 }
 
 // What the partner takes in the suit after so many leads of the leader's, where nobody ruffs: in trumps none.
+#[inline(always)]
 fn partners_cashed(position: &Position, suit: Suit, leads: u8) -> u8
     requires leads { leads ≡ run position.now position.now.first suit }
     requires few { leads ≤ 13 }
@@ -198,6 +151,7 @@ fn partners_cashed(position: &Position, suit: Suit, leads: u8) -> u8
 }
 
 // What the partner takes in the suit after so many leads of the leader's.
+#[inline(always)]
 fn partners_tricks(position: &Position, suit: Suit, leads: u8) -> u8
     requires leads { leads ≡ run position.now position.now.first suit }
     requires few { leads ≤ 13 }
@@ -209,9 +163,6 @@ fn partners_tricks(position: &Position, suit: Suit, leads: u8) -> u8
     let partner = leader.partner();
     let right = leader.right();
     let spare = length(position, partner, suit).saturating_sub(leads);
-    if spare == 0 {
-        return 0;
-    }
     let next = next_run(position, suit).len();
     let own = length(position, leader, suit);
     let longest = own.max(length(position, left, suit).max(length(position, right, suit)));

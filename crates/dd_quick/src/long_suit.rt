@@ -31,6 +31,7 @@ pub(crate) struct Cashes {
 }
 
 /// What the leader cashes in each suit.
+#[inline(always)]
 pub(crate) fn cashed(position: &Position) -> Cashes
     requires { position.now.trick ≡ [] }
     ensures spades { IsCash position.now Spades result.spades.tricks result.spades.depth }
@@ -49,6 +50,7 @@ pub(crate) fn cashed(position: &Position) -> Cashes
 }
 
 // What the leader cashes in this suit: in trumps none.
+#[inline(always)]
 fn cash_suit(position: &Position, suit: Suit) -> Cash
     ensures cash { IsCash position.now suit result.tricks result.depth }
     ensures bound { result.tricks ≤ 13 }
@@ -74,6 +76,7 @@ fn cash_suit(position: &Position, suit: Suit) -> Cash
 }
 
 // The tricks that the leader takes where it leads the suit from the top and no hand ruffs.
+#[inline(always)]
 fn led_out(position: &Position, suit: Suit) -> Cash
     ensures tricks { result.tricks ≡ suit_tricks position.now suit }
     ensures depth { result.depth ≡ depth position.now suit }
@@ -99,15 +102,19 @@ fn led_out(position: &Position, suit: Suit) -> Cash
 }
 
 /// Of so many leads of the suit, those that the seat can't ruff.
+#[inline(always)]
 pub(crate) fn unruffed(position: &Position, seat: Seat, trump: Suit, suit: Suit, leads: u8) -> u8
     ensures leads { result ≡ unruffed (Trump trump) position.now seat suit leads }
     ensures less { result ≤ leads }
 {
-    if length(position, seat, trump) == 0 {
-        leads
+    // A choice of two numbers, since a jump would seldom be foreseen.
+    let follows = length(position, seat, suit);
+    let most = if length(position, seat, trump) == 0 {
+        u8::MAX
     } else {
-        leads.min(length(position, seat, suit))
-    }
+        follows
+    };
+    leads.min(most)
 }
 
 /// The tricks of each suit, those of long suits first.

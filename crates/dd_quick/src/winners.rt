@@ -12,6 +12,7 @@ use dd_cards::{Card, Hand, Holding, Seat, Strain, Suit};
 use dd_play::Position;
 
 /// The highest remaining cards of the suit that the seat holds without a gap.
+#[inline(always)]
 pub(crate) fn run(position: &Position, seat: Seat, suit: Suit) -> Holding
     ensures cards { map (card_of suit) result ≡ filter
         (λ c. is_of suit c && is_winner position.now seat c) (cards_at position.now seat) }
@@ -30,6 +31,7 @@ pub(crate) fn run(position: &Position, seat: Seat, suit: Suit) -> Holding
 }
 
 /// The cards of the suit that the seat holds below its run.
+#[inline(always)]
 pub(crate) fn below_run(position: &Position, seat: Seat, suit: Suit) -> Holding
     ensures cards { map (card_of suit) result ≡ filter
         (λ c. is_of suit c && not (is_winner position.now seat c)) (cards_at position.now seat) }
@@ -48,6 +50,7 @@ pub(crate) fn below_run(position: &Position, seat: Seat, suit: Suit) -> Holding
 }
 
 /// The cards of the suit that the leader's partner holds next below the leader's run.
+#[inline(always)]
 pub(crate) fn next_run(position: &Position, suit: Suit) -> Holding
     ensures cards { map (card_of suit) result ≡ filter
         (λ c. is_of suit c && is_next position.now c)
@@ -61,6 +64,7 @@ pub(crate) fn next_run(position: &Position, suit: Suit) -> Holding
 }
 
 /// The cards of the suit that the seat holds and no opponent can beat.
+#[inline(always)]
 pub(crate) fn unbeaten(position: &Position, seat: Seat, suit: Suit) -> Holding
     ensures cards { map (card_of suit) result ≡ filter
         (λ c. is_of suit c && is_unbeaten position.now seat c) (cards_at position.now seat) }
@@ -99,7 +103,7 @@ fn below_highest(own: Holding, others: Holding) -> Holding
 }
 
 /// How many cards of the suit the seat holds.
-#[inline]
+#[inline(always)]
 pub(crate) fn length(position: &Position, seat: Seat, suit: Suit) -> u8
     ensures length { result ≡ length_at position.now seat suit }
     ensures bound { result ≤ 13 }
