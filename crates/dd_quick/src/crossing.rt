@@ -9,15 +9,19 @@
 //! joint trumps take their tricks besides.
 ghost use Rattle.std.specs.Prelude.{◌≡◌, ◌≤◌, ◌+◌, ◌||◌, [], true, min, nat_le, if◌then◌else◌};
 ghost use mathlib.Core.Bool.{not};
+ghost use Rattle.dd_cards.specs.declared.suit.Suit.{Suit as SuitOf};
 ghost use Rattle.dd_cards.specs.declared.suit.Suit.TheVariants.{Spades, Hearts, Diamonds, Clubs};
 ghost use Rattle.dd_cards.specs.PlayingCard.{PlayingCard};
 ghost use Rattle.dd_cards.specs.Cards.{has_card};
-ghost use Rattle.dd_quick.specs.QuickTricks.{IsNext, RestsOnNext, beside_trumps, crossed, has_entry};
-ghost use Rattle.dd_quick.specs.QuickTricks.{is_entry, no_trumps, partners_cashed, partners_tricks, run, side_tricks};
+ghost use Rattle.dd_play.specs.Board.{Board};
+ghost use Rattle.dd_quick.specs.QuickTricks.{IsNext, RestsOnNext, beside_trumps, crossed};
+ghost use Rattle.dd_quick.specs.QuickTricks.{no_trumps, partners_cashed, partners_tricks, run, side_tricks};
+ghost use Rattle.dd_quick.specs.Seen.{IsSeen, AreRanks};
 
 use crate::long_suit::unruffed;
 use crate::sharing::{Offer, Offers, Shares};
-use crate::winners::{length, next_run, run, trumps, with_highest};
+use crate::winners::{Ranks, Seen, next_run, own_run, partners_run, ranks_of, seen_by_leader};
+use crate::winners::{trumps, with_highest};
 use dd_cards::{Hand, Strain, Suit};
 use dd_play::Position;
 
@@ -63,10 +67,11 @@ pub(crate) fn crossing(position: &Position, most: u8) -> Partners
     if most == 0 {
         return NO_PARTNERS;
     }
-    let spades = next(position, Suit::Spades);
-    let hearts = next(position, Suit::Hearts);
-    let diamonds = next(position, Suit::Diamonds);
-    let clubs = next(position, Suit::Clubs);
+    let seen = seen_by_leader(position);
+    let spades = next(position, &seen, Suit::Spades);
+    let hearts = next(position, &seen, Suit::Hearts);
+    let diamonds = next(position, &seen, Suit::Diamonds);
+    let clubs = next(position, &seen, Suit::Clubs);
     let all = spades.tricks + hearts.tricks + diamonds.tricks + clubs.tricks;
     let can = any(spades.first, hearts.first, diamonds.first, clubs.first);
     Partners {
@@ -113,14 +118,16 @@ fn any(a: bool, b: bool, c: bool, d: bool) -> bool
 
 // What the partner takes in the suit, and whether the leader can cross there.
 #[inline(always)]
-fn next(position: &Position, suit: Suit) -> Offer
+fn next(position: &Position, seen: &Seen, suit: Suit) -> Offer
+    requires { IsSeen position.now seen.now.own seen.now.left seen.now.partner seen.now.right
+        seen.now.left_trumps seen.now.right_trumps }
     ensures next { IsNext position.now suit result.tricks result.first }
     ensures bound { result.tricks ≤ 13 }
 {
-    let leader = position.first();
-    let leads = run(position, leader, suit).len();
-    let tricks = partners_cashed(position, suit, leads);
-    let own = length(position, leader, suit);
+    let ranks = ranks_of(seen, suit);
+    let leads = own_run(&ranks).len();
+    let tricks = partners_cashed(position, seen, suit, &ranks, leads);
+    let own = ranks.own.len();
     let low = leads < own;
     Offer {
         tricks,
@@ -130,42 +137,40 @@ fn next(position: &Position, suit: Suit) -> Offer
 
 // What the partner takes in the suit after so many leads of the leader's, where nobody ruffs: in trumps none.
 #[inline(always)]
-fn partners_cashed(position: &Position, suit: Suit, leads: u8) -> u8
+fn partners_cashed(position: &Position, seen: &Seen, suit: Suit, ranks: &Ranks, leads: u8) -> u8
+    requires seen { IsSeen position.now seen.now.own seen.now.left seen.now.partner seen.now.right
+        seen.now.left_trumps seen.now.right_trumps }
+    requires ranks { AreRanks position.now position.now.first suit
+        ranks.now.own ranks.now.left ranks.now.partner ranks.now.right }
     requires leads { leads ≡ run position.now position.now.first suit }
     requires few { leads ≤ 13 }
     ensures tricks { result ≡ partners_cashed position.now.strain position.now suit }
     ensures bound { result ≤ 13 }
 {
     match position.strain() {
-        Strain::Notrump => partners_tricks(position, suit, leads),
+        Strain::Notrump => partners_tricks(ranks, leads),
         Strain::Trump(trump) if trump == suit => 0,
-        Strain::Trump(trump) => {
-            let leader = position.first();
-            let left = leader.left();
-            let right = leader.right();
-            let all = leads + partners_tricks(position, suit, leads);
-            let followed = unruffed(position, right, trump, suit, all);
-            unruffed(position, left, trump, suit, followed).saturating_sub(leads)
+        Strain::Trump(_) => {
+            let all = leads + partners_tricks(ranks, leads);
+            let followed = unruffed(seen.right_trumps, ranks.right.len(), all);
+            unruffed(seen.left_trumps, ranks.left.len(), followed).saturating_sub(leads)
         }
     }
 }
 
-// What the partner takes in the suit after so many leads of the leader's.
+// What the partner takes in the suit of these ranks after so many leads of the leader's.
 #[inline(always)]
-fn partners_tricks(position: &Position, suit: Suit, leads: u8) -> u8
-    requires leads { leads ≡ run position.now position.now.first suit }
-    requires few { leads ≤ 13 }
-    ensures tricks { result ≡ partners_tricks position.now suit }
+fn partners_tricks(ranks: &Ranks, leads: u8) -> u8
+    requires { leads ≤ 13 }
+    ensures tricks { (p : Board) (suit : SuitOf)
+        → AreRanks p p.first suit ranks.now.own ranks.now.left ranks.now.partner ranks.now.right
+        → leads ≡ run p p.first suit → result ≡ partners_tricks p suit }
     ensures bound { result ≤ 13 }
 {
-    let leader = position.first();
-    let left = leader.left();
-    let partner = leader.partner();
-    let right = leader.right();
-    let spare = length(position, partner, suit).saturating_sub(leads);
-    let next = next_run(position, suit).len();
-    let own = length(position, leader, suit);
-    let longest = own.max(length(position, left, suit).max(length(position, right, suit)));
+    let spare = ranks.partner.len().saturating_sub(leads);
+    let next = partners_run(ranks).len();
+    let own = ranks.own.len();
+    let longest = own.max(ranks.left.len().max(ranks.right.len()));
     taken(longest, leads, next, spare)
 }
 
