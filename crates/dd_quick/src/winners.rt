@@ -8,7 +8,7 @@ ghost use Rattle.dd_cards.specs.Cards.{is_of, card_of, has_card};
 ghost use Rattle.dd_cards.specs.Ranks.{all_ranks, has_rank};
 ghost use Rattle.dd_play.specs.Board.{Board, IsBoard, cards_at};
 ghost use Rattle.dd_cards.specs.Seats.{seat_after};
-ghost use Rattle.dd_quick.specs.QuickTricks.{is_winner, is_next, length_at, trumps_at};
+ghost use Rattle.dd_quick.specs.QuickTricks.{is_winner, is_unbeaten, is_next, length_at, trumps_at};
 ghost use Rattle.dd_quick.specs.Seen.{IsSeen, AreRanks};
 
 use dd_cards::{Card, Hand, Holding, Seat, Strain, Suit};
@@ -145,8 +145,19 @@ pub(crate) fn partners_run(ranks: &Ranks) -> Holding
         (cards_at p (seat_after p.first 2)) }
 {
     let low = below_run(ranks);
-    let unbeaten = above_all(ranks.partner, ranks.right.union(ranks.left));
-    above_all(unbeaten, low)
+    above_all(partners_unbeaten(ranks), low)
+}
+
+/// Of the partner's ranks those that no opponent can beat.
+#[inline(always)]
+pub(crate) fn partners_unbeaten(ranks: &Ranks) -> Holding
+    ensures { (p : Board) (suit : SuitOf)
+        → AreRanks p p.first suit ranks.now.own ranks.now.left ranks.now.partner ranks.now.right
+        → map (card_of suit) result ≡ filter
+        (λ c. is_of suit c && is_unbeaten p (seat_after p.first 2) c)
+        (cards_at p (seat_after p.first 2)) }
+{
+    above_all(ranks.partner, ranks.right.union(ranks.left))
 }
 
 // The ranks above all of these others.

@@ -1,24 +1,5 @@
-use Rattle.std.proofs.Common.{◌≡◌, refl, subst}
-use Rattle.std.specs.Prelude.{filter, map}
-use Rattle.dd_cards.specs.declared.seat.Seat.{Seat}
-use Rattle.dd_cards.specs.declared.seat.Seat.TheVariants.{North, East, South, West}
-use Rattle.dd_cards.specs.Cards.{is_of, card_of}
-use Rattle.dd_cards.specs.Seats.{seat_after}
-use Rattle.dd_play.specs.Board.{cards_at}
 use Rattle.dd_quick.proofs.Next.{next-cards}
-use Rattle.dd_quick.proofs.Runs.{unbeaten-cards}
 use Rattle.dd_quick.proofs.winners.partners_run.Goals as goal
 
--- the partner's right-hand opponent is the left-hand one
-round : (seat : Seat) → seat_after seat 1 ≡ seat_after (seat_after seat 2) 3
-round North = refl
-round East = refl
-round South = refl
-round West = refl
-
 pub returns : goal.returns
-returns c p suit are =
-    let ranks = c.args.ranks.now in
-    let left = subst (λ x. map (card_of suit) ranks.left ≡ filter (is_of suit) (cards_at p x)) (round p.first) are.of_left in
-    let free = unbeaten-cards p (seat_after p.first 2) suit ranks.partner ranks.right ranks.left c.union.result c.above_all-unbeaten.result are.valid are.of_partner are.of_right left c.union.ensures c.above_all-unbeaten.ensures in
-    next-cards p suit c.above_all-unbeaten.result c.below_run-low.result are.valid free (c.below_run-low.ensures p p.first suit are) c.above_all.result c.above_all.ensures
+returns c p suit are = next-cards p suit c.partners_unbeaten.result c.below_run-low.result are.valid (c.partners_unbeaten.ensures p suit are) (c.below_run-low.ensures p p.first suit are) c.above_all.result c.above_all.ensures
