@@ -3,6 +3,7 @@ use Rattle.std.specs.Prelude.{◌≡◌, List, ℕ, map, filter}
 use Rattle.dd_cards.specs.declared.seat.Seat.{Seat}
 use Rattle.dd_cards.specs.declared.suit.Suit.{Suit}
 use Rattle.dd_cards.specs.PlayingCard.{PlayingCard}
+use Rattle.dd_cards.specs.Ranks.{all_ranks, has_rank}
 use Rattle.dd_cards.specs.Cards.{is_of, card_of}
 use Rattle.dd_cards.specs.Seats.{seat_after}
 use Rattle.dd_play.specs.Board.{Board, IsBoard, cards_at}
@@ -25,3 +26,7 @@ pub record AreRanks (p : Board) (seat : Seat) (suit : Suit) (own left partner ri
   pub of_left : map (card_of suit) left ≡ filter (is_of suit) (cards_at p (seat_after seat 1))
   pub of_partner : map (card_of suit) partner ≡ filter (is_of suit) (cards_at p (seat_after seat 2))
   pub of_right : map (card_of suit) right ≡ filter (is_of suit) (cards_at p (seat_after seat 3))
+
+-- it is a set of ranks, highest first
+abbrev pub IsRanks : List ℕ → Type 0
+IsRanks ranks = ranks ≡ filter (has_rank ranks) all_ranks

@@ -160,9 +160,9 @@ pub(crate) fn partners_unbeaten(ranks: &Ranks) -> Holding
     above_all(ranks.partner, ranks.right.union(ranks.left))
 }
 
-// The ranks above all of these others.
+/// The ranks above all of these others.
 #[inline]
-fn above_all(own: Holding, others: Holding) -> Holding
+pub(crate) fn above_all(own: Holding, others: Holding) -> Holding
     ensures { MatchOption (slice_get others 0) (result ≡ own)
         (λ r. result ≡ filter (λ q. nat_lt r q) own) }
 {
@@ -172,9 +172,9 @@ fn above_all(own: Holding, others: Holding) -> Holding
     }
 }
 
-// The ranks below the highest of these others.
+/// The ranks below the highest of these others.
 #[inline]
-fn below_highest(own: Holding, others: Holding) -> Holding
+pub(crate) fn below_highest(own: Holding, others: Holding) -> Holding
     ensures { MatchOption (slice_get others 0) (result ≡ [])
         (λ r. result ≡ filter (λ q. nat_lt q r) own) }
 {

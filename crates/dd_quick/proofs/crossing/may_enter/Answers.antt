@@ -1,6 +1,5 @@
 use Rattle.std.proofs.Common.{◌∙◌, ◌≡◌, true, arith, refl}
 use Rattle.std.specs.Prelude.{nat_lt, ◌&&◌}
-use mathlib.Core.Bool.{not}
 use Rattle.std.proofs.lemmas.Bool.{lt-ltb}
 use Rattle.dd_cards.specs.Cards.{is_of}
 use Rattle.dd_cards.specs.Seats.{seat_after}
