@@ -1,5 +1,5 @@
 -- from what the code counts of the partner's tricks, and the cards that it puts together, to the claim that rests on them
-use Rattle.std.proofs.Common.{subst, ◌≡◌, ◌≢◌, ℕ, zero, suc, ◌+◌, ◌-◌, ◌<◌, ◌≤◌, Bool, true, false, refl, sym, ap, ◌∙◌, arith, List, inl, inr, min, zero-le}
+use Rattle.std.proofs.Common.{◌≡◌, ◌≢◌, ℕ, zero, suc, ◌+◌, ◌-◌, ◌<◌, ◌≤◌, Bool, true, false, refl, sym, ap, ◌∙◌, arith, List, inl, inr, min, zero-le}
 use Rattle.std.specs.Prelude.{nat_lt, ◌&&◌, ◌||◌, ◌==◌, ◌⊎◌, if◌then◌else◌}
 use mathlib.Core.Bool.{not}
 use mathlib.Core.Path.{ap₂}
@@ -7,7 +7,6 @@ use Rattle.std.proofs.lemmas.Bool.{cases_lt, eqb-true, leb-true, ltb-true, lt-lt
 use Rattle.std.proofs.lemmas.Bool.Decides.{eqb_tells, nat_tests}
 use Rattle.dd_cards.specs.declared.suit.Suit.{Suit}
 use Rattle.dd_cards.specs.declared.suit.Suit.TheVariants.{Spades, Hearts, Diamonds, Clubs}
-use Rattle.dd_cards.specs.declared.strain.Strain.TheVariants.{Trump}
 use Rattle.dd_cards.specs.PlayingCard.{PlayingCard}
 use Rattle.dd_cards.specs.Cards.{is_of, card_of, has_card}
 use Rattle.dd_cards.specs.Seats.{seat_after}
@@ -153,12 +152,13 @@ entry-cards p u entry =
     let split = count-split (is_of u) (is_winner p p.first) (cards_at p p.first) in
     (elim (partners-long p u) [ inl few ↦ omega (arith, some, most, free, few) | inr long ↦ omega (arith, over, one, free, long) ], omega (arith, over, split), some)
 
--- there each opponent with trumps follows suit to one lead more than the leader's run
-pub entry-followed : (p : Board) (t u : Suit) (leads : ℕ) → p.strain ≡ Trump t → leads ≡ run p p.first u + 1 → 1 ≤ partners_cashed p.strain p u → both_unruffed (Trump t) p u leads ≡ leads
-entry-followed p t u leads strain leads_is some =
-    let most = unruffed-most (Trump t) p u leads in
-    let least = subst (λ x. leads ≤ both_unruffed x p u leads) strain (unruffed-least p.strain p u leads leads (omega arith) (λ i opposed has. (let k = partners-follow p u i opposed has some in omega (arith, k, leads_is, some)))) in
-    omega (arith, most, least)
+-- there each opponent with trumps has a card of the suit
+pub entry-follows : (p : Board) (u : Suit) (i trumps cards : ℕ) → IsOpposed i → trumps ≡ trumps_at p.strain p (seat_after p.first i) → cards ≡ length_at p (seat_after p.first i) u → 1 ≤ partners_cashed p.strain p u → ((trumps == 0) || nat_lt 0 cards) ≡ true
+entry-follows p u i trumps cards opposed has are some = go (trumps == 0) refl
+  where
+    go : (b : Bool) → (trumps == 0) ≡ b → (b || nat_lt 0 cards) ≡ true
+    go true e = refl
+    go false e = (let k = partners-follow p u i opposed (ap (λ n. n == 0) (sym has) ∙ e) some in lt-ltb 0 cards (omega (arith, k, are, some)))
 
 -- ---- without trumps
 

@@ -17,6 +17,7 @@ pub mod Claims
 pub mod Highest
 pub mod Reached
 pub mod TrumpRanks
+pub mod Sequences
 pub mod Shares
 pub mod Next
 pub mod LeadBack

@@ -132,7 +132,7 @@ greatest-same f g [] same = refl
 greatest-same f g (r ∷ ranks) same = (let a = same r in let b = greatest-same f g ranks same in omega (arith, a, b))
 
 -- it is no greater than what none of its own exceeds
-greatest-within : (f : ℕ → ℕ) (ranks : List ℕ) (n : ℕ) → ((r : ℕ) → has_rank ranks r ≡ true → f r ≤ n) → greatest f ranks ≤ n
+pub greatest-within : (f : ℕ → ℕ) (ranks : List ℕ) (n : ℕ) → ((r : ℕ) → has_rank ranks r ≡ true → f r ≤ n) → greatest f ranks ≤ n
 greatest-within f [] n each = zero-le
 greatest-within f (r ∷ ranks) n each =
     let a = each r (ap (λ b. b || has_rank ranks r) (eq-eqb r r refl)) in
@@ -140,11 +140,11 @@ greatest-within f (r ∷ ranks) n each =
     omega (arith, a, b)
 
 -- how many ranks of the list are not below this one
-abbrev from_list : ℕ → List ℕ → ℕ
+abbrev pub from_list : ℕ → List ℕ → ℕ
 from_list r ranks = length (filter (nat_le r) ranks)
 
 -- fewer from a higher one
-from-less : (q r : ℕ) (ranks : List ℕ) → r ≤ q → from_list q ranks ≤ from_list r ranks
+pub from-less : (q r : ℕ) (ranks : List ℕ) → r ≤ q → from_list q ranks ≤ from_list r ranks
 from-less q r [] over = zero-le
 from-less q r (x ∷ ranks) over =
     let ih = from-less q r ranks over in
@@ -158,7 +158,7 @@ from-less q r (x ∷ ranks) over =
     flags false b h = zero-le
 
 -- from any rank on there are none, or as many as from a rank of the list
-next-rank : (r : ℕ) (ranks : List ℕ) → (from_list r ranks ≡ 0) ⊎ ((q : ℕ) × (has_rank ranks q ≡ true) × (r ≤ q) × (from_list r ranks ≤ from_list q ranks))
+pub next-rank : (r : ℕ) (ranks : List ℕ) → (from_list r ranks ≡ 0) ⊎ ((q : ℕ) × (has_rank ranks q ≡ true) × (r ≤ q) × (from_list r ranks ≤ from_list q ranks))
 next-rank r [] = inl refl
 next-rank r (x ∷ ranks) = go (nat_le r x) refl (next-rank r ranks)
   where

@@ -1,3 +1,4 @@
 pub mod QuickTricks
 pub mod Sharing
 pub mod SecondHand
+pub mod Seen

@@ -7,17 +7,21 @@
 //! tricks too. Where hands have trumps, an opponent that has some must not ruff: of a suit it has a card for each lead of both
 //! hands. The leader and its partner keep theirs, each with a card that is no trump for each of these tricks, so that their
 //! joint trumps take their tricks besides.
-ghost use Rattle.std.specs.Prelude.{◌≡◌, ◌≤◌, ◌+◌, ◌||◌, [], true, min, nat_le, if◌then◌else◌};
+ghost use Rattle.std.specs.Prelude.{◌≡◌, ◌≤◌, ◌+◌, ◌==◌, ◌&&◌, ◌||◌, [], true, min, nat_le, nat_lt, if◌then◌else◌};
 ghost use mathlib.Core.Bool.{not};
+ghost use Rattle.dd_cards.specs.declared.suit.Suit.{Suit as SuitOf};
 ghost use Rattle.dd_cards.specs.declared.suit.Suit.TheVariants.{Spades, Hearts, Diamonds, Clubs};
 ghost use Rattle.dd_cards.specs.PlayingCard.{PlayingCard};
 ghost use Rattle.dd_cards.specs.Cards.{has_card};
-ghost use Rattle.dd_quick.specs.QuickTricks.{IsNext, RestsOnNext, beside_trumps, crossed, has_entry};
-ghost use Rattle.dd_quick.specs.QuickTricks.{is_entry, no_trumps, partners_cashed, partners_tricks, run, side_tricks};
+ghost use Rattle.dd_play.specs.Board.{Board};
+ghost use Rattle.dd_quick.specs.QuickTricks.{IsNext, RestsOnNext, beside_trumps, crossed, has_entry, is_entry};
+ghost use Rattle.dd_quick.specs.QuickTricks.{no_trumps, partners_cashed, partners_tricks, run, side_tricks};
+ghost use Rattle.dd_quick.specs.Seen.{IsSeen, AreRanks};
 
 use crate::long_suit::unruffed;
 use crate::sharing::{Offer, Offers, Shares};
-use crate::winners::{below_run, length, next_run, run, trumps, unbeaten, with_highest};
+use crate::winners::{Ranks, Seen, next_run, own_run, partners_run, partners_unbeaten, ranks_of};
+use crate::winners::{seen_by_leader, trumps, with_highest};
 use dd_cards::{Hand, Strain, Suit};
 use dd_play::Position;
 
@@ -60,13 +64,14 @@ pub(crate) fn crossing(position: &Position, most: u8) -> Partners
         → IsNext position.now Clubs result.next.clubs.tricks result.next.clubs.first }
     ensures bound { result.tricks ≤ 13 }
 {
-    if most == 0 || !may_cross(position) {
+    let seen = seen_by_leader(position);
+    if most == 0 || !may_cross(position, &seen) {
         return NO_PARTNERS;
     }
-    let spades = next(position, Suit::Spades);
-    let hearts = next(position, Suit::Hearts);
-    let diamonds = next(position, Suit::Diamonds);
-    let clubs = next(position, Suit::Clubs);
+    let spades = next(position, &seen, Suit::Spades);
+    let hearts = next(position, &seen, Suit::Hearts);
+    let diamonds = next(position, &seen, Suit::Diamonds);
+    let clubs = next(position, &seen, Suit::Clubs);
     let all = spades.tricks + hearts.tricks + diamonds.tricks + clubs.tricks;
     let can = any(spades.first, hearts.first, diamonds.first, clubs.first);
     Partners {
@@ -111,64 +116,87 @@ fn any(a: bool, b: bool, c: bool, d: bool) -> bool
     (a || b) || (c || d)
 }
 
-// Is there a suit in which the leader might cross? Mostly there is none, which is soon told.
-fn may_cross(position: &Position) -> bool
+// Is there a suit in which the leader might cross? Mostly there is none, which costs less to tell than what the partner takes.
+// All suits are asked: which of them is the first would seldom be foreseen.
+#[inline(always)]
+fn may_cross(position: &Position, seen: &Seen) -> bool
+    requires { IsSeen position.now seen.now.own seen.now.left seen.now.partner seen.now.right
+        seen.now.left_trumps seen.now.right_trumps }
     ensures { has_entry position.now ≡ true → result ≡ true }
 {
-    let major = may_enter(position, Suit::Spades) || may_enter(position, Suit::Hearts);
-    major || may_enter(position, Suit::Diamonds) || may_enter(position, Suit::Clubs)
+    let spades = may_enter(position, seen, Suit::Spades);
+    let hearts = may_enter(position, seen, Suit::Hearts);
+    let diamonds = may_enter(position, seen, Suit::Diamonds);
+    let clubs = may_enter(position, seen, Suit::Clubs);
+    any(spades, hearts, diamonds, clubs)
 }
 
-// Has the partner a card of the suit that no opponent can beat, and can the leader lead to it?
-#[inline]
-fn may_enter(position: &Position, suit: Suit) -> bool
+// Has the leader a card of the suit, and the partner one that no opponent can beat, and does nobody ruff it?
+#[inline(always)]
+fn may_enter(position: &Position, seen: &Seen, suit: Suit) -> bool
+    requires { IsSeen position.now seen.now.own seen.now.left seen.now.partner seen.now.right
+        seen.now.left_trumps seen.now.right_trumps }
     ensures { is_entry position.now suit ≡ true → result ≡ true }
 {
-    let partner = position.first().partner();
-    if unbeaten(position, partner, suit).len() == 0 {
-        return false;
-    }
-    may_lead(position, suit)
+    let ranks = ranks_of(seen, suit);
+    let leads = 0 < ranks.own.len();
+    let wins = 0 < partners_unbeaten(&ranks).len();
+    all(leads, wins, is_followed(position, seen, suit, &ranks))
 }
 
-// Has the leader a card of the suit beside its run, and does nobody ruff it?
-fn may_lead(position: &Position, suit: Suit) -> bool
-    ensures { is_entry position.now suit ≡ true → result ≡ true }
-{
-    let leader = position.first();
-    if below_run(position, leader, suit).len() == 0 {
-        return false;
-    }
-    is_followed(position, suit)
-}
-
-// Does each opponent with trumps follow suit to one lead more than the leader's run? Not in trumps.
-fn is_followed(position: &Position, suit: Suit) -> bool
+// Has each opponent with trumps a card of the suit? Not in trumps.
+#[inline(always)]
+fn is_followed(position: &Position, seen: &Seen, suit: Suit, ranks: &Ranks) -> bool
+    requires seen { IsSeen position.now seen.now.own seen.now.left seen.now.partner seen.now.right
+        seen.now.left_trumps seen.now.right_trumps }
+    requires ranks { AreRanks position.now position.now.first suit
+        ranks.now.own ranks.now.left ranks.now.partner ranks.now.right }
     ensures { 1 ≤ partners_cashed position.now.strain position.now suit → result ≡ true }
 {
+    let left = follows(seen.left_trumps, ranks.left.len());
+    let right = follows(seen.right_trumps, ranks.right.len());
     match position.strain() {
-        Strain::Notrump => true,
         Strain::Trump(trump) if trump == suit => false,
-        Strain::Trump(trump) => {
-            let leader = position.first();
-            let left = leader.left();
-            let right = leader.right();
-            let leads = run(position, leader, suit).len() + 1;
-            let followed = unruffed(position, right, trump, suit, leads);
-            unruffed(position, left, trump, suit, followed) == leads
-        }
+        _ => both(left, right),
     }
+}
+
+// Does a hand with so many trumps and cards of a suit follow suit, or else not ruff?
+#[inline(always)]
+fn follows(trumps: u8, cards: u8) -> bool
+    ensures { result ≡ (trumps == 0 || nat_lt 0 cards) }
+{
+    trumps == 0 || 0 < cards
+}
+
+// Are both true?
+#[inline(always)]
+fn both(a: bool, b: bool) -> bool
+    ensures { result ≡ (a && b) }
+{
+    a && b
+}
+
+// Are all three true?
+#[inline(always)]
+fn all(a: bool, b: bool, c: bool) -> bool
+    ensures { result ≡ (a && (b && c)) }
+{
+    a && (b && c)
 }
 
 // What the partner takes in the suit, and whether the leader can cross there.
-fn next(position: &Position, suit: Suit) -> Offer
+#[inline(always)]
+fn next(position: &Position, seen: &Seen, suit: Suit) -> Offer
+    requires { IsSeen position.now seen.now.own seen.now.left seen.now.partner seen.now.right
+        seen.now.left_trumps seen.now.right_trumps }
     ensures next { IsNext position.now suit result.tricks result.first }
     ensures bound { result.tricks ≤ 13 }
 {
-    let leader = position.first();
-    let leads = run(position, leader, suit).len();
-    let tricks = partners_cashed(position, suit, leads);
-    let own = length(position, leader, suit);
+    let ranks = ranks_of(seen, suit);
+    let leads = own_run(&ranks).len();
+    let tricks = partners_cashed(position, seen, suit, &ranks, leads);
+    let own = ranks.own.len();
     let low = leads < own;
     Offer {
         tricks,
@@ -177,44 +205,41 @@ fn next(position: &Position, suit: Suit) -> Offer
 }
 
 // What the partner takes in the suit after so many leads of the leader's, where nobody ruffs: in trumps none.
-fn partners_cashed(position: &Position, suit: Suit, leads: u8) -> u8
+#[inline(always)]
+fn partners_cashed(position: &Position, seen: &Seen, suit: Suit, ranks: &Ranks, leads: u8) -> u8
+    requires seen { IsSeen position.now seen.now.own seen.now.left seen.now.partner seen.now.right
+        seen.now.left_trumps seen.now.right_trumps }
+    requires ranks { AreRanks position.now position.now.first suit
+        ranks.now.own ranks.now.left ranks.now.partner ranks.now.right }
     requires leads { leads ≡ run position.now position.now.first suit }
     requires few { leads ≤ 13 }
     ensures tricks { result ≡ partners_cashed position.now.strain position.now suit }
     ensures bound { result ≤ 13 }
 {
     match position.strain() {
-        Strain::Notrump => partners_tricks(position, suit, leads),
+        Strain::Notrump => partners_tricks(ranks, leads),
         Strain::Trump(trump) if trump == suit => 0,
-        Strain::Trump(trump) => {
-            let leader = position.first();
-            let left = leader.left();
-            let right = leader.right();
-            let all = leads + partners_tricks(position, suit, leads);
-            let followed = unruffed(position, right, trump, suit, all);
-            unruffed(position, left, trump, suit, followed).saturating_sub(leads)
+        Strain::Trump(_) => {
+            let all = leads + partners_tricks(ranks, leads);
+            let followed = unruffed(seen.right_trumps, ranks.right.len(), all);
+            unruffed(seen.left_trumps, ranks.left.len(), followed).saturating_sub(leads)
         }
     }
 }
 
-// What the partner takes in the suit after so many leads of the leader's.
-fn partners_tricks(position: &Position, suit: Suit, leads: u8) -> u8
-    requires leads { leads ≡ run position.now position.now.first suit }
-    requires few { leads ≤ 13 }
-    ensures tricks { result ≡ partners_tricks position.now suit }
+// What the partner takes in the suit of these ranks after so many leads of the leader's.
+#[inline(always)]
+fn partners_tricks(ranks: &Ranks, leads: u8) -> u8
+    requires { leads ≤ 13 }
+    ensures tricks { (p : Board) (suit : SuitOf)
+        → AreRanks p p.first suit ranks.now.own ranks.now.left ranks.now.partner ranks.now.right
+        → leads ≡ run p p.first suit → result ≡ partners_tricks p suit }
     ensures bound { result ≤ 13 }
 {
-    let leader = position.first();
-    let left = leader.left();
-    let partner = leader.partner();
-    let right = leader.right();
-    let spare = length(position, partner, suit).saturating_sub(leads);
-    if spare == 0 {
-        return 0;
-    }
-    let next = next_run(position, suit).len();
-    let own = length(position, leader, suit);
-    let longest = own.max(length(position, left, suit).max(length(position, right, suit)));
+    let spare = ranks.partner.len().saturating_sub(leads);
+    let next = partners_run(ranks).len();
+    let own = ranks.own.len();
+    let longest = own.max(ranks.left.len().max(ranks.right.len()));
     taken(longest, leads, next, spare)
 }
 
@@ -224,11 +249,8 @@ fn taken(longest: u8, run: u8, next: u8, spare: u8) -> u8
     requires { (run ≤ 13) × (next ≤ 13) }
     ensures { result ≡ (if nat_le longest (run + next) then spare else min next spare) }
 {
-    if longest <= run + next {
-        spare
-    } else {
-        next.min(spare)
-    }
+    let short = next.min(spare);
+    if longest <= run + next { spare } else { short }
 }
 
 /// These cards and the partner's on which so many tricks of each suit rest.

@@ -3,15 +3,16 @@
 //! need cost the side none of them, and one that such a trump wins costs it one of them, two only where neither hand has
 //! another card to play; and where it is an opponent's, that one is gone. The leader's side keeps its trumps while it cashes
 //! side suits, so both numbers add up. Trumps that the leader draws first would not: two of them may fall on one trick.
-ghost use Rattle.std.specs.Prelude.{◌≡◌, ◌≤◌, ◌+◌, ◌-◌, ℕ, true, MatchOption, filter, length, min, nat_le};
+ghost use Rattle.std.specs.Prelude.{◌≡◌, ◌≤◌, ◌+◌, ◌-◌, ◌||◌, ℕ, true, false, MatchOption, filter, length, min, nat_le};
 ghost use Rattle.dd_cards.specs.PlayingCard.{PlayingCard};
 ghost use Rattle.dd_cards.specs.Cards.{card_of, has_card};
 ghost use Rattle.dd_cards.specs.Ranks.{all_ranks, has_rank};
 ghost use Rattle.dd_cards.specs.Seats.{seat_after};
-ghost use Rattle.dd_play.specs.Board.{IsBoard};
+ghost use Rattle.dd_play.specs.Board.{IsBoard, cards_at};
+ghost use Rattle.dd_quick.specs.Seen.{IsRanks};
 ghost use Rattle.dd_quick.specs.QuickTricks.{RestsOnTrumps, from_rank, greatest, joint_trumps, longer_of};
 
-use crate::winners::length;
+use crate::winners::{above_all, below_highest, length};
 use dd_cards::{Card, Hand, Holding, Rank, Seat, Strain, Suit};
 use dd_play::Position;
 
@@ -68,6 +69,10 @@ fn of_side(position: &Position, seat: Seat, suit: Suit) -> Holding
         ≡ from_rank position.now seat suit rank
         + from_rank position.now (seat_after seat 2) suit rank }
     ensures real { (rank : ℕ) → has_rank result rank ≡ true → has_rank all_ranks rank ≡ true }
+    ensures ranks { IsRanks result }
+    ensures held { (rank : ℕ) → has_rank result rank ≡ true
+        → (has_card (cards_at position.now seat) (card_of suit rank)
+        || has_card (cards_at position.now (seat_after seat 2)) (card_of suit rank)) ≡ true }
     ensures board { IsBoard position.now }
 {
     let partner = seat.partner();
@@ -107,14 +112,25 @@ fn taken(ours: Holding, theirs: Holding, longer: u8, rank: Rank) -> u8
 }
 
 // The most that the trumps of one of its ranks or higher take.
+// A round for each sequence, since of one the lowest takes most, and none where what the opponents have above it leaves no more.
 fn most_taken(ours: Holding, theirs: Holding, longer: u8) -> u8
+    requires ours { IsRanks ours }
+    requires theirs { IsRanks theirs }
+    requires apart { (q : ℕ) → has_rank ours q ≡ true → has_rank theirs q ≡ false }
     ensures most { result ≡ greatest (λ rank. min (length (filter (nat_le rank) ours)) longer
         - length (filter (nat_le rank) theirs)) ours }
 {
     let mut rest = ours;
     let mut most = 0;
-    while let Some(rank) = rest.pop_highest() {
-        most = most.max(taken(ours, theirs, longer, rank));
+    while let Some(rank) = rest.highest() {
+        let over = from(theirs, rank);
+        if longer.saturating_sub(over) <= most {
+            return most;
+        }
+        let lower = theirs.below(rank);
+        let held = above_all(ours, lower).len().min(longer);
+        most = most.max(held.saturating_sub(over));
+        rest = below_highest(rest, lower);
     }
     most
 }

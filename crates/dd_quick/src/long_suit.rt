@@ -2,16 +2,18 @@
 //! of the suit, nobody has one after them: then the leader's low cards of this long suit take tricks too, and all rest on
 //! no more than these winners. An opponent that has trumps must not ruff, so it has to follow suit to all; the partner has
 //! to have a card that is no trump for each lead. Cards of long suits are counted first, since fewer cards settle more.
-ghost use Rattle.std.specs.Prelude.{◌≡◌, ◌≤◌, [], true, min};
-ghost use Rattle.dd_cards.specs.declared.strain.Strain.TheVariants.{Trump};
+ghost use Rattle.std.specs.Prelude.{◌≡◌, ◌≤◌, ◌==◌, [], true, min, if◌then◌else◌};
+ghost use Rattle.dd_cards.specs.declared.suit.Suit.{Suit as SuitOf};
 ghost use Rattle.dd_cards.specs.declared.suit.Suit.TheVariants.{Spades, Hearts, Diamonds, Clubs};
 ghost use Rattle.dd_cards.specs.PlayingCard.{PlayingCard};
 ghost use Rattle.dd_cards.specs.Cards.{has_card};
-ghost use Rattle.dd_quick.specs.QuickTricks.{IsCash, RestsOn, depth, suit_tricks, unruffed};
+ghost use Rattle.dd_play.specs.Board.{Board};
+ghost use Rattle.dd_quick.specs.QuickTricks.{IsCash, RestsOn, depth, suit_tricks};
+ghost use Rattle.dd_quick.specs.Seen.{IsSeen, AreRanks};
 
 use crate::sharing::{Offer, Offers, Shares};
-use crate::winners::{length, run, with_highest};
-use dd_cards::{Hand, Seat, Strain, Suit};
+use crate::winners::{Ranks, Seen, own_run, ranks_of, run, seen_by_leader, with_highest};
+use dd_cards::{Hand, Strain, Suit};
 use dd_play::Position;
 
 /// The tricks, 0 to 13, that the leader cashes in a suit, and the number of the suit's highest cards on which they rest.
@@ -31,6 +33,7 @@ pub(crate) struct Cashes {
 }
 
 /// What the leader cashes in each suit.
+#[inline(always)]
 pub(crate) fn cashed(position: &Position) -> Cashes
     requires { position.now.trick ≡ [] }
     ensures spades { IsCash position.now Spades result.spades.tricks result.spades.depth }
@@ -40,74 +43,74 @@ pub(crate) fn cashed(position: &Position) -> Cashes
     ensures bound { (result.spades.tricks ≤ 13) × (result.hearts.tricks ≤ 13)
         × (result.diamonds.tricks ≤ 13) × (result.clubs.tricks ≤ 13) }
 {
+    let seen = seen_by_leader(position);
     Cashes {
-        spades: cash_suit(position, Suit::Spades),
-        hearts: cash_suit(position, Suit::Hearts),
-        diamonds: cash_suit(position, Suit::Diamonds),
-        clubs: cash_suit(position, Suit::Clubs),
+        spades: cash_suit(position, &seen, Suit::Spades),
+        hearts: cash_suit(position, &seen, Suit::Hearts),
+        diamonds: cash_suit(position, &seen, Suit::Diamonds),
+        clubs: cash_suit(position, &seen, Suit::Clubs),
     }
 }
 
 // What the leader cashes in this suit: in trumps none.
-fn cash_suit(position: &Position, suit: Suit) -> Cash
+#[inline(always)]
+fn cash_suit(position: &Position, seen: &Seen, suit: Suit) -> Cash
+    requires { IsSeen position.now seen.now.own seen.now.left seen.now.partner seen.now.right
+        seen.now.left_trumps seen.now.right_trumps }
     ensures cash { IsCash position.now suit result.tricks result.depth }
     ensures bound { result.tricks ≤ 13 }
 {
+    let ranks = ranks_of(seen, suit);
     match position.strain() {
-        Strain::Notrump => led_out(position, suit),
+        Strain::Notrump => led_out(&ranks),
         Strain::Trump(trump) if trump == suit => Cash {
             tricks: 0,
             depth: 0,
         },
-        Strain::Trump(trump) => {
-            let leader = position.first();
-            let left = leader.left();
-            let right = leader.right();
-            let cash = led_out(position, suit);
-            let leads = unruffed(position, right, trump, suit, cash.tricks);
+        Strain::Trump(_) => {
+            let cash = led_out(&ranks);
+            let leads = unruffed(seen.right_trumps, ranks.right.len(), cash.tricks);
             Cash {
-                tricks: unruffed(position, left, trump, suit, leads),
+                tricks: unruffed(seen.left_trumps, ranks.left.len(), leads),
                 depth: cash.depth,
             }
         }
     }
 }
 
-// The tricks that the leader takes where it leads the suit from the top and no hand ruffs.
-fn led_out(position: &Position, suit: Suit) -> Cash
-    ensures tricks { result.tricks ≡ suit_tricks position.now suit }
-    ensures depth { result.depth ≡ depth position.now suit }
+// The tricks that the leader takes where it leads the suit of these ranks from the top and no hand ruffs.
+#[inline(always)]
+fn led_out(ranks: &Ranks) -> Cash
+    ensures tricks { (p : Board) (suit : SuitOf)
+        → AreRanks p p.first suit ranks.now.own ranks.now.left ranks.now.partner ranks.now.right
+        → result.tricks ≡ suit_tricks p suit }
+    ensures depth { (p : Board) (suit : SuitOf)
+        → AreRanks p p.first suit ranks.now.own ranks.now.left ranks.now.partner ranks.now.right
+        → result.depth ≡ depth p suit }
     ensures bound { result.tricks ≤ 13 }
 {
-    let leader = position.first();
-    let left = leader.left();
-    let partner = leader.partner();
-    let right = leader.right();
-    let run = run(position, leader, suit).len();
-    let longest = length(position, left, suit).max(length(position, partner, suit).max(length(
-        position, right, suit,
-    )));
-    let tricks = if longest <= run {
-        length(position, leader, suit)
-    } else {
-        run
-    };
+    let run = own_run(ranks).len();
+    let longest = ranks
+        .left
+        .len()
+        .max(ranks.partner.len().max(ranks.right.len()));
+    let own = ranks.own.len();
+    let tricks = if longest <= run { own } else { run };
     Cash {
         tricks,
         depth: longest.min(run),
     }
 }
 
-/// Of so many leads of the suit, those that the seat can't ruff.
-pub(crate) fn unruffed(position: &Position, seat: Seat, trump: Suit, suit: Suit, leads: u8) -> u8
-    ensures leads { result ≡ unruffed (Trump trump) position.now seat suit leads }
+/// Of so many leads of a suit, those that a seat with so many trumps and cards of the suit can't ruff.
+// A choice of two numbers: a jump would seldom be foreseen.
+#[inline(always)]
+pub(crate) fn unruffed(trumps: u8, follows: u8, leads: u8) -> u8
+    ensures leads { result ≡ (if trumps == 0 then leads else min leads follows) }
     ensures less { result ≤ leads }
 {
-    if length(position, seat, trump) == 0 {
-        leads
-    } else {
-        leads.min(length(position, seat, suit))
-    }
+    let most = if trumps == 0 { u8::MAX } else { follows };
+    leads.min(most)
 }
 
 /// The tricks of each suit, those of long suits first.

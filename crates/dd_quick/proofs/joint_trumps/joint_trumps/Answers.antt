@@ -1,6 +1,7 @@
 use Rattle.std.proofs.Common.{arith, length, min, ◌-◌, ◌∙◌, sym}
 use Rattle.std.specs.Prelude.{filter, nat_le}
 use Rattle.dd_quick.proofs.Sound.{greatest-least}
+use Rattle.dd_quick.proofs.Sequences.{sides-apart}
 use Rattle.dd_quick.proofs.TrumpRanks.{joint-is, their-ranks}
 use Rattle.dd_quick.proofs.joint_trumps.joint_trumps.Goals as goal
 
@@ -17,3 +18,6 @@ returns-clause-bound c =
     let is = c.most_taken.ensures.most in
     let few = c.longer.ensures.bound in
     omega (arith, most, is, few)
+
+pub most_taken-requires-clause-apart : goal.most_taken-requires-clause-apart
+most_taken-requires-clause-apart c = sides-apart c.args.position.now c.args.seat c.left-left.result c.in-Trump.trump c.of_side-ours.result c.of_side-theirs.result c.of_side-ours.ensures.board c.left-left.ensures c.of_side-ours.ensures.held c.of_side-theirs.ensures.held
