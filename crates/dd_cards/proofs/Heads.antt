@@ -1,10 +1,10 @@
 -- the highest card of each sequence of a hand
-use Rattle.std.proofs.Common.{◌≡◌, ℕ, zero, suc, ◌+◌, ◌-◌, ◌*◌, ◌/◌, ◌%◌, ◌^◌, ◌<◌, ◌≤◌, Bool, true, false, refl, sym, ap, ◌∙◌, subst, arith, List, [], ◌∷◌, inl, inr, ◌⊎◌, eq-eqb, bit_and, bit_or, w64, lit<}
-use Rattle.std.specs.Prelude.{filter, ◌==◌, ◌&&◌, ◌||◌, nat_lt, nat_le}
+use Rattle.std.proofs.Common.{◌≡◌, ℕ, zero, suc, ◌+◌, ◌%◌, ◌^◌, ◌<◌, ◌≤◌, Bool, true, false, refl, sym, ap, ◌∙◌, arith, List, [], ◌∷◌, inl, inr, eq-eqb, bit_and, w64}
+use Rattle.std.specs.Prelude.{filter, ◌&&◌, ◌||◌, nat_lt, nat_le}
 use Rattle.std.specs.List.{list_any}
-use Rattle.std.specs.Int.{bit_at, bit_not}
+use Rattle.std.specs.Int.{bit_not}
 use mathlib.Core.Bool.{not}
-use Rattle.std.proofs.lemmas.Bool.{eqb-true, ltb-true, leb-true, cases_lt}
+use Rattle.std.proofs.lemmas.Bool.{eqb-true, ltb-true, leb-true}
 use Rattle.std.proofs.lemmas.Bool.Decides.{eqb_tells, nat_tests}
 use Rattle.dd_cards.specs.declared.suit.Suit.{Suit}
 use Rattle.dd_cards.specs.Suits.{suit_code, suit_shift}
@@ -17,16 +17,16 @@ use Rattle.dd_cards.proofs.CardLists.{suit_code-lt, suit_code-injective, same_ca
 use Rattle.dd_cards.proofs.HandLists.{filter-deck, has_card-cards_of, place_of-lt}
 use Rattle.dd_cards.proofs.SetLaws.{same_card-self}
 use Rattle.dd_cards.proofs.Unions.{cards-real}
-use Rattle.dd_cards.proofs.General.{and-left, and-right, and-both, and-false, or-left, or-right, or-split, not-true, false-not, else-false, both-ways, filter-filter}
-use Rattle.dd_cards.proofs.Sequences.{is_set, reaches, set-and, set-or, set-not}
+use Rattle.dd_cards.proofs.General.{and-left, and-right, and-both, or-left, or-right, or-split, not-true, false-not, else-false, both-ways, filter-filter}
+use Rattle.dd_cards.proofs.Sequences.{is_set, reaches, set-and, set-not}
 
 -- the bits of all cards
 abbrev pub pack : ℕ
 pack = 9222386859403673596
 
--- the bits of no card of either
-abbrev pub gaps_of : ℕ → ℕ → ℕ
-gaps_of m n = bit_and pack (bit_not w64 (bit_or m n))
+-- the bits of all cards but these
+abbrev pub free_of : ℕ → ℕ
+free_of n = bit_and pack (bit_not w64 n)
 
 all_below : (ℕ → Bool) → ℕ → Bool
 all_below p zero = true
@@ -83,36 +83,36 @@ place-real s r h set =
     let high = leb-true ((suit_shift s + r) % 16) 14 (and-right (nat_le 2 ((suit_shift s + r) % 16)) (nat_le ((suit_shift s + r) % 16) 14) e) in
     (omega (arith, low, at.0), omega (arith, high, at.0))
 
--- a gap has neither, and is a card's
-gap-set : (m n i : ℕ) → bit_or m n < 2 ^ 64 → i < 64 → is_set (gaps_of m n) i ≡ (is_set pack i && not (is_set m i || is_set n i))
-gap-set m n i small h = set-and pack (bit_not w64 (bit_or m n)) i ∙ ap (λ b. is_set pack i && b) (set-not (bit_or m n) i small h ∙ ap not (set-or m n i))
+-- a free place is a card's, and not one of these
+free-set : (n i : ℕ) → n < 2 ^ 64 → i < 64 → is_set (free_of n) i ≡ (is_set pack i && not (is_set n i))
+free-set n i small h = set-and pack (bit_not w64 n) i ∙ ap (λ b. is_set pack i && b) (set-not n i small h)
 
 -- a rank above, of these, with none of the others between
 abbrev pub Above : ℕ → ℕ → Suit → ℕ → ℕ → Type 0
 Above m n s r q = (r < q) × IsRank q × (is_set m (suit_shift s + q) ≡ true) × ((x : ℕ) → r < x → x < q → is_set n (suit_shift s + x) ≡ false)
 
 -- what is reached is such a rank
-found : (m n : ℕ) (s : Suit) (k r : ℕ) → IsHandMask m → bit_or m n < 2 ^ 64 → IsRank r → reaches (is_set m) (is_set (gaps_of m n)) k (suit_shift s + r) ≡ true → (q : ℕ) × Above m n s r q
+found : (m n : ℕ) (s : Suit) (k r : ℕ) → IsHandMask m → n < 2 ^ 64 → IsRank r → reaches (is_set m) (is_set (free_of n)) k (suit_shift s + r) ≡ true → (q : ℕ) × Above m n s r q
 unfolding reaches
 found m n s zero r valid small real h = absurd (cc)
 found m n s (suc k) r valid small real h =
     let next : suit_shift s + r + 1 ≡ suit_shift s + (r + 1) = omega arith in
     let at = rank-at s (r + 1) (let t = real.1 in omega (arith, t)) in
-    elim (or-split (is_set m (suit_shift s + r + 1)) (is_set (gaps_of m n) (suit_shift s + r + 1) && reaches (is_set m) (is_set (gaps_of m n)) k (suit_shift s + r + 1)) h) [
+    elim (or-split (is_set m (suit_shift s + r + 1)) (is_set (free_of n) (suit_shift s + r + 1) && reaches (is_set m) (is_set (free_of n)) k (suit_shift s + r + 1)) h) [
       | inl own ↦ (
           let v = valid (suit_shift s + r + 1) (eqb-true _ _ own) in
           let low = v.1 in
           let high = v.2 in
           (r + 1, (omega arith, (let a = at.0 in let l = real.0 in omega (arith, l), let a = at.0 in omega (arith, high, a, next)), ap (is_set m) (sym next) ∙ own, λ x l u. absurd (omega (arith, l, u)))))
       | inr rest ↦ (
-          let here = is_set (gaps_of m n) (suit_shift s + r + 1) in
-          let beyond = reaches (is_set m) (is_set (gaps_of m n)) k (suit_shift s + r + 1) in
-          let gap : is_set (gaps_of m n) (suit_shift s + (r + 1)) ≡ true = ap (is_set (gaps_of m n)) (sym next) ∙ and-left here beyond rest in
-          let far : reaches (is_set m) (is_set (gaps_of m n)) k (suit_shift s + (r + 1)) ≡ true = ap (reaches (is_set m) (is_set (gaps_of m n)) k) (sym next) ∙ and-right here beyond rest in
-          let filled = is_set m (suit_shift s + (r + 1)) || is_set n (suit_shift s + (r + 1)) in
-          let both : (is_set pack (suit_shift s + (r + 1)) && not filled) ≡ true = sym (gap-set m n (suit_shift s + (r + 1)) small at.1) ∙ gap in
-          let card : IsRank (r + 1) = place-real s (r + 1) (let t = real.1 in omega (arith, t)) (and-left (is_set pack (suit_shift s + (r + 1))) (not filled) both) in
-          let none : is_set n (suit_shift s + (r + 1)) ≡ false = or-second (is_set m (suit_shift s + (r + 1))) (is_set n (suit_shift s + (r + 1))) (not-true filled (and-right (is_set pack (suit_shift s + (r + 1))) (not filled) both)) in
+          let here = is_set (free_of n) (suit_shift s + r + 1) in
+          let beyond = reaches (is_set m) (is_set (free_of n)) k (suit_shift s + r + 1) in
+          let gap : is_set (free_of n) (suit_shift s + (r + 1)) ≡ true = ap (is_set (free_of n)) (sym next) ∙ and-left here beyond rest in
+          let far : reaches (is_set m) (is_set (free_of n)) k (suit_shift s + (r + 1)) ≡ true = ap (reaches (is_set m) (is_set (free_of n)) k) (sym next) ∙ and-right here beyond rest in
+          let taken = is_set n (suit_shift s + (r + 1)) in
+          let both : (is_set pack (suit_shift s + (r + 1)) && not taken) ≡ true = sym (free-set n (suit_shift s + (r + 1)) small at.1) ∙ gap in
+          let card : IsRank (r + 1) = place-real s (r + 1) (let t = real.1 in omega (arith, t)) (and-left (is_set pack (suit_shift s + (r + 1))) (not taken) both) in
+          let none : is_set n (suit_shift s + (r + 1)) ≡ false = not-true taken (and-right (is_set pack (suit_shift s + (r + 1))) (not taken) both) in
           let later : (q : ℕ) × Above m n s (r + 1) q = found m n s k (r + 1) valid small card far in
           let q : ℕ = later.0 in
           let higher : r + 1 < q = later.1.0 in (
@@ -128,13 +128,9 @@ found m n s (suc k) r valid small real h =
             ),
           ))
     ]
-  where
-    or-second : (a b : Bool) → (a || b) ≡ false → b ≡ false
-    or-second true b h = absurd (cc)
-    or-second false b h = h
 
 -- and such a rank is reached
-finds : (m n : ℕ) (s : Suit) (k r q : ℕ) → bit_or m n < 2 ^ 64 → IsRank r → Above m n s r q → q ≤ r + k → reaches (is_set m) (is_set (gaps_of m n)) k (suit_shift s + r) ≡ true
+finds : (m n : ℕ) (s : Suit) (k r q : ℕ) → n < 2 ^ 64 → IsRank r → Above m n s r q → q ≤ r + k → reaches (is_set m) (is_set (free_of n)) k (suit_shift s + r) ≡ true
 unfolding reaches
 finds m n s zero r q small real above near = absurd (let l = above.0 in omega (arith, l, near))
 finds m n s (suc k) r q small real above near =
@@ -150,20 +146,15 @@ finds m n s (suc k) r q small real above near =
           let card : IsRank (r + 1) = (omega (arith, low), omega (arith, higher, top)) in
           let at = rank-at s (r + 1) (omega (arith, higher, top)) in
           let none : is_set n (suit_shift s + (r + 1)) ≡ false = above.3 (r + 1) (omega arith) higher in
-          let rest : reaches (is_set m) (is_set (gaps_of m n)) k (suit_shift s + r + 1) ≡ true =
-          ap (reaches (is_set m) (is_set (gaps_of m n)) k) (sym next)
+          let rest : reaches (is_set m) (is_set (free_of n)) k (suit_shift s + r + 1) ≡ true =
+          ap (reaches (is_set m) (is_set (free_of n)) k) (sym next)
           ∙ finds m n s k (r + 1) q small card (higher, above.1, above.2, λ x a b. above.3 x (omega (arith, a)) b) (omega (arith, near)) in
-          let gap : is_set (gaps_of m n) (suit_shift s + r + 1) ≡ (true && not (is_set m (suit_shift s + r + 1) || false)) =
-          ap (is_set (gaps_of m n)) (sym next) ∙ gap-set m n (suit_shift s + (r + 1)) small at.1
-          ∙ ap (λ b. b && not (is_set m (suit_shift s + (r + 1)) || is_set n (suit_shift s + (r + 1)))) (real-place s (r + 1) card)
-          ∙ ap (λ b. true && not (is_set m (suit_shift s + (r + 1)) || b)) none
-          ∙ ap (λ y. true && not (is_set m y || false)) next in
-          go (is_set m (suit_shift s + r + 1)) (is_set (gaps_of m n) (suit_shift s + r + 1)) _ gap rest)
+          let gap : is_set (free_of n) (suit_shift s + r + 1) ≡ true =
+          ap (is_set (free_of n)) (sym next) ∙ free-set n (suit_shift s + (r + 1)) small at.1
+          ∙ ap (λ b. b && not (is_set n (suit_shift s + (r + 1)))) (real-place s (r + 1) card)
+          ∙ ap (λ b. true && not b) none in
+          or-right (is_set m (suit_shift s + r + 1)) _ (and-both (is_set (free_of n) (suit_shift s + r + 1)) _ gap rest))
     ]
-  where
-    go : (a g rest : Bool) → g ≡ (true && not (a || false)) → rest ≡ true → (a || (g && rest)) ≡ true
-    go true g rest e h = refl
-    go false g rest e h = and-both g rest e h
 
 -- ---- of lists
 
@@ -197,8 +188,8 @@ set-of : (m : ℕ) (s : Suit) (r : ℕ) → IsRank r → has_card (cards_of m) (
 set-of m s r real = has_card-cards_of m (card_of s r) real
 
 -- a rank is reached exactly where another of these heads it
-headed : (m n : ℕ) (s : Suit) (r : ℕ) → IsHandMask m → bit_or m n < 2 ^ 64 → IsRank r
-    → reaches (is_set m) (is_set (gaps_of m n)) 16 (suit_shift s + r) ≡ is_headed (cards_of m) (cards_of n) (card_of s r)
+headed : (m n : ℕ) (s : Suit) (r : ℕ) → IsHandMask m → n < 2 ^ 64 → IsRank r
+    → reaches (is_set m) (is_set (free_of n)) 16 (suit_shift s + r) ≡ is_headed (cards_of m) (cards_of n) (card_of s r)
 headed m n s r valid small real = both-ways _ _ there back
   where
     c : PlayingCard
@@ -210,7 +201,7 @@ headed m n s r valid small real = both-ways _ _ there back
     test : PlayingCard → Bool
     test d = is_above c d && not (list_any (between d) (cards_of n))
 
-    there : reaches (is_set m) (is_set (gaps_of m n)) 16 (suit_shift s + r) ≡ true → list_any test (cards_of m) ≡ true
+    there : reaches (is_set m) (is_set (free_of n)) 16 (suit_shift s + r) ≡ true → list_any test (cards_of m) ≡ true
     there h =
         let q = found m n s 16 r valid small real h in
         let d : PlayingCard = card_of s q.0 in
@@ -222,7 +213,7 @@ headed m n s r valid small real = both-ways _ _ there back
         let none = q.1.3 e.0.rank up.1 down in
         (let no : true ≡ false = sym bit ∙ none in cc)))))
 
-    back : list_any test (cards_of m) ≡ true → reaches (is_set m) (is_set (gaps_of m n)) 16 (suit_shift s + r) ≡ true
+    back : list_any test (cards_of m) ≡ true → reaches (is_set m) (is_set (free_of n)) 16 (suit_shift s + r) ≡ true
     back h =
         let d = any-some test (cards_of m) h in
         let up = above-tells s r d.0 (and-left (is_above c d.0) _ d.2) in
@@ -241,12 +232,36 @@ headed m n s r valid small real = both-ways _ _ there back
               (let no : true ≡ false = sym there ∙ none in cc)),
         ) (omega (arith, high))
 
--- so what is left is the highest of each sequence
-pub heads-of : (m n below : ℕ) → IsHandMask m → bit_or m n < 2 ^ 64 → below < 2 ^ 64 → ((i : ℕ) → is_set below i ≡ reaches (is_set m) (is_set (gaps_of m n)) 16 i)
-    → cards_of (bit_and m (bit_not w64 below)) ≡ heads (cards_of m) (cards_of n)
+-- the cards whose bits are set are those that another of `m` heads
+abbrev pub AreHeaded : ℕ → ℕ → ℕ → Type 0
+AreHeaded m n below = (c : PlayingCard) → IsRank c.rank → in_hand below c ≡ is_headed (cards_of m) (cards_of n) c
+
+-- what is reached from a mask's places is headed by its cards
+pub headed-below : (m n below : ℕ) → IsHandMask m → n < 2 ^ 64 → ((i : ℕ) → is_set below i ≡ reaches (is_set m) (is_set (free_of n)) 16 i) → AreHeaded m n below
+headed-below m n below valid small same c real = same (place_of c) ∙ headed m n c.suit c.rank valid small real
+
+-- so what is left without these is the highest of each sequence
+pub heads-of : (m n below : ℕ) → below < 2 ^ 64 → AreHeaded m n below → cards_of (bit_and m (bit_not w64 below)) ≡ heads (cards_of m) (cards_of n)
 unfolding cards_of
-heads-of m n below valid small small' same =
+heads-of m n below small same =
     filter-deck (in_hand (bit_and m (bit_not w64 below))) (λ c. in_hand m c && not (is_headed (cards_of m) (cards_of n) c)) (λ c real.
     set-and m (bit_not w64 below) (place_of c)
-    ∙ ap (λ b. in_hand m c && b) (set-not below (place_of c) small' (place_of-lt c real) ∙ ap not (same (place_of c) ∙ headed m n c.suit c.rank valid small real)))
+    ∙ ap (λ b. in_hand m c && b) (set-not below (place_of c) small (place_of-lt c real) ∙ ap not (same c real)))
     ∙ sym (filter-filter (λ c. not (is_headed (cards_of m) (cards_of n) c)) (in_hand m) deck)
+
+-- and with these alone the cards that are headed
+pub headed-of : (own m n below : ℕ) → AreHeaded m n below → cards_of (bit_and own below) ≡ filter (is_headed (cards_of m) (cards_of n)) (cards_of own)
+unfolding cards_of
+headed-of own m n below same =
+    filter-deck (in_hand (bit_and own below)) (λ c. in_hand own c && is_headed (cards_of m) (cards_of n) c) (λ c real.
+    set-and own below (place_of c) ∙ ap (λ b. in_hand own c && b) (same c real))
+    ∙ sym (filter-filter (is_headed (cards_of m) (cards_of n)) (in_hand own) deck)
+
+-- the cards of one mask alone
+pub cards_of-difference : (m n : ℕ) → n < 2 ^ 64 → cards_of (bit_and m (bit_not w64 n)) ≡ filter (λ c. not (has_card (cards_of n) c)) (cards_of m)
+unfolding cards_of
+cards_of-difference m n small =
+    filter-deck (in_hand (bit_and m (bit_not w64 n))) (λ c. in_hand m c && not (has_card (cards_of n) c)) (λ c real.
+    set-and m (bit_not w64 n) (place_of c)
+    ∙ ap (λ b. in_hand m c && b) (set-not n (place_of c) small (place_of-lt c real) ∙ ap not (sym (has_card-cards_of n c real))))
+    ∙ sym (filter-filter (λ c. not (has_card (cards_of n) c)) (in_hand m) deck)

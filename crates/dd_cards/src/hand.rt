@@ -1,9 +1,10 @@
-ghost use Rattle.std.specs.Prelude.{◌≡◌, ◌∷◌, [], ◌^◌, ◌/◌, ◌<◌, ◌↔◌, ◌||◌, ◌&&◌, true, bit_and, bit_or, IsTrue, MatchOption, map, filter, length, nat_lt};
+ghost use Rattle.std.specs.Prelude.{◌≡◌, ◌∷◌, [], ◌^◌, ◌/◌, ◌<◌, ◌↔◌, ◌||◌, ◌&&◌, true, bit_and, bit_or, IsTrue, MatchOption, map, filter, length, nat_lt, if◌then◌else◌};
 ghost use mathlib.Core.Bool.{not};
 ghost use Rattle.dd_cards.specs.PlayingCard.{PlayingCard};
 ghost use Rattle.dd_cards.specs.Ranks.{IsRank};
 ghost use Rattle.dd_cards.specs.Cards.{is_of, card_of, has_card, with_card, without, deck};
-ghost use Rattle.dd_cards.specs.Sequences.{heads};
+ghost use Rattle.dd_cards.specs.HandMasks.{cards_of, in_hand, IsHandMask};
+ghost use Rattle.dd_cards.specs.Sequences.{is_headed, heads};
 
 use crate::card::Card;
 use crate::holding::Holding;
@@ -39,8 +40,6 @@ impl Model for Hand {
 }
 
 impl Hand {
-    ghost use Rattle.dd_cards.specs.HandMasks.{cards_of, IsHandMask};
-
     /// The cards of a mask: sixteen bits for each suit, the spades on top, and in them bit r for the rank r.
     pub fn of_mask(mask: u64) -> Hand
         requires { IsHandMask mask }
@@ -128,6 +127,28 @@ impl Hand {
         }
     }
 
+    /// These cards, and this one if it is wanted.
+    #[inline]
+    pub fn with_if(self, card: Card, wanted: bool) -> Hand
+        ensures cards { result ≡ (if wanted then with_card self card else self) }
+        ensures real { IsRank card.rank }
+    {
+        let bit = if wanted { 1u64 } else { 0 };
+        Hand {
+            mask: self.mask | bit << card.place(),
+        }
+    }
+
+    /// These cards but those of the other set.
+    #[inline]
+    pub fn difference(self, other: Hand) -> Hand
+        ensures { result ≡ filter (λ c. not (has_card other c)) self }
+    {
+        Hand {
+            mask: self.mask & !other.mask,
+        }
+    }
+
     /// These cards but this one.
     #[inline]
     pub fn without(self, card: Card) -> Hand
@@ -161,18 +182,22 @@ impl Hand {
 
     /// The highest card of each sequence: of these cards those that have no other above them in their suit with none of the others
     /// between.
-    // What is below a card of these spreads down over places without a card, each time twice as far.
     #[inline]
     pub fn heads(self, others: Hand) -> Hand
         ensures { result ≡ heads self others }
     {
-        let gaps = PACK & !(self.mask | others.mask);
-        let (below, clear) = spread(self.mask >> 1, gaps >> 1, 1);
-        let (below, clear) = spread(below, clear, 2);
-        let (below, clear) = spread(below, clear, 4);
-        let (below, _) = spread(below, clear, 8);
         Hand {
-            mask: self.mask & !below,
+            mask: self.mask & !places_below(self.mask, others.mask),
+        }
+    }
+
+    /// Of these cards those that have one of `tops` above them in their suit with none of the others between.
+    #[inline]
+    pub fn headed(self, tops: Hand, others: Hand) -> Hand
+        ensures { result ≡ filter (is_headed tops others) self }
+    {
+        Hand {
+            mask: self.mask & places_below(tops.mask, others.mask),
         }
     }
 
@@ -190,7 +215,22 @@ impl Hand {
     }
 }
 
-// The places below, and those so many places further down with gaps alone above them; and the places with gaps alone twice
+// The places below one of `tops` with none of the others between. What is below spreads down over places without another,
+// each time twice as far.
+#[inline]
+fn places_below(tops: u64, others: u64) -> u64
+    requires { IsHandMask tops }
+    ensures { (c : PlayingCard) → IsRank c.rank → in_hand result c ≡ is_headed (cards_of tops)
+        (cards_of others) c }
+{
+    let free = PACK & !others;
+    let (below, clear) = spread(tops >> 1, free >> 1, 1);
+    let (below, clear) = spread(below, clear, 2);
+    let (below, clear) = spread(below, clear, 4);
+    spread(below, clear, 8).0
+}
+
+// The places below, and those so many places further down with free places alone above them; and the places with free places alone twice
 // as far above them.
 #[inline]
 fn spread(below: u64, clear: u64, places: u8) -> (u64, u64)

@@ -20,7 +20,7 @@ use Rattle.dd_equal.specs.EqualCards.{other_cards, is_between, are_equal, is_top
 use Rattle.dd_equal.proofs.ClassTops.{some-card}
 use Rattle.dd_equal.proofs.Suits.{others-split}
 
-any-of : (t : PlayingCard → Bool) (d : PlayingCard) (cards : List PlayingCard) → has_card cards d ≡ true → t d ≡ true → list_any t cards ≡ true
+pub any-of : (t : PlayingCard → Bool) (d : PlayingCard) (cards : List PlayingCard) → has_card cards d ≡ true → t d ≡ true → list_any t cards ≡ true
 any-of t d [] has e = absurd (cc)
 any-of t d (c ∷ cards) has e = elim (or-split (same_card c d) (has_card cards d) has) [
   | inl same ↦ or-left (t c) (list_any t cards) (ap t (same_card-eq c d same) ∙ e)
@@ -88,10 +88,6 @@ tops-heads p cards others are same =
 
 -- ---- the other cards as a set
 
--- each of these is a card of the pack
-abbrev pub AreReal : List PlayingCard → Type 0
-AreReal cards = (c : PlayingCard) → has_card cards c ≡ true → IsRank c.rank
-
 kept-of-deck : (p : PlayingCard → Bool) (c : PlayingCard) → (p c ≡ true → IsRank c.rank) → has_card (filter p deck) c ≡ p c
 kept-of-deck p c real = has_card-filter p deck c ∙ go (p c) refl
   where
@@ -99,75 +95,16 @@ kept-of-deck p c real = has_card-filter p deck c ∙ go (p c) refl
     go true e = has_card-deck c (real e)
     go false e = refl
 
--- cards kept of the deck are real
-pub kept-real : (p : PlayingCard → Bool) → AreReal (filter p deck)
-kept-real p c h = real-set (filter p deck) c (IsSet-filter p deck IsSet-deck) h
-
-same-either : (c d : PlayingCard) → same_card c d ≡ same_card d c
-same-either c d = both-ways _ _ (λ h. turn c d (same_card-eq c d h)) (λ h. turn d c (same_card-eq d c h))
-  where
-    turn : (c d : PlayingCard) → c ≡ d → same_card d c ≡ true
-    turn c d e = ap (λ x. same_card x c) (sym e) ∙ same_card-self c
-
--- what stands in the set so far, of those it began with and of the cards walked
-abbrev pub Holds : List PlayingCard → List PlayingCard → List PlayingCard → Type 0
-Holds first walked cards = AreReal cards × ((c : PlayingCard) → has_card cards c ≡ (has_card first c || has_card walked c))
-
-pub holds-none : (first : List PlayingCard) → AreReal first → Holds first [] first
-holds-none first real = (real, λ c. or-false' (has_card first c))
-  where
-    or-false' : (b : Bool) → b ≡ (b || false)
-    or-false' true = refl
-    or-false' false = refl
-
-real-same : (c x : PlayingCard) → c ≡ x → IsRank x.rank → IsRank c.rank
-real-same c x e real = subst (λ (y : PlayingCard). IsRank y.rank) (sym e) real
-
--- one card of the trick more
-pub holds-more : (first trick old new : List PlayingCard) (i : ℕ) (x : PlayingCard) → i < length trick → x ≡ get_or trick i x → IsRank x.rank → new ≡ with_card old x → Holds first (take i trick) old
-    → Holds first (take (i + 1) trick) new
-holds-more first trick old new i x within is real put held = (
-  λ c h. elim (or-split (same_card c x) (has_card old c) (sym (has-new c) ∙ h)) [
-    | inl same ↦ real-same c x (same_card-eq c x same) real
-    | inr before ↦ held.0 c before
-  ],
-  each,
-)
-  where
-    has-new : (c : PlayingCard) → has_card new c ≡ (same_card c x || has_card old c)
-    has-new c = ap (λ cards. has_card cards c) put ∙ kept-of-deck (λ d. same_card d x || has_card old d) c (λ h. elim (or-split (same_card c x) (has_card old c) h) [
-      | inl same ↦ real-same c x (same_card-eq c x same) real
-      | inr before ↦ held.0 c before
+-- the other hands and the trick
+pub others-all : (p : Board) (three trick cards : List PlayingCard) → IsBoard p → three ≡ filter (is_anothers p.hands (mover p)) deck → ((c : PlayingCard) → has_card trick c ≡ has_card p.trick c)
+    → cards ≡ filter (λ c. has_card three c || has_card trick c) deck → (c : PlayingCard) → has_card cards c ≡ has_card (other_cards p) c
+others-all p three trick cards valid are same union c =
+    ap (λ xs. has_card xs c) union
+    ∙ kept-of-deck (λ d. has_card three d || has_card trick d) c (λ h. elim (or-split (has_card three c) (has_card trick c) h) [
+      | inl theirs ↦ anothers (sym hands ∙ theirs)
+      | inr there ↦ valid.real c (sym (same c) ∙ there)
     ])
-
-    turn : (a b d : Bool) → (a || (b || d)) ≡ (b || (d || (a || false)))
-    turn true true d = refl
-    turn true false true = refl
-    turn true false false = refl
-    turn false true d = refl
-    turn false false true = refl
-    turn false false false = refl
-
-    walked : (c : PlayingCard) → has_card (take (i + 1) trick) c ≡ (has_card (take i trick) c || (same_card x c || false))
-    walked c = ap (λ cards. has_card cards c) (take_more trick i x within) ∙ list_any-append (λ d. same_card d c) (take i trick) (get_or trick i x ∷ [])
-        ∙ ap (λ d. has_card (take i trick) c || (same_card d c || false)) (sym is)
-
-    each : (c : PlayingCard) → has_card new c ≡ (has_card first c || has_card (take (i + 1) trick) c)
-    each c = has-new c ∙ ap (λ b. same_card c x || b) (held.1 c)
-        ∙ turn (same_card c x) (has_card first c) (has_card (take i trick) c)
-        ∙ ap (λ b. has_card first c || (has_card (take i trick) c || (b || false))) (same-either c x)
-        ∙ ap (λ b. has_card first c || b) (sym (walked c))
-
--- the other hands and the whole trick
-pub holds-all : (p : Board) (three cards trick : List PlayingCard) (i : ℕ) → IsBoard p → three ≡ filter (is_anothers p.hands (mover p)) deck
-    → trick ≡ p.trick → length trick ≤ i → Holds three (take i trick) cards → (c : PlayingCard) → has_card cards c ≡ has_card (other_cards p) c
-holds-all p three cards trick i valid are same done held c =
-    held.1 c
-    ∙ ap (λ xs. has_card three c || has_card xs c) (take_all i trick done ∙ same)
-    ∙ ap (λ x. x || has_card p.trick c) (ap (λ xs. has_card xs c) are ∙ kept-of-deck (is_anothers p.hands (mover p)) c (λ h. elim (or-split (hand 1 || hand 2) (hand 3) h) [
-      | inl two ↦ elim (or-split (hand 1) (hand 2) two) [ inl a ↦ real 1 a | inr b ↦ real 2 b ]
-      | inr d ↦ real 3 d
-    ]))
+    ∙ ap (λ b. b || has_card trick c) hands ∙ ap (λ b. is_anothers p.hands (mover p) c || b) (same c)
     ∙ sym (others-split p c)
   where
     hand : ℕ → Bool
@@ -175,3 +112,12 @@ holds-all p three cards trick i valid are same done held c =
 
     real : (k : ℕ) → hand k ≡ true → IsRank c.rank
     real k h = real-set (cards_at p (seat_after (mover p) k)) c (valid.sets (seat_after (mover p) k)) h
+
+    anothers : is_anothers p.hands (mover p) c ≡ true → IsRank c.rank
+    anothers h = elim (or-split (hand 1 || hand 2) (hand 3) h) [
+      | inl two ↦ elim (or-split (hand 1) (hand 2) two) [ inl a ↦ real 1 a | inr b ↦ real 2 b ]
+      | inr d ↦ real 3 d
+    ]
+
+    hands : has_card three c ≡ is_anothers p.hands (mover p) c
+    hands = ap (λ xs. has_card xs c) are ∙ kept-of-deck (is_anothers p.hands (mover p)) c anothers

@@ -15,17 +15,13 @@ pub fn tops(position: &Position) -> Hand
     position.choices().heads(others(position))
 }
 
-// The cards in the other hands and on the trick.
+/// The cards in the other hands and on the trick.
 #[inline]
-fn others(position: &Position) -> Hand
+pub(crate) fn others(position: &Position) -> Hand
     ensures { (c : PlayingCard) → has_card result c ≡ has_card (other_cards position.now) c }
 {
-    let mut cards = position.hands().others(position.mover());
-    for card in position.trick() {
-        let card = *card;
-        // The proof reads here that it is a card of the pack.
-        let _rank = card.rank.code();
-        cards = cards.with(card);
-    }
-    cards
+    position
+        .hands()
+        .others(position.mover())
+        .union(position.trick_cards())
 }

@@ -88,7 +88,7 @@ fn push_classes(classes: &mut ArrayVec<Class, 13>, suit: Suit, own: Holding, oth
 }
 
 // The ranks above the floor and those below it. Without a floor all are above.
-pub(crate) fn ranks_around(ranks: Holding, floor: Option<Rank>) -> (Holding, Holding)
+fn ranks_around(ranks: Holding, floor: Option<Rank>) -> (Holding, Holding)
     ensures { MatchOption floor ((result.0 ≡ ranks) × (result.1 ≡ []))
         (λ f. (result.0 ≡ filter (λ q. nat_lt f q) ranks) × (result.1 ≡ filter
         (λ q. nat_lt q f) ranks)) }
@@ -100,7 +100,7 @@ pub(crate) fn ranks_around(ranks: Holding, floor: Option<Rank>) -> (Holding, Hol
 }
 
 // The ranks of the cards of this suit in the other hands and on the trick.
-pub(crate) fn other_ranks(position: &Position, suit: Suit) -> Holding
+fn other_ranks(position: &Position, suit: Suit) -> Holding
     ensures { result ≡ filter
         (λ r. has_card (other_cards position.now) (card_of suit r)) all_ranks }
 {

@@ -16,4 +16,5 @@ pub mod HandsAfter
 pub mod Fewer
 pub mod Worth
 pub mod Contests
+pub mod TrickCards
 pub mod CallerLemmas

@@ -122,6 +122,19 @@ impl Position {
         &self.trick[..self.played as usize]
     }
 
+    /// The cards on the current trick, as a set.
+    // Without a branch on how many there are: each place has some card.
+    #[inline]
+    pub fn trick_cards(&self) -> Hand
+        ensures { (c : PlayingCard) → has_card result c ≡ has_card self.now.trick c }
+    {
+        let [first, second, third] = self.trick;
+        Hand::new()
+            .with_if(first, self.played > 0)
+            .with_if(second, self.played > 1)
+            .with_if(third, self.played > 2)
+    }
+
     /// The seat to play.
     pub fn mover(&self) -> Seat
         ensures seat { result ≡ mover self.now }
@@ -253,18 +266,16 @@ impl Position {
     }
 }
 
-// The card at this place of four.
+// The card at this place of four: two choices, and no branch to one of four places.
 #[inline(always)]
 fn one_of_four(place: u8, a: Card, b: Card, c: Card, d: Card) -> Card
     requires { place < 4 }
     ensures { result ≡ slice_index_or (a ∷ b ∷ c ∷ d ∷ []) place d }
 {
-    match place {
-        0 => a,
-        1 => b,
-        2 => c,
-        _ => d,
-    }
+    let is_even = place % 2 == 0;
+    let early = if is_even { a } else { b };
+    let late = if is_even { c } else { d };
+    if place < 2 { early } else { late }
 }
 
 // How many of four cards are of this suit.
@@ -285,18 +296,18 @@ fn one_of(suit: Suit, card: Card) -> u8
 }
 
 // The three places with the card at this one, by choice and not by address: a place that was written would be read again
-// before its write is done.
+// before its write is done. One choice a place, and no branch to one of three.
 #[inline]
 fn with_place(trick: [Card; 3], place: u8, card: Card) -> [Card; 3]
     requires { place < 3 }
     ensures { result ≡ slice_set trick place card }
 {
     let [first, second, third] = trick;
-    match place {
-        0 => [card, second, third],
-        1 => [first, card, third],
-        _ => [first, second, card],
-    }
+    [
+        if place == 0 { card } else { first },
+        if place == 1 { card } else { second },
+        if place == 2 { card } else { third },
+    ]
 }
 
 // Does a card stand twice among the hands and the trick?

@@ -1,8 +1,20 @@
-use Rattle.dd_equal.proofs.Wholes.{all-suits}
+use Rattle.std.proofs.Common.{◌≡◌, true, ap, ◌∙◌, sym}
+use Rattle.std.specs.Prelude.{filter, ◌||◌}
+use Rattle.dd_cards.specs.PlayingCard.{PlayingCard}
+use Rattle.dd_cards.specs.Cards.{has_card, deck}
+use Rattle.dd_cards.specs.Sequences.{is_headed}
+use Rattle.dd_cards.proofs.CallerLemmas.{or-split}
+use Rattle.dd_play.proofs.CallerLemmas.{filter-passes}
+use Rattle.dd_equal.proofs.Wholes.{whole-lower}
 use Rattle.dd_equal.proofs.whole_classes.whole.Goals as goal
 
 pub returns-clause-whole : goal.returns-clause-whole
 returns-clause-whole c =
-    all-suits c.args.position.now c.args.reached c.whole_suit-reached.result c.whole_suit-reached-2.result c.whole_suit-reached-3.result c.whole_suit.result
-    (c.whole_suit-reached.ensures.others, c.whole_suit-reached.ensures.whole) (c.whole_suit-reached-2.ensures.others, c.whole_suit-reached-2.ensures.whole)
-    (c.whole_suit-reached-3.ensures.others, c.whole_suit-reached-3.ensures.whole) (c.whole_suit.ensures.others, c.whole_suit.ensures.whole)
+    whole-lower c.args.position.now c.others-others.result c.args.reached c.difference.result c.headed-lower.result c.union.result (record {
+      valid = c.choices.ensures.board;
+      theirs = c.others-others.ensures;
+      without = c.difference.ensures;
+      headed = c.headed-lower.ensures ∙ ap (filter (is_headed c.difference.result c.others-others.result)) c.choices.ensures.cards;
+      either = λ d h. or-split (has_card c.args.reached d) (has_card c.headed-lower.result d) (filter-passes (λ e. has_card c.args.reached e || has_card c.headed-lower.result e) deck d (ap (λ xs. has_card xs d) (sym c.union.ensures.cards) ∙ h));
+      more = c.union.ensures.right;
+    })
