@@ -1,5 +1,6 @@
 use dd_cache::Cache;
 use dd_cards::{Card, Hands, Rank, Seat, Strain, Suit};
+use dd_pbn::read_deal;
 use dd_play::{Interval, Position, TrickStart};
 use dd_rank::OwnerStrings;
 use dd_search::{Bounds, Endless, NoTable, start_value};
@@ -132,5 +133,67 @@ fn narrower_bounds_take_the_place_of_wider_ones(rt: HostRuntime) -> Result<(), A
         settled(&mut cache, &start, 4),
     ];
     assert_eq!(rt; found, [Some((3, 3)); 2], "the wider bounds are gone");
+    Ok(())
+}
+
+// The deal with North to lead at notrump.
+fn dealt(deal: &str) -> Option<TrickStart> {
+    let hands = read_deal(deal.as_bytes()).ok()?;
+    let position = Position::new(hands, Strain::Notrump, Seat::North, &[]).ok()?;
+    TrickStart::of(&position)
+}
+
+// The suits of leads that are remembered for the start, by shape and by outline.
+fn remembered<B: Bounds>(cache: &Cache<B>, start: &TrickStart) -> (Option<Suit>, Option<Suit>) {
+    let leads = cache.settling_leads(&OwnerStrings::of(start));
+    (leads.of_shape, leads.of_outline)
+}
+
+#[test]
+fn a_lead_is_remembered_by_shape_and_by_outline(rt: HostRuntime) -> Result<(), AllocError> {
+    let mut cache = Cache::new(rt.alloc(), NoTable)?;
+    let start = dealt("N:32... K.4.. AQ... 65...").expect(&rt, "two cards a hand");
+    assert_eq!(rt; remembered(&cache, &start), (None, None));
+    cache.note_lead(&OwnerStrings::of(&start), Suit::Hearts);
+    // The ace is North's.
+    let shape = dealt("N:A2... K.4.. Q3... 65...").expect(&rt, "two cards a hand");
+    // East has no spade, and North's lengths and the holders of the highest cards are the same.
+    let outline = dealt("N:32... .54.. AQ... 65...").expect(&rt, "two cards a hand");
+    let neither = dealt("N:A2... .54.. Q3... 65...").expect(&rt, "two cards a hand");
+    let found = [
+        remembered(&cache, &start),
+        remembered(&cache, &shape),
+        remembered(&cache, &outline),
+        remembered(&cache, &neither),
+    ];
+    let hearts = Some(Suit::Hearts);
+    assert_eq!(rt;
+        found,
+        [
+            (hearts, hearts),
+            (hearts, None),
+            (None, hearts),
+            (None, None)
+        ]
+    );
+    Ok(())
+}
+
+#[test]
+fn another_deal_forgets_the_leads(rt: HostRuntime) -> Result<(), AllocError> {
+    let mut cache = Cache::new(rt.alloc(), NoTable)?;
+    let first = dealt("N:32... K.4.. AQ... 65...").expect(&rt, "two cards a hand");
+    assert!(rt; noted(&first, &mut cache).is_some());
+    cache.note_lead(&OwnerStrings::of(&first), Suit::Spades);
+    let spades = Some(Suit::Spades);
+    cache.look(&first);
+    assert_eq!(rt;
+        remembered(&cache, &first),
+        (spades, spades),
+        "the same deal"
+    );
+    let second = dealt("N:72... K.4.. AQ... 65...").expect(&rt, "two cards a hand");
+    cache.look(&second);
+    assert_eq!(rt; remembered(&cache, &first), (None, None));
     Ok(())
 }
