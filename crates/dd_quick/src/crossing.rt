@@ -113,7 +113,7 @@ pub(crate) fn has_trumps(position: &Position) -> bool
 fn any(a: bool, b: bool, c: bool, d: bool) -> bool
     ensures { result ≡ ((a || b) || (c || d)) }
 {
-    (a || b) || (c || d)
+    (a | b) | (c | d)
 }
 
 // Is there a suit in which the leader might cross? Mostly there is none, which costs less to tell than what the partner takes.
@@ -166,7 +166,7 @@ fn is_followed(position: &Position, seen: &Seen, suit: Suit, ranks: &Ranks) -> b
 fn follows(trumps: u8, cards: u8) -> bool
     ensures { result ≡ (trumps == 0 || nat_lt 0 cards) }
 {
-    trumps == 0 || 0 < cards
+    (trumps == 0) | (0 < cards)
 }
 
 // Are both true?
@@ -174,7 +174,7 @@ fn follows(trumps: u8, cards: u8) -> bool
 fn both(a: bool, b: bool) -> bool
     ensures { result ≡ (a && b) }
 {
-    a && b
+    a & b
 }
 
 // Are all three true?
@@ -182,7 +182,7 @@ fn both(a: bool, b: bool) -> bool
 fn all(a: bool, b: bool, c: bool) -> bool
     ensures { result ≡ (a && (b && c)) }
 {
-    a && (b && c)
+    a & (b & c)
 }
 
 // What the partner takes in the suit, and whether the leader can cross there.
