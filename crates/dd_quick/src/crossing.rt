@@ -20,8 +20,10 @@ ghost use Rattle.dd_quick.specs.Seen.{IsSeen, AreRanks};
 
 use crate::long_suit::unruffed;
 use crate::sharing::{Offer, Offers, Shares};
-use crate::winners::{Ranks, Seen, next_run, own_run, partners_run, partners_unbeaten, ranks_of};
-use crate::winners::{seen_by_leader, trumps, with_highest};
+use crate::winners::{
+    Ranks, Seen, next_run, own_run, partners_run, partners_unbeaten, ranks_of, seen_by_leader,
+    trumps, with_highest,
+};
 use dd_cards::{Hand, Strain, Suit};
 use dd_play::Position;
 
@@ -116,7 +118,7 @@ fn any(a: bool, b: bool, c: bool, d: bool) -> bool
     (a | b) | (c | d)
 }
 
-// Is there a suit in which the leader might cross? Mostly there is none, which costs less to tell than what the partner takes.
+// Is there a suit in which the leader might cross? Often there is none, which costs less to tell than what the partner takes.
 // All suits are asked: which of them is the first would seldom be foreseen.
 #[inline(always)]
 fn may_cross(position: &Position, seen: &Seen) -> bool
