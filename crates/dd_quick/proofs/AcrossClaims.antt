@@ -4,7 +4,7 @@ use Rattle.std.specs.Prelude.{nat_lt, ◌&&◌, ◌||◌, ◌==◌, ◌⊎◌, i
 use mathlib.Core.Bool.{not}
 use mathlib.Core.Path.{ap₂}
 use Rattle.std.proofs.lemmas.Bool.{cases_lt, eqb-true, leb-true, ltb-true, lt-ltb}
-use Rattle.std.proofs.lemmas.Bool.Decides.{eqb_tells, nat_tests}
+use Rattle.std.proofs.lemmas.Bool.Decides.{eqb_tells}
 use Rattle.dd_cards.specs.declared.suit.Suit.{Suit}
 use Rattle.dd_cards.specs.declared.suit.Suit.TheVariants.{Spades, Hearts, Diamonds, Clubs}
 use Rattle.dd_cards.specs.PlayingCard.{PlayingCard}
@@ -33,24 +33,6 @@ partners-le p u = go (is_partners_long p u)
     go : (b : Bool) → (if b then length_at p (seat_after p.first 2) u - run p p.first u else min (next_run p u) (length_at p (seat_after p.first 2) u - run p p.first u)) ≤ length_at p (seat_after p.first 2) u - run p p.first u
     go true = omega arith
     go false = omega arith
-
--- where the partner takes some, the leader can cross if it has a card beside its run
-pub counted-low : (p : Board) (u : Suit) (leads own tricks : ℕ) → leads ≡ run p p.first u → own ≡ length_at p p.first u → tricks ≡ partners_cashed p.strain p u → 0 < tricks → IsNext p u tricks (nat_lt leads own)
-counted-low p u leads own tricks leads_is own_is same some = (
-  same,
-  ap₂ nat_lt leads_is own_is ∙ sym (ap (λ b. b && nat_lt (run p p.first u) (length_at p p.first u)) (lt-ltb 0 (partners_cashed p.strain p u) (omega (arith, same, some)))),
-)
-
--- where it takes none, it can't
-pub counted-none : (p : Board) (u : Suit) (tricks : ℕ) → tricks ≡ partners_cashed p.strain p u → tricks ≤ 0 → IsNext p u tricks (nat_lt 0 tricks)
-counted-none p u tricks same none = (same, ap (nat_lt 0) same ∙ fails (nat_lt 0 (partners_cashed p.strain p u)) (nat_lt (run p p.first u) (length_at p p.first u)) (not-under 0 (partners_cashed p.strain p u) (omega (arith, same, none))))
-  where
-    not-under : (a b : ℕ) → b ≤ a → nat_lt a b ≡ false
-    not-under a b h = grind (arith, nat_tests)
-
-    fails : (a b : Bool) → a ≡ false → a ≡ (a && b)
-    fails false b e = refl
-    fails true b e = absurd (cc)
 
 -- and no more than those next below the run, but in a long suit
 partners-long : (p : Board) (u : Suit) → (partners_tricks p u ≤ next_run p u) ⊎ (longest_beside p u ≤ run p p.first u + next_run p u)

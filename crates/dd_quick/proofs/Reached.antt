@@ -1,9 +1,8 @@
 -- which winners the cards reach that the code puts together
-use Rattle.std.proofs.Common.{◌≡◌, ℕ, ◌<◌, ◌≤◌, Bool, true, false, refl, sym, ap, ◌∙◌, arith, List, length}
-use Rattle.std.specs.Prelude.{filter, map, min, nat_le, nat_lt, ◌&&◌}
+use Rattle.std.proofs.Common.{◌≡◌, ℕ, ◌≤◌, Bool, true, refl, sym, ap, ◌∙◌, arith, List, length}
+use Rattle.std.specs.Prelude.{filter, map, min, nat_lt, ◌&&◌}
 use mathlib.Core.Path.{ap₂}
-use Rattle.std.proofs.lemmas.Bool.{le-leb, ltb-true}
-use Rattle.std.proofs.lemmas.Bool.Decides.{nat_tests}
+use Rattle.std.proofs.lemmas.Bool.{ltb-true}
 use Rattle.std.proofs.lemmas.List.{length-map}
 use Rattle.dd_cards.specs.declared.seat.Seat.{Seat}
 use Rattle.dd_cards.specs.declared.suit.Suit.{Suit}
@@ -15,7 +14,7 @@ use Rattle.dd_cards.proofs.CallerLemmas.{and-left, and-right, filter-filter, fil
 use Rattle.dd_play.specs.Board.{Board, IsBoard, cards_at}
 use Rattle.dd_play.specs.Reach.{reach}
 use Rattle.dd_play.proofs.CallerLemmas.{count, reach-of, reach-within}
-use Rattle.dd_quick.specs.QuickTricks.{RestsOn, RestsOnHead, RestsOnNext, is_long, is_next, is_winner, length_at, longer, longest, run, suit_tricks}
+use Rattle.dd_quick.specs.QuickTricks.{RestsOn, RestsOnHead, RestsOnNext, is_next, is_winner, longer, run}
 use Rattle.dd_quick.proofs.Plays.{count-where}
 
 -- where the ranks are the cards of a list that pass, those among the cards are reached
@@ -64,17 +63,6 @@ next-reached p suit ranks cards n same most =
     let a = reached-of suit (λ c. is_of suit c && is_next p c) ranks (cards_at p (seat_after p.first 2)) cards same in
     let b = length-of suit (λ c. is_of suit c && is_next p c) ranks (cards_at p (seat_after p.first 2)) same in
     omega (arith, a, b, most)
-
--- the tricks of a long suit are all the leader's cards of it
-pub long-tricks : (p : Board) (u : Suit) (most run_u t : ℕ) → most ≡ longest p u → run_u ≡ run p p.first u → t ≡ length_at p p.first u → most ≤ run_u → t ≡ suit_tricks p u
-long-tricks p u most run_u t a b e h = (let k : is_long p u ≡ true = le-leb (longest p u) (run p p.first u) (omega (arith, a, b, h)) in e ∙ rw k refl)
-
--- those of another suit the run
-pub short-tricks : (p : Board) (u : Suit) (most run_u : ℕ) → most ≡ longest p u → run_u ≡ run p p.first u → run_u < most → run_u ≡ suit_tricks p u
-short-tricks p u most run_u a b h = (let k : is_long p u ≡ false = not-le (longest p u) (run p p.first u) (omega (arith, a, b, h)) in b ∙ rw k refl)
-  where
-    not-le : (x y : ℕ) → y < x → nat_le x y ≡ false
-    not-le x y h = grind (arith, nat_tests)
 
 -- the ranks of a hand's cards of a suit that pass are those of all ranks
 pub ranks-part : (p : Board) (x : Seat) (suit : Suit) (test : PlayingCard → Bool) (ranks : List ℕ) → IsBoard p → map (card_of suit) ranks ≡ filter (λ c. is_of suit c && test c) (cards_at p x)

@@ -20,8 +20,10 @@ ghost use Rattle.dd_quick.specs.Seen.{IsSeen, AreRanks};
 
 use crate::long_suit::unruffed;
 use crate::sharing::{Offer, Offers, Shares};
-use crate::winners::{Ranks, Seen, next_run, own_run, partners_run, partners_unbeaten, ranks_of};
-use crate::winners::{seen_by_leader, trumps, with_highest};
+use crate::winners::{
+    Ranks, Seen, next_run, own_run, partners_run, partners_unbeaten, ranks_of, seen_by_leader,
+    trumps, with_highest,
+};
 use dd_cards::{Hand, Strain, Suit};
 use dd_play::Position;
 
@@ -113,10 +115,10 @@ pub(crate) fn has_trumps(position: &Position) -> bool
 fn any(a: bool, b: bool, c: bool, d: bool) -> bool
     ensures { result ≡ ((a || b) || (c || d)) }
 {
-    (a || b) || (c || d)
+    (a | b) | (c | d)
 }
 
-// Is there a suit in which the leader might cross? Mostly there is none, which costs less to tell than what the partner takes.
+// Is there a suit in which the leader might cross? Often there is none, which costs less to tell than what the partner takes.
 // All suits are asked: which of them is the first would seldom be foreseen.
 #[inline(always)]
 fn may_cross(position: &Position, seen: &Seen) -> bool
@@ -166,7 +168,7 @@ fn is_followed(position: &Position, seen: &Seen, suit: Suit, ranks: &Ranks) -> b
 fn follows(trumps: u8, cards: u8) -> bool
     ensures { result ≡ (trumps == 0 || nat_lt 0 cards) }
 {
-    trumps == 0 || 0 < cards
+    (trumps == 0) | (0 < cards)
 }
 
 // Are both true?
@@ -174,7 +176,7 @@ fn follows(trumps: u8, cards: u8) -> bool
 fn both(a: bool, b: bool) -> bool
     ensures { result ≡ (a && b) }
 {
-    a && b
+    a & b
 }
 
 // Are all three true?
@@ -182,7 +184,7 @@ fn both(a: bool, b: bool) -> bool
 fn all(a: bool, b: bool, c: bool) -> bool
     ensures { result ≡ (a && (b && c)) }
 {
-    a && (b && c)
+    a & (b & c)
 }
 
 // What the partner takes in the suit, and whether the leader can cross there.

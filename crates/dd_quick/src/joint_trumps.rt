@@ -124,7 +124,7 @@ fn most_taken(ours: Holding, theirs: Holding, longer: u8) -> u8
     let mut most = 0;
     while let Some(rank) = rest.highest() {
         let over = from(theirs, rank);
-        if longer.saturating_sub(over) <= most {
+        if longer <= most + over {
             return most;
         }
         let lower = theirs.below(rank);
