@@ -25,7 +25,7 @@ pub lane-mask : (x : ℕ) → IsMask (bit_and x 32764)
 lane-mask x = (let h = and_le_r x 32764 in omega arith, and_mod x 32764 2 ∙ and_zero_r (x % 4))
 
 -- bit r of the lane is the bit of the card
-lane-bit : (m : ℕ) (s : Suit) (r : ℕ) → IsRank r → bit_at (bit_and (m / 2 ^ suit_shift s) 32764) r ≡ bit_at m (place_of (card_of s r))
+pub lane-bit : (m : ℕ) (s : Suit) (r : ℕ) → IsRank r → bit_at (bit_and (m / 2 ^ suit_shift s) 32764) r ≡ bit_at m (place_of (card_of s r))
 lane-bit m s r real =
     let b : bit_at (m / 2 ^ suit_shift s) r < 2 = bit_at-lt (m / 2 ^ suit_shift s) r in
     let inside : bit_at (2 ^ 15 - 2 ^ 2) r ≡ 1 = bit_at_mask_inside 2 15 r real.0 (omega arith) in

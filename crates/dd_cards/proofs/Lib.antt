@@ -13,6 +13,7 @@ pub mod Unions
 pub mod Sequences
 pub mod Heads
 pub mod Kept
+pub mod FromTop
 pub mod Others
 pub mod Lowest
 pub mod SideLaws

@@ -142,7 +142,7 @@ above_bit m r q h high =
     rw (one_shl r 16 (omega arith)) (bit_at_and m (2 ^ r - 1) q ∙ ap (min (bit_at m q)) (bit_at_ones_above r q high) ∙ omega arith)
 
 -- ones from bit k on keep the bits from k on
-part_bit : (m k q : ℕ) → k ≤ 15 → m < 2 ^ 15 → (q < 16) ⊎ (16 ≤ q) → k ≤ q → bit_at (bit_and m (65535 * 2 ^ k % 65536)) q ≡ bit_at m q
+pub part_bit : (m k q : ℕ) → k ≤ 15 → m < 2 ^ 15 → (q < 16) ⊎ (16 ≤ q) → k ≤ q → bit_at (bit_and m (65535 * 2 ^ k % 65536)) q ≡ bit_at m q
 part_bit m k q h small (inl low) high =
     rw (ones_shl 16 k (omega arith)) (bit_at_and m (65536 - 2 ^ k) q ∙ ap (min (bit_at m q)) (bit_at_mask_inside k 16 q high low) ∙ (let b = bit_at-lt m q in omega (arith, b)))
 part_bit m k q h small (inr above) high =

@@ -1,10 +1,10 @@
-ghost use Rattle.std.specs.Prelude.{◌≡◌, ◌∷◌, [], ◌^◌, ◌/◌, ◌<◌, ◌↔◌, ◌||◌, ◌&&◌, true, bit_and, bit_or, IsTrue, MatchOption, map, filter, length, nat_lt, if◌then◌else◌};
+ghost use Rattle.std.specs.Prelude.{◌≡◌, ◌∷◌, [], ◌+◌, ◌^◌, ◌/◌, ◌<◌, ◌≤◌, ◌↔◌, ◌⊎◌, ◌||◌, ◌&&◌, true, bit_and, bit_or, count_ones, IsTrue, MatchOption, map, filter, length, nat_le, nat_lt, if◌then◌else◌};
 ghost use mathlib.Core.Bool.{not};
 ghost use Rattle.dd_cards.specs.PlayingCard.{PlayingCard};
 ghost use Rattle.dd_cards.specs.Ranks.{IsRank};
 ghost use Rattle.dd_cards.specs.Cards.{is_of, card_of, has_card, with_card, without, deck};
 ghost use Rattle.dd_cards.specs.HandMasks.{cards_of, in_hand, IsHandMask};
-ghost use Rattle.dd_cards.specs.Sequences.{is_headed, heads};
+ghost use Rattle.dd_cards.specs.Sequences.{is_above, is_headed, heads};
 
 use crate::card::Card;
 use crate::holding::Holding;
@@ -201,6 +201,22 @@ impl Hand {
         }
     }
 
+    /// The card of this suit that has so many cards of the suit from it on up, itself included: as a set, which is empty for
+    /// none and for more than there are.
+    #[inline]
+    pub fn at_depth(self, suit: Suit, depth: u8) -> Hand
+        ensures card { (c : PlayingCard) → has_card result c ≡ true → (has_card self c ≡ true)
+            × (c.suit ≡ suit) × (length (filter (is_above c) self) + 1 ≡ depth) }
+        ensures some { 1 ≤ depth → depth ≤ length (filter (is_of suit) self) → (c : PlayingCard)
+            × (has_card result c ≡ true) }
+    {
+        let shift = suit.shift();
+        let place = place_from_top((self.mask >> shift) & 0x7ffc, depth);
+        Hand {
+            mask: self.mask & (1 << (shift + place)),
+        }
+    }
+
     /// Takes the first card out: the highest of the first suit. None where no card is left.
     pub fn pop_first(&mut self) -> Option<Card>
         ensures { MatchOption result ((self.old ≡ []) × (self.new ≡ [])) (λ card. self.old ≡ card
@@ -239,4 +255,36 @@ fn spread(below: u64, clear: u64, places: u8) -> (u64, u64)
     ensures clear { result.1 ≡ bit_and clear (clear / 2 ^ places) }
 {
     (below | clear & (below >> places), clear & (clear >> places))
+}
+
+// The highest of sixteen places from which on up so many bits are set, and 0 where there are fewer. Half of the places that are
+// left go at each step, by choice and not by a branch, which nobody could foresee.
+#[inline]
+fn place_from_top(bits: u64, count: u8) -> u8
+    ensures bound { result ≤ 15 }
+    ensures low { (count ≤ count_ones (bits / 2 ^ result)) ⊎ (result ≡ 0) }
+    ensures high { (count_ones (bits / 2 ^ (result + 1)) < count) ⊎ (result ≡ 15) }
+{
+    let (rest, place) = shifted_on(bits, 0, 8, count);
+    let (rest, place) = shifted_on(rest, place, 4, count);
+    let (rest, place) = shifted_on(rest, place, 2, count);
+    shifted_on(rest, place, 1, count).1
+}
+
+// The bits shifted by so many places more, and the places shifted in all, where as many as `count` are left then; else as they
+// were.
+#[inline]
+fn shifted_on(bits: u64, place: u8, more: u8, count: u8) -> (u64, u8)
+    requires { place + more ≤ 15 }
+    ensures bits { result.0 ≡ (if nat_le count (count_ones (bits / 2 ^ more)) then bits / 2 ^ more
+        else bits) }
+    ensures place { result.1 ≡ (if nat_le count (count_ones (bits / 2 ^ more)) then place + more else
+        place) }
+{
+    let rest = bits >> more;
+    if count <= rest.count_ones() as u8 {
+        (rest, place + more)
+    } else {
+        (bits, place)
+    }
 }

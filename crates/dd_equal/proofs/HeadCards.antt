@@ -1,17 +1,15 @@
 -- the highest cards of classes as the highest of sequences
-use Rattle.std.proofs.Common.{◌≡◌, ℕ, ◌+◌, ◌<◌, ◌≤◌, Bool, true, false, refl, sym, ap, ◌∙◌, subst, arith, List, [], ◌∷◌, ◌++◌, take, get_or, length, inl, inr, eq-eqb}
-use Rattle.std.specs.Prelude.{filter, nat_lt, ◌&&◌, ◌||◌, ◌==◌}
+use Rattle.std.proofs.Common.{◌≡◌, ℕ, ◌<◌, Bool, true, false, refl, sym, ap, ◌∙◌, arith, List, [], ◌∷◌, inl, inr, eq-eqb}
+use Rattle.std.specs.Prelude.{filter, nat_lt, ◌&&◌, ◌||◌}
 use Rattle.std.specs.List.{list_any}
 use mathlib.Core.Bool.{not}
-use Rattle.std.proofs.lemmas.Bool.{eqb-true, ltb-true, lt-ltb, le-ltb, cases_lt}
-use Rattle.std.proofs.lemmas.List.{take_more, take_all}
-use Rattle.std.proofs.lemmas.List.Folds.{list_any-append}
+use Rattle.std.proofs.lemmas.Bool.{eqb-true, ltb-true}
 use Rattle.dd_cards.specs.PlayingCard.{PlayingCard}
 use Rattle.dd_cards.specs.Ranks.{IsRank}
 use Rattle.dd_cards.specs.Suits.{suit_code}
-use Rattle.dd_cards.specs.Cards.{deck, is_of, same_card, has_card, with_card}
+use Rattle.dd_cards.specs.Cards.{deck, is_of, same_card, has_card}
 use Rattle.dd_cards.specs.Sequences.{is_above, is_headed, heads}
-use Rattle.dd_cards.proofs.CallerLemmas.{and-left, and-right, and-both, or-left, or-right, or-split, both-ways, else-false, filter-same, has_card-deck, has_card-filter, IsSet-deck, IsSet-filter, real-set, same_card-eq, same_card-self}
+use Rattle.dd_cards.proofs.CallerLemmas.{and-left, and-right, and-both, or-left, or-right, or-split, both-ways, filter-same, has_card-deck, has_card-filter, real-set, same_card-eq}
 use Rattle.dd_cards.specs.Hands.{is_anothers}
 use Rattle.dd_cards.specs.Seats.{seat_after}
 use Rattle.dd_play.specs.Board.{Board, IsBoard, cards_at, mover}

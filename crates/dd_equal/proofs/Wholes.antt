@@ -11,7 +11,7 @@ use Rattle.dd_cards.specs.Suits.{suit_code}
 use Rattle.dd_cards.specs.Ranks.{IsRank}
 use Rattle.dd_cards.specs.Cards.{card_of, is_of, same_card, has_card, with_card, deck}
 use Rattle.dd_cards.specs.Sequences.{is_above, is_headed}
-use Rattle.dd_cards.proofs.CallerLemmas.{and-both, and-left, and-right, any-filter, else-false, false-not, has_card-deck, not-true, or-left, same_card-eq}
+use Rattle.dd_cards.proofs.CallerLemmas.{and-both, and-left, and-right, any-filter, else-false, false-not, has_card-deck, not-true, same_card-eq}
 use Rattle.dd_play.specs.Board.{Board, IsBoard}
 use Rattle.dd_play.specs.Play.{legal}
 use Rattle.dd_play.specs.Simulations.{IsLegal}

@@ -1,8 +1,9 @@
 -- four lanes of sixteen bits in one number
-use Rattle.std.proofs.Common.{◌≡◌, ℕ, zero, suc, ◌+◌, ◌-◌, ◌*◌, ◌/◌, ◌%◌, ◌^◌, ◌<◌, ◌≤◌, refl, sym, ap, ◌∙◌, subst, arith, bit_and, min}
+use Rattle.std.proofs.Common.{◌≡◌, ℕ, zero, suc, ◌+◌, ◌-◌, ◌*◌, ◌/◌, ◌%◌, ◌^◌, ◌<◌, ◌≤◌, refl, sym, ap, ◌∙◌, subst, arith, List, [], ◌∷◌, get_or, bit_and, min}
+use lib.Lanes.{zip2}
 use Rattle.std.specs.Int.{bit_at}
 use mathlib.Core.Path.{ap₂}
-use Rattle.std.proofs.lemmas.Nat.{shr-shr, and_shr, and_mod, and_mask, and_le_l, and_le_r}
+use Rattle.std.proofs.lemmas.Nat.{mod_below, shr-shr, and_shr, and_mod, and_mask, and_le_l, and_le_r}
 use Rattle.std.proofs.lemmas.Nat.Bits.{bit_at-lt, bit_at_and, bit_at_ones}
 use Rattle.std.specs.Int.Bits.{and_zero_r}
 use Rattle.std.proofs.Math.Nat.{pow-le-pow_right, add-mul, mul_assoc}
@@ -196,17 +197,25 @@ pub record IsClosing (odd far gone rank now_odd now_far : ℕ) : Type 0 where
   pub odd_is : now_odd ≡ lanes (λ u. half k (lane gone u) (lane odd u))
   pub far_is : now_far ≡ lanes (λ u. half k (lane gone u) (lane far u))
 
--- at the lowest rank there is none
-pub closing-start : (odd far gone : ℕ) → odd < 2 ^ 64 → far < 2 ^ 64 → ((u : Suit) → IsMask (lane odd u)) → ((u : Suit) → IsMask (lane far u)) → IsClosing odd far gone 2 odd far
-closing-start odd far gone fits_odd fits_far masks_odd masks_far = record {
-  k = 0;
+-- at the rank above the lowest there is none, since the lowest has none below it
+pub closing-start : (odd far gone : ℕ) → odd < 2 ^ 64 → far < 2 ^ 64 → ((u : Suit) → IsMask (lane odd u)) → ((u : Suit) → IsMask (lane far u))
+    → ((u : Suit) (r : ℕ) → r < 16 → bit_at (lane gone u) r ≡ 1 → (bit_at (lane odd u) r ≡ 0) × (bit_at (lane far u) r ≡ 0)) → IsClosing odd far gone 3 odd far
+closing-start odd far gone fits_odd fits_far masks_odd masks_far apart = record {
+  k = 1;
   at = refl;
-  odd_is = start odd fits_odd masks_odd;
-  far_is = start far fits_far masks_far;
+  odd_is = start odd fits_odd masks_odd (λ u e. (apart u 2 (omega arith) e).0);
+  far_is = start far fits_far masks_far (λ u e. (apart u 2 (omega arith) e).1);
 }
   where
-    start : (x : ℕ) → x < 2 ^ 64 → ((u : Suit) → IsMask (lane x u)) → x ≡ lanes (λ u. half 0 (lane gone u) (lane x u))
-    start x fits masks = sym (lanes-of x fits) ∙ lanes-same (lane x) (λ u. half 0 (lane gone u) (lane x u)) (λ u. sym (half-start (lane gone u) (lane x u) (masks u).1))
+    first : (g x : ℕ) → IsMask x → (bit_at g 2 ≡ 1 → bit_at x 2 ≡ 0) → x ≡ half 1 g x
+    first g x mask differ =
+        let same : half 0 g x ≡ x = half-start g x mask.1 in
+        let none : half 0 g x % 2 ^ 2 ≡ 0 = ap (λ n. n % 4) same ∙ mask.1 in
+        let plain : x ≡ half 0 g x + bit_at g 2 * 0 = omega (arith, same) in
+        plain ∙ ap (λ n. half 0 g x + bit_at g 2 * n) (sym none) ∙ half-step 0 g x differ
+
+    start : (x : ℕ) → x < 2 ^ 64 → ((u : Suit) → IsMask (lane x u)) → ((u : Suit) → bit_at (lane gone u) 2 ≡ 1 → bit_at (lane x u) 2 ≡ 0) → x ≡ lanes (λ u. half 1 (lane gone u) (lane x u))
+    start x fits masks differ = sym (lanes-of x fits) ∙ lanes-same (lane x) (λ u. half 1 (lane gone u) (lane x u)) (λ u. first (lane gone u) (lane x u) (masks u) (differ u))
 
 -- what the step at a rank may assume, and where it leads
 pub record IsClosed (odd far gone rank now_odd now_far gaps : ℕ) : Type 0 where
@@ -215,7 +224,7 @@ pub record IsClosed (odd far gone rank now_odd now_far gaps : ℕ) : Type 0 wher
   pub far_fits : now_far + bit_and now_far (gaps * 2 ^ rank % 2 ^ 64 - gaps) < 2 ^ 64
   pub next : IsClosing odd far gone (rank + 1) (now_odd + bit_and now_odd (gaps * 2 ^ rank % 2 ^ 64 - gaps)) (now_far + bit_and now_far (gaps * 2 ^ rank % 2 ^ 64 - gaps))
 
-pub closing-step : (odd far gone rank now_odd now_far gaps : ℕ) → ((u : Suit) → IsMask (lane odd u)) → ((u : Suit) → IsMask (lane far u))
+closing-step : (odd far gone rank now_odd now_far gaps : ℕ) → ((u : Suit) → IsMask (lane odd u)) → ((u : Suit) → IsMask (lane far u))
     → ((u : Suit) (r : ℕ) → r < 16 → bit_at (lane gone u) r ≡ 1 → (bit_at (lane odd u) r ≡ 0) × (bit_at (lane far u) r ≡ 0))
     → rank < 15 → gaps ≡ bit_and (gone / 2 ^ rank) 281479271743489 → IsClosing odd far gone rank now_odd now_far → IsClosed odd far gone rank now_odd now_far gaps
 closing-step odd far gone rank now_odd now_far gaps masks_odd masks_far apart low is w =
@@ -245,7 +254,7 @@ closing-step odd far gone rank now_odd now_far gaps masks_odd masks_far apart lo
         omega (arith, e, s)
 
 -- at the end none is open
-pub closing-end : (odd far gone rank now_odd now_far : ℕ) → ((u : Suit) → IsMask (lane odd u)) → ((u : Suit) → IsMask (lane far u)) → rank ≡ 15 → IsClosing odd far gone rank now_odd now_far
+closing-end : (odd far gone rank now_odd now_far : ℕ) → ((u : Suit) → IsMask (lane odd u)) → ((u : Suit) → IsMask (lane far u)) → rank ≡ 15 → IsClosing odd far gone rank now_odd now_far
     → (u : Suit) → places_of (lane now_odd u) (lane now_far u) all_ranks ≡ places_of (lane odd u) (lane far u) (filter (is_clear (lane gone u)) all_ranks)
 unfolding all_ranks
 closing-end odd far gone rank now_odd now_far masks_odd masks_far last w u =
@@ -260,3 +269,53 @@ closing-end odd far gone rank now_odd now_far masks_odd masks_far last w u =
         ∙ lane-of (λ u. half w.k (lane gone u) (lane x u)) (λ u. half-small w.k (lane gone u) (lane x u) (let m = k in omega (arith, m)) (masks u).0) u
         ∙ ap (λ m. half m (lane gone u) (lane x u)) k
         ∙ half-end (lane gone u) (lane x u) (masks u).0
+
+-- both numbers side by side, each with the gaps below a rank closed
+pub record AreClosing (odd far gone rank : ℕ) (both : List ℕ) : Type 0 where
+  pub now_odd : ℕ
+  pub now_far : ℕ
+  pub are : both ≡ now_odd ∷ now_far ∷ []
+  pub closing : IsClosing odd far gone rank now_odd now_far
+
+-- a rank more, as the code adds it to both: modulo 2 ^ 64, of which no sum or difference makes use
+pub both-step : (odd far gone rank gaps : ℕ) (both : List ℕ) → ((u : Suit) → IsMask (lane odd u)) → ((u : Suit) → IsMask (lane far u))
+    → ((u : Suit) (r : ℕ) → r < 16 → bit_at (lane gone u) r ≡ 1 → (bit_at (lane odd u) r ≡ 0) × (bit_at (lane far u) r ≡ 0))
+    → rank < 15 → gaps ≡ bit_and (gone / 2 ^ rank) 281479271743489 → AreClosing odd far gone rank both
+    → AreClosing odd far gone (rank + 1) (zip2 (λ x y. (x + y) % 2 ^ 64) both (zip2 (λ x y. bit_and x y) both ((gaps * 2 ^ rank % 2 ^ 64 + (2 ^ 64 - gaps)) % 2 ^ 64 ∷ (gaps * 2 ^ rank % 2 ^ 64 + (2 ^ 64 - gaps)) % 2 ^ 64 ∷ [])))
+both-step odd far gone rank gaps both masks_odd masks_far apart low is w = record {
+  now_odd = a + bit_and a m;
+  now_far = b + bit_and b m;
+  are = ap (λ l. zip2 (λ x y. (x + y) % 2 ^ 64) l (zip2 (λ x y. bit_and x y) l (wrapped ∷ wrapped ∷ []))) w.are
+      ∙ ap₂ (λ x y. x ∷ y ∷ []) (ap (λ v. (a + bit_and a v) % 2 ^ 64) same ∙ whole (a + bit_and a m) s.odd_fits) (ap (λ v. (b + bit_and b v) % 2 ^ 64) same ∙ whole (b + bit_and b m) s.far_fits);
+  closing = s.next;
+}
+  where
+    a : ℕ
+    a = w.now_odd
+
+    b : ℕ
+    b = w.now_far
+
+    m : ℕ
+    m = gaps * 2 ^ rank % 2 ^ 64 - gaps
+
+    wrapped : ℕ
+    wrapped = (gaps * 2 ^ rank % 2 ^ 64 + (2 ^ 64 - gaps)) % 2 ^ 64
+
+    s : IsClosed odd far gone rank a b gaps
+    s = closing-step odd far gone rank a b gaps masks_odd masks_far apart low is w.closing
+
+    difference : (x y : ℕ) → x < 2 ^ 64 → y ≤ x → (x + (2 ^ 64 - y)) % 2 ^ 64 ≡ x - y
+    difference x y fits less = omega (arith, fits, less)
+
+    same : wrapped ≡ m
+    same = difference (gaps * 2 ^ rank % 2 ^ 64) gaps (mod_below (gaps * 2 ^ rank) (2 ^ 64) (omega arith)) s.less
+
+    whole : (x : ℕ) → x < 2 ^ 64 → x % 2 ^ 64 ≡ x
+    whole x fits = omega (arith, fits)
+
+-- and at the end none is open in either
+pub both-end : (odd far gone rank : ℕ) (both : List ℕ) → ((u : Suit) → IsMask (lane odd u)) → ((u : Suit) → IsMask (lane far u)) → rank ≡ 15 → AreClosing odd far gone rank both
+    → (u : Suit) → places_of (lane (get_or both 0 0) u) (lane (get_or both 1 0) u) all_ranks ≡ places_of (lane odd u) (lane far u) (filter (is_clear (lane gone u)) all_ranks)
+both-end odd far gone rank both masks_odd masks_far last w u =
+    ap (λ l. places_of (lane (get_or l 0 0) u) (lane (get_or l 1 0) u) all_ranks) w.are ∙ closing-end odd far gone rank w.now_odd w.now_far masks_odd masks_far last w.closing u

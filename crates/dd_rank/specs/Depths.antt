@@ -1,5 +1,5 @@
 -- A position covers another at depths: the same lengths, and the same holders of the highest cards of each suit.
-use Rattle.std.specs.Prelude.{◌≡◌, ℕ, ◌<◌, ◌≤◌, ◌&&◌, Bool, true, List, [], ◌++◌, length, filter, nat_lt, nat_le}
+use Rattle.std.specs.Prelude.{◌≡◌, ℕ, ◌<◌, ◌≤◌, ◌&&◌, Bool, true, List, [], ◌++◌, length, filter, nat_lt}
 use Rattle.dd_cards.specs.declared.seat.Seat.{Seat}
 use Rattle.dd_cards.specs.declared.seat.Seat.TheVariants.{North, East, South, West}
 use Rattle.dd_cards.specs.declared.suit.Suit.{Suit}
@@ -61,7 +61,3 @@ depth_in d Spades = d.spades
 depth_in d Hearts = d.hearts
 depth_in d Diamonds = d.diamonds
 depth_in d Clubs = d.clubs
-
--- the ranks from one on
-abbrev pub left_from : ℕ → List ℕ → List ℕ
-left_from n ranks = filter (λ q. nat_le n q) ranks

@@ -1,16 +1,16 @@
 //! How many of the highest cards of each suit matter, and which cards these are.
-ghost use Rattle.std.specs.Prelude.{◌≡◌, ℕ, ◌≤◌, ◌↔◌, ◌&&◌, true, IsTrue, length, filter, nat_le};
+ghost use Rattle.std.specs.Prelude.{◌≡◌, ◌≤◌, ◌↔◌, ◌&&◌, true, IsTrue, length, filter};
 ghost use Rattle.dd_cards.specs.PlayingCard.{PlayingCard};
 ghost use Rattle.dd_cards.specs.declared.suit.Suit.{Suit as SuitOf};
-ghost use Rattle.dd_cards.specs.Ranks.{IsRank, has_rank};
+ghost use Rattle.dd_cards.specs.Ranks.{IsRank};
 ghost use Rattle.dd_cards.specs.Cards.{has_card, is_of};
 ghost use Rattle.dd_cards.specs.Hands.{IsSet};
 ghost use Rattle.dd_play.specs.Board.{IsBoard};
 ghost use Rattle.dd_play.specs.Covers.{count_of};
 ghost use Rattle.dd_play.specs.Reach.{reach};
-ghost use Rattle.dd_rank.specs.Depths.{all_cards, depths_of, depth_in, left_from};
+ghost use Rattle.dd_rank.specs.Depths.{all_cards, depths_of, depth_in};
 
-use dd_cards::{Card, Hand, Holding, Rank, Seat, Suit};
+use dd_cards::{Hand, Rank, Seat, Suit};
 use dd_play::{Position, TrickStart};
 use std::marker::Model;
 
@@ -103,11 +103,12 @@ impl Depths {
         ensures real { (c : PlayingCard) → has_card result c ≡ true → IsRank c.rank }
     {
         let all = cards_left(start.position());
-        let cards = Hand::new();
-        let cards = with_depth(all, cards, Suit::Spades, self.spades);
-        let cards = with_depth(all, cards, Suit::Hearts, self.hearts);
-        let cards = with_depth(all, cards, Suit::Diamonds, self.diamonds);
-        let cards = with_depth(all, cards, Suit::Clubs, self.clubs);
+        let spades = all.at_depth(Suit::Spades, self.spades);
+        let hearts = all.at_depth(Suit::Hearts, self.hearts);
+        let diamonds = all.at_depth(Suit::Diamonds, self.diamonds);
+        let clubs = all.at_depth(Suit::Clubs, self.clubs);
+        let cards = spades.union(hearts).union(diamonds.union(clubs));
+        // The proof reads here that the cards are cards of the pack.
         let _ = cards.holding(Suit::Spades);
         cards
     }
@@ -140,45 +141,4 @@ fn depth_of(all: Hand, cards: Hand, suit: Suit) -> u8
         }
         None => 0,
     }
-}
-
-// The cards, and the one at this depth of the suit.
-#[inline]
-fn with_depth(all: Hand, cards: Hand, suit: Suit, depth: u8) -> Hand
-    requires set { IsSet all }
-    requires depth { depth ≤ count_of suit all }
-    ensures real { (c : PlayingCard) → has_card cards c ≡ true → IsRank c.rank }
-    ensures more { (c : PlayingCard) → has_card cards c ≡ true → has_card result c ≡ true }
-    ensures depth { depth ≤ length (filter (λ e. is_of suit e && reach result e) all) }
-{
-    // The proof reads here that the cards are cards of the pack.
-    let _ = cards.holding(suit);
-    if depth == 0 {
-        return cards;
-    }
-    let left = all.holding(suit);
-    match left.highest() {
-        Some(highest) => {
-            let rank = floor_at(left, highest, depth);
-            cards.with(Card { suit, rank })
-        }
-        None => cards,
-    }
-}
-
-// A rank from which on there are at least so many, going down from the highest.
-fn floor_at(left: Holding, highest: Rank, depth: u8) -> Rank
-    requires some { has_rank left highest ≡ true }
-    requires depth { depth ≤ length left }
-    ensures there { has_rank left result ≡ true }
-    ensures depth { depth ≤ length (left_from result left) }
-{
-    let mut floor = highest;
-    'down: for _ in 1..depth {
-        match left.next_below(floor) {
-            Some(lower) => floor = lower,
-            None => break,
-        }
-    }
-    floor
 }

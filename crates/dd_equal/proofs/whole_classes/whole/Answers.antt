@@ -1,6 +1,5 @@
-use Rattle.std.proofs.Common.{◌≡◌, true, ap, ◌∙◌, sym}
+use Rattle.std.proofs.Common.{ap, ◌∙◌, sym}
 use Rattle.std.specs.Prelude.{filter, ◌||◌}
-use Rattle.dd_cards.specs.PlayingCard.{PlayingCard}
 use Rattle.dd_cards.specs.Cards.{has_card, deck}
 use Rattle.dd_cards.specs.Sequences.{is_headed}
 use Rattle.dd_cards.proofs.CallerLemmas.{or-split}

@@ -11,7 +11,7 @@ use Rattle.dd_play.specs.Covers.{count_of}
 use Rattle.dd_play.specs.Reach.{reach}
 use Rattle.dd_rank.specs.Depths.{all_cards, depths_of, FourDepths, depth_in}
 use Rattle.dd_rank.proofs.Looked.{all-once}
-use Rattle.dd_rank.proofs.Lowest.{same-count, depth-more}
+use Rattle.dd_rank.proofs.Lowest.{IsPicked, same-count, depth-picked}
 use Rattle.dd_rank.proofs.depths.Depths.cards.Goals as goal
 
 -- a depth is at most the number of the suit's cards in the set
@@ -23,38 +23,45 @@ within p q all d u n valid is set same most e =
     omega (arith, k, m, s, e)
 
 -- the depths of all four suits
-by-suits : (p q : Board) (all a b c e : List PlayingCard) (d : FourDepths) → IsBoard q → q ≡ p → IsSet all → ((c : PlayingCard) → has_card all c ≡ has_card (all_cards q) c)
-    → d.spades ≤ length (filter (λ x. is_of Spades x && reach a x) all) → d.hearts ≤ length (filter (λ x. is_of Hearts x && reach b x) all) → d.diamonds ≤ length (filter (λ x. is_of Diamonds x && reach c x) all) → d.clubs ≤ length (filter (λ x. is_of Clubs x && reach e x) all)
-    → ((x : PlayingCard) → has_card a x ≡ true → has_card b x ≡ true) → ((x : PlayingCard) → has_card b x ≡ true → has_card c x ≡ true) → ((x : PlayingCard) → has_card c x ≡ true → has_card e x ≡ true)
-    → (u : Suit) → depth_in d u ≤ depths_of (reach e) p u
-by-suits p q all a b c e d valid is set same sp he di cl ab bc ce u = go u
+by-suits : (p q : Board) (all cards : List PlayingCard) (d : FourDepths) → IsBoard q → q ≡ p → IsSet all → ((c : PlayingCard) → has_card all c ≡ has_card (all_cards q) c)
+    → d.spades ≤ length (filter (λ x. is_of Spades x && reach cards x) all) → d.hearts ≤ length (filter (λ x. is_of Hearts x && reach cards x) all) → d.diamonds ≤ length (filter (λ x. is_of Diamonds x && reach cards x) all) → d.clubs ≤ length (filter (λ x. is_of Clubs x && reach cards x) all)
+    → (u : Suit) → depth_in d u ≤ depths_of (reach cards) p u
+by-suits p q all cards d valid is set same sp he di cl u = go u
   where
-    count : (u : Suit) → length (filter (λ x. is_of u x && reach e x) all) ≡ depths_of (reach e) p u
-    count u = same-count (λ x. is_of u x && reach e x) all (all_cards q) (λ c. times-set all c set) (all-once q valid) same ∙ ap (λ (r : Board). depths_of (reach e) r u) is
+    count : (u : Suit) → length (filter (λ x. is_of u x && reach cards x) all) ≡ depths_of (reach cards) p u
+    count u = same-count (λ x. is_of u x && reach cards x) all (all_cards q) (λ c. times-set all c set) (all-once q valid) same ∙ ap (λ (r : Board). depths_of (reach cards) r u) is
 
-    go : (u : Suit) → depth_in d u ≤ depths_of (reach e) p u
-    go Spades = (let m = depth-more Spades all a e (λ x h. ce x (bc x (ab x h))) in let k = count Spades in omega (arith, sp, m, k))
-    go Hearts = (let m = depth-more Hearts all b e (λ x h. ce x (bc x h)) in let k = count Hearts in omega (arith, he, m, k))
-    go Diamonds = (let m = depth-more Diamonds all c e ce in let k = count Diamonds in omega (arith, di, m, k))
+    go : (u : Suit) → depth_in d u ≤ depths_of (reach cards) p u
+    go Spades = (let k = count Spades in omega (arith, sp, k))
+    go Hearts = (let k = count Hearts in omega (arith, he, k))
+    go Diamonds = (let k = count Diamonds in omega (arith, di, k))
     go Clubs = (let k = count Clubs in omega (arith, cl, k))
-
-pub with_depth-cards-requires-clause-depth : goal.with_depth-cards-requires-clause-depth
-with_depth-cards-requires-clause-depth c = within c.args.start.now c.position.result.now c.cards_left-all.result c.args.self Spades c.self.inside.spades c.cards_left-all.ensures.board c.position.ensures.value c.cards_left-all.ensures.set c.cards_left-all.ensures.cards c.requires (ap (λ (d : FourDepths). d.spades) c.self.view_is)
-
-pub with_depth-cards-requires-2-clause-depth : goal.with_depth-cards-requires-2-clause-depth
-with_depth-cards-requires-2-clause-depth c = within c.args.start.now c.position.result.now c.cards_left-all.result c.args.self Hearts c.self.inside.hearts c.cards_left-all.ensures.board c.position.ensures.value c.cards_left-all.ensures.set c.cards_left-all.ensures.cards c.requires (ap (λ (d : FourDepths). d.hearts) c.self.view_is)
-
-pub with_depth-cards-requires-3-clause-depth : goal.with_depth-cards-requires-3-clause-depth
-with_depth-cards-requires-3-clause-depth c = within c.args.start.now c.position.result.now c.cards_left-all.result c.args.self Diamonds c.self.inside.diamonds c.cards_left-all.ensures.board c.position.ensures.value c.cards_left-all.ensures.set c.cards_left-all.ensures.cards c.requires (ap (λ (d : FourDepths). d.diamonds) c.self.view_is)
-
-pub with_depth-cards-requires-4-clause-depth : goal.with_depth-cards-requires-4-clause-depth
-with_depth-cards-requires-4-clause-depth c = within c.args.start.now c.position.result.now c.cards_left-all.result c.args.self Clubs c.self.inside.clubs c.cards_left-all.ensures.board c.position.ensures.value c.cards_left-all.ensures.set c.cards_left-all.ensures.cards c.requires (ap (λ (d : FourDepths). d.clubs) c.self.view_is)
 
 pub returns-clause-depths : goal.returns-clause-depths
 returns-clause-depths c =
-    by-suits c.args.start.now c.position.result.now c.cards_left-all.result c.with_depth-cards.result c.with_depth-cards-2.result c.with_depth-cards-3.result c.with_depth-cards-4.result c.args.self c.cards_left-all.ensures.board c.position.ensures.value c.cards_left-all.ensures.set c.cards_left-all.ensures.cards
-    (let e = ap (λ (d : FourDepths). d.spades) c.self.view_is in let h = c.with_depth-cards.ensures.depth in omega (arith, e, h))
-    (let e = ap (λ (d : FourDepths). d.hearts) c.self.view_is in let h = c.with_depth-cards-2.ensures.depth in omega (arith, e, h))
-    (let e = ap (λ (d : FourDepths). d.diamonds) c.self.view_is in let h = c.with_depth-cards-3.ensures.depth in omega (arith, e, h))
-    (let e = ap (λ (d : FourDepths). d.clubs) c.self.view_is in let h = c.with_depth-cards-4.ensures.depth in omega (arith, e, h))
-    c.with_depth-cards-2.ensures.more c.with_depth-cards-3.ensures.more c.with_depth-cards-4.ensures.more
+    by-suits p q all cards d c.cards_left-all.ensures.board c.position.ensures.value c.cards_left-all.ensures.set c.cards_left-all.ensures.cards
+    (deep Spades c.self.inside.spades (ap (λ (d : FourDepths). d.spades) c.self.view_is) c.at_depth-spades.result (record { card = c.at_depth-spades.ensures.card; some = c.at_depth-spades.ensures.some }) (λ x h. c.union-cards.ensures.left x (c.union.ensures.left x h)))
+    (deep Hearts c.self.inside.hearts (ap (λ (d : FourDepths). d.hearts) c.self.view_is) c.at_depth-hearts.result (record { card = c.at_depth-hearts.ensures.card; some = c.at_depth-hearts.ensures.some }) (λ x h. c.union-cards.ensures.left x (c.union.ensures.right x h)))
+    (deep Diamonds c.self.inside.diamonds (ap (λ (d : FourDepths). d.diamonds) c.self.view_is) c.at_depth-diamonds.result (record { card = c.at_depth-diamonds.ensures.card; some = c.at_depth-diamonds.ensures.some }) (λ x h. c.union-cards.ensures.right x (c.union-2.ensures.left x h)))
+    (deep Clubs c.self.inside.clubs (ap (λ (d : FourDepths). d.clubs) c.self.view_is) c.at_depth-clubs.result (record { card = c.at_depth-clubs.ensures.card; some = c.at_depth-clubs.ensures.some }) (λ x h. c.union-cards.ensures.right x (c.union-2.ensures.right x h)))
+  where
+    p : Board
+    p = c.args.start.now
+
+    q : Board
+    q = c.position.result.now
+
+    d : FourDepths
+    d = c.args.self
+
+    all : List PlayingCard
+    all = c.cards_left-all.result
+
+    cards : List PlayingCard
+    cards = c.union-cards.result
+
+    deep : (u : Suit) (n : ℕ) → n ≡ depth_in d u → (picked : List PlayingCard) → IsPicked u all picked n → ((x : PlayingCard) → has_card picked x ≡ true → has_card cards x ≡ true) → depth_in d u ≤ length (filter (λ x. is_of u x && reach cards x) all)
+    deep u n e picked is there =
+        let enough = within p q all d u n c.cards_left-all.ensures.board c.position.ensures.value c.cards_left-all.ensures.set c.cards_left-all.ensures.cards c.requires e in
+        let k = depth-picked u all picked cards n is enough there in
+        omega (arith, e, k)
