@@ -27,6 +27,9 @@ const PLACES: usize = 0x1_0000;
 // From so many tricks on the table behind takes part in a search: to ask and tell it of all took longer on the deals tried.
 const WORTH_SHARING: u8 = 10;
 
+// So many deals have numbers of their own: an entry has four for each.
+const MOST_DEALS: u16 = 16_383;
+
 // So many pages at most are looked at in one place.
 const MOST_PAGES: usize = 64;
 
@@ -41,9 +44,12 @@ pub struct Cache<B> {
     pages: Vec<Page>,
     // the number of the next page; the first one has the number PAGES
     next: u32,
-    // the suits of leads that settled starts of a trick lately: by place of their shapes, and of their outlines
-    of_shapes: Vec<Option<Suit>>,
-    of_outlines: Vec<Option<Suit>>,
+    // the suits of leads that settled starts of a trick lately, each with the number of its deal: by place of their shapes, and of
+    // their outlines
+    of_shapes: Vec<u16>,
+    of_outlines: Vec<u16>,
+    // the number of the deal of which the last look was, from 1 on
+    deals: u16,
     // the deal of which the last look was
     deal: Deal,
 }
@@ -63,8 +69,8 @@ impl<B: Drop> Cache<B> {
         let heads = Vec::with_capacity(alloc, PAGES as usize)?;
         let pages = Vec::with_capacity(alloc, PAGES as usize)?;
         let newest = vec![in alloc; 0; PLACES]?;
-        let of_shapes = vec![in alloc; None; PLACES]?;
-        let of_outlines = vec![in alloc; None; PLACES]?;
+        let of_shapes = vec![in alloc; 0; PLACES]?;
+        let of_outlines = vec![in alloc; 0; PLACES]?;
         Ok(Cache {
             behind,
             newest,
@@ -73,6 +79,7 @@ impl<B: Drop> Cache<B> {
             next: PAGES,
             of_shapes,
             of_outlines,
+            deals: 1,
             deal: Deal {
                 strain: 0,
                 north: 0,
@@ -97,9 +104,19 @@ impl<B> Cache<B> {
             let over = self.next % PAGES;
             if over != 0 {
                 self.next = self.next.wrapping_add(PAGES - over);
-                self.of_shapes.fill(None);
-                self.of_outlines.fill(None);
             }
+            self.forget_leads();
+        }
+    }
+
+    // Leads of the deals before are known no more: by a new number, and where there is none left by clearing all places.
+    fn forget_leads(&mut self) {
+        if self.deals < MOST_DEALS {
+            self.deals += 1;
+        } else {
+            self.deals = 1;
+            self.of_shapes.fill(0);
+            self.of_outlines.fill(0);
         }
     }
 
@@ -254,14 +271,15 @@ impl<B: Bounds> Bounds for Cache<B> {
 
     fn settling_leads(&self, strings: &OwnerStrings) -> SettlingLeads {
         SettlingLeads {
-            of_shape: lead_at(&self.of_shapes, strings.shape().mixing_number()),
-            of_outline: lead_at(&self.of_outlines, strings.outline_number()),
+            of_shape: lead_at(&self.of_shapes, self.deals, strings.shape().mixing_number()),
+            of_outline: lead_at(&self.of_outlines, self.deals, strings.outline_number()),
         }
     }
 
     fn note_lead(&mut self, strings: &OwnerStrings, lead: Suit) {
-        put_lead(&mut self.of_shapes, strings.shape().mixing_number(), lead);
-        put_lead(&mut self.of_outlines, strings.outline_number(), lead);
+        let entry = self.deals.wrapping_mul(4) | lead.code() as u16;
+        put_lead(&mut self.of_shapes, strings.shape().mixing_number(), entry);
+        put_lead(&mut self.of_outlines, strings.outline_number(), entry);
     }
 
     fn note_by(
@@ -278,17 +296,22 @@ impl<B: Bounds> Bounds for Cache<B> {
     }
 }
 
-// The lead that stands at the place of this number.
+// The lead of this deal that stands at the place of this number.
 #[inline]
-fn lead_at(leads: &Vec<Option<Suit>>, mixed: u64) -> Option<Suit> {
-    *leads.get(place(mixed))?
+fn lead_at(leads: &Vec<u16>, deal: u16, mixed: u64) -> Option<Suit> {
+    let entry = *leads.get(place(mixed))?;
+    if entry / 4 == deal {
+        Suit::from_code((entry % 4) as u8)
+    } else {
+        None
+    }
 }
 
-// Puts the lead there.
+// Puts the entry there.
 #[inline]
-fn put_lead(leads: &mut Vec<Option<Suit>>, mixed: u64, lead: Suit) {
+fn put_lead(leads: &mut Vec<u16>, mixed: u64, entry: u16) {
     if let Some(old) = leads.get_mut(place(mixed)) {
-        *old = Some(lead);
+        *old = entry;
     }
 }
 
