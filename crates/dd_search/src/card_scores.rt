@@ -8,6 +8,7 @@ ghost use Rattle.dd_search.specs.Budgets.{EndsAs, IsEndless};
 use crate::card_reaches::reaches;
 use crate::guess::guess;
 use crate::meter::{Halt, Meter};
+use crate::order::Order;
 use crate::position_value::north_souths_tricks;
 use crate::table::Bounds;
 use crate::takes::trick_of;
@@ -32,7 +33,7 @@ pub fn score<B: Bounds, M: Meter>(
     ensures answers { IsEndless M.says → IsOk result }
 {
     let (next, winner) = position.play(card);
-    let found = north_souths_tricks(&next, guess(&next), table, meter)?;
+    let found = north_souths_tricks(&next, guess(&next), Order::Best, table, meter)?;
     let tricks = found.tricks + trick_of(winner);
     if position.mover().is_north_south() {
         Ok(tricks)

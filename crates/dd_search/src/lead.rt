@@ -35,10 +35,24 @@ impl Default for Move {
     }
 }
 
+impl Move {
+    // The better of two, and this one where they look as good.
+    #[inline]
+    fn or(self, other: Move) -> Move {
+        if other.weight > self.weight {
+            other
+        } else {
+            self
+        }
+    }
+}
+
 /// The cards that may be led, in no order, each with how good it looks.
 #[derive(Debug, Drop)]
 pub(crate) struct Leading {
     leads: ArrayVec<Move, 13>,
+    // the best of them all, of weight 0 where there are none: most searches need no other
+    first: Move,
 }
 
 #[derive(Clone, Copy, Debug)]
@@ -136,6 +150,7 @@ impl Leading {
     pub(crate) fn new() -> Leading {
         Leading {
             leads: ArrayVec::new(),
+            first: Move::default(),
         }
     }
 
@@ -143,10 +158,11 @@ impl Leading {
     pub(crate) fn weigh(&mut self, position: &Position, settling: SettlingLeads, choices: Hand) {
         let ruffs = Ruffs::of(position);
         let leads = &mut self.leads;
-        weigh_suit(position, &ruffs, settling, Suit::Spades, choices, leads);
-        weigh_suit(position, &ruffs, settling, Suit::Hearts, choices, leads);
-        weigh_suit(position, &ruffs, settling, Suit::Diamonds, choices, leads);
-        weigh_suit(position, &ruffs, settling, Suit::Clubs, choices, leads);
+        let spades = weigh_suit(position, &ruffs, settling, Suit::Spades, choices, leads);
+        let hearts = weigh_suit(position, &ruffs, settling, Suit::Hearts, choices, leads);
+        let diamonds = weigh_suit(position, &ruffs, settling, Suit::Diamonds, choices, leads);
+        let clubs = weigh_suit(position, &ruffs, settling, Suit::Clubs, choices, leads);
+        self.first = spades.or(hearts).or(diamonds.or(clubs));
     }
 
     /// The best lead that was not tried yet.
@@ -155,6 +171,9 @@ impl Leading {
     pub(crate) fn best(&self, untried: Hand) -> Option<Card>
         ensures { IfSome result (λ card. has_card untried card ≡ true) }
     {
+        if untried.has(self.first.card) && self.first.weight > 0 {
+            return Some(self.first.card);
+        }
         let mut best = Move {
             card: Card::default(),
             weight: 0,
@@ -194,7 +213,7 @@ fn settled_before(settling: SettlingLeads, suit: Suit) -> u16
     shape + outline
 }
 
-// Adds the choices of this suit.
+// Adds the choices of this suit, and answers the best of them, of weight 0 where there are none.
 fn weigh_suit(
     position: &Position,
     ruffs: &Ruffs,
@@ -202,12 +221,12 @@ fn weigh_suit(
     suit: Suit,
     choices: Hand,
     leads: &mut ArrayVec<Move, 13>,
-)
+) -> Move
     requires { ruffs.now.tricks ≤ 13 }
 {
     let mut rest = choices.holding(suit);
     let Some(lowest) = rest.pop_lowest() else {
-        return;
+        return Move::default();
     };
     let mut view = suit_view(position, ruffs, suit);
     view.weight = view.weight.saturating_add(settled_before(settling, suit));
@@ -221,7 +240,9 @@ fn weigh_suit(
         add(leads, other);
     }
     let weight = best.weight.saturating_add(BEST_OF_ITS_SUIT);
-    add(leads, Move { weight, ..best });
+    let best = Move { weight, ..best };
+    add(leads, best);
+    best
 }
 
 // There is room for thirteen.

@@ -26,5 +26,5 @@ pub use card_scores::{score, score_up_to};
 pub use laws::value_is_the_greatest_score;
 pub use meter::{Budget, Endless, Halt, Meter, Tick};
 pub use position_value::{value, value_near};
-pub use start::{start_scores, start_value};
+pub use start::{start_scores, start_value, start_value_for_first};
 pub use table::{Bounds, NoTable, SettlingLeads};

@@ -10,8 +10,9 @@ use crate::claim::Claim;
 use crate::guess::guess;
 use crate::known::window;
 use crate::meter::{Halt, Meter, go_on};
+use crate::order::Order;
 use crate::table::Bounds;
-use crate::takes::takes;
+use crate::takes::takes_in_order;
 use dd_cards::Side;
 use dd_play::Position;
 
@@ -48,7 +49,7 @@ pub fn value_near<B: Bounds, M: Meter>(
     ensures ends { EndsAs (M.says meter.new) result }
     ensures answers { IsEndless M.says → IsOk result }
 {
-    let found = north_souths_tricks(position, near, table, meter)?;
+    let found = north_souths_tricks(position, near, Order::Best, table, meter)?;
     if position.mover().is_north_south() {
         Ok(found.tricks)
     } else {
@@ -57,10 +58,11 @@ pub fn value_near<B: Bounds, M: Meter>(
 }
 
 /// The tricks that North and South take from here on, no more and no less, and the cards that both rest on. It ticks first,
-/// and asks first whether they take `near` tricks.
+/// and asks first whether they take `near` tricks. The cards of the position itself are tried in this order.
 pub(crate) fn north_souths_tricks<B: Bounds, M: Meter>(
     position: &Position,
     near: u8,
+    order: Order,
     table: &mut B,
     meter: &mut M,
 ) -> Result<Claim, Halt>
@@ -81,7 +83,7 @@ pub(crate) fn north_souths_tricks<B: Bounds, M: Meter>(
     let mut need = near;
     'window: while ours.tricks + theirs.tricks < left {
         need = next_question(need, ours.tricks, left - theirs.tricks);
-        let answer = takes(position, need, table, meter)?;
+        let answer = takes_in_order(position, order, need, table, meter)?;
         if answer.is_yes() {
             ours = Claim {
                 tricks: need,

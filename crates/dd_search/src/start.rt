@@ -11,6 +11,7 @@ ghost use Rattle.dd_search.specs.Budgets.{EndsAs, IsEndless};
 use crate::card_scores::score_up_to;
 use crate::guess::guess;
 use crate::meter::{Halt, Meter};
+use crate::order::Order;
 use crate::position_value::north_souths_tricks;
 use crate::table::Bounds;
 use arrayvec::ArrayVec;
@@ -36,8 +37,48 @@ pub fn start_value<B: Bounds, M: Meter>(
     // It has an answer where the meter can say nothing else than to go on.
     ensures answers { IsEndless M.says → IsOk result }
 {
+    start_value_in_order(start, Order::Best, table, meter)
+}
+
+/// The same, where the first of the best cards is to be found next, by a question of each card as they are listed: it tries
+/// them in that order itself, and so leaves little to these questions. Errors as at `score`.
+pub fn start_value_for_first<B: Bounds, M: Meter>(
+    start: &TrickStart,
+    table: &mut B,
+    meter: &mut M,
+) -> Result<(u8, Depths), Halt>
+    ensures value { IfOk result (λ found. found.0 ≡ lead start.now) }
+    ensures depths { IfOk result (λ found. (q : Board) → IsBoard q
+        → Covers start.now (depth_in found.1) q → lead q ≡ lead start.now) }
+    ensures within { IfOk result (λ found. (u : SuitOf)
+        → depth_in found.1 u ≤ count_of u (all_cards start.now)) }
+    ensures ticked { OnOk result (M.ticked meter.old meter.new) }
+    ensures ends { EndsAs (M.says meter.new) result }
+    // It has an answer where the meter can say nothing else than to go on.
+    ensures answers { IsEndless M.says → IsOk result }
+{
+    start_value_in_order(start, Order::Listed, table, meter)
+}
+
+// The value of a start, whose own cards are tried in this order.
+fn start_value_in_order<B: Bounds, M: Meter>(
+    start: &TrickStart,
+    order: Order,
+    table: &mut B,
+    meter: &mut M,
+) -> Result<(u8, Depths), Halt>
+    ensures value { IfOk result (λ found. found.0 ≡ lead start.now) }
+    ensures depths { IfOk result (λ found. (q : Board) → IsBoard q
+        → Covers start.now (depth_in found.1) q → lead q ≡ lead start.now) }
+    ensures within { IfOk result (λ found. (u : SuitOf)
+        → depth_in found.1 u ≤ count_of u (all_cards start.now)) }
+    ensures ticked { OnOk result (M.ticked meter.old meter.new) }
+    ensures ends { EndsAs (M.says meter.new) result }
+    // It has an answer where the meter can say nothing else than to go on.
+    ensures answers { IsEndless M.says → IsOk result }
+{
     let position = start.position();
-    let found = north_souths_tricks(position, guess(position), table, meter)?;
+    let found = north_souths_tricks(position, guess(position), order, table, meter)?;
     let depths = Depths::of_cards(start, found.cards);
     if position.first().is_north_south() {
         Ok((found.tricks, depths))

@@ -13,7 +13,7 @@ use crate::answer::Answer;
 use crate::known::{note_answer, quick_answer, second_hands_answer, told_answer};
 use crate::lead::Leading;
 use crate::meter::{Halt, Meter, go_on};
-use crate::order::Outlook;
+use crate::order::{Order, Outlook};
 use crate::rests::{settled_by, still_untried};
 use crate::table::{Bounds, SettlingLeads};
 use dd_cards::{Card, Hand, Seat};
@@ -99,7 +99,7 @@ fn answer_by_play<B: Bounds, M: Meter>(
         Some(card) if others.is_empty() => answer_by_only_choice(
             position, card, need, table, meter,
         ),
-        _ => answer_by_choices(position, strings, choices, need, table, meter),
+        _ => answer_by_choices(position, strings, Order::Best, choices, need, table, meter),
     }
 }
 
@@ -133,6 +133,7 @@ fn answer_by_only_choice<B: Bounds, M: Meter>(
 fn answer_by_choices<B: Bounds, M: Meter>(
     position: &Position,
     strings: Option<&OwnerStrings>,
+    order: Order,
     choices: Hand,
     need: u8,
     table: &mut B,
@@ -148,8 +149,13 @@ fn answer_by_choices<B: Bounds, M: Meter>(
 {
     let north_south = position.mover().is_north_south();
     let mut leading = Leading::new();
-    let settling = settling_leads(strings, table);
-    let outlook = Outlook::of(position, settling, choices, &mut leading);
+    let outlook = match order {
+        Order::Best => {
+            let settling = settling_leads(strings, table);
+            Outlook::of(position, settling, choices, &mut leading)
+        }
+        Order::Listed => Outlook::listed(),
+    };
     let mut untried = choices;
     let mut cards = Hand::new();
     'tries: while let Some(card) = outlook.best(position, choices, untried, &leading) {
@@ -163,6 +169,30 @@ fn answer_by_choices<B: Bounds, M: Meter>(
         untried = still_untried(untried, card, rests);
     }
     Ok(Answer::new(!north_south, whole(position, cards)))
+}
+
+/// The same as `takes`, where the cards of this position are tried in this order. Tried as they are listed, the first card that
+/// settles it is found by the way, and neither a look nor the quick bounds do.
+pub(crate) fn takes_in_order<B: Bounds, M: Meter>(
+    position: &Position,
+    order: Order,
+    need: u8,
+    table: &mut B,
+    meter: &mut M,
+) -> Result<Answer, Halt>
+    requires low { 1 ≤ need }
+    requires high { need ≤ left position.now }
+    ensures rests { IfOk result (λ answer. IsAnswerBy position.now need answer.cards answer.yes) }
+    ensures ticked { OnOk result (M.ticked meter.old meter.new) }
+    ensures ends { EndsAs (M.says meter.new) result }
+{
+    match order {
+        Order::Best => takes(position, need, table, meter),
+        Order::Listed => {
+            go_on(meter)?;
+            answer_by_choices(position, None, order, tops(position), need, table, meter)
+        }
+    }
 }
 
 // The suits of leads that settled starts of a trick like this one; of another position none are known.

@@ -10,7 +10,8 @@ use dd_cards::{Card, Hands, Rank, Seat, Strain, Suit};
 use dd_play::{Position, TrickStart};
 use dd_rank::Depths;
 use dd_search::{
-    Bounds, Budget, Endless, Halt, Meter, NoTable, reaches, score, start_scores, start_value, value,
+    Bounds, Budget, Endless, Halt, Meter, NoTable, reaches, score, start_scores, start_value,
+    start_value_for_first, value,
 };
 
 // Where nothing bounds the search it has a score.
@@ -299,6 +300,12 @@ fn a_value_rests_on_the_cards_that_win(rt: HostRuntime) {
         let start = start_of(hands, first).expect(&rt, what);
         let found = start_value(&start, &mut NoTable, &mut Endless).expect(&rt, what);
         assert_eq!(rt; (found.0, four(found.1)), (want, depths), "{what}");
+        let found = start_value_for_first(&start, &mut NoTable, &mut Endless).expect(&rt, what);
+        assert_eq!(rt;
+            (found.0, four(found.1)),
+            (want, depths),
+            "{what}, as listed"
+        );
     }
 }
 

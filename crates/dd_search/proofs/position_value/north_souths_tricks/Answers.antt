@@ -25,7 +25,7 @@ window-preserved-then-is_yes g c =
     record {
       window = (here, c.window.invariant.window.1);
       within = claims-within p ours c.window.theirs c.tricks_left-left.ensures.board (here, c.window.invariant.window.1);
-      ticked = g.met.M.Meter.later c.args.meter.now c.window.meter c.takes.new.meter c.window.invariant.ticked c.in_ok-answer.ensures.ticked;
+      ticked = g.met.M.Meter.later c.args.meter.now c.window.meter c.takes_in_order.new.meter c.window.invariant.ticked c.in_ok-answer.ensures.ticked;
     }
 
 pub window-preserved : goal.window-preserved
@@ -41,7 +41,7 @@ window-preserved g c =
     record {
       window = (c.window.invariant.window.0, here);
       within = claims-within p c.window.ours theirs c.tricks_left-left.ensures.board (c.window.invariant.window.0, here);
-      ticked = g.met.M.Meter.later c.args.meter.now c.window.meter c.takes.new.meter c.window.invariant.ticked c.in_ok-answer.ensures.ticked;
+      ticked = g.met.M.Meter.later c.args.meter.now c.window.meter c.takes_in_order.new.meter c.window.invariant.ticked c.in_ok-answer.ensures.ticked;
     }
 
 pub returns-clause-theirs : goal.returns-clause-theirs

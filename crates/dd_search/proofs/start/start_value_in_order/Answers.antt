@@ -10,8 +10,8 @@ use Rattle.dd_play.specs.Board.{Board, left}
 use Rattle.dd_rank.specs.Depths.{depth_in, depths_of}
 use Rattle.dd_search.specs.ClaimsBy.{ClaimBy}
 use Rattle.dd_search.proofs.Relied.{IsStartValue, start-north-south, start-east-west, start-covered}
-use Rattle.dd_search.proofs.start.start_value.Goals as goal
-use Rattle.dd_search.proofs.start.start_value.Goals.{After-is_north_south}
+use Rattle.dd_search.proofs.start.start_value_in_order.Goals as goal
+use Rattle.dd_search.proofs.start.start_value_in_order.Goals.{After-is_north_south}
 
 -- what was found
 found : (g : _) (c : After-is_north_south g) → IsStartValue c.args.start.now c.in_ok-found.found.tricks c.in_ok-found.found.cards (depth_in c.of_cards-depths.result)
