@@ -129,7 +129,9 @@ fn answer_by_only_choice<B: Bounds, M: Meter>(
 }
 
 // The answer by these choices, the highest card of each class.
+// One copy in each of its two callers: a call of its own costs 2 in a hundred instructions.
 #[cycle(takes)]
+#[inline(always)]
 fn answer_by_choices<B: Bounds, M: Meter>(
     position: &Position,
     strings: Option<&OwnerStrings>,
