@@ -1,5 +1,5 @@
 -- bounds by first owners and bounds by depths
-use Rattle.std.proofs.Common.{◌≡◌, ℕ, ◌%◌, ◌^◌, ◌≤◌, [], refl, sym, ap, ◌∙◌, subst}
+use Rattle.std.proofs.Common.{◌≡◌, ℕ, ◌%◌, ◌^◌, ◌≤◌, [], sym, ap, ◌∙◌, subst}
 use Rattle.std.specs.Prelude.{◌↔◌}
 use mathlib.Core.Path.{ap₂}
 use Rattle.dd_cards.specs.declared.suit.Suit.{Suit}

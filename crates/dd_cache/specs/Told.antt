@@ -1,5 +1,5 @@
 -- Bounds by first owners: they hold of each position of a shape whose highest cards have these owners.
-use Rattle.std.specs.Prelude.{◌≡◌, ℕ, ◌≤◌, List, [], Contains}
+use Rattle.std.specs.Prelude.{◌≡◌, ◌≤◌, List, [], Contains}
 use Rattle.dd_cards.specs.declared.suit.Suit.{Suit}
 use Rattle.dd_play.specs.Board.{Board, IsBoard}
 use Rattle.dd_play.specs.Covers.{count_of}

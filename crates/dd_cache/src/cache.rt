@@ -16,7 +16,7 @@ use crate::told::Told;
 use dd_cards::{Seat, Suit};
 use dd_play::{Interval, TrickStart};
 use dd_rank::{Depths, FirstOwners, OwnerStrings, Shape, alike_strings, covered_positions};
-use dd_search::{Bounds, SettlingLeads};
+use dd_search::{Bounds, Place, SettlingLeads};
 use std::alloc::{AllocError, Global};
 
 // The pages that there may be, and the places at which they are found: powers of two.
@@ -122,7 +122,7 @@ impl<B> Cache<B> {
 
     // Where the page of this number stands, if it is not yet overwritten.
     #[inline]
-    fn place_of(&self, number: u32) -> Option<usize> {
+    fn ring_place(&self, number: u32) -> Option<usize> {
         if self.next.wrapping_sub(number) <= PAGES {
             Some((number % PAGES) as usize)
         } else {
@@ -130,8 +130,17 @@ impl<B> Cache<B> {
         }
     }
 
+    // Has the page of this number the tag?
+    #[inline]
+    fn is_tagged(&self, number: u32, tag: u32) -> bool {
+        match self.heads.get((number % PAGES) as usize) {
+            Some(head) => head.has(tag),
+            None => false,
+        }
+    }
+
     // What settles the question of the position with these strings.
-    fn own(&self, strings: &OwnerStrings, need: u8) -> Option<(Interval, Depths)>
+    fn own(&self, strings: &OwnerStrings, first: Place, need: u8) -> Option<(Interval, Depths)>
         ensures told { IfSome result (λ told. (t : ToldOf) × IsSound (shape_in strings.now) t
             × AreFirst t.firsts strings.now × (t.firsts.depths ≡ told.1) × (t.interval ≡ told.0)) }
         ensures settles { IfSome result (λ told. (need ≤ told.0.lo) ⊎ (told.0.hi < need)) }
@@ -139,22 +148,22 @@ impl<B> Cache<B> {
         // The proof reads here what it means that shapes are compared.
         alike_strings();
         let shape = strings.shape();
-        let mixed = shape.mixing_number();
         let brief = strings.brief();
-        let mut number = *self.newest.get(place(mixed))?;
+        let mut place = first;
         for _ in 0..MOST_PAGES {
-            let at = self.place_of(number)?;
+            let at = self.ring_place(place.number)?;
             let head = self.heads.get(at)?;
-            let likely = head.likely(tag(mixed), brief);
-            if likely != 0 {
+            if place.is_tagged {
+                let likely = head.likely(brief);
                 let page = self.pages.get(at)?;
-                if page.shape() == shape {
+                if likely != 0 && page.shape() == shape {
                     if let Some(told) = page.settle(likely, strings, need) {
                         return Some((told.interval, told.firsts.depths()));
                     }
                 }
             }
-            number = head.before();
+            place.number = head.before();
+            place.is_tagged = self.is_tagged(place.number, place.tag);
         }
         None
     }
@@ -177,7 +186,7 @@ impl<B> Cache<B> {
         // The proof reads here that it is a start of a trick, and what a position covers.
         let _ = start.position();
         covered_positions();
-        let firsts = FirstOwners::of(*strings, depths);
+        let firsts = FirstOwners::of(strings, depths);
         self.keep(strings.shape(), Told { firsts, interval });
     }
 
@@ -245,10 +254,37 @@ impl<B: Bounds> Bounds for Cache<B> {
         strings: &OwnerStrings,
         need: u8,
     ) -> Option<(Interval, Depths)> {
+        let place = self.place_of(strings.shape());
+        self.settle_at(start, strings, place, need)
+    }
+
+    /// Reads what of the newest page of the shape a look reads first.
+    #[inline]
+    fn place_of(&self, shape: Shape) -> Place {
+        let mixed = shape.mixing_number();
+        let number = match self.newest.get(place(mixed)) {
+            Some(newest) => *newest,
+            None => 0,
+        };
+        let tag = tag(mixed);
+        Place {
+            number,
+            tag,
+            is_tagged: self.is_tagged(number, tag),
+        }
+    }
+
+    fn settle_at(
+        &mut self,
+        start: &TrickStart,
+        strings: &OwnerStrings,
+        place: Place,
+        need: u8,
+    ) -> Option<(Interval, Depths)> {
         // The proof reads here that it is a start of a trick, and what a position covers.
         let _ = start.position();
         covered_positions();
-        match self.own(strings, need) {
+        match self.own(strings, place, need) {
             Some(told) => Some(told),
             None => {
                 if !is_worth_sharing(start) {

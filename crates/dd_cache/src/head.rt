@@ -36,14 +36,16 @@ impl Head {
         self.before
     }
 
-    /// The places of the page's bounds that may hold of a position with this tag and this brief: bit n for place n.
+    /// Is the tag of the page's shape this one?
     #[inline]
-    pub(crate) fn likely(&self, tag: u32, position: Brief) -> u64 {
-        if self.tag == tag {
-            self.briefs.may_be_in(position)
-        } else {
-            0
-        }
+    pub(crate) fn has(&self, tag: u32) -> bool {
+        self.tag == tag
+    }
+
+    /// The places of the page's bounds that may hold of a position of its shape with this brief: bit n for place n.
+    #[inline]
+    pub(crate) fn likely(&self, position: Brief) -> u64 {
+        self.briefs.may_be_in(position)
     }
 
     /// Bounds with this brief stand at this place now.

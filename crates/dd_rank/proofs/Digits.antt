@@ -20,7 +20,7 @@ power-pos zero = omega arith
 power-pos (suc d) = let ih = power-pos d in let e : 4 ^ suc d ≡ 4 * 4 ^ d = omega arith in omega (arith, ih, e)
 
 -- the lowest digit and the others, below a power of four
-below-power : (x n d : ℕ) → x < 4 → (x + 4 * n) % 4 ^ suc d ≡ x + 4 * (n % 4 ^ d)
+pub below-power : (x n d : ℕ) → x < 4 → (x + 4 * n) % 4 ^ suc d ≡ x + 4 * (n % 4 ^ d)
 below-power x n d digit =
     let p : 0 < 4 ^ d = power-pos d in
     let split : n % 4 ^ d + n / 4 ^ d * 4 ^ d ≡ n = mod-add-div' n (4 ^ d) in

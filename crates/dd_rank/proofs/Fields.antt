@@ -2,8 +2,9 @@
 use Rattle.std.proofs.Common.{◌≡◌, ℕ, zero, suc, ◌+◌, ◌-◌, ◌*◌, ◌/◌, ◌%◌, ◌^◌, ◌<◌, refl, sym, ap, ◌∙◌, arith, bit_and}
 use Rattle.std.specs.Prelude.{count_ones}
 use mathlib.Core.Path.{ap₂}
-use Rattle.std.proofs.lemmas.Nat.{and_block, and_mask, mod_low, mod-pow-add, mul-add-lt, ones-le, ones_cat, pow-add, pow_pos, mod_below, shr-shr, shr_high, shr_split}
+use Rattle.std.proofs.lemmas.Nat.{and_block, and_le_r, and_mask, mod_low, mod-pow-add, mul-add-lt, ones-le, ones_cat, pow-add, pow_pos, mod_below, shr-shr, shr_high, shr_split}
 use Rattle.std.proofs.Math.Nat.{add-mul, mod-eq_of_lt, mul_assoc}
+use Rattle.dd_rank.specs.Lanes.{suit_counts}
 
 -- of n fields of w bits each, how many bits are set, in n fields of the same width
 counts : ℕ → ℕ → ℕ → ℕ
@@ -141,3 +142,14 @@ suits-counted m a b c d small ea eb ec ed = ed ∙ eight ∙ sum _ _ _ _ ∙ far
     far =
         ap₂ (λ y z. count_ones (m % 65536) + 65536 * (count_ones (m / 65536 % 65536) + 65536 * (count_ones (y % 65536) + 65536 * (count_ones (z % 65536) + 65536 * 0))))
         (shr-shr m 16 16) (ap (λ n. n / 65536) (shr-shr m 16 16) ∙ shr-shr m 32 16)
+
+-- The same as vectors add: modulo 2 ^ 64, of which no sum makes use.
+pub suits-wrapped : (m : ℕ) → m < 2 ^ 64 → (a b c : ℕ) → a ≡ (bit_and m 6148914691236517205 + bit_and (m / 2) 6148914691236517205) % 2 ^ 64
+    → b ≡ (bit_and a 3689348814741910323 + bit_and (a / 4) 3689348814741910323) % 2 ^ 64 → c ≡ (bit_and b 1085102592571150095 + bit_and (b / 16) 1085102592571150095) % 2 ^ 64
+    → (bit_and c 71777214294589695 + bit_and (c / 256) 71777214294589695) % 2 ^ 64 ≡ suit_counts m
+suits-wrapped m small a b c ea eb ec =
+    plain c 256 71777214294589695 (omega arith)
+    ∙ suits-counted m a b c _ small (ea ∙ plain m 2 6148914691236517205 (omega arith)) (eb ∙ plain a 4 3689348814741910323 (omega arith)) (ec ∙ plain b 16 1085102592571150095 (omega arith)) refl
+  where
+    plain : (n d k : ℕ) → k + k < 2 ^ 64 → (bit_and n k + bit_and (n / d) k) % 2 ^ 64 ≡ bit_and n k + bit_and (n / d) k
+    plain n d k fits = (let x = and_le_r n k in let y = and_le_r (n / d) k in mod-eq_of_lt (omega (arith, x, y, fits)))

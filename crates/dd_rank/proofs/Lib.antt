@@ -19,10 +19,12 @@ pub mod Suited
 pub mod Seated
 pub mod Packed
 pub mod Alikes
-pub mod FirstBits
+pub mod BySuit
 pub mod Gaps
 pub mod FourLanes
 pub mod Spread
 pub mod Fields
 pub mod Masked
+pub mod TopPlaces
+pub mod Highest
 pub mod CallerLemmas

@@ -11,13 +11,13 @@ use Rattle.dd_cards.specs.declared.suit.Suit.TheVariants.{Spades, Hearts, Diamon
 use Rattle.dd_cards.specs.PlayingCard.{PlayingCard}
 use Rattle.dd_cards.specs.Cards.{has_card, suit_cards}
 use Rattle.dd_cards.specs.Hands.{FourHands, dealt, hand_of, IsSet, AreHands}
-use Rattle.dd_cards.specs.Seats.{seat_code, seat_after}
+use Rattle.dd_cards.specs.Seats.{next_seat, seat_code, seat_after}
 use Rattle.dd_cards.proofs.CallerLemmas.{else-false, seat_code-injective, seat_code-lt}
 use Rattle.dd_play.specs.Board.{Board, cards_at}
 use Rattle.dd_play.specs.Covers.{count_of}
 use Rattle.dd_play.proofs.CallerLemmas.{after-code}
 use Rattle.dd_rank.specs.Owners.{holder, owners_in}
-use Rattle.dd_rank.specs.Strings.{places_after, number_of, owners_number, suit_lengths, all_lengths, Strings, strings_of}
+use Rattle.dd_rank.specs.Strings.{places_after, number_of, owners_number, suit_lengths, all_lengths, ShapeOf, shape_of, Strings, strings_of}
 use Rattle.dd_rank.proofs.Holders.{holder-has, only-holder, no-holder}
 use Rattle.dd_rank.proofs.Turned.{places-lt, after-places}
 
@@ -99,11 +99,6 @@ turned-owners hands f valid u = each (suit_cards u)
         go None d (Some x) e t ih = absurd (let k : IsTurned f None (Some x) = rw (d, e) at t in k)
         go (Some s) d None e t ih = absurd (let k : IsTurned f (Some s) None = rw (d, e) at t in k)
 
--- the hand of a seat that comes so many places after the leader
-pub at-seat : (p : Board) (hands : FourHands) (f seat : Seat) (k : ℕ) (cards : List PlayingCard) → hands ≡ p.hands → f ≡ p.first → seat ≡ seat_after f k → cards ≡ hand_of hands seat
-    → cards ≡ cards_at p (seat_after p.first k)
-at-seat p hands f seat k cards eh ef es ec = ec ∙ ap₂ hand_of eh (es ∙ ap (λ x. seat_after x k) ef)
-
 -- the four hands of a position, from the leader on
 pub record AreSeated (p : Board) (l s t f : List PlayingCard) : Type 0 where
   pub hands : AreHands p.hands
@@ -111,6 +106,25 @@ pub record AreSeated (p : Board) (l s t f : List PlayingCard) : Type 0 where
   pub second : s ≡ cards_at p (seat_after p.first 1)
   pub third : t ≡ cards_at p (seat_after p.first 2)
   pub fourth : f ≡ cards_at p (seat_after p.first 3)
+
+-- the hand of a seat that comes so many places after the leader
+at-seat : (p : Board) (hands : FourHands) (f seat : Seat) (k : ℕ) (cards : List PlayingCard) → hands ≡ p.hands → f ≡ p.first → seat ≡ seat_after f k → cards ≡ hand_of hands seat
+    → cards ≡ cards_at p (seat_after p.first k)
+at-seat p hands f seat k cards eh ef es ec = ec ∙ ap₂ hand_of eh (es ∙ ap (λ x. seat_after x k) ef)
+
+-- the hands that code takes one after the other
+pub taken-seated : (p : Board) (hands : FourHands) (first second third fourth : Seat) (l s t f : List PlayingCard) → AreHands hands → hands ≡ p.hands → first ≡ p.first
+    → second ≡ next_seat first → third ≡ next_seat second → fourth ≡ next_seat third
+    → l ≡ hand_of hands first → s ≡ hand_of hands second → t ≡ hand_of hands third → f ≡ hand_of hands fourth → AreSeated p l s t f
+taken-seated p hands first second third fourth l s t f valid eh ef e2 e3 e4 el es et eu =
+    let third_at = e3 ∙ ap next_seat e2 in
+    record {
+      hands = subst AreHands eh valid;
+      leader = at-seat p hands first first 0 l eh ef refl el;
+      second = at-seat p hands first second 1 s eh ef e2 es;
+      third = at-seat p hands first third 2 t eh ef third_at et;
+      fourth = at-seat p hands first fourth 3 f eh ef (e4 ∙ ap next_seat third_at) eu;
+    }
 
 -- .. with the leader as North
 turned : (p : Board) (l s t f : List PlayingCard) → AreSeated p l s t f → dealt l s t f ≡ seated p.hands p.first
@@ -124,33 +138,28 @@ turned p l s t f a = same l _ s _ t _ f _ a.leader a.second a.third a.fourth
 pub seated-four : (p : Board) (l s t f : List PlayingCard) → AreSeated p l s t f → AreHands (dealt l s t f)
 seated-four p l s t f a = subst AreHands (sym (turned p l s t f a)) (seated-hands p.hands p.first a.hands)
 
--- what the code keeps of a suit
-pub record IsSuitString (p : Board) (u : Suit) (lengths owners : ℕ) : Type 0 where
-  pub lengths_are : lengths ≡ suit_lengths p u
-  pub owners_are : owners ≡ owners_number p u
-
--- a suit of the four hands from the leader on
-pub suit-string : (p : Board) (l s t f : List PlayingCard) (u : Suit) (n m : ℕ) → AreSeated p l s t f
-    → n ≡ number_of 16 (count_of u l ∷ count_of u s ∷ count_of u t ∷ count_of u f ∷ []) → m ≡ number_of 4 (map seat_code (owners_in (dealt l s t f) u)) → IsSuitString p u n m
-unfolding owners_number
-suit-string p l s t f u n m a en em = record {
-  lengths_are = en ∙ digits _ _ _ _ _ _ _ _ (ap (count_of u) a.leader) (ap (count_of u) a.second) (ap (count_of u) a.third) (ap (count_of u) a.fourth);
-  owners_are = em ∙ ap (λ hs. number_of 4 (map seat_code (owners_in hs u))) (turned p l s t f a) ∙ ap (number_of 4) (turned-owners p.hands p.first a.hands u);
-}
+-- the lengths of a suit in the four hands from the leader on
+pub suit-lengths : (p : Board) (l s t f : List PlayingCard) (u : Suit) → AreSeated p l s t f → number_of 16 (count_of u l ∷ count_of u s ∷ count_of u t ∷ count_of u f ∷ []) ≡ suit_lengths p u
+suit-lengths p l s t f u a = digits _ _ _ _ _ _ _ _ (ap (count_of u) a.leader) (ap (count_of u) a.second) (ap (count_of u) a.third) (ap (count_of u) a.fourth)
   where
     digits : (a b c d e f g h : ℕ) → a ≡ e → b ≡ f → c ≡ g → d ≡ h → number_of 16 (a ∷ b ∷ c ∷ d ∷ []) ≡ number_of 16 (e ∷ f ∷ g ∷ h ∷ [])
     digits a b c d e f g h la lb lc ld = omega arith
 
--- the four suits make the strings
-pub four-strings : (p : Board) (strain : Strain) (a b c d e f g h : ℕ) → strain ≡ p.strain → IsSuitString p Spades a e → IsSuitString p Hearts b f → IsSuitString p Diamonds c g → IsSuitString p Clubs d h
-    → (let r : Strings = record { strain = strain; lengths = d + c * 65536 + b * 4294967296 + a * 281474976710656; spades = e; hearts = f; diamonds = g; clubs = h } in r) ≡ strings_of p
+-- .. and its owners
+pub suit-owners : (p : Board) (l s t f : List PlayingCard) (u : Suit) → AreSeated p l s t f → number_of 4 (map seat_code (owners_in (dealt l s t f) u)) ≡ owners_number p u
+unfolding owners_number
+suit-owners p l s t f u a = ap (λ hs. number_of 4 (map seat_code (owners_in hs u))) (turned p l s t f a) ∙ ap (number_of 4) (turned-owners p.hands p.first a.hands u)
+
+-- the lengths of four suits make the shape
+pub four-lengths : (p : Board) (strain : Strain) (a b c d : ℕ) → strain ≡ p.strain → a ≡ suit_lengths p Spades → b ≡ suit_lengths p Hearts → c ≡ suit_lengths p Diamonds → d ≡ suit_lengths p Clubs
+    → (let r : ShapeOf = record { strain = strain; lengths = d + c * 65536 + b * 4294967296 + a * 281474976710656 } in r) ≡ shape_of p
 unfolding all_lengths
-four-strings p strain a b c d e f g h es sp he di cl =
-    strings _ _ _ _ _ _ _ _ _ _ _ _ es (lanes a b c d _ _ _ _ sp.lengths_are he.lengths_are di.lengths_are cl.lengths_are) sp.owners_are he.owners_are di.owners_are cl.owners_are
+four-lengths p strain a b c d es ea eb ec ed = ap₂ (λ s n. (let r : ShapeOf = record { strain = s; lengths = n } in r)) es (lanes a b c d _ _ _ _ ea eb ec ed)
   where
     lanes : (a b c d i j k l : ℕ) → a ≡ i → b ≡ j → c ≡ k → d ≡ l → d + c * 65536 + b * 4294967296 + a * 281474976710656 ≡ number_of 65536 (l ∷ k ∷ j ∷ i ∷ [])
     lanes a b c d i j k l ei ej ek el = omega arith
 
-    strings : (s t : Strain) (n m a i b j c k d l : ℕ) → s ≡ t → n ≡ m → a ≡ i → b ≡ j → c ≡ k → d ≡ l
-        → (let r : Strings = record { strain = s; lengths = n; spades = a; hearts = b; diamonds = c; clubs = d } in r) ≡ record { strain = t; lengths = m; spades = i; hearts = j; diamonds = k; clubs = l }
-    strings s t n m a i b j c k d l es en ea eb ec ed = rw (es, en, ea, eb, ec, ed) refl
+-- the shape and the owners of four suits make the strings
+pub shape-strings : (p : Board) (shape : ShapeOf) (e f g h : ℕ) → shape ≡ shape_of p → e ≡ owners_number p Spades → f ≡ owners_number p Hearts → g ≡ owners_number p Diamonds → h ≡ owners_number p Clubs
+    → (let r : Strings = record { strain = shape.strain; lengths = shape.lengths; spades = e; hearts = f; diamonds = g; clubs = h } in r) ≡ strings_of p
+shape-strings p shape e f g h is ee ef eg eh = rw (is, ee, ef, eg, eh) refl

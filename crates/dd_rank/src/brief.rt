@@ -2,13 +2,13 @@
 //! more: no answer rests on it.
 
 use crate::first_owners::FirstOwners;
+use crate::lanes::Places;
 use crate::owner_strings::OwnerStrings;
-use dd_cards::Suit;
 use std::simd::cmp::SimdPartialEq;
 use std::simd::u16x8;
 
 /// The owners of the two highest cards of each suit of a start of a trick.
-// Four bits a suit, the spades' the lowest, and in them the highest card's owner.
+// Four bits a suit, the spades' on top, and in them the two bits of the second and fourth hand the lowest.
 #[derive(Clone, Copy, Debug)]
 pub struct Brief {
     owners: u16,
@@ -20,6 +20,12 @@ pub struct FirstBrief {
     owners: u16,
     mask: u16,
 }
+
+// The two lowest bits of each suit's sixteen.
+const TWO_LOWEST: u64 = 0x0003_0003_0003_0003;
+
+// The product with it has the four lowest bits of each suit's sixteen in its upper sixteen, side by side.
+const GATHER: u64 = 0x0001_0010_0100_1000;
 
 /// How many briefs stand together.
 const TOGETHER: usize = 8;
@@ -44,14 +50,9 @@ impl Default for FirstBriefs {
 impl OwnerStrings {
     /// The owners of the two highest cards of each suit.
     #[inline]
-    pub fn brief(self) -> Brief {
+    pub fn brief(&self) -> Brief {
         Brief {
-            owners: four(
-                self.suit(Suit::Spades),
-                self.suit(Suit::Hearts),
-                self.suit(Suit::Diamonds),
-                self.suit(Suit::Clubs),
-            ),
+            owners: top_two(self.places),
         }
     }
 }
@@ -60,10 +61,13 @@ impl FirstOwners {
     /// The first two owners of each suit, as far as there are so many.
     #[inline]
     pub fn brief(&self) -> FirstBrief {
-        let (spades, hearts, diamonds, clubs) = self.suits();
+        let (mask, places) = self.bits();
         FirstBrief {
-            owners: four(spades.owners, hearts.owners, diamonds.owners, clubs.owners),
-            mask: four(spades.mask, hearts.mask, diamonds.mask, clubs.mask),
+            owners: top_two(places),
+            mask: top_two(Places {
+                odd: mask,
+                far: mask,
+            }),
         }
     }
 }
@@ -85,8 +89,11 @@ impl FirstBriefs {
     }
 }
 
-// The four lowest bits of each.
+// The owners of the two highest cards of each suit.
+// The two bits of a suit are brought together, and then by the product the four suits.
 #[inline]
-fn four(spades: u32, hearts: u32, diamonds: u32, clubs: u32) -> u16 {
-    ((spades & 0xF) | (hearts & 0xF) << 4 | (diamonds & 0xF) << 8 | (clubs & 0xF) << 12) as u16
+fn top_two(places: Places) -> u16 {
+    let odd = places.odd >> 13 & TWO_LOWEST;
+    let far = places.far >> 11 & TWO_LOWEST << 2;
+    ((odd | far).wrapping_mul(GATHER) >> 48) as u16
 }

@@ -1,6 +1,6 @@
 //! A position whose entry answers for each position that it covers.
 
-ghost use Rattle.std.specs.Prelude.{◌≡◌, ◌↔◌, ◌-◌, ◌≤◌, ◌%◌, ◌^◌, IsTrue, [], ◌&&◌, bit_and, nat_eq, nat_le};
+ghost use Rattle.std.specs.Prelude.{◌≡◌, ◌↔◌, ◌-◌, ◌≤◌, ◌%◌, ◌^◌, IsTrue, [], ◌&&◌, bit_and, nat_eq};
 ghost use Rattle.dd_cards.specs.declared.suit.Suit.{Suit as SuitOf};
 ghost use Rattle.dd_play.specs.Board.{Board, IsBoard};
 ghost use Rattle.dd_play.specs.Covers.{count_of};
@@ -39,8 +39,8 @@ impl Model for Cover {
 
 impl Cover {
     /// The positions that this one covers at these depths, none of which is above the number of the suit's cards.
-    pub fn new(start: &TrickStart, depths: Depths, strings: OwnerStrings) -> Cover
-        requires strings { strings ≡ strings_of start.now }
+    pub fn new(start: &TrickStart, depths: Depths, strings: &OwnerStrings) -> Cover
+        requires strings { strings.now ≡ strings_of start.now }
         requires within { (u : SuitOf) → depth_in depths u ≤ count_of u (all_cards start.now) }
         ensures { (result.board ≡ start.now) × (result.depths ≡ depths) }
     {
@@ -148,14 +148,5 @@ impl TopOwners {
         ensures { result ≡ (nat_eq self.mask other.mask && nat_eq self.owners other.owners) }
     {
         self.mask == other.mask && self.owners == other.owners
-    }
-
-    // Are these no more, and the first of the others?
-    #[inline]
-    pub(crate) fn begin(self, others: TopOwners) -> bool
-        ensures { result ≡ (nat_le self.mask others.mask
-            && nat_eq (bit_and others.owners self.mask) self.owners) }
-    {
-        self.mask <= others.mask && others.owners & self.mask == self.owners
     }
 }

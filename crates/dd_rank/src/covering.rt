@@ -24,5 +24,5 @@ pub fn covers(one: &TrickStart, depths: Depths, other: &TrickStart) -> bool
     if strings.shape() != others.shape() {
         return false;
     }
-    Cover::new(one, depths, strings).covers(&others)
+    Cover::new(one, depths, &strings).covers(&others)
 }

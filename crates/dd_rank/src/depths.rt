@@ -1,5 +1,5 @@
 //! How many of the highest cards of each suit matter, and which cards these are.
-ghost use Rattle.std.specs.Prelude.{◌≡◌, ◌≤◌, ◌↔◌, ◌&&◌, true, IsTrue, length, filter};
+ghost use Rattle.std.specs.Prelude.{◌≡◌, ◌≤◌, ◌<◌, ◌^◌, ◌↔◌, ◌&&◌, true, IsTrue, length, filter};
 ghost use Rattle.dd_cards.specs.PlayingCard.{PlayingCard};
 ghost use Rattle.dd_cards.specs.declared.suit.Suit.{Suit as SuitOf};
 ghost use Rattle.dd_cards.specs.Ranks.{IsRank};
@@ -9,6 +9,8 @@ ghost use Rattle.dd_play.specs.Board.{IsBoard};
 ghost use Rattle.dd_play.specs.Covers.{count_of};
 ghost use Rattle.dd_play.specs.Reach.{reach};
 ghost use Rattle.dd_rank.specs.Depths.{all_cards, depths_of, depth_in};
+ghost use Rattle.dd_rank.specs.FirstOwners.{top_places};
+ghost use Rattle.dd_rank.specs.Lanes.{lane};
 
 use dd_cards::{Hand, Rank, Seat, Suit};
 use dd_play::{Position, TrickStart};
@@ -68,6 +70,18 @@ impl Depths {
             & (self.clubs <= most.clubs)
     }
 
+    /// The bits in which so many of each suit's highest cards stand, where no card is missing between them.
+    #[inline]
+    pub(crate) fn tops(self) -> u64
+        requires { (u : SuitOf) → depth_in self u ≤ 13 }
+        ensures { (u : SuitOf) → lane result u ≡ top_places (depth_in self u) }
+    {
+        (suit_tops(self.spades) << 48)
+            + (suit_tops(self.hearts) << 32)
+            + (suit_tops(self.diamonds) << 16)
+            + suit_tops(self.clubs)
+    }
+
     /// The depths of all cards left at a position.
     pub fn full(start: &TrickStart) -> Depths
         ensures { (u : SuitOf) → depth_in result u ≡ count_of u (all_cards start.now) }
@@ -112,6 +126,16 @@ impl Depths {
         let _ = cards.holding(Suit::Spades);
         cards
     }
+}
+
+// The same of one suit.
+#[inline]
+fn suit_tops(depth: u8) -> u64
+    requires { depth ≤ 13 }
+    ensures value { result ≡ top_places depth }
+    ensures bound { result < 2 ^ 15 }
+{
+    0x8000 - (0x8000 >> depth)
 }
 
 // The cards in the four hands, as a set.

@@ -5,51 +5,46 @@ ghost use Rattle.dd_rank.specs.Depths.{depth_in};
 ghost use Rattle.dd_rank.specs.FirstOwners.{AreFirst, IsBeginning, first_in};
 ghost use Rattle.dd_rank.specs.Strings.{string_in};
 
-use crate::cover::TopOwners;
 use crate::depths::Depths;
+use crate::lanes::Places;
 use crate::owner_strings::OwnerStrings;
-use dd_cards::Suit;
 use std::marker::Model;
 
 /// The owners of the highest cards of each suit, so many as its depth says.
 #[derive(Debug, Drop)]
 pub struct FirstOwners {
     depths: Depths,
-    spades: TopOwners,
-    hearts: TopOwners,
-    diamonds: TopOwners,
-    clubs: TopOwners,
+    // the bits in which so many cards stand, and the owners in them
+    mask: u64,
+    places: Places,
 }
 
 impl Model for FirstOwners {
-    ghost use Rattle.std.specs.Prelude.{◌≡◌, ◌-◌, ◌^◌};
-    ghost use Rattle.dd_rank.specs.FirstOwners.{Firsts};
+    ghost use Rattle.dd_cards.specs.declared.suit.Suit.TheVariants.{Spades, Hearts, Diamonds, Clubs};
+    ghost use Rattle.dd_cards.specs.Ranks.{all_ranks};
+    ghost use Rattle.dd_rank.specs.FirstOwners.{AreUnder, Firsts};
+    ghost use Rattle.dd_rank.specs.Lanes.{lane, places_of};
 
     ghost Value = { Firsts };
 
     ghost view = { λ f. record {
       depths = f.depths;
-      spades = f.spades.owners;
-      hearts = f.hearts.owners;
-      diamonds = f.diamonds.owners;
-      clubs = f.clubs.owners;
+      spades = places_of (lane f.places.odd Spades) (lane f.places.far Spades) all_ranks;
+      hearts = places_of (lane f.places.odd Hearts) (lane f.places.far Hearts) all_ranks;
+      diamonds = places_of (lane f.places.odd Diamonds) (lane f.places.far Diamonds) all_ranks;
+      clubs = places_of (lane f.places.odd Clubs) (lane f.places.far Clubs) all_ranks;
     } };
 
-    ghost invariant = { λ f. (f.spades.mask ≡ 4 ^ f.depths.spades - 1) × (f.hearts.mask
-        ≡ 4 ^ f.depths.hearts - 1)
-        × (f.diamonds.mask ≡ 4 ^ f.depths.diamonds - 1) × (f.clubs.mask ≡ 4 ^ f.depths.clubs - 1) };
+    ghost invariant = { λ f. AreUnder f.depths f.mask f.places.odd f.places.far };
 }
 
 impl Default for FirstOwners {
     /// None of any suit.
     fn default() -> FirstOwners {
-        let none = TopOwners { mask: 0, owners: 0 };
         FirstOwners {
             depths: Depths::default(),
-            spades: none,
-            hearts: none,
-            diamonds: none,
-            clubs: none,
+            mask: 0,
+            places: Places { odd: 0, far: 0 },
         }
     }
 }
@@ -57,18 +52,17 @@ impl Default for FirstOwners {
 impl FirstOwners {
     /// The first owners of a position with these strings; no depth is above 13.
     #[inline]
-    pub fn of(strings: OwnerStrings, depths: Depths) -> FirstOwners
+    pub fn of(strings: &OwnerStrings, depths: Depths) -> FirstOwners
         requires { (u : SuitOf) → depth_in depths u ≤ 13 }
         ensures depths { result.depths ≡ depths }
         ensures owners { (u : SuitOf) → first_in result u
-            ≡ string_in strings u % 4 ^ depth_in depths u }
+            ≡ string_in strings.now u % 4 ^ depth_in depths u }
     {
+        let mask = depths.tops();
         FirstOwners {
             depths,
-            spades: TopOwners::of(depths.of(Suit::Spades), strings.suit(Suit::Spades)),
-            hearts: TopOwners::of(depths.of(Suit::Hearts), strings.suit(Suit::Hearts)),
-            diamonds: TopOwners::of(depths.of(Suit::Diamonds), strings.suit(Suit::Diamonds)),
-            clubs: TopOwners::of(depths.of(Suit::Clubs), strings.suit(Suit::Clubs)),
+            mask,
+            places: strings.places.under(mask),
         }
     }
 
@@ -77,11 +71,7 @@ impl FirstOwners {
     pub fn are_in(&self, strings: &OwnerStrings) -> bool
         ensures { IsTrue result ↔ AreFirst self.now strings.now }
     {
-        // All four are asked: a branch would cost more.
-        self.spades.are_in(strings.suit(Suit::Spades))
-            & self.hearts.are_in(strings.suit(Suit::Hearts))
-            & self.diamonds.are_in(strings.suit(Suit::Diamonds))
-            & self.clubs.are_in(strings.suit(Suit::Clubs))
+        strings.places.under(self.mask).are(self.places)
     }
 
     /// Has each position with the other's first owners these too: are these no more, and the beginning of those?
@@ -89,11 +79,7 @@ impl FirstOwners {
     pub fn include(&self, other: &FirstOwners) -> bool
         ensures { IsTrue result ↔ IsBeginning self.now other.now }
     {
-        // All are asked: a branch would cost more.
-        self.spades.begin(other.spades)
-            & self.hearts.begin(other.hearts)
-            & self.diamonds.begin(other.diamonds)
-            & self.clubs.begin(other.clubs)
+        other.places.under(self.mask).are(self.places) && self.depths.are_within(other.depths)
     }
 
     /// How many owners there are of each suit.
@@ -104,9 +90,9 @@ impl FirstOwners {
         self.depths
     }
 
-    // What there is of each suit: spades, hearts, diamonds, clubs.
+    // The bits in which they stand, and the owners in them.
     #[inline]
-    pub(crate) fn suits(&self) -> (TopOwners, TopOwners, TopOwners, TopOwners) {
-        (self.spades, self.hearts, self.diamonds, self.clubs)
+    pub(crate) fn bits(&self) -> (u64, Places) {
+        (self.mask, self.places)
     }
 }

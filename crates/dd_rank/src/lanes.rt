@@ -1,18 +1,20 @@
 //! Four suits at once: sixteen bits for each, the spades' on top, and in them bit r for the rank r.
-ghost use Rattle.std.specs.Prelude.{◌≡◌, ℕ, ◌+◌, ◌*◌, ◌^◌, ◌<◌, filter, [], ◌∷◌, count_ones};
+ghost use Rattle.std.specs.Prelude.{◌≡◌, ℕ, ◌+◌, ◌*◌, ◌/◌, ◌%◌, ◌^◌, ◌<◌, ◌&&◌, filter, map, [], ◌∷◌, bit_and, nat_eq};
 ghost use Rattle.std.specs.Int.{bit_at};
 ghost use Rattle.dd_cards.specs.declared.suit.Suit.{Suit as SuitOf};
 ghost use Rattle.dd_cards.specs.declared.suit.Suit.TheVariants.{Spades, Hearts, Diamonds, Clubs};
 ghost use Rattle.dd_cards.specs.Masks.{IsMask};
 ghost use Rattle.dd_cards.specs.Ranks.{all_ranks};
-ghost use Rattle.dd_rank.specs.Lanes.{is_clear, lane, places_of};
-ghost use Rattle.dd_rank.specs.Strings.{number_of};
+ghost use Rattle.dd_rank.specs.Lanes.{highest_in, is_clear, lane, places_of, suit_counts};
 
 use dd_cards::Suit;
-use std::simd::u64x2;
+use std::simd::{u64x2, u64x4};
 
 // The lowest bit of each suit.
 const LOWEST: u64 = 0x0001_0001_0001_0001;
+
+// The product with it has the two lowest bits of each suit's sixteen in its upper sixteen, side by side.
+const GATHER: u64 = 0x0001_0004_0010_0040;
 
 // Of seven bits the highest as the lowest of two, the next as the lowest of the next two, and so on.
 static SPREAD: [u16; 128] = [
@@ -31,7 +33,7 @@ static SPREAD: [u16; 128] = [
 
 /// The cards of the second and fourth hand, and those of the third and fourth, in each suit moved up so that the cards
 /// left of the suit have no gaps between them.
-#[derive(Clone, Copy)]
+#[derive(Clone, Copy, Debug)]
 pub(crate) struct Places {
     pub(crate) odd: u64,
     pub(crate) far: u64,
@@ -63,6 +65,38 @@ impl Places {
         Places { odd, far }
     }
 
+    /// What of them stands under a mask.
+    #[inline]
+    pub(crate) fn under(self, mask: u64) -> Places
+        ensures odd { result.odd ≡ bit_and self.odd mask }
+        ensures far { result.far ≡ bit_and self.far mask }
+    {
+        Places {
+            odd: self.odd & mask,
+            far: self.far & mask,
+        }
+    }
+
+    /// Are they the same?
+    #[inline]
+    pub(crate) fn are(self, others: Places) -> bool
+        ensures { result ≡ (nat_eq self.odd others.odd && nat_eq self.far others.far) }
+    {
+        // Both are asked: a branch would cost more.
+        (self.odd == others.odd) & (self.far == others.far)
+    }
+
+    /// Who holds the highest card of each suit: two bits each, the spades' on top.
+    #[inline]
+    pub(crate) fn highest(self) -> u64
+        ensures { result ≡ (highest_in self.odd self.far Spades * 4 + highest_in self.odd self.far Hearts) * 16
+            + (highest_in self.odd self.far Diamonds * 4 + highest_in self.odd self.far Clubs) }
+    {
+        let odd = self.odd >> 14 & LOWEST;
+        let far = self.far >> 14 & LOWEST;
+        (odd + 2 * far).wrapping_mul(GATHER) >> 48
+    }
+
     /// The owners of a suit: two bits for each card, the highest card's the lowest.
     #[inline]
     pub(crate) fn owners(self, suit: Suit) -> u32
@@ -73,18 +107,22 @@ impl Places {
     }
 }
 
-/// The number of cards of each suit: sixteen bits each, the spades' on top.
+/// The number of cards of each suit in each of four masks: sixteen bits each, the spades' on top.
 // Bits are added two by two, then these sums, and so on, all of them at once.
 #[inline]
-pub(crate) fn suit_lengths(mask: u64) -> u64
-    ensures { result ≡ number_of (2 ^ 16) (count_ones (lane mask Clubs) ∷ count_ones
-        (lane mask Diamonds) ∷ count_ones (lane mask Hearts)
-        ∷ count_ones (lane mask Spades) ∷ []) }
+pub(crate) fn suit_lengths(one: u64, two: u64, three: u64, four: u64) -> [u64; 4]
+    ensures { result ≡ suit_counts one ∷ suit_counts two ∷ suit_counts three ∷ suit_counts four ∷ [] }
 {
-    let twos = (mask & 0x5555_5555_5555_5555) + (mask >> 1 & 0x5555_5555_5555_5555);
-    let fours = (twos & 0x3333_3333_3333_3333) + (twos >> 2 & 0x3333_3333_3333_3333);
-    let eights = (fours & 0x0F0F_0F0F_0F0F_0F0F) + (fours >> 4 & 0x0F0F_0F0F_0F0F_0F0F);
-    (eights & 0x00FF_00FF_00FF_00FF) + (eights >> 8 & 0x00FF_00FF_00FF_00FF)
+    let masks = u64x4::from_array([one, two, three, four]);
+    let fields = u64x4::splat(0x5555_5555_5555_5555);
+    let twos = (masks & fields) + ((masks >> u64x4::splat(1)) & fields);
+    let fields = u64x4::splat(0x3333_3333_3333_3333);
+    let fours = (twos & fields) + ((twos >> u64x4::splat(2)) & fields);
+    let fields = u64x4::splat(0x0F0F_0F0F_0F0F_0F0F);
+    let eights = (fours & fields) + ((fours >> u64x4::splat(4)) & fields);
+    let fields = u64x4::splat(0x00FF_00FF_00FF_00FF);
+    let suits = (eights & fields) + ((eights >> u64x4::splat(8)) & fields);
+    suits.to_array()
 }
 
 // Of bits 14 to 2 the highest as the lowest of two, the next as the lowest of the next two, and so on.

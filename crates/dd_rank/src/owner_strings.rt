@@ -1,51 +1,38 @@
 //! Who holds the cards that are left, as one number a suit.
 
 ghost use Rattle.std.specs.Prelude.{◌≡◌};
-ghost use Rattle.dd_rank.specs.Strings.{strings_of, shape_in, mixing_number_in, outline_number_in, same_strings, same-strings, same-strings-partial, string_in};
+ghost use Rattle.dd_rank.specs.Strings.{strings_of, shape_of, shape_in, mixing_number_in, outline_number_in, same_strings, same-strings, same-strings-partial, string_in};
 
-use crate::lanes::{Places, suit_lengths};
+use crate::lanes::Places;
 use crate::shape::{Shape, mix};
-use dd_cards::{Strain, Suit};
+use dd_cards::Suit;
 use dd_play::TrickStart;
 use std::marker::Model;
 
 /// The owner strings of a start of a trick: its strain, the lengths of the hands' suits, and for each suit the holders of
 /// the cards that are left from the highest down, with the seats counted from the leader.
-// Two bits a holder, the highest card's the lowest.
-#[derive(Clone, Copy, Debug)]
+// They stand as places: so they are found and compared four suits at once.
+#[derive(Debug, Drop)]
 pub struct OwnerStrings {
-    strain: Strain,
-    lengths: u64,
-    spades: u32,
-    hearts: u32,
-    diamonds: u32,
-    clubs: u32,
+    shape: Shape,
+    pub(crate) places: Places,
 }
 
-// The bits of the leader's lengths.
-const LEADERS: u64 = 0x000F_000F_000F_000F;
-
 impl Model for OwnerStrings {
+    ghost use Rattle.dd_cards.specs.declared.suit.Suit.TheVariants.{Spades, Hearts, Diamonds, Clubs};
+    ghost use Rattle.dd_cards.specs.Ranks.{all_ranks};
+    ghost use Rattle.dd_rank.specs.Lanes.{lane, places_of};
     ghost use Rattle.dd_rank.specs.Strings.{Strings};
 
     ghost Value = { Strings };
 
     ghost view = { λ s. record {
-      strain = s.strain;
-      lengths = s.lengths;
-      spades = s.spades;
-      hearts = s.hearts;
-      diamonds = s.diamonds;
-      clubs = s.clubs;
-    } };
-
-    ghost inverse = { λ v. record {
-      strain = v.strain;
-      lengths = v.lengths;
-      spades = v.spades;
-      hearts = v.hearts;
-      diamonds = v.diamonds;
-      clubs = v.clubs;
+      strain = s.shape.strain;
+      lengths = s.shape.lengths;
+      spades = places_of (lane s.places.odd Spades) (lane s.places.far Spades) all_ranks;
+      hearts = places_of (lane s.places.odd Hearts) (lane s.places.far Hearts) all_ranks;
+      diamonds = places_of (lane s.places.odd Diamonds) (lane s.places.far Diamonds) all_ranks;
+      clubs = places_of (lane s.places.odd Clubs) (lane s.places.far Clubs) all_ranks;
     } };
 }
 
@@ -56,12 +43,11 @@ impl PartialEq for OwnerStrings {
 
     #[inline]
     fn eq(&self, other: &OwnerStrings) -> bool {
-        self.strain.code() == other.strain.code()
-            && self.lengths == other.lengths
-            && self.spades == other.spades
-            && self.hearts == other.hearts
-            && self.diamonds == other.diamonds
-            && self.clubs == other.clubs
+        self.shape == other.shape
+            && self.suit(Suit::Spades) == other.suit(Suit::Spades)
+            && self.suit(Suit::Hearts) == other.suit(Suit::Hearts)
+            && self.suit(Suit::Diamonds) == other.suit(Suit::Diamonds)
+            && self.suit(Suit::Clubs) == other.suit(Suit::Clubs)
     }
 }
 
@@ -71,7 +57,16 @@ impl Eq for OwnerStrings {
 
 impl OwnerStrings {
     /// The owner strings of a start of a trick.
+    #[inline]
     pub fn of(start: &TrickStart) -> OwnerStrings
+        ensures { result ≡ strings_of start.now }
+    {
+        OwnerStrings::with_shape(start, Shape::of(start))
+    }
+
+    /// The same, where its shape is known.
+    pub fn with_shape(start: &TrickStart, shape: Shape) -> OwnerStrings
+        requires { shape ≡ shape_of start.now }
         ensures { result ≡ strings_of start.now }
     {
         let position = start.position();
@@ -87,61 +82,57 @@ impl OwnerStrings {
         let odd = second.union(fourth);
         let far = third.union(fourth);
         let left = leader.union(third).union(odd);
-        let places = Places::close_up(odd.mask(), far.mask(), !left.mask());
         OwnerStrings {
-            strain: position.strain(),
-            lengths: suit_lengths(leader.mask())
-                + suit_lengths(second.mask()) * 0x10
-                + suit_lengths(third.mask()) * 0x100
-                + suit_lengths(fourth.mask()) * 0x1000,
-            spades: places.owners(Suit::Spades),
-            hearts: places.owners(Suit::Hearts),
-            diamonds: places.owners(Suit::Diamonds),
-            clubs: places.owners(Suit::Clubs),
+            shape,
+            places: Places::close_up(odd.mask(), far.mask(), !left.mask()),
         }
     }
 
     /// The shape that the strings tell.
     #[inline]
-    pub fn shape(self) -> Shape
-        ensures { result ≡ shape_in self }
+    pub fn shape(&self) -> Shape
+        ensures { result ≡ shape_in self.now }
     {
-        Shape::new(self.strain, self.lengths)
+        self.shape
     }
 
     /// A number of 64 bits that strings are spread over: equal for equal strings.
     #[inline]
-    pub fn mixing_number(self) -> u64
-        ensures { result ≡ mixing_number_in self }
+    pub fn mixing_number(&self) -> u64
+        ensures { result ≡ mixing_number_in self.now }
     {
-        let majors = self.spades as u64 + self.hearts as u64 * 0x1_0000_0000;
-        let minors = self.diamonds as u64 + self.clubs as u64 * 0x1_0000_0000;
-        mix(mix(self.shape().mixing_number(), majors), minors)
+        let majors = self.suit(Suit::Spades) as u64
+            + self.suit(Suit::Hearts) as u64 * 0x1_0000_0000;
+        let minors = self.suit(Suit::Diamonds) as u64
+            + self.suit(Suit::Clubs) as u64 * 0x1_0000_0000;
+        mix(mix(self.shape.mixing_number(), majors), minors)
     }
 
     /// A number of 64 bits over which outlines are spread: a strain, the leader's number of cards of each suit, and the holder
     /// of the highest card of each suit.
     #[inline]
-    pub fn outline_number(self) -> u64
-        ensures { result ≡ outline_number_in self }
+    pub fn outline_number(&self) -> u64
+        ensures { result ≡ outline_number_in self.now }
     {
-        let lengths = self.lengths & LEADERS;
-        let majors = (self.spades & 3) * 4 + (self.hearts & 3);
-        let minors = (self.diamonds & 3) * 4 + (self.clubs & 3);
-        let holders = (majors * 16 + minors) as u64;
-        mix(mix(self.strain.code() as u64, lengths), holders)
+        self.shape.outline_number(self.places.highest())
+    }
+
+    /// An equal one.
+    #[inline]
+    pub fn copy(&self) -> OwnerStrings
+        ensures { result ≡ self.now }
+    {
+        OwnerStrings {
+            shape: self.shape,
+            places: self.places,
+        }
     }
 
     /// The owners of a suit: two bits for each card that is left, the highest card's the lowest.
     #[inline]
-    pub(crate) fn suit(self, suit: Suit) -> u32
-        ensures { result ≡ string_in self suit }
+    pub(crate) fn suit(&self, suit: Suit) -> u32
+        ensures { result ≡ string_in self.now suit }
     {
-        match suit {
-            Suit::Spades => self.spades,
-            Suit::Hearts => self.hearts,
-            Suit::Diamonds => self.diamonds,
-            Suit::Clubs => self.clubs,
-        }
+        self.places.owners(suit)
     }
 }

@@ -46,10 +46,10 @@ impl RankKey {
 
     /// The owner strings of the class.
     #[inline]
-    pub fn strings(&self) -> OwnerStrings
-        ensures { result ≡ self.now }
+    pub fn strings(&self) -> &OwnerStrings
+        ensures { result.now ≡ self.now }
     {
-        self.strings
+        &self.strings
     }
 
     /// A number of 64 bits that classes are spread over: equal for equal keys.

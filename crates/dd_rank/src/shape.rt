@@ -1,8 +1,11 @@
-ghost use Rattle.std.specs.Prelude.{◌≡◌};
+ghost use Rattle.std.specs.Prelude.{◌≡◌, bit_and};
+ghost use Rattle.dd_cards.specs.Strains.{strain_code};
 ghost use Rattle.std.specs.Hash as fed;
-ghost use Rattle.dd_rank.specs.Strings.{fed-shape, mix, mixing_number_of, same-shape, same-shape-partial, same_shape};
+ghost use Rattle.dd_rank.specs.Strings.{fed-shape, mix, mixing_number_of, same-shape, same-shape-partial, same_shape, shape_of};
 
+use crate::lanes::suit_lengths;
 use dd_cards::Strain;
+use dd_play::TrickStart;
 use std::hash::{Hash, Hasher};
 use std::marker::Model;
 
@@ -10,9 +13,12 @@ use std::marker::Model;
 // Four bits a length: sixteen bits for each suit, the spades on top, and in them the leader's the lowest.
 #[derive(Clone, Copy, Debug)]
 pub struct Shape {
-    strain: Strain,
-    lengths: u64,
+    pub(crate) strain: Strain,
+    pub(crate) lengths: u64,
 }
+
+// The bits of the leader's lengths.
+const LEADERS: u64 = 0x000F_000F_000F_000F;
 
 impl Model for Shape {
     ghost use Rattle.dd_rank.specs.Strings.{ShapeOf};
@@ -25,11 +31,27 @@ impl Model for Shape {
 }
 
 impl Shape {
+    /// The shape of a start of a trick.
     #[inline]
-    pub(crate) fn new(strain: Strain, lengths: u64) -> Shape
-        ensures { result ≡ record { strain = strain; lengths = lengths } }
+    pub fn of(start: &TrickStart) -> Shape
+        ensures { result ≡ shape_of start.now }
     {
-        Shape { strain, lengths }
+        let position = start.position();
+        let hands = position.hands();
+        let first_seat = position.first();
+        let second_seat = first_seat.next();
+        let third_seat = second_seat.next();
+        let fourth_seat = third_seat.next();
+        let leader = hands.hand(first_seat);
+        let second = hands.hand(second_seat);
+        let third = hands.hand(third_seat);
+        let fourth = hands.hand(fourth_seat);
+        let lengths = suit_lengths(leader.mask(), second.mask(), third.mask(), fourth.mask());
+        let [leaders, seconds, thirds, fourths] = lengths;
+        Shape {
+            strain: position.strain(),
+            lengths: leaders + seconds * 0x10 + thirds * 0x100 + fourths * 0x1000,
+        }
     }
 
     /// A number of 64 bits that shapes are spread over: equal for equal shapes.
@@ -38,6 +60,16 @@ impl Shape {
         ensures { result ≡ mixing_number_of self }
     {
         mix(mix(0, self.strain.code() as u64), self.lengths)
+    }
+}
+
+impl Shape {
+    /// A number of 64 bits of the strain, the leader's number of cards of each suit and a word.
+    #[inline]
+    pub(crate) fn outline_number(self, word: u64) -> u64
+        ensures { result ≡ mix (mix (strain_code self.strain) (bit_and self.lengths 0x000F000F000F000F)) word }
+    {
+        mix(mix(self.strain.code() as u64, self.lengths & LEADERS), word)
     }
 }
 

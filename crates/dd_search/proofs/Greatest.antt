@@ -11,11 +11,11 @@ use Rattle.dd_cards.specs.declared.side.Side.{Side}
 use Rattle.dd_cards.specs.declared.side.Side.TheVariants.{NorthSouth, EastWest}
 use Rattle.dd_play.specs.Board.{Board, IsBoard, mover, left}
 use Rattle.dd_play.specs.Play.{after}
-use Rattle.dd_play.specs.Value.{ns, ns_with, score, lead}
+use Rattle.dd_play.specs.Value.{ns_with, score, lead}
 use Rattle.dd_play.specs.Won.{won}
 use Rattle.dd_play.specs.Simulations.{IsLegal}
 use Rattle.dd_play.specs.Claims.{Takes}
-use Rattle.dd_play.proofs.CallerLemmas.{all, can, exactly, has-first, in-rest, lead-won, legal-leads, one-point, won-east-west, won-north-south, won_with}
+use Rattle.dd_play.proofs.CallerLemmas.{all, can, exactly, has-first, in-rest, lead-won, legal-leads, one-point, won-east-west, won_with}
 use Rattle.dd_equal.specs.EqualCards.{tops}
 use Rattle.dd_equal.proofs.CallerLemmas.{every-class}
 use Rattle.dd_search.proofs.Orders.{top-legal}

@@ -1,13 +1,12 @@
 -- the cards that are still to be tried
-use Rattle.std.proofs.Common.{◌≡◌, ℕ, ◌+◌, ◌<◌, ◌≤◌, Bool, true, false, cond, refl, sym, ap, ◌∙◌, subst, arith, List, [], ◌∷◌, Option, None, Some, length, inl, inr, ◌⊎◌}
-use Rattle.std.specs.Prelude.{filter, map, IfSome, MatchOption, ◌&&◌, nat_lt, slice_get}
+use Rattle.std.proofs.Common.{◌≡◌, ℕ, ◌+◌, ◌<◌, Bool, true, false, cond, refl, sym, ap, ◌∙◌, arith, List, [], ◌∷◌, Option, None, Some, length, inl, inr, ◌⊎◌}
+use Rattle.std.specs.Prelude.{filter, map, IfSome, ◌&&◌, nat_lt, slice_get}
 use Rattle.std.proofs.lemmas.Bool.{eqb-true, ltb-true}
 use mathlib.Core.Bool.{not}
 use Rattle.dd_cards.specs.declared.suit.Suit.{Suit}
 use Rattle.dd_cards.specs.PlayingCard.{PlayingCard}
 use Rattle.dd_cards.specs.Ranks.{has_rank}
-use Rattle.dd_cards.specs.Suits.{suit_code}
-use Rattle.dd_cards.specs.Cards.{same_card, has_card, card_of, is_of, without}
+use Rattle.dd_cards.specs.Cards.{same_card, has_card, card_of, is_of}
 use Rattle.dd_cards.proofs.CallerLemmas.{any-filter, and-left, and-right, has_card-filter, has_rank-holding, length-filter-le, same_card-eq, same_card-self, suit_code-injective}
 use Rattle.dd_play.specs.Board.{Board}
 use Rattle.dd_play.specs.Play.{legal}

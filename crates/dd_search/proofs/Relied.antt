@@ -1,10 +1,9 @@
 -- answers that rest on cards, by the rules of such claims alone
-use Rattle.std.proofs.Common.{◌≡◌, ℕ, ◌+◌, ◌-◌, ◌<◌, ◌≤◌, Bool, true, false, refl, sym, ap, ◌∙◌, subst, arith, List, [], length, Option, Some, None, get_or, below_more, inl, inr, ◌⊎◌}
+use Rattle.std.proofs.Common.{◌≡◌, ℕ, ◌+◌, ◌-◌, ◌<◌, ◌≤◌, Bool, true, false, refl, sym, ap, ◌∙◌, subst, arith, List, [], inl, inr, ◌⊎◌}
 use Rattle.std.specs.Bool.{OnTrue, OnFalse}
-use Rattle.std.specs.Prelude.{filter, map, min, slice_get, nat_le, MatchOption, if◌then◌else◌}
+use Rattle.std.specs.Prelude.{filter, map, min, nat_le, if◌then◌else◌}
 use Rattle.std.proofs.lemmas.Bool.{leb-true}
 use Rattle.std.proofs.lemmas.Bool.Decides.{nat_tests}
-use Rattle.std.proofs.lemmas.List.{get_or_default}
 use mathlib.Core.Bool.{not, beq}
 use Rattle.dd_cards.specs.declared.seat.Seat.{Seat}
 use Rattle.dd_cards.specs.declared.suit.Suit.{Suit}
@@ -23,13 +22,13 @@ use Rattle.dd_play.specs.Won.{point}
 use Rattle.dd_play.specs.Simulations.{IsLegal}
 use Rattle.dd_play.specs.Claims.{Takes}
 use Rattle.dd_play.specs.Covers.{IsSettled, count_of}
-use Rattle.dd_play.specs.Reach.{reach, TakesBy, IsWorth}
+use Rattle.dd_play.specs.Reach.{reach, TakesBy}
 use Rattle.dd_play.proofs.CallerLemmas.{both, by-fewer, by-here, by-more, by-nothing, by-one, legal-leads, one-point, reach-of, reach-some, reach-upward, reach-within, worth-after, worth-fewer, worth-low, worth-more}
 use Rattle.dd_equal.specs.EqualCards.{tops, IsWhole}
-use Rattle.dd_equal.proofs.CallerLemmas.{each-class-whole, with-new, with-which}
-use Rattle.dd_rank.proofs.CallerLemmas.{first-there, itself, noted}
+use Rattle.dd_equal.proofs.CallerLemmas.{each-class-whole, with-new}
+use Rattle.dd_rank.proofs.CallerLemmas.{itself, noted}
 use Rattle.dd_rank.specs.Depths.{all_cards, Covers, depths_of}
-use Rattle.dd_search.specs.ClaimsBy.{IsAnswer, IsAnswerBy, IsAnswerAfter, AnswerBy, ClaimBy, IsClaimBy, IsWindow, claimant, claimed}
+use Rattle.dd_search.specs.ClaimsBy.{IsAnswer, IsAnswerBy, IsAnswerAfter, ClaimBy, IsClaimBy, IsWindow, claimant, claimed}
 use Rattle.dd_search.proofs.Orders.{IsTold}
 
 -- these cards are among those

@@ -14,7 +14,7 @@ ghost use Rattle.dd_search.specs.ClaimsBy.{IsAnswerBy, IsWindow, north_souths};
 
 use crate::answer::Answer;
 use crate::claim::Claim;
-use crate::table::Bounds;
+use crate::table::{Bounds, Place};
 use dd_play::{Interval, Position, TrickStart};
 use dd_quick::{against_leader, bounds as quick_bounds, for_leader, for_second_hand};
 use dd_rank::{Depths, OwnerStrings};
@@ -40,11 +40,12 @@ pub(crate) fn quick_answer(start: &TrickStart, need: u8) -> Option<Answer>
     Some(Answer::new(!leads, cards))
 }
 
-/// The same by a look at a table, to which the start's strings are handed.
+/// The same by a look at a table, to which the start's strings are handed, and the place that it told of their shape.
 #[inline]
 pub(crate) fn told_answer<B: Bounds>(
     start: &TrickStart,
     strings: &OwnerStrings,
+    place: Place,
     need: u8,
     table: &mut B,
 ) -> Option<Answer>
@@ -58,7 +59,7 @@ pub(crate) fn told_answer<B: Bounds>(
     let leads = position.first().is_north_south();
     let left = position.tricks_left();
     let leaders = if leads { need } else { left + 1 - need };
-    match table.settle(start, strings, leaders) {
+    match table.settle_at(start, strings, place, leaders) {
         Some(told) => Some(Answer::new((leaders <= told.0.lo) == leads, told.1.cards(start))),
         None => None,
     }

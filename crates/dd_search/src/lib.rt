@@ -27,4 +27,4 @@ pub use laws::value_is_the_greatest_score;
 pub use meter::{Budget, Endless, Halt, Meter, Tick};
 pub use position_value::{value, value_near};
 pub use start::{start_scores, start_value, start_value_for_first};
-pub use table::{Bounds, NoTable, SettlingLeads};
+pub use table::{Bounds, NoTable, Place, SettlingLeads};

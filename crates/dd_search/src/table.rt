@@ -10,7 +10,7 @@ ghost use Rattle.dd_rank.specs.Strings.{strings_of};
 
 use dd_cards::Suit;
 use dd_play::{Interval, TrickStart};
-use dd_rank::{Depths, OwnerStrings};
+use dd_rank::{Depths, OwnerStrings, Shape};
 
 /// Known bounds of the values of positions. A value is the number of tricks, 0 to 13, of the leader's side. Bounds come
 /// with depths, and hold of each position that the one asked covers at these.
@@ -48,6 +48,29 @@ pub trait Bounds {
         }
     }
 
+    /// Where bounds of starts of this shape may stand: what a table can read ahead of the strings. It serves the time alone: no
+    /// answer rests on it, so any place is right.
+    fn place_of(&self, _shape: Shape) -> Place {
+        Place::default()
+    }
+
+    /// The same as `settle`, where what `place_of` told of the start's shape is handed in.
+    fn settle_at(
+        &mut self,
+        start: &TrickStart,
+        strings: &OwnerStrings,
+        _place: Place,
+        need: u8,
+    ) -> Option<(Interval, Depths)>
+        requires { strings.now ≡ strings_of start.now }
+        ensures told { IfSome result (λ told. tells self.old start.now told.1 told.0) }
+        ensures within { IfSome result (λ told. (u : SuitOf)
+            → depth_in told.1 u ≤ count_of u (all_cards start.now)) }
+        ensures settles { IfSome result (λ told. (need ≤ told.0.lo) ⊎ (told.0.hi < need)) }
+    {
+        self.settle(start, strings, need)
+    }
+
     /// Hands over bounds, with their depths, which may be kept or not.
     fn note(&mut self, start: &TrickStart, depths: Depths, interval: Interval)
         requires within { (u : SuitOf) → depth_in depths u ≤ count_of u (all_cards start.now) }
@@ -83,6 +106,17 @@ pub trait Bounds {
     ghost holds: { (table : Self) (p : Board) (depths : FourDepths) (interval : Interval) (q :
         Board) → tells table p depths interval
         → IsBoard q → Covers p (depth_in depths) q → Holds interval (lead q) };
+}
+
+/// Where bounds of a shape may stand in a table, in the table's own terms.
+#[derive(Clone, Copy, Debug, Default)]
+pub struct Place {
+    /// the number of what stands there
+    pub number: u32,
+    /// a number that tells most shapes of one place apart
+    pub tag: u32,
+    /// whether what stands there has the tag
+    pub is_tagged: bool,
 }
 
 /// The suits of leads that settled starts of a trick, where some are known.

@@ -19,7 +19,7 @@ use crate::table::{Bounds, SettlingLeads};
 use dd_cards::{Card, Hand, Seat};
 use dd_equal::{tops, whole};
 use dd_play::{Position, TrickStart};
-use dd_rank::OwnerStrings;
+use dd_rank::{OwnerStrings, Shape};
 
 /// Do North and South take at least `need` of the tricks left? It ticks first; at a start of a trick a look or the quick
 /// bounds may settle it, after the lead second hand's winners; else play does, and what that taught at a start is noted.
@@ -64,8 +64,11 @@ fn answer_at_start<B: Bounds, M: Meter>(
     ensures ticked { (m : M) → M.ticked m meter.old → OnOk result (M.ticked m meter.new) }
     ensures ends { EndsAs (M.says meter.new) result }
 {
-    let strings = OwnerStrings::of(start);
-    if let Some(answer) = told_answer(start, &strings, need, table) {
+    // The table reads while the strings are found.
+    let shape = Shape::of(start);
+    let place = table.place_of(shape);
+    let strings = OwnerStrings::with_shape(start, shape);
+    if let Some(answer) = told_answer(start, &strings, place, need, table) {
         return Ok(answer);
     }
     if let Some(answer) = quick_answer(start, need) {

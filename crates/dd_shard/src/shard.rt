@@ -127,7 +127,7 @@ impl Shard {
     {
         // The proof reads here that the position is a legal one.
         let _ = position.position();
-        let cover = Cover::new(position, depths, *strings);
+        let cover = Cover::new(position, depths, strings);
         let slot = self.cache.get_or_insert_mut(strings.shape(), Slot::new)?;
         slot.note(cover, interval);
         Ok(())

@@ -44,7 +44,7 @@ impl FrontEntry {
         alike_positions();
         FrontEntry {
             start: start.copy(),
-            strings: *strings,
+            strings: strings.copy(),
             value,
         }
     }

@@ -2,8 +2,8 @@ use dd_cache::Cache;
 use dd_cards::{Card, Hands, Rank, Seat, Strain, Suit};
 use dd_pbn::read_deal;
 use dd_play::{Interval, Position, TrickStart};
-use dd_rank::OwnerStrings;
-use dd_search::{Bounds, Endless, NoTable, start_value};
+use dd_rank::{OwnerStrings, Shape};
+use dd_search::{Bounds, Endless, NoTable, Place, start_value};
 use std::alloc::AllocError;
 
 // North and the others clockwise with two spades each, at notrump with this leader.
@@ -64,6 +64,28 @@ fn what_was_noted_settles_the_positions_that_it_covers(rt: HostRuntime) -> Resul
         settled(&mut cache, &behind, 2),
     ];
     assert_eq!(rt; found, [Some((2, 2)), Some((2, 2)), None]);
+    Ok(())
+}
+
+#[test]
+fn what_was_read_ahead_settles_as_a_look_does(rt: HostRuntime) -> Result<(), AllocError> {
+    let mut cache = Cache::new(rt.alloc(), NoTable)?;
+    let caught = start([3, 2, 13, 4, 14, 12, 6, 5], Seat::North).expect(&rt, "two cards a hand");
+    assert_eq!(rt; noted(&caught, &mut cache), Some(2));
+    let strings = OwnerStrings::of(&caught);
+    let shape = Shape::of(&caught);
+    let place = cache.place_of(shape);
+    let found = [
+        cache.settle_at(&caught, &strings, place, 2).is_some(),
+        // Any place is right: where nothing stands nothing is told.
+        cache
+            .settle_at(&caught, &strings, Place::default(), 2)
+            .is_some(),
+        NoTable
+            .settle_at(&caught, &strings, NoTable.place_of(shape), 2)
+            .is_some(),
+    ];
+    assert_eq!(rt; found, [true, false, false]);
     Ok(())
 }
 

@@ -1,7 +1,7 @@
 use dd_cards::{Card, Hand, Hands, Rank, Seat, Strain, Suit};
 use dd_play::{Position, TrickStart};
 use dd_rank::{
-    Cover, Depths, FirstOwners, OwnerStrings, RankKey, are_alike, covered_positions, covers,
+    Cover, Depths, FirstOwners, OwnerStrings, RankKey, Shape, are_alike, covered_positions, covers,
 };
 use std::hash::{DefaultHasher, Hash, Hasher};
 
@@ -120,8 +120,8 @@ fn a_position_covers_those_with_the_same_owners_of_the_highest_cards(rt: HostRun
 fn covers_are_the_same_where_depths_and_owners_are(rt: HostRuntime) {
     let one = start(&SPADES, Strain::Notrump, Seat::North).expect(&rt, "two cards a hand");
     let strings = OwnerStrings::of(&one);
-    let none = Cover::new(&one, Depths::of_cards(&one, Hand::new()), strings);
-    let all = Cover::new(&one, Depths::full(&one), strings);
+    let none = Cover::new(&one, Depths::of_cards(&one, Hand::new()), &strings);
+    let all = Cover::new(&one, Depths::full(&one), &strings);
     let found = [
         none.covers(&strings),
         all.covers(&strings),
@@ -154,9 +154,10 @@ fn equal_shapes_have_one_mixing_number(rt: HostRuntime) {
         shape.mixing_number() == same.mixing_number(),
         // Hearts are trumps.
         shape == OwnerStrings::of(&hearts).shape(),
-        OwnerStrings::of(&one) == RankKey::of(&one).strings(),
+        OwnerStrings::of(&one) == *RankKey::of(&one).strings(),
+        OwnerStrings::with_shape(&two, Shape::of(&two)) == OwnerStrings::of(&two).copy(),
     ];
-    assert_eq!(rt; found, [true, true, false, true]);
+    assert_eq!(rt; found, [true, true, false, true, true]);
 }
 
 #[test]
@@ -166,7 +167,7 @@ fn first_owners_are_those_of_the_highest_cards(rt: HostRuntime) {
     let _ = one.position();
     covered_positions();
     let strings = OwnerStrings::of(&one);
-    let all = FirstOwners::of(strings, Depths::full(&one));
+    let all = FirstOwners::of(&strings, Depths::full(&one));
     let none = FirstOwners::default();
     let depths = (
         all.depths().of(Suit::Spades),

@@ -1,7 +1,7 @@
 use Rattle.dd_cards.specs.declared.suit.Suit.TheVariants.{Spades, Hearts, Diamonds, Clubs}
 use Rattle.dd_rank.proofs.Agreed.{covers-agree, agree-covers}
 use Rattle.dd_rank.proofs.Alikes.{alike-full}
-use Rattle.dd_rank.proofs.FirstBits.{by-suit}
+use Rattle.dd_rank.proofs.BySuit.{by-suit}
 use Rattle.dd_rank.proofs.Lengths.{counts-same}
 use Rattle.dd_rank.proofs.Standing.{count-small}
 use Rattle.dd_rank.specs.Strings.{ShapeOf}

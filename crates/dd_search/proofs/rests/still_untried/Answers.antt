@@ -1,4 +1,4 @@
-use Rattle.std.proofs.Common.{◌≡◌, ◌≤◌, ◌<◌, ◌∙◌, ℕ, Bool, true, false, refl, sym, ap, arith, inl, inr, List, eq-eqb}
+use Rattle.std.proofs.Common.{◌≡◌, ◌<◌, ◌∙◌, Bool, true, false, sym, ap, arith, inl, inr, List, eq-eqb}
 use Rattle.std.specs.Prelude.{filter, nat_lt, ◌&&◌}
 use mathlib.Core.Bool.{not}
 use Rattle.std.proofs.lemmas.Bool.{lt-ltb}

@@ -1,4 +1,4 @@
-use Rattle.std.proofs.Common.{◌≡◌, ◌≤◌, ◌-◌, true, false, ap, ◌∙◌, subst, List}
+use Rattle.std.proofs.Common.{◌≡◌, ◌≤◌, ◌-◌, true, ap, ◌∙◌, subst, List}
 use Rattle.dd_cards.specs.declared.suit.Suit.{Suit}
 use Rattle.dd_cards.specs.PlayingCard.{PlayingCard}
 use Rattle.dd_cards.specs.Ranks.{IsRank}

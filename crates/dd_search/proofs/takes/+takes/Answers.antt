@@ -1,5 +1,4 @@
-use Rattle.std.proofs.Common.{◌≡◌, ◌+◌, ◌∙◌, ap, sym, subst, arith, List, Some, [], ◌∷◌, refl, true, Bool, inl, inr}
-use Rattle.std.specs.Prelude.{MatchOption}
+use Rattle.std.proofs.Common.{◌≡◌, ◌+◌, ◌∙◌, ap, sym, subst, arith, List, [], ◌∷◌, refl, true, Bool, inl, inr}
 use mathlib.Core.Bool.{not, beq}
 use Rattle.dd_cards.specs.PlayingCard.{PlayingCard}
 use Rattle.dd_cards.specs.Cards.{has_card}
@@ -8,7 +7,7 @@ use Rattle.dd_equal.specs.EqualCards.{tops}
 use Rattle.dd_play.specs.Board.{Board, cards_left}
 use Rattle.dd_play.specs.Simulations.{IsLegal}
 use Rattle.dd_play.proofs.CallerLemmas.{cards_left-after}
-use Rattle.dd_search.specs.ClaimsBy.{IsAnswer, IsAnswerBy, IsAnswerAfter, AnswerBy}
+use Rattle.dd_search.specs.ClaimsBy.{IsAnswerBy, IsAnswerAfter, AnswerBy}
 use Rattle.dd_search.proofs.Relied.{answer-here, one-more, answered-against, answered-for, leads, all-tried}
 use Rattle.dd_search.proofs.Orders.{top-legal, has-only, is-only}
 use Rattle.dd_search.proofs.Scores.{needed-after}

@@ -1,4 +1,4 @@
-use Rattle.std.proofs.Common.{◌≤◌, arith}
+use Rattle.std.proofs.Common.{arith}
 use Rattle.dd_cache.proofs.Sound.{noted-sound}
 use Rattle.dd_cache.proofs.cache.Cache.learn.Goals as goal
 

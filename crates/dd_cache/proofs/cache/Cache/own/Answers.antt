@@ -1,4 +1,4 @@
-use Rattle.std.proofs.Common.{◌≡◌, refl, sym, ap, ◌∙◌, subst}
+use Rattle.std.proofs.Common.{◌≡◌, sym, ap, ◌∙◌, subst}
 use Rattle.dd_rank.specs.Strings.{ShapeOf, shape_in}
 use Rattle.dd_cache.specs.Told.{ToldOf, IsSound}
 use Rattle.dd_cache.proofs.cache.Cache.own.Goals as goal

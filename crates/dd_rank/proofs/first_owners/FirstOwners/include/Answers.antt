@@ -1,18 +1,26 @@
 use Rattle.dd_cards.specs.declared.suit.Suit.TheVariants.{Spades, Hearts, Diamonds, Clubs}
-use Rattle.dd_cards.proofs.CallerLemmas.{all-four, four-all}
-use Rattle.dd_rank.proofs.FirstBits.{begin-tell, begin-give, by-suit}
+use Rattle.dd_rank.proofs.BySuit.{by-suit}
+use Rattle.dd_rank.proofs.Packed.{true-is}
+use Rattle.dd_rank.proofs.TopPlaces.{under-tells, under-gives}
 use Rattle.dd_rank.proofs.first_owners.FirstOwners.include.Goals as goal
 
-pub returns : goal.returns
-returns c = rw (← c.self.view_is, ← c.other.view_is) (
-  λ h. (let each = all-four c.begin.result c.begin-2.result c.begin-3.result c.begin-4.result h in by-suit _
-      (begin-tell c.begin.result c.other.inside.spades.owners c.self.inside.spades.mask c.other.inside.spades.mask c.self.inside.spades.owners c.self.inside.depths.spades c.other.inside.depths.spades c.begin.ensures c.self.invariant.0 c.other.invariant.0 each.0)
-      (begin-tell c.begin-2.result c.other.inside.hearts.owners c.self.inside.hearts.mask c.other.inside.hearts.mask c.self.inside.hearts.owners c.self.inside.depths.hearts c.other.inside.depths.hearts c.begin-2.ensures c.self.invariant.1 c.other.invariant.1 each.1)
-      (begin-tell c.begin-3.result c.other.inside.diamonds.owners c.self.inside.diamonds.mask c.other.inside.diamonds.mask c.self.inside.diamonds.owners c.self.inside.depths.diamonds c.other.inside.depths.diamonds c.begin-3.ensures c.self.invariant.2 c.other.invariant.2 each.2)
-      (begin-tell c.begin-4.result c.other.inside.clubs.owners c.self.inside.clubs.mask c.other.inside.clubs.mask c.self.inside.clubs.owners c.self.inside.depths.clubs c.other.inside.depths.clubs c.begin-4.ensures c.self.invariant.3 c.other.invariant.3 each.3)),
-  λ f. four-all c.begin.result c.begin-2.result c.begin-3.result c.begin-4.result
-      (begin-give c.begin.result c.other.inside.spades.owners c.self.inside.spades.mask c.other.inside.spades.mask c.self.inside.spades.owners c.self.inside.depths.spades c.other.inside.depths.spades c.begin.ensures c.self.invariant.0 c.other.invariant.0 (f Spades))
-      (begin-give c.begin-2.result c.other.inside.hearts.owners c.self.inside.hearts.mask c.other.inside.hearts.mask c.self.inside.hearts.owners c.self.inside.depths.hearts c.other.inside.depths.hearts c.begin-2.ensures c.self.invariant.1 c.other.invariant.1 (f Hearts))
-      (begin-give c.begin-3.result c.other.inside.diamonds.owners c.self.inside.diamonds.mask c.other.inside.diamonds.mask c.self.inside.diamonds.owners c.self.inside.depths.diamonds c.other.inside.depths.diamonds c.begin-3.ensures c.self.invariant.2 c.other.invariant.2 (f Diamonds))
-      (begin-give c.begin-4.result c.other.inside.clubs.owners c.self.inside.clubs.mask c.other.inside.clubs.mask c.self.inside.clubs.owners c.self.inside.depths.clubs c.other.inside.depths.clubs c.begin-4.ensures c.self.invariant.3 c.other.invariant.3 (f Clubs)),
-)
+pub returns-then-are : goal.returns-then-are
+returns-then-are c =
+    let s = c.self.inside in
+    let o = c.other.inside in
+    rw (← c.self.view_is, ← c.other.view_is) (
+      λ h. (let each = under-tells c.are.result s.depths s.mask s.places.odd s.places.far o.places.odd o.places.far _ _ c.self.invariant c.under.ensures.odd c.under.ensures.far c.are.ensures (true-is c.are.result c.if-are.true) in
+          let few = c.are_within.ensures.0 h in
+          by-suit _ (few Spades, each Spades) (few Hearts, each Hearts) (few Diamonds, each Diamonds) (few Clubs, each Clubs)),
+      λ f. c.are_within.ensures.1 (λ u. (f u).0),
+    )
+
+pub returns-else-are : goal.returns-else-are
+returns-else-are c =
+    let s = c.self.inside in
+    let o = c.other.inside in
+    rw (← c.self.view_is, ← c.other.view_is) (
+      λ h. absurd (let f = c.if-are.false in cc),
+      λ f. under-gives c.are.result s.depths s.mask s.places.odd s.places.far o.places.odd o.places.far _ _ c.self.invariant c.under.ensures.odd c.under.ensures.far c.are.ensures
+          (by-suit _ (f Spades).1 (f Hearts).1 (f Diamonds).1 (f Clubs).1),
+    )

@@ -1,14 +1,25 @@
-use Rattle.std.proofs.Common.{◌≡◌, ℕ, ◌%◌, ◌^◌, ◌∙◌}
+use Rattle.std.proofs.Common.{◌∙◌}
 use mathlib.Core.Path.{ap₂}
-use Rattle.dd_rank.proofs.FirstBits.{by-suit}
+use Rattle.dd_cards.specs.declared.suit.Suit.{Suit}
+use Rattle.dd_cards.specs.declared.suit.Suit.TheVariants.{Spades, Hearts, Diamonds, Clubs}
+use Rattle.dd_cards.specs.Ranks.{all_ranks}
+use Rattle.dd_rank.specs.Lanes.{lane, places_of}
+use Rattle.dd_rank.proofs.BySuit.{by-suit}
+use Rattle.dd_rank.proofs.TopPlaces.{first-under, stays-under}
 use Rattle.dd_rank.proofs.first_owners.FirstOwners.of.Goals as goal
 
 pub returns-clause-owners : goal.returns-clause-owners
-returns-clause-owners c = by-suit _
-    (c.of-2.ensures.owners ∙ at c.suit.ensures c.of.ensures)
-    (c.of-4.ensures.owners ∙ at c.suit-2.ensures c.of-3.ensures)
-    (c.of-6.ensures.owners ∙ at c.suit-3.ensures c.of-5.ensures)
-    (c.of-8.ensures.owners ∙ at c.suit-4.ensures c.of-7.ensures)
-  where
-    at : {a b d e : ℕ} → a ≡ b → d ≡ e → a % 4 ^ d ≡ b % 4 ^ e
-    at same depth = ap₂ (λ n k. n % 4 ^ k) same depth
+returns-clause-owners c =
+    let odd = c.strings.inside.places.odd in
+    let far = c.strings.inside.places.far in
+    let each = λ (u : Suit). ap₂ (λ y z. places_of (lane y u) (lane z u) all_ranks) c.under.ensures.odd c.under.ensures.far ∙ first-under c.args.depths c.tops-mask.result odd far c.requires c.tops-mask.ensures u in
+    rw (← c.strings.view_is) (by-suit _ (each Spades) (each Hearts) (each Diamonds) (each Clubs))
+
+pub invariant_of-result : goal.invariant_of-result
+invariant_of-result c = record {
+  fits = c.tops-mask.type_inv;
+  few = c.requires;
+  tops = c.tops-mask.ensures;
+  odd_under = stays-under _ _ c.tops-mask.result c.under.ensures.odd;
+  far_under = stays-under _ _ c.tops-mask.result c.under.ensures.far;
+}

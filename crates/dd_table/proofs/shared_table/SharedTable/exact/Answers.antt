@@ -1,4 +1,4 @@
-use Rattle.std.proofs.Common.{◌≡◌, arith}
+use Rattle.std.proofs.Common.{arith}
 use Rattle.dd_rank.specs.Depths.{depth_in}
 use Rattle.dd_rank.proofs.CallerLemmas.{full-lead}
 use Rattle.dd_table.proofs.shared_table.SharedTable.exact.Goals as goal

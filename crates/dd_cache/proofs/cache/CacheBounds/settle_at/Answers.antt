@@ -1,5 +1,5 @@
 use Rattle.dd_cache.proofs.Sound.{told-holds, told-within}
-use Rattle.dd_cache.proofs.cache.CacheBounds.settle.Goals as goal
+use Rattle.dd_cache.proofs.cache.CacheBounds.settle_at.Goals as goal
 
 pub returns-in-Some-clause-told : goal.returns-in-Some-clause-told
 returns-in-Some-clause-told g c =
