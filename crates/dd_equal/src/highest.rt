@@ -1,5 +1,5 @@
 //! The highest card of each class of equal cards, for one that needs no more of it.
-ghost use Rattle.std.specs.Prelude.{◌≡◌};
+ghost use Rattle.std.specs.Prelude.{◌≡◌, length};
 ghost use Rattle.dd_cards.specs.PlayingCard.{PlayingCard};
 ghost use Rattle.dd_cards.specs.Cards.{has_card};
 ghost use Rattle.dd_equal.specs.EqualCards.{other_cards, tops};
@@ -7,21 +7,25 @@ ghost use Rattle.dd_equal.specs.EqualCards.{other_cards, tops};
 use dd_cards::Hand;
 use dd_play::Position;
 
-/// The highest card of each class of the cards that may be played.
-#[inline]
-pub fn tops(position: &Position) -> Hand
+/// The highest card of each class of the cards that may be played, where so many cards are known to lie on the trick.
+#[inline(always)]
+pub fn tops_at(position: &Position, played: u8) -> Hand
+    requires { length position.now.trick ≡ played }
     ensures { result ≡ tops position.now }
 {
-    position.choices().heads(others(position))
+    position
+        .choices_at(played)
+        .heads(others_at(position, played))
 }
 
-/// The cards in the other hands and on the trick.
-#[inline]
-pub(crate) fn others(position: &Position) -> Hand
+/// The cards in the other hands and on the trick, where so many are known to lie on it.
+#[inline(always)]
+pub(crate) fn others_at(position: &Position, played: u8) -> Hand
+    requires { length position.now.trick ≡ played }
     ensures { (c : PlayingCard) → has_card result c ≡ has_card (other_cards position.now) c }
 {
     position
         .hands()
-        .others(position.mover())
-        .union(position.trick_cards())
+        .others(position.mover_at(played))
+        .union(position.trick_cards_at(played))
 }

@@ -1,5 +1,6 @@
 -- the cards of a trick as a set, each put in where its place is played
 use Rattle.std.proofs.Common.{◌≡◌, ℕ, zero, suc, ◌≤◌, Bool, true, false, refl, sym, ap, ◌∙◌, subst, arith, List, [], ◌∷◌, length, take, get_or, inl, inr}
+use Rattle.std.proofs.lemmas.List.{length-take-le}
 use Rattle.std.specs.Prelude.{◌||◌, nat_lt, if◌then◌else◌}
 use Rattle.dd_cards.specs.PlayingCard.{PlayingCard}
 use Rattle.dd_cards.specs.Ranks.{IsRank}
@@ -82,3 +83,7 @@ set-of-trick t trick w x y z a b c n ew ex ey ez three most ra rb rc is d =
     ap (λ l. has_card l d) (ez ∙ ap (λ l. put l (get_or t 2 c) (nat_lt 2 n)) two)
     ∙ played-cards (get_or t 0 a) (get_or t 1 b) (get_or t 2 c) n most ra rb rc d
     ∙ ap (λ l. has_card l d) (ap (take n) (sym (three-places t a b c three)) ∙ is)
+
+-- as many places are played as cards lie on the trick
+pub lie-number : (t trick : List PlayingCard) (n k : ℕ) → take n t ≡ trick → length t ≡ 3 → n ≤ 3 → length trick ≡ k → n ≡ k
+lie-number t trick n k is three most lie = sym (length-take-le n t (omega (arith, three, most))) ∙ ap length is ∙ lie

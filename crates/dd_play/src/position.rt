@@ -122,17 +122,18 @@ impl Position {
         &self.trick[..self.played as usize]
     }
 
-    /// The cards on the current trick, as a set.
+    /// The cards on the current trick, as a set, where so many are known to lie there.
     // Without a branch on how many there are: each place has some card.
-    #[inline]
-    pub fn trick_cards(&self) -> Hand
+    #[inline(always)]
+    pub fn trick_cards_at(&self, played: u8) -> Hand
+        requires { length self.now.trick ≡ played }
         ensures { (c : PlayingCard) → has_card result c ≡ has_card self.now.trick c }
     {
         let [first, second, third] = self.trick;
         Hand::new()
-            .with_if(first, self.played > 0)
-            .with_if(second, self.played > 1)
-            .with_if(third, self.played > 2)
+            .with_if(first, played > 0)
+            .with_if(second, played > 1)
+            .with_if(third, played > 2)
     }
 
     /// The seat to play.
@@ -140,7 +141,18 @@ impl Position {
         ensures seat { result ≡ mover self.now }
         ensures board { IsBoard self.now }
     {
-        seat_after(self.first, self.played)
+        self.mover_at(self.played)
+    }
+
+    /// The same, where so many cards are known to lie on the trick. Where the number is a constant no code looks at how many do: so
+    /// with each call that is told it.
+    #[inline(always)]
+    pub fn mover_at(&self, played: u8) -> Seat
+        requires { length self.now.trick ≡ played }
+        ensures seat { result ≡ mover self.now }
+        ensures board { IsBoard self.now }
+    {
+        seat_after(self.first, played)
     }
 
     /// The tricks left, the current one included: 0 to 13.
@@ -158,8 +170,19 @@ impl Position {
         ensures bound { length result ≤ 13 }
         ensures board { IsBoard self.now }
     {
-        let hand = self.hands.hand(self.mover());
-        if self.played == 0 {
+        self.choices_at(self.played)
+    }
+
+    /// The same, where so many cards are known to lie on the trick.
+    #[inline(always)]
+    pub fn choices_at(&self, played: u8) -> Hand
+        requires { length self.now.trick ≡ played }
+        ensures cards { result ≡ legal self.now }
+        ensures bound { length result ≤ 13 }
+        ensures board { IsBoard self.now }
+    {
+        let hand = self.hands.hand(self.mover_at(played));
+        if played == 0 {
             return hand;
         }
         let led = self.trick[0];
@@ -207,8 +230,23 @@ impl Position {
         ensures board { IsBoard self.now }
         ensures legal { IsBoard result.0 }
     {
+        self.play_at(self.played, card)
+    }
+
+    /// The same, where so many cards are known to lie on the trick.
+    #[inline(always)]
+    pub fn play_at(&self, played: u8, card: Card) -> (Position, Option<Seat>)
+        requires turn { length self.now.trick ≡ played }
+        requires card { has_card (legal self.now) card ≡ true }
+        ensures next { result.0 ≡ after self.now card }
+        ensures wins { result.1 ≡ (if completes self.now
+            then Some (winner_of (trick_with self.now card) self.now.first self.now.strain) else
+            None) }
+        ensures board { IsBoard self.now }
+        ensures legal { IsBoard result.0 }
+    {
         let hands = self.hands_without(card);
-        if self.played == 3 {
+        if played == 3 {
             let trick = [self.trick[0], self.trick[1], self.trick[2], card];
             let seat = winner(&trick, self.first, self.strain);
             let next = Position {
@@ -224,8 +262,8 @@ impl Position {
                 hands,
                 strain: self.strain,
                 first: self.first,
-                trick: with_place(self.trick, self.played, card),
-                played: self.played + 1,
+                trick: with_place(self.trick, played, card),
+                played: played + 1,
             };
             (next, None)
         }

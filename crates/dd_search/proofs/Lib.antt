@@ -1,6 +1,7 @@
 pub mod Orders
 pub mod Relied
 pub mod Scores
+pub mod Turns
 pub mod Greatest
 pub mod Classes
 pub mod CallerLemmas

@@ -1,3 +1,4 @@
 pub mod ClaimsBy
 pub mod Budgets
 pub mod Moves
+pub mod Turns

@@ -5,9 +5,9 @@ ghost use Rattle.dd_cards.specs.Cards.{has_card};
 
 use crate::holdings::{code_of_highest, lowest};
 use crate::lead::Move;
-use crate::view::{FollowingHand, View};
+use crate::turn::Turn;
+use crate::view::View;
 use dd_cards::{Card, Hand, Holding, Rank, Suit};
-use dd_play::Position;
 
 /// What the cards of a hand are worth that has none of the suit led.
 #[derive(Clone, Copy, Debug)]
@@ -91,8 +91,8 @@ impl Discarding {
     pub(crate) fn of(view: &View) -> Discarding {
         let best = view.best.code();
         let nexts = code_of_highest(view.next.suit);
-        let worth = match view.hand {
-            FollowingHand::Second => {
+        let worth = match view.turn {
+            Turn::First | Turn::Second => {
                 let partners = code_of_highest(view.last.suit);
                 let wins = view.last.trump > 0 || partners > best.max(nexts);
                 if view.next.trump == 0 && wins {
@@ -101,12 +101,12 @@ impl Discarding {
                     SECOND_HAND
                 }
             }
-            FollowingHand::Third if view.partners && view.next.trump == 0 && best > nexts => {
+            Turn::Third if view.partners && view.next.trump == 0 && best > nexts => {
                 ON_PARTNERS_TRICK
             }
-            FollowingHand::Third => THIRD_HAND,
-            FollowingHand::Fourth if view.partners => LAST_ON_PARTNERS_TRICK,
-            FollowingHand::Fourth => FOURTH_HAND,
+            Turn::Third => THIRD_HAND,
+            Turn::Fourth if view.partners => LAST_ON_PARTNERS_TRICK,
+            Turn::Fourth => FOURTH_HAND,
         };
         Discarding {
             trump: view.trump,
@@ -116,12 +116,11 @@ impl Discarding {
         }
     }
 
-    /// The best of the choices that were not tried yet.
+    /// The best of the choices of this hand that were not tried yet.
     #[inline]
-    pub(crate) fn best(&self, position: &Position, choices: Hand, untried: Hand) -> Option<Card>
+    pub(crate) fn best(&self, hand: Hand, choices: Hand, untried: Hand) -> Option<Card>
         ensures { IfSome result (λ card. has_card untried card ≡ true) }
     {
-        let hand = position.hands().hand(position.mover());
         let best = self.better(hand, choices, untried, Suit::Spades, None);
         let best = self.better(hand, choices, untried, Suit::Hearts, best);
         let best = self.better(hand, choices, untried, Suit::Diamonds, best);

@@ -5,7 +5,8 @@ ghost use Rattle.dd_cards.specs.Ranks.{has_rank};
 ghost use Rattle.dd_cards.specs.Cards.{has_card};
 
 use crate::holdings::{code_of_highest, lowest};
-use crate::view::{FollowingHand, View};
+use crate::turn::Turn;
+use crate::view::View;
 use dd_cards::{Card, Hand, Holding, Rank, Suit};
 
 /// The groups of the cards that a hand has of the suit led. What is in none comes last.
@@ -27,17 +28,17 @@ impl Following {
     }
 
     /// The groups of these cards of the suit led.
-    #[inline]
+    #[inline(always)]
     pub(crate) fn of(own: Holding, view: &View) -> Following {
-        match view.hand {
-            FollowingHand::Second => second(own, view),
-            FollowingHand::Third => third(own, view),
-            FollowingHand::Fourth => fourth(own, view),
+        match view.turn {
+            Turn::First | Turn::Second => second(own, view),
+            Turn::Third => third(own, view),
+            Turn::Fourth => fourth(own, view),
         }
     }
 
     /// The best of the cards that were not tried yet.
-    #[inline]
+    #[inline(always)]
     pub(crate) fn best(&self, untried: Hand) -> Option<Card>
         ensures { IfSome result (λ card. has_card untried card ≡ true) }
     {

@@ -19,6 +19,7 @@ mod rests;
 mod start;
 mod table;
 mod takes;
+mod turn;
 mod view;
 
 pub use card_reaches::reaches;

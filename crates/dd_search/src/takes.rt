@@ -1,5 +1,5 @@
 //! The question of the search: do North and South take at least so many of the tricks that are left?
-ghost use Rattle.std.specs.Prelude.{IfSome, [], ◌∷◌, ◌≡◌, ◌+◌, ◌≤◌, ◌<◌, true, IfOk, OnOk, MatchOption};
+ghost use Rattle.std.specs.Prelude.{IfSome, [], ◌∷◌, ◌≡◌, ◌+◌, ◌≤◌, ◌<◌, true, IfOk, OnOk, MatchOption, length};
 ghost use Rattle.dd_equal.specs.EqualCards.{tops};
 ghost use Rattle.dd_cards.specs.Cards.{has_card};
 ghost use Rattle.dd_play.specs.Board.{left};
@@ -8,6 +8,8 @@ ghost use Rattle.dd_play.specs.Value.{point_of};
 ghost use Rattle.dd_play.specs.Won.{point};
 ghost use Rattle.dd_search.specs.Budgets.{EndsAs};
 ghost use Rattle.dd_search.specs.ClaimsBy.{IsAnswer, IsAnswerBy, IsAnswerAfter};
+ghost use Rattle.dd_search.specs.Turns.{cards_before};
+ghost use Rattle.dd_search.specs.declared.turn.Turn.{Turn};
 
 use crate::answer::Answer;
 use crate::known::{note_answer, quick_answer, second_hands_answer, told_answer};
@@ -16,14 +18,15 @@ use crate::meter::{Halt, Meter, go_on};
 use crate::order::{Order, Outlook};
 use crate::rests::{settled_by, still_untried};
 use crate::table::{Bounds, SettlingLeads};
+use crate::turn::Turn;
 use dd_cards::{Card, Hand, Seat};
-use dd_equal::{tops, whole};
+use dd_equal::{tops_at, whole_at};
 use dd_play::{Position, TrickStart};
 use dd_rank::{OwnerStrings, Shape};
 
 /// Do North and South take at least `need` of the tricks left? It ticks first; at a start of a trick a look or the quick
 /// bounds may settle it, after the lead second hand's winners; else play does, and what that taught at a start is noted.
-#[cycle(takes)]
+// Each hand of a trick has a question of its own: where whose turn it is is a constant, the code looks at it nowhere.
 pub(crate) fn takes<B: Bounds, M: Meter>(
     position: &Position,
     need: u8,
@@ -37,14 +40,98 @@ pub(crate) fn takes<B: Bounds, M: Meter>(
     ensures ticked { OnOk result (M.ticked meter.old meter.new) }
     ensures ends { EndsAs (M.says meter.new) result }
 {
+    match Turn::of(position) {
+        Turn::First => takes_at_start(position, need, table, meter),
+        Turn::Second => takes_at_second_hand(position, need, table, meter),
+        Turn::Third => takes_at_third_hand(position, need, table, meter),
+        Turn::Fourth => takes_at_fourth_hand(position, need, table, meter),
+    }
+}
+
+// The question where the first hand is to lead.
+#[cycle(takes)]
+fn takes_at_start<B: Bounds, M: Meter>(
+    position: &Position,
+    need: u8,
+    table: &mut B,
+    meter: &mut M,
+) -> Result<Answer, Halt>
+    requires turn { length position.now.trick ≡ cards_before Turn.First }
+    requires low { 1 ≤ need }
+    requires high { need ≤ left position.now }
+    ensures answer { IfOk result (λ answer. IsAnswer position.now need answer.yes) }
+    ensures rests { IfOk result (λ answer. IsAnswerBy position.now need answer.cards answer.yes) }
+    ensures ticked { OnOk result (M.ticked meter.old meter.new) }
+    ensures ends { EndsAs (M.says meter.new) result }
+{
     go_on(meter)?;
     let Some(start) = TrickStart::of(position) else {
-        if let Some(answer) = second_hands_answer(position, need) {
-            return Ok(answer);
-        }
-        return answer_by_play(position, None, need, table, meter);
+        unreachable!()
     };
     answer_at_start(&start, need, table, meter)
+}
+
+// The question where the second hand is to play.
+#[cycle(takes)]
+fn takes_at_second_hand<B: Bounds, M: Meter>(
+    position: &Position,
+    need: u8,
+    table: &mut B,
+    meter: &mut M,
+) -> Result<Answer, Halt>
+    requires turn { length position.now.trick ≡ cards_before Turn.Second }
+    requires low { 1 ≤ need }
+    requires high { need ≤ left position.now }
+    ensures answer { IfOk result (λ answer. IsAnswer position.now need answer.yes) }
+    ensures rests { IfOk result (λ answer. IsAnswerBy position.now need answer.cards answer.yes) }
+    ensures ticked { OnOk result (M.ticked meter.old meter.new) }
+    ensures ends { EndsAs (M.says meter.new) result }
+{
+    go_on(meter)?;
+    if let Some(answer) = second_hands_answer(position, need) {
+        return Ok(answer);
+    }
+    answer_by_play(position, Turn::Second, None, need, table, meter)
+}
+
+// The question where the third hand is to play.
+#[cycle(takes)]
+fn takes_at_third_hand<B: Bounds, M: Meter>(
+    position: &Position,
+    need: u8,
+    table: &mut B,
+    meter: &mut M,
+) -> Result<Answer, Halt>
+    requires turn { length position.now.trick ≡ cards_before Turn.Third }
+    requires low { 1 ≤ need }
+    requires high { need ≤ left position.now }
+    ensures answer { IfOk result (λ answer. IsAnswer position.now need answer.yes) }
+    ensures rests { IfOk result (λ answer. IsAnswerBy position.now need answer.cards answer.yes) }
+    ensures ticked { OnOk result (M.ticked meter.old meter.new) }
+    ensures ends { EndsAs (M.says meter.new) result }
+{
+    go_on(meter)?;
+    answer_by_play(position, Turn::Third, None, need, table, meter)
+}
+
+// The question where the fourth hand is to play.
+#[cycle(takes)]
+fn takes_at_fourth_hand<B: Bounds, M: Meter>(
+    position: &Position,
+    need: u8,
+    table: &mut B,
+    meter: &mut M,
+) -> Result<Answer, Halt>
+    requires turn { length position.now.trick ≡ cards_before Turn.Fourth }
+    requires low { 1 ≤ need }
+    requires high { need ≤ left position.now }
+    ensures answer { IfOk result (λ answer. IsAnswer position.now need answer.yes) }
+    ensures rests { IfOk result (λ answer. IsAnswerBy position.now need answer.cards answer.yes) }
+    ensures ticked { OnOk result (M.ticked meter.old meter.new) }
+    ensures ends { EndsAs (M.says meter.new) result }
+{
+    go_on(meter)?;
+    answer_by_play(position, Turn::Fourth, None, need, table, meter)
 }
 
 // The answer at a start of a trick, which is noted where play gave it. A look settles most, and where it doesn't the quick
@@ -74,7 +161,14 @@ fn answer_at_start<B: Bounds, M: Meter>(
     if let Some(answer) = quick_answer(start, need) {
         return Ok(answer);
     }
-    let answer = answer_by_play(start.position(), Some(&strings), need, table, meter)?;
+    let answer = answer_by_play(
+        start.position(),
+        Turn::First,
+        Some(&strings),
+        need,
+        table,
+        meter,
+    )?;
     note_answer(start, &strings, need, &answer, table);
     Ok(answer)
 }
@@ -82,13 +176,16 @@ fn answer_at_start<B: Bounds, M: Meter>(
 // The answer by the cards: one of each class is tried until one settles it, but for those that a failure tells of too. The
 // strings of a start of a trick serve the order alone.
 #[cycle(takes)]
+#[inline(always)]
 fn answer_by_play<B: Bounds, M: Meter>(
     position: &Position,
+    turn: Turn,
     strings: Option<&OwnerStrings>,
     need: u8,
     table: &mut B,
     meter: &mut M,
 ) -> Result<Answer, Halt>
+    requires turn { length position.now.trick ≡ cards_before turn }
     requires low { 1 ≤ need }
     requires high { need ≤ left position.now }
     ensures answer { IfOk result (λ answer. IsAnswer position.now need answer.yes) }
@@ -96,26 +193,38 @@ fn answer_by_play<B: Bounds, M: Meter>(
     ensures ticked { (m : M) → M.ticked m meter.old → OnOk result (M.ticked m meter.new) }
     ensures ends { EndsAs (M.says meter.new) result }
 {
-    let choices = tops(position);
+    let choices = tops_at(position, turn.cards_before());
     let mut others = choices;
     match others.pop_first() {
         Some(card) if others.is_empty() => answer_by_only_choice(
-            position, card, need, table, meter,
+            position, turn, card, need, table, meter,
         ),
-        _ => answer_by_choices(position, strings, Order::Best, choices, need, table, meter),
+        _ => answer_by_choices(
+            position,
+            turn,
+            strings,
+            Order::Best,
+            choices,
+            need,
+            table,
+            meter,
+        ),
     }
 }
 
 // The answer where all cards that may be played are equal: half of the positions after the lead are of this kind.
 #[cycle(takes)]
+#[inline(always)]
 fn answer_by_only_choice<B: Bounds, M: Meter>(
     position: &Position,
+    turn: Turn,
     card: Card,
     need: u8,
     table: &mut B,
     meter: &mut M,
 ) -> Result<Answer, Halt>
     requires only { tops position.now ≡ card ∷ [] }
+    requires turn { length position.now.trick ≡ cards_before turn }
     requires low { 1 ≤ need }
     requires high { need ≤ left position.now }
     ensures answer { IfOk result (λ answer. IsAnswer position.now need answer.yes) }
@@ -123,12 +232,15 @@ fn answer_by_only_choice<B: Bounds, M: Meter>(
     ensures ticked { (m : M) → M.ticked m meter.old → OnOk result (M.ticked m meter.new) }
     ensures ends { EndsAs (M.says meter.new) result }
 {
-    let north_south = position.mover().is_north_south();
-    let found = answer_after(position, card, need, table, meter)?;
+    let north_south = position.mover_at(turn.cards_before()).is_north_south();
+    let found = answer_after(position, turn, card, need, table, meter)?;
     if found.is_yes() == north_south {
         return Ok(found);
     }
-    Ok(Answer::new(!north_south, whole(position, found.cards())))
+    Ok(Answer::new(
+        !north_south,
+        whole_at(position, turn.cards_before(), found.cards()),
+    ))
 }
 
 // The answer by these choices, the highest card of each class.
@@ -137,6 +249,7 @@ fn answer_by_only_choice<B: Bounds, M: Meter>(
 #[inline(always)]
 fn answer_by_choices<B: Bounds, M: Meter>(
     position: &Position,
+    turn: Turn,
     strings: Option<&OwnerStrings>,
     order: Order,
     choices: Hand,
@@ -145,6 +258,7 @@ fn answer_by_choices<B: Bounds, M: Meter>(
     meter: &mut M,
 ) -> Result<Answer, Halt>
     requires choices { choices ≡ tops position.now }
+    requires turn { length position.now.trick ≡ cards_before turn }
     requires low { 1 ≤ need }
     requires high { need ≤ left position.now }
     ensures answer { IfOk result (λ answer. IsAnswer position.now need answer.yes) }
@@ -152,19 +266,19 @@ fn answer_by_choices<B: Bounds, M: Meter>(
     ensures ticked { (m : M) → M.ticked m meter.old → OnOk result (M.ticked m meter.new) }
     ensures ends { EndsAs (M.says meter.new) result }
 {
-    let north_south = position.mover().is_north_south();
+    let north_south = position.mover_at(turn.cards_before()).is_north_south();
     let mut leading = Leading::new();
     let outlook = match order {
         Order::Best => {
             let settling = settling_leads(strings, table);
-            Outlook::of(position, settling, choices, &mut leading)
+            Outlook::of(position, turn, settling, choices, &mut leading)
         }
         Order::Listed => Outlook::listed(),
     };
     let mut untried = choices;
     let mut cards = Hand::new();
-    'tries: while let Some(card) = outlook.best(position, choices, untried, &leading) {
-        let found = answer_after(position, card, need, table, meter)?;
+    'tries: while let Some(card) = outlook.best(position, turn, choices, untried, &leading) {
+        let found = answer_after(position, turn, card, need, table, meter)?;
         if found.is_yes() == north_south {
             note_lead(strings, card, table);
             return Ok(found);
@@ -173,7 +287,7 @@ fn answer_by_choices<B: Bounds, M: Meter>(
         cards = cards.union(rests);
         untried = still_untried(untried, card, rests);
     }
-    Ok(Answer::new(!north_south, whole(position, cards)))
+    Ok(Answer::new(!north_south, whole_at(position, turn.cards_before(), cards)))
 }
 
 /// The same as `takes`, where the cards of this position are tried in this order. Tried as they are listed, the first card that
@@ -195,7 +309,9 @@ pub(crate) fn takes_in_order<B: Bounds, M: Meter>(
         Order::Best => takes(position, need, table, meter),
         Order::Listed => {
             go_on(meter)?;
-            answer_by_choices(position, None, order, tops(position), need, table, meter)
+            let turn = Turn::of(position);
+            let choices = tops_at(position, turn.cards_before());
+            answer_by_choices(position, turn, None, order, choices, need, table, meter)
         }
     }
 }
@@ -222,29 +338,54 @@ fn note_lead<B: Bounds>(strings: Option<&OwnerStrings>, card: Card, table: &mut 
 #[inline(always)]
 fn answer_after<B: Bounds, M: Meter>(
     position: &Position,
+    turn: Turn,
     card: Card,
     need: u8,
     table: &mut B,
     meter: &mut M,
 ) -> Result<Answer, Halt>
     requires legal { has_card (legal position.now) card ≡ true }
+    requires turn { length position.now.trick ≡ cards_before turn }
     requires low { 1 ≤ need }
+    requires high { need ≤ left position.now }
     ensures found { IfOk result
         (λ found. IsAnswerAfter position.now need card found.cards found.yes) }
     ensures ticked { (m : M) → M.ticked m meter.old → OnOk result (M.ticked m meter.new) }
     ensures ends { EndsAs (M.says meter.new) result }
 {
     // The position stays where `play` put it: a copy of it would wait for its bytes to be written.
-    let played = position.play(card);
+    let played = position.play_at(turn.cards_before(), card);
     let rest = rest_after(need, played.1);
-    let later = match answer_by_counting(&played.0, rest) {
-        Some(yes) => Answer::new(yes, Hand::new()),
-        None => takes(&played.0, rest, table, meter)?,
+    let later = match turn {
+        Turn::First => takes_at_second_hand(&played.0, rest, table, meter)?,
+        Turn::Second => takes_at_third_hand(&played.0, rest, table, meter)?,
+        Turn::Third => takes_at_fourth_hand(&played.0, rest, table, meter)?,
+        Turn::Fourth => answer_after_trick(&played.0, rest, table, meter)?,
     };
     Ok(Answer::new(
         later.is_yes(),
         settled_by(position, card, played.1, later.cards()),
     ))
+}
+
+// The answer when a trick is complete: by counting, or by the question of the next trick.
+#[cycle(takes)]
+#[inline(always)]
+fn answer_after_trick<B: Bounds, M: Meter>(
+    position: &Position,
+    need: u8,
+    table: &mut B,
+    meter: &mut M,
+) -> Result<Answer, Halt>
+    requires turn { length position.now.trick ≡ cards_before Turn.First }
+    ensures rests { IfOk result (λ answer. IsAnswerBy position.now need answer.cards answer.yes) }
+    ensures ticked { (m : M) → M.ticked m meter.old → OnOk result (M.ticked m meter.new) }
+    ensures ends { EndsAs (M.says meter.new) result }
+{
+    match answer_by_counting(position, need) {
+        Some(yes) => Ok(Answer::new(yes, Hand::new())),
+        None => takes_at_start(position, need, table, meter),
+    }
 }
 
 // How many tricks North and South still need when this seat has won one.

@@ -1,13 +1,17 @@
 //! What a hand sees that plays to a trick after the lead: the best card so far, and the hands that play later.
 
+ghost use Rattle.std.specs.Prelude.{◌≡◌, ◌≤◌, length};
+ghost use Rattle.dd_search.specs.Turns.{cards_before};
+
 use crate::holdings::code_of_highest;
+use crate::turn::Turn;
 use dd_cards::{Card, Holding, Rank, Seat, Strain, Suit};
 use dd_play::Position;
 
 /// What the mover sees.
 #[derive(Clone, Copy, Debug)]
 pub(crate) struct View {
-    pub(crate) hand: FollowingHand,
+    pub(crate) turn: Turn,
     pub(crate) led: Suit,
     // the trump suit, where another suit was led
     pub(crate) trump: Option<Suit>,
@@ -21,13 +25,6 @@ pub(crate) struct View {
     pub(crate) last: Later,
 }
 
-#[derive(Clone, Copy, Debug, PartialEq, Eq)]
-pub(crate) enum FollowingHand {
-    Second,
-    Third,
-    Fourth,
-}
-
 /// What a hand has that plays later: its cards of the suit led, and the rank of its highest trump where it can ruff, else 0.
 #[derive(Clone, Copy, Debug)]
 pub(crate) struct Later {
@@ -36,44 +33,48 @@ pub(crate) struct Later {
 }
 
 impl View {
-    /// The view of the mover, after a card of this suit was led.
-    #[inline]
-    pub(crate) fn of(position: &Position, led: Suit) -> View {
+    /// The view of the mover, whose turn it is after the lead.
+    #[inline(always)]
+    pub(crate) fn of(position: &Position, turn: Turn) -> View
+        requires turn { length position.now.trick ≡ cards_before turn }
+        requires led { 1 ≤ length position.now.trick }
+    {
         let strain = position.strain();
+        let trick = position.trick();
+        let first = trick[0];
+        let led = first.suit;
+        let (best, partners) = match turn {
+            Turn::First | Turn::Second => (first, false),
+            Turn::Third => {
+                let (best, seconds) = better(strain, first, trick[1]);
+                (best, !seconds)
+            }
+            Turn::Fourth => {
+                let (best, seconds) = better(strain, first, trick[1]);
+                let (best, thirds) = better(strain, best, trick[2]);
+                (best, seconds && !thirds)
+            }
+        };
         let trump = match strain {
             Strain::Trump(trump) if trump != led => Some(trump),
             _ => None,
         };
+        let mover = position.mover_at(turn.cards_before());
+        // What has played is no matter any more.
         let nobody = Later {
             suit: Holding::new(),
             trump: 0,
         };
-        let trick = position.trick();
-        let (hand, best, partners) = match trick {
-            [a, b] => {
-                let (best, seconds) = better(strain, *a, *b);
-                (FollowingHand::Third, best, !seconds)
-            }
-            [a, b, c] => {
-                let (best, seconds) = better(strain, *a, *b);
-                let (best, thirds) = better(strain, best, *c);
-                (FollowingHand::Fourth, best, seconds && !thirds)
-            }
-            [a] => (FollowingHand::Second, *a, false),
-            _ => (FollowingHand::Second, Card::default(), false),
-        };
-        let mover = position.mover();
-        // What has played is no matter any more.
-        let (next, last) = match hand {
-            FollowingHand::Second => (
+        let (next, last) = match turn {
+            Turn::First | Turn::Second => (
                 later_hand(position, mover.left(), led, trump),
                 later_hand(position, mover.partner(), led, trump),
             ),
-            FollowingHand::Third => (later_hand(position, mover.left(), led, trump), nobody),
-            FollowingHand::Fourth => (nobody, nobody),
+            Turn::Third => (later_hand(position, mover.left(), led, trump), nobody),
+            Turn::Fourth => (nobody, nobody),
         };
         View {
-            hand,
+            turn,
             led,
             trump,
             best: best.rank,
