@@ -1,11 +1,12 @@
 #!/usr/bin/env bash
 # `ddserve solve` beside DDS (package libdds-dev; SolveBoard, target -1, mode 1, one thread) over the same request lines,
 # with the scores of all leads. First deals of 6, 8 and 9 cards a hand: the least time of several runs of each over all
-# lines, taken in turns, and their ratio. Then full deals, as many of each strain, line by line through a pipe to each
-# program in one run, over a table of 65,536 entries: the least time of each reply in three such runs at most, and of these
-# the mean, the geometric mean and the slowest. Then in the same way one best lead of each deal, where the replies agree
-# that have one score, and the twenty results, beside DDS's CalcDDtable. Deals are from fixed seeds; it says whether the
-# replies agree, and ends with status 1 where some don't.
+# lines, taken in turns, and their ratio; and lines of 1, 4 and 6 cards a hand at once through a pipe, to programs that run
+# already: lines a second, the most of several runs. Then full deals, as many of each strain, line by line through a pipe
+# to each program in one run, over a table of 65,536 entries: the least time of each reply in as many such runs, of these the
+# mean, the geometric mean and the slowest, and the most memory that each program had. Then in the same way one best lead of
+# each deal, where the replies agree that have one score, and in three runs at most the twenty results, beside DDS's
+# CalcDDtable. Deals are from fixed seeds; it says whether the replies agree, and ends with status 1 where some don't.
 # Words: the number of runs (5), of full deals (40), and the seed of the full deals (1013).
 set -eu
 here=$(cd -- "$(dirname -- "$0")" && pwd)
@@ -23,6 +24,10 @@ work=$(mktemp -d)
 trap 'rm -rf "$work"' EXIT
 g++ -O2 -o "$work/dds" "$here/dds.cpp" -ldds
 "$top/ddserve" solve < /dev/null
+python3 "$top/bench/deals.py" 1 20000 --seed 2001 --requests > "$work/small1.jsonl"
+for cards in 4 6; do
+    python3 "$top/bench/deals.py" "$cards" 2000 --seed $((2000 + cards)) --requests > "$work/small$cards.jsonl"
+done
 for cards in 6 8 9; do
     python3 "$top/bench/deals.py" "$cards" 40 --seed $((1000 + cards)) --requests > "$work/$cards.jsonl"
 done
@@ -79,21 +84,64 @@ def geometric_mean(numbers):
     return math.exp(sum(map(math.log, numbers)) / len(numbers))
 
 
+# One card a hand comes first, so that no line waits for a program to start.
+def started(command):
+    program = subprocess.Popen(command, stdin=subprocess.PIPE, stdout=subprocess.PIPE, text=True)
+    answer(program, '{"do":"solve","deal":"N:A... K... Q... J...","trump":4,"first":0,"solutions":3}\n')
+    return program
+
+
+def ended(program):
+    program.stdin.close()
+    if program.wait() != 0:
+        sys.exit(f"bench/dds: {program.args[0]} ended with status {program.returncode}")
+
+
+# The most memory that a program had so far, in MB.
+def most_memory(program):
+    with open(f"/proc/{program.pid}/status") as file:
+        return next(int(line.split()[1]) / 1024 for line in file if line.startswith("VmHWM"))
+
+
+# Lines a second, all sent at once through a pipe, and the replies.
+def rate(command, path):
+    program = started(command)
+    start = time.perf_counter()
+    sender = subprocess.Popen(["cat", path], stdout=program.stdin)
+    program.stdin.close()
+    replies = program.stdout.read()
+    seconds = time.perf_counter() - start
+    if sender.wait() != 0 or program.wait() != 0:
+        sys.exit(f"bench/dds: {program.args[0]} ended with status {program.returncode}")
+    return replies.count("\n") / seconds, replies
+
+
+def small_lines():
+    print(f"\nlines at once through a pipe, lines a second, the most of {runs} runs")
+    print("cards a hand  lines   ddserve       DDS  ratio  replies")
+    for cards in (1, 4, 6):
+        path = f"{work}/small{cards}.jsonl"
+        most, replies = dict.fromkeys(commands, 0), {}
+        for _ in range(runs):
+            for name, command in commands.items():
+                found, replies[name] = rate(command, path)
+                most[name] = max(most[name], found)
+        a, b = most["ddserve"], most["DDS"]
+        count = replies["ddserve"].count("\n")
+        print(f"{cards:>12}  {count:>5}  {a:8.0f}  {b:8.0f}  {a / b:5.1f}  {both(replies)}", flush=True)
+
+
 def one_run(lines):
-    programs = {name: subprocess.Popen(command, stdin=subprocess.PIPE, stdout=subprocess.PIPE, text=True) for name, command in commands.items()}
-    # One card a hand first, so that no deal waits for a program to start.
-    for program in programs.values():
-        answer(program, '{"do":"solve","deal":"N:A... K... Q... J...","trump":4,"first":0,"solutions":3}\n')
+    programs = {name: started(command) for name, command in commands.items()}
     answers = [{name: answer(program, line) for name, program in programs.items()} for line in lines]
+    memory = {name: most_memory(program) for name, program in programs.items()}
     for program in programs.values():
-        program.stdin.close()
-        if program.wait() != 0:
-            sys.exit(f"bench/dds: {program.args[0]} ended with status {program.returncode}")
-    return answers
+        ended(program)
+    return answers, memory
 
 
-def one_by_one(title, lines, strains, seen=str):
-    answers = [one_run(lines) for _ in range(min(runs, 3))]
+def one_by_one(title, lines, strains, tries, seen=str):
+    answers, memories = zip(*[one_run(lines) for _ in range(tries)])
     times, agreed = {name: [] for name in commands}, 0
     print(f"\n{title}: {len(lines)} full deals, one by one, milliseconds, least of {len(answers)} runs")
     print("deal  strain  ddserve ms    DDS ms  ratio  replies")
@@ -111,13 +159,16 @@ def one_by_one(title, lines, strains, seen=str):
         print(f"{name:15}  {sum(list_of) / len(list_of):8.2f}  {geometric_mean(list_of):10.2f}  {max(list_of):8.2f}")
     a, b = times["ddserve"], times["DDS"]
     print(f"sums {sum(a) / sum(b):.2f}, slowest over slowest {max(a) / max(b):.2f}; {agreed} of {len(lines)} replies agree")
+    memory = {name: max(memory[name] for memory in memories) for name in commands}
+    print(f"the most memory: ddserve {memory['ddserve']:.0f} MB, DDS {memory['DDS']:.0f} MB")
 
 
+small_lines()
 with open(f"{work}/13.jsonl") as file:
-    one_by_one("all leads", file.readlines(), "SHDCN")
+    one_by_one("all leads", file.readlines(), "SHDCN", runs)
 with open(f"{work}/one.jsonl") as file:
-    one_by_one("one best lead", file.readlines(), "SHDCN", lambda reply: [card["score"] for card in json.loads(reply)["cards"]])
+    one_by_one("one best lead", file.readlines(), "SHDCN", runs, lambda reply: [card["score"] for card in json.loads(reply)["cards"]])
 with open(f"{work}/tables.jsonl") as file:
-    one_by_one("twenty results", file.readlines(), ["all"])
+    one_by_one("twenty results", file.readlines(), ["all"], min(runs, 3))
 sys.exit(1 if differing else 0)
 PY

@@ -27,6 +27,9 @@ const PLACES: usize = 0x1_0000;
 // From so many tricks on the table behind takes part in a search: to ask and tell it of all took longer on the deals tried.
 const WORTH_SHARING: u8 = 10;
 
+// With so many tricks left a value is kept: what one trick gives is played in less time than a table takes.
+const WORTH_KEEPING: u8 = 2;
+
 // So many deals have numbers of their own: an entry has four for each.
 const MOST_DEALS: u16 = 16_383;
 
@@ -245,6 +248,9 @@ impl<B: Bounds> Bounds for Cache<B> {
 
     fn look(&mut self, start: &TrickStart) -> Option<(Interval, Depths)> {
         self.begin(start);
+        if !is_worth_keeping(start) {
+            return None;
+        }
         self.behind.look(start)
     }
 
@@ -296,8 +302,11 @@ impl<B: Bounds> Bounds for Cache<B> {
     }
 
     /// Keeps it, and tells the table behind of it where it is a value: that of a whole search is worth it at any number of
-    /// tricks.
+    /// tricks but one.
     fn note(&mut self, start: &TrickStart, depths: Depths, interval: Interval) {
+        if !is_worth_keeping(start) {
+            return;
+        }
         let strings = OwnerStrings::of(start);
         self.learn(start, &strings, depths, interval);
         if interval.lo == interval.hi || is_worth_sharing(start) {
@@ -349,6 +358,12 @@ fn put_lead(leads: &mut Vec<u16>, mixed: u64, entry: u16) {
     if let Some(old) = leads.get_mut(place(mixed)) {
         *old = entry;
     }
+}
+
+// Is a value of this position kept?
+#[inline]
+fn is_worth_keeping(start: &TrickStart) -> bool {
+    start.position().tricks_left() >= WORTH_KEEPING
 }
 
 // Does the table behind take part in a search of this position?

@@ -113,6 +113,22 @@ fn suits(tricks: u8) -> Option<TrickStart> {
     TrickStart::of(&position)
 }
 
+#[test]
+fn the_value_of_one_trick_is_kept_nowhere(rt: HostRuntime) -> Result<(), AllocError> {
+    for tricks in 1..3 {
+        let near = Cache::new(rt.alloc(), NoTable)?;
+        let mut cache = Cache::new(rt.alloc(), near)?;
+        let start = suits(tricks).expect(&rt, "a suit in each hand");
+        assert_eq!(rt; noted(&start, &mut cache), Some(tricks));
+        let found = [
+            settled(&mut cache, &start, tricks).is_some(),
+            settled(cache.behind(), &start, tricks).is_some(),
+        ];
+        assert_eq!(rt; found, [tricks == 2, tricks == 2], "{tricks} tricks");
+    }
+    Ok(())
+}
+
 // Notes that the value is no more than it is, with its depths.
 fn noted_above<B: Bounds>(start: &TrickStart, table: &mut B) -> Option<u8> {
     let (tricks, depths) = start_value(start, &mut NoTable, &mut Endless).ok()?;
