@@ -1,12 +1,12 @@
 #!/usr/bin/env bash
 # `ddserve solve` beside DDS (package libdds-dev; SolveBoard, target -1, mode 1, one thread) over the same request lines,
 # with the scores of all leads. First deals of 6, 8 and 9 cards a hand: the least time of several runs of each over all
-# lines, taken in turns, and their ratio; and lines of 1, 4 and 6 cards a hand at once through a pipe, to programs that run
-# already: lines a second, the most of several runs. Then full deals, as many of each strain, line by line through a pipe
-# to each program in one run, over a table of 65,536 entries: the least time of each reply in as many such runs, of these the
-# mean, the geometric mean and the slowest, and the most memory that each program had. Then in the same way one best lead of
-# each deal, where the replies agree that have one score, and in three runs at most the twenty results, beside DDS's
-# CalcDDtable. Deals are from fixed seeds; it says whether the replies agree, and ends with status 1 where some don't.
+# lines, taken in turns, and their ratio; and 2,000 lines of 1, 4 and 6 cards a hand at once through a pipe: lines a second
+# with the program's start and without, the most of several runs. Then full deals, as many of each strain, line by line
+# through a pipe to each program in one run, over a table of 65,536 entries: the least time of each reply in as many such runs,
+# of these the mean, the geometric mean and the slowest, and the most memory that each program had. Then in the same way one
+# best lead of each deal, where the replies agree that have one score, and in three runs at most the twenty results, beside
+# DDS's CalcDDtable. Deals are from fixed seeds; it says whether the replies agree, and ends with status 1 where some don't.
 # Words: the number of runs (5), of full deals (40), and the seed of the full deals (1013).
 set -eu
 here=$(cd -- "$(dirname -- "$0")" && pwd)
@@ -24,8 +24,7 @@ work=$(mktemp -d)
 trap 'rm -rf "$work"' EXIT
 g++ -O2 -o "$work/dds" "$here/dds.cpp" -ldds
 "$top/ddserve" solve < /dev/null
-python3 "$top/bench/deals.py" 1 20000 --seed 2001 --requests > "$work/small1.jsonl"
-for cards in 4 6; do
+for cards in 1 4 6; do
     python3 "$top/bench/deals.py" "$cards" 2000 --seed $((2000 + cards)) --requests > "$work/small$cards.jsonl"
 done
 for cards in 6 8 9; do
@@ -103,32 +102,33 @@ def most_memory(program):
         return next(int(line.split()[1]) / 1024 for line in file if line.startswith("VmHWM"))
 
 
-# Lines a second, all sent at once through a pipe, and the replies.
-def rate(command, path):
+# All lines sent at once through a pipe: lines a second with the program's start and without, and the replies.
+def rates(command, path):
+    begin = time.perf_counter()
     program = started(command)
     start = time.perf_counter()
     sender = subprocess.Popen(["cat", path], stdout=program.stdin)
     program.stdin.close()
     replies = program.stdout.read()
-    seconds = time.perf_counter() - start
+    end = time.perf_counter()
     if sender.wait() != 0 or program.wait() != 0:
         sys.exit(f"bench/dds: {program.args[0]} ended with status {program.returncode}")
-    return replies.count("\n") / seconds, replies
+    count = replies.count("\n")
+    return [count / (end - begin), count / (end - start)], replies
 
 
 def small_lines():
-    print(f"\nlines at once through a pipe, lines a second, the most of {runs} runs")
-    print("cards a hand  lines   ddserve       DDS  ratio  replies")
+    print(f"\nlines at once through a pipe, lines a second, the most of {runs} runs: with the program's start, and without")
+    print("cards a hand  lines   ddserve       DDS  ratio   ddserve       DDS  ratio  replies")
     for cards in (1, 4, 6):
         path = f"{work}/small{cards}.jsonl"
-        most, replies = dict.fromkeys(commands, 0), {}
+        most, replies = {name: [0, 0] for name in commands}, {}
         for _ in range(runs):
             for name, command in commands.items():
-                found, replies[name] = rate(command, path)
-                most[name] = max(most[name], found)
-        a, b = most["ddserve"], most["DDS"]
-        count = replies["ddserve"].count("\n")
-        print(f"{cards:>12}  {count:>5}  {a:8.0f}  {b:8.0f}  {a / b:5.1f}  {both(replies)}", flush=True)
+                found, replies[name] = rates(command, path)
+                most[name] = list(map(max, most[name], found))
+        columns = "".join(f"  {a:8.0f}  {b:8.0f}  {a / b:5.2f}" for a, b in zip(most["ddserve"], most["DDS"]))
+        print(f"{cards:>12}  {replies['ddserve'].count(chr(10)):>5}{columns}  {both(replies)}", flush=True)
 
 
 def one_run(lines):
