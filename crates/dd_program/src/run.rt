@@ -21,6 +21,9 @@ use std::sync::Wait;
 use std::thread::Threads;
 use std::time::Clock;
 
+/// The most bytes that one read takes.
+const PIECE: usize = 4_096;
+
 /// Does what the words ask for: answers the lines of the input on the output, serves the clients of an address, shows help
 /// or the version on the output, or says on the standard error what is wrong with the words.
 pub fn run_words<
@@ -128,7 +131,8 @@ fn solve_over<B: Bounds, R: Read, O: Write, E: Write>(
         (streams (state_of R.remaining reader.new) (state_of O.contents output.new)
         (state_of E.contents errors.new)) result }
 {
-    match solve_lines(alloc, reader, output, table, budget) {
+    let mut buffer = [0; PIECE];
+    match solve_lines(alloc, reader, output, table, budget, &mut buffer) {
         Ok(()) => Ending::Answered,
         Err(LineFault::Read) => fail(errors, Ending::ReadFailed),
         Err(LineFault::Write) => fail(errors, Ending::WriteFailed),

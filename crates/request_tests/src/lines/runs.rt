@@ -33,7 +33,8 @@ pub fn run_within(
         most,
         room,
     });
-    let result = solve_lines(alloc, &mut reader, &mut writer, &mut NoTable, budget);
+    let mut buffer = [0; 4_096];
+    let result = solve_lines(alloc, &mut reader, &mut writer, &mut NoTable, budget, &mut buffer);
     Outcome {
         result,
         failed_reads: reader.failures(),
