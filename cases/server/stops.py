@@ -133,8 +133,8 @@ def want_of_memory():
     """Where the memory of a start is refused, it says so."""
     command = ["bash", "-c", 'ulimit -v 60000; exec "$@"', "-", PROGRAM, "serve", "--listen", "127.0.0.1:0"]
     ended = subprocess.run(command, capture_output=True, text=True, timeout=60)
-    check("want of memory", (ended.returncode, ended.stderr), (1, "ddserve: out of memory\n"))
-    print("want of memory at the start ends the program with its text")
+    check("lack of memory", (ended.returncode, ended.stderr), (1, "ddserve: out of memory\n"))
+    print("lack of memory at the start ends the program with its text")
 
 
 def budgets():

@@ -5,7 +5,7 @@ use mathlib.Core.Path.{ap₂}
 use Rattle.dd_cards.specs.declared.suit.Suit.{Suit}
 use Rattle.dd_play.specs.Board.{Board, IsBoard}
 use Rattle.dd_play.specs.Covers.{count_of}
-use Rattle.dd_play.specs.Value.{lead}
+use Rattle.dd_play.specs.Value.{leaders_tricks}
 use Rattle.dd_play.specs.Intervals.{Holds}
 use Rattle.dd_play.specs.declared.interval.Interval.{Interval}
 use Rattle.dd_rank.specs.Depths.{FourDepths, all_cards, depth_in, Covers}
@@ -25,7 +25,7 @@ CountsByShape = (p q : Board) → IsBoard p → IsBoard q → shape_of q ≡ sha
 -- what is noted by depths is sound by first owners
 pub noted-sound : CoversByOwners → CountsByShape → (p : Board) (s : Strings) (shape : ShapeOf) (depths : FourDepths) (f : Firsts) (i : Interval) → IsBoard p → p.trick ≡ []
     → s ≡ strings_of p → shape ≡ shape_in s → f.depths ≡ depths → ((u : Suit) → first_in f u ≡ string_in s u % 4 ^ depth_in depths u)
-    → ((u : Suit) → depth_in depths u ≤ count_of u (all_cards p)) → ((q : Board) → IsBoard q → Covers p (depth_in depths) q → Holds i (lead q))
+    → ((u : Suit) → depth_in depths u ≤ count_of u (all_cards p)) → ((q : Board) → IsBoard q → Covers p (depth_in depths) q → Holds i (leaders_tricks q))
     → IsSound shape (record { firsts = f; interval = i })
 noted-sound owners counts p s shape depths f i valid start is same deep firsts within holds = record {
   within = λ q valid_q of u. subst (λ n. depth_in f.depths u ≤ n) (sym (counts p q valid valid_q (of ∙ shaped) u)) (subst (λ (d : FourDepths). depth_in d u ≤ count_of u (all_cards p)) (sym deep) (within u));
@@ -41,9 +41,9 @@ noted-sound owners counts p s shape depths f i valid start is same deep firsts w
 
 -- what is sound by first owners holds of each position that one with these owners covers
 pub told-holds : CoversByOwners → (p : Board) (s : Strings) (t : ToldOf) (depths : FourDepths) (i : Interval) → IsBoard p → p.trick ≡ [] → s ≡ strings_of p
-    → IsSound (shape_in s) t → AreFirst t.firsts s → t.firsts.depths ≡ depths → t.interval ≡ i → (q : Board) → IsBoard q → Covers p (depth_in depths) q → Holds i (lead q)
+    → IsSound (shape_in s) t → AreFirst t.firsts s → t.firsts.depths ≡ depths → t.interval ≡ i → (q : Board) → IsBoard q → Covers p (depth_in depths) q → Holds i (leaders_tricks q)
 told-holds owners p s t depths i valid start is sound are deep bounds q valid_q cover =
-    subst (λ (x : Interval). Holds x (lead q)) bounds
+    subst (λ (x : Interval). Holds x (leaders_tricks q)) bounds
     (sound.holds q valid_q cover.1.start_q (same.0 ∙ sym (ap shape_in is)) (λ u.
     ap (λ (d : FourDepths). string_in (strings_of q) u % 4 ^ depth_in d u) deep ∙ same.1 u
     ∙ ap₂ (λ (x : Strings) (d : FourDepths). string_in x u % 4 ^ depth_in d u) (sym is) (sym deep) ∙ are u))

@@ -3,7 +3,7 @@ use Rattle.std.specs.Prelude.{◌≡◌, ◌≤◌, List, [], Contains}
 use Rattle.dd_cards.specs.declared.suit.Suit.{Suit}
 use Rattle.dd_play.specs.Board.{Board, IsBoard}
 use Rattle.dd_play.specs.Covers.{count_of}
-use Rattle.dd_play.specs.Value.{lead}
+use Rattle.dd_play.specs.Value.{leaders_tricks}
 use Rattle.dd_play.specs.Intervals.{Holds}
 use Rattle.dd_play.specs.declared.interval.Interval.{Interval}
 use Rattle.dd_rank.specs.Depths.{all_cards, depth_in}
@@ -18,7 +18,7 @@ pub record ToldOf : Type 0 where
 -- Positions of the shape have so many cards, and the bounds hold of each that has these first owners.
 pub record IsSound (shape : ShapeOf) (told : ToldOf) : Type 0 where
   pub within : (q : Board) → IsBoard q → shape_of q ≡ shape → (u : Suit) → depth_in told.firsts.depths u ≤ count_of u (all_cards q)
-  pub holds : (q : Board) → IsBoard q → q.trick ≡ [] → shape_of q ≡ shape → AreFirst told.firsts (strings_of q) → Holds told.interval (lead q)
+  pub holds : (q : Board) → IsBoard q → q.trick ≡ [] → shape_of q ≡ shape → AreFirst told.firsts (strings_of q) → Holds told.interval (leaders_tricks q)
 
 -- bounds of one shape
 pub record PageOf : Type 0 where

@@ -3,7 +3,7 @@ ghost use Rattle.std.specs.Prelude.{◌≡◌, ◌<◌, ◌≤◌, ◌⊎◌, If
 ghost use Rattle.dd_cards.specs.declared.suit.Suit.{Suit as SuitOf};
 ghost use Rattle.dd_play.specs.Board.{Board, IsBoard};
 ghost use Rattle.dd_play.specs.Covers.{count_of};
-ghost use Rattle.dd_play.specs.Value.{lead};
+ghost use Rattle.dd_play.specs.Value.{leaders_tricks};
 ghost use Rattle.dd_play.specs.Intervals.{Holds};
 ghost use Rattle.dd_rank.specs.Depths.{all_cards, depth_in, Covers};
 ghost use Rattle.dd_rank.specs.FirstOwners.{AreFirst};
@@ -16,7 +16,7 @@ use crate::told::Told;
 use dd_cards::{Seat, Suit};
 use dd_play::{Interval, TrickStart};
 use dd_rank::{Depths, FirstOwners, OwnerStrings, Shape, alike_strings, covered_positions};
-use dd_search::{Bounds, Place, SettlingLeads};
+use dd_search::{Bounds, ProbeHint, LeadHistory};
 use std::alloc::{AllocError, Global};
 
 // The pages that there may be, and the places at which they are found: powers of two.
@@ -52,7 +52,7 @@ pub struct Cache<B> {
     of_shapes: Vec<u16>,
     of_outlines: Vec<u16>,
     // the number of the deal of which the last look was, from 1 on
-    deals: u16,
+    generation: u16,
     // the deal of which the last look was
     deal: Deal,
 }
@@ -114,10 +114,10 @@ impl<B> Cache<B> {
 
     // Leads of the deals before are known no more: by a new number, and where there is none left by clearing all places.
     fn forget_leads(&mut self) {
-        if self.deals < MOST_DEALS {
-            self.deals += 1;
+        if self.generation < MOST_DEALS {
+            self.generation += 1;
         } else {
-            self.deals = 1;
+            self.generation = 1;
             self.of_shapes.fill(0);
             self.of_outlines.fill(0);
         }
@@ -143,7 +143,7 @@ impl<B> Cache<B> {
     }
 
     // What settles the question of the position with these strings.
-    fn own(&self, strings: &OwnerStrings, first: Place, need: u8) -> Option<(Interval, Depths)>
+    fn own(&self, strings: &OwnerStrings, first: ProbeHint, need: u8) -> Option<(Interval, Depths)>
         ensures told { IfSome result (λ told. (t : ToldOf) × IsSound (shape_in strings.now) t
             × AreFirst t.firsts strings.now × (t.firsts.depths ≡ told.1) × (t.interval ≡ told.0)) }
         ensures settles { IfSome result (λ told. (need ≤ told.0.lo) ⊎ (told.0.hi < need)) }
@@ -151,13 +151,13 @@ impl<B> Cache<B> {
         // The proof reads here what it means that shapes are compared.
         alike_strings();
         let shape = strings.shape();
-        let brief = strings.brief();
+        let signature = strings.signature();
         let mut place = first;
         for _ in 0..MOST_PAGES {
             let at = self.ring_place(place.number)?;
             let head = self.heads.get(at)?;
             if place.is_tagged {
-                let likely = head.likely(brief);
+                let likely = head.likely(signature);
                 let page = self.pages.get(at)?;
                 if likely != 0 && page.shape() == shape {
                     if let Some(told) = page.settle(likely, strings, need) {
@@ -184,7 +184,7 @@ impl<B> Cache<B> {
         requires strings { strings.now ≡ strings_of start.now }
         requires within { (u : SuitOf) → depth_in depths u ≤ count_of u (all_cards start.now) }
         requires holds { (q : Board) → IsBoard q → Covers start.now (depth_in depths) q
-            → Holds interval (lead q) }
+            → Holds interval (leaders_tricks q) }
     {
         // The proof reads here that it is a start of a trick, and what a position covers.
         let _ = start.position();
@@ -197,8 +197,8 @@ impl<B> Cache<B> {
     fn keep(&mut self, shape: Shape, new: Told)
         requires { IsSound shape new }
     {
-        let mixed = shape.mixing_number();
-        let brief = new.firsts.brief();
+        let mixed = shape.hash_code();
+        let signature = new.firsts.signature();
         let Some(newest) = self.newest.get_mut(place(mixed)) else {
             return;
         };
@@ -209,7 +209,7 @@ impl<B> Cache<B> {
                 match page.keep(new) {
                     Ok(place) => {
                         if let Some(head) = self.heads.get_mut(at) {
-                            head.put(place, brief);
+                            head.put(place, signature);
                         }
                         return;
                     }
@@ -219,7 +219,7 @@ impl<B> Cache<B> {
             _ => new,
         };
         *newest = self.next;
-        self.add(Head::new(tag(mixed), number, brief), Page::new(shape, new));
+        self.add(Head::new(tag(mixed), number, signature), Page::new(shape, new));
     }
 
     // Puts a page into the ring: in the place of the oldest, where it is full.
@@ -242,7 +242,7 @@ impl<B> Cache<B> {
 impl<B: Bounds> Bounds for Cache<B> {
     // What it tells holds. What it still has depends on what came since.
     ghost tells = { λ cache p depths interval. (q : Board) → IsBoard q
-        → Covers p (depth_in depths) q → Holds interval (lead q) };
+        → Covers p (depth_in depths) q → Holds interval (leaders_tricks q) };
 
     ghost holds = { λ cache p depths interval q told. told q };
 
@@ -260,20 +260,20 @@ impl<B: Bounds> Bounds for Cache<B> {
         strings: &OwnerStrings,
         need: u8,
     ) -> Option<(Interval, Depths)> {
-        let place = self.place_of(strings.shape());
-        self.settle_at(start, strings, place, need)
+        let place = self.probe_hint(strings.shape());
+        self.settle_at(start, strings, hint, need)
     }
 
     /// Reads what of the newest page of the shape a look reads first.
     #[inline]
-    fn place_of(&self, shape: Shape) -> Place {
-        let mixed = shape.mixing_number();
+    fn probe_hint(&self, shape: Shape) -> ProbeHint {
+        let mixed = shape.hash_code();
         let number = match self.newest.get(place(mixed)) {
             Some(newest) => *newest,
             None => 0,
         };
         let tag = tag(mixed);
-        Place {
+        ProbeHint {
             number,
             tag,
             is_tagged: self.is_tagged(number, tag),
@@ -284,13 +284,13 @@ impl<B: Bounds> Bounds for Cache<B> {
         &mut self,
         start: &TrickStart,
         strings: &OwnerStrings,
-        place: Place,
+        hint: ProbeHint,
         need: u8,
     ) -> Option<(Interval, Depths)> {
         // The proof reads here that it is a start of a trick, and what a position covers.
         let _ = start.position();
         covered_positions();
-        match self.own(strings, place, need) {
+        match self.own(strings, hint, need) {
             Some(told) => Some(told),
             None => {
                 if !is_worth_sharing(start) {
@@ -314,16 +314,16 @@ impl<B: Bounds> Bounds for Cache<B> {
         }
     }
 
-    fn settling_leads(&self, strings: &OwnerStrings) -> SettlingLeads {
-        SettlingLeads {
-            of_shape: lead_at(&self.of_shapes, self.deals, strings.shape().mixing_number()),
-            of_outline: lead_at(&self.of_outlines, self.deals, strings.outline_number()),
+    fn lead_history(&self, strings: &OwnerStrings) -> LeadHistory {
+        LeadHistory {
+            of_shape: lead_at(&self.of_shapes, self.generation, strings.shape().hash_code()),
+            of_outline: lead_at(&self.of_outlines, self.generation, strings.outline_number()),
         }
     }
 
     fn note_lead(&mut self, strings: &OwnerStrings, lead: Suit) {
-        let entry = self.deals.wrapping_mul(4) | lead.code() as u16;
-        put_lead(&mut self.of_shapes, strings.shape().mixing_number(), entry);
+        let entry = self.generation.wrapping_mul(4) | lead.code() as u16;
+        put_lead(&mut self.of_shapes, strings.shape().hash_code(), entry);
         put_lead(&mut self.of_outlines, strings.outline_number(), entry);
     }
 
@@ -391,7 +391,7 @@ impl Deal {
     }
 }
 
-// Where the pages of a shape with this mixing number are found.
+// Where the pages of a shape with this hash are found.
 #[inline]
 fn place(mixed: u64) -> usize {
     (mixed >> 48) as usize

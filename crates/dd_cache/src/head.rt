@@ -1,6 +1,6 @@
 //! What is read of a page before the page itself.
 
-use dd_rank::{Brief, FirstBrief, FirstBriefs};
+use dd_rank::{Signature, FirstSignature, FirstSignatures};
 
 /// The head of a page. Heads stand together, apart from the pages: a look walks over many of them, and most pages it needn't
 /// read. A head only tells where to look: no answer rests on it.
@@ -11,7 +11,7 @@ pub(crate) struct Head {
     // the number of the page that was the newest of its place before
     before: u32,
     // what is seen at once of the page's bounds, by their places
-    briefs: FirstBriefs,
+    signatures: FirstSignatures,
     // nothing: with it a head has a line of the processor's cache for itself
     _rest_of_line: [u64; 3],
 }
@@ -19,13 +19,13 @@ pub(crate) struct Head {
 impl Head {
     /// The head of a page with one entry.
     #[inline]
-    pub(crate) fn new(tag: u32, before: u32, first: FirstBrief) -> Head {
-        let mut briefs = FirstBriefs::default();
-        briefs.put(0, first);
+    pub(crate) fn new(tag: u32, before: u32, first: FirstSignature) -> Head {
+        let mut signatures = FirstSignatures::default();
+        signatures.put(0, first);
         Head {
             tag,
             before,
-            briefs,
+            signatures,
             _rest_of_line: [0; 3],
         }
     }
@@ -42,15 +42,15 @@ impl Head {
         self.tag == tag
     }
 
-    /// The places of the page's bounds that may hold of a position of its shape with this brief: bit n for place n.
+    /// The places of the page's bounds that may hold of a position of its shape with this signature: bit n for place n.
     #[inline]
-    pub(crate) fn likely(&self, position: Brief) -> u64 {
-        self.briefs.may_be_in(position)
+    pub(crate) fn likely(&self, position: Signature) -> u64 {
+        self.signatures.may_be_in(position)
     }
 
-    /// Bounds with this brief stand at this place now.
+    /// Bounds with this signature stand at this place now.
     #[inline]
-    pub(crate) fn put(&mut self, place: usize, brief: FirstBrief) {
-        self.briefs.put(place, brief);
+    pub(crate) fn put(&mut self, place: usize, signature: FirstSignature) {
+        self.signatures.put(place, signature);
     }
 }

@@ -9,10 +9,10 @@ use Rattle.dd_cards.specs.Cards.{has_card}
 use Rattle.dd_cards.proofs.CallerLemmas.{and-left, and-right}
 use Rattle.dd_cards.specs.Sides.{is_side}
 use Rattle.dd_cards.specs.declared.side.Side.{Side}
-use Rattle.dd_play.specs.Board.{Board, IsBoard, mover, left}
+use Rattle.dd_play.specs.Board.{Board, IsBoard, mover, tricks_left}
 use Rattle.dd_play.specs.Play.{legal, after}
 use Rattle.dd_play.specs.Simulations.{IsLegal}
-use Rattle.dd_play.specs.Won.{point, won}
+use Rattle.dd_play.specs.Won.{trick_for, won}
 use Rattle.dd_play.specs.Claims.{Takes}
 use Rattle.dd_play.proofs.CallerLemmas.{card-real, every-card, filter-has, has-first, in-rest, own-card, won_with}
 use Rattle.dd_equal.specs.EqualCards.{are_equal, is_top, tops}
@@ -49,8 +49,8 @@ climb (suc n) side p c valid has h = go (list_any (λ d. are_equal p c d && nat_
         (t.0, t.1, t.2 ∙ equal-won side p c d.0 valid has d.1 (tells-equal p c d.0 valid (own-card p c has) (own-card p d.0 d.1) equal))
 
 -- where the other side is to play, the highest card of each class stands for the class
-pub every-class : (side : Side) (p : Board) (n : ℕ) → IsBoard p → is_side side (mover p) ≡ false → 1 ≤ left p
-    → ((c : PlayingCard) → has_card (tops p) c ≡ true → (m : ℕ) × Takes side (after p c) m × (n ≤ m + point side p c)) → Takes side p n
+pub every-class : (side : Side) (p : Board) (n : ℕ) → IsBoard p → is_side side (mover p) ≡ false → 1 ≤ tricks_left p
+    → ((c : PlayingCard) → has_card (tops p) c ≡ true → (m : ℕ) × Takes side (after p c) m × (n ≤ m + trick_for side p c)) → Takes side p n
 every-class side p n valid turn some each =
     every-card side p n valid turn some (λ c has.
     let t = climb 15 side p c valid has (omega arith) in

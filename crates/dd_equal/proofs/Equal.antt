@@ -12,7 +12,7 @@ use Rattle.dd_cards.specs.Cards.{is_of, same_card, has_card}
 use Rattle.dd_cards.specs.Seats.{seat_after, is_north_south}
 use Rattle.dd_cards.proofs.CallerLemmas.{and-left, and-right, not-true, or-false, same_card-eq}
 use Rattle.dd_cards.specs.declared.side.Side.TheVariants.{NorthSouth}
-use Rattle.dd_play.specs.Board.{Board, IsBoard, cards_at, mover, left}
+use Rattle.dd_play.specs.Board.{Board, IsBoard, cards_at, mover, tricks_left}
 use Rattle.dd_play.specs.Simulations.{IsLegal}
 use Rattle.dd_play.specs.Value.{score}
 use Rattle.dd_play.proofs.CallerLemmas.{of-suit', own-card, suit-of, won-north-south}
@@ -132,4 +132,4 @@ tells-equal p c d valid own_c own_d test =
 pub equal-score : (p : Board) (c d : PlayingCard) → IsBoard p → IsLegal p c → IsLegal p d → are_equal p c d ≡ true → score p d ≡ score p c
 equal-score p c d valid has has' test =
     let eq : AreEqual p c d = tells-equal p c d valid (own-card p c has) (own-card p d has') test in
-    ap (λ m. if is_north_south (mover p) then m else (left p - m)) (sym (won-north-south p d) ∙ equal-won NorthSouth p c d valid has has' eq ∙ won-north-south p c)
+    ap (λ m. if is_north_south (mover p) then m else (tricks_left p - m)) (sym (won-north-south p d) ∙ equal-won NorthSouth p c d valid has has' eq ∙ won-north-south p c)

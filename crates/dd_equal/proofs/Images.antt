@@ -14,7 +14,7 @@ use Rattle.dd_cards.specs.Seats.{seat_code, seat_after}
 use Rattle.dd_cards.proofs.CallerLemmas.{and-left, and-right, else-false}
 use Rattle.dd_cards.specs.Sides.{is_side}
 use Rattle.dd_cards.specs.declared.side.Side.{Side}
-use Rattle.dd_play.specs.Board.{Board, IsBoard, cards_at, mover, left}
+use Rattle.dd_play.specs.Board.{Board, IsBoard, cards_at, mover, tricks_left}
 use Rattle.dd_play.specs.Play.{legal}
 use Rattle.dd_play.specs.Simulations.{IsLegal}
 use Rattle.dd_play.specs.Covers.{ForMet, Keeps, IsOver, Answers, IsCover}
@@ -166,7 +166,7 @@ highest-of p c valid has = highest-from 15 p c valid has (omega arith)
 
 -- Where the other side is to play, the highest card of each class stands for the class, if a class of which it is a card that
 -- the claim rests on is so wholly.
-pub each-class-by : (top : PlayingCard → Bool) (s : Side) (p : Board) (n : ℕ) → IsUpward top → IsBoard p → is_side s (mover p) ≡ false → 1 ≤ left p
+pub each-class-by : (top : PlayingCard → Bool) (s : Side) (p : Board) (n : ℕ) → IsUpward top → IsBoard p → is_side s (mover p) ≡ false → 1 ≤ tricks_left p
     → ((t c : PlayingCard) → has_card (tops p) t ≡ true → IsLegal p c → AreEqual p t c → c.rank ≤ t.rank → top t ≡ true → top c ≡ true)
     → ((c : PlayingCard) → has_card (tops p) c ≡ true → IsWorth top s p c n) → TakesBy top s p n
 each-class-by top s p n up valid turn some whole each =
@@ -227,7 +227,7 @@ equal-tells p c d a = rw (of-suit' c.suit d a.suit, none) refl
     none = else-false _ (λ hit. let e = some-card (is_between c d) (other_cards p) hit in absurd (let z : false ≡ true = sym (not-apart c d e.0 (each e.0 e.1)) ∙ e.2 in cc))
 
 -- the law, in the words of the test
-pub each-class-whole : (top : PlayingCard → Bool) (s : Side) (p : Board) (n : ℕ) → IsUpward top → IsBoard p → is_side s (mover p) ≡ false → 1 ≤ left p
+pub each-class-whole : (top : PlayingCard → Bool) (s : Side) (p : Board) (n : ℕ) → IsUpward top → IsBoard p → is_side s (mover p) ≡ false → 1 ≤ tricks_left p
     → IsWhole top p → ((c : PlayingCard) → has_card (tops p) c ≡ true → IsWorth top s p c n) → TakesBy top s p n
 each-class-whole top s p n up valid turn some whole each =
     each-class-by top s p n up valid turn some (λ t c has legal eq low h. whole t c has legal (equal-tells p t c eq) h) each

@@ -6,11 +6,11 @@ ghost use Rattle.dd_cards.specs.Cards.{has_card};
 ghost use Rattle.dd_cards.specs.Masks.{in_mask};
 ghost use Rattle.dd_cards.specs.Sides.{is_side};
 ghost use Rattle.dd_cards.specs.declared.side.Side.{Side};
-ghost use Rattle.dd_play.specs.Board.{Board, IsBoard, mover, left};
+ghost use Rattle.dd_play.specs.Board.{Board, IsBoard, mover, tricks_left};
 ghost use Rattle.dd_play.specs.Play.{after};
 ghost use Rattle.dd_play.specs.Simulations.{IsLegal};
 ghost use Rattle.dd_play.specs.Value.{score};
-ghost use Rattle.dd_play.specs.Won.{point};
+ghost use Rattle.dd_play.specs.Won.{trick_for};
 ghost use Rattle.dd_play.specs.Claims.{Takes};
 ghost use Rattle.dd_play.specs.Reach.{IsUpward, TakesBy, IsWorth};
 ghost use Rattle.dd_equal.specs.EqualCards.{are_equal, tops, equals_of, classes_of, class_has, IsWhole};
@@ -36,16 +36,16 @@ pub fn classes_part_the_legal_cards()
 /// Where the other side is to play, it is enough that one card of each class, its highest, leaves the side as many.
 pub fn one_card_of_each_class()
     ensures { (side : Side) (p : Board) (n : ℕ) → IsBoard p → is_side side (mover p) ≡ false
-        → 1 ≤ left p
+        → 1 ≤ tricks_left p
         → ((c : PlayingCard) → has_card (tops p) c ≡ true → (m : ℕ) × Takes side (after p c) m
-        × (n ≤ m + point side p c))
+        × (n ≤ m + trick_for side p c))
         → Takes side p n }
 {}
 
 /// The same of claims that rest on high cards, if a class of which they rest on the highest card is among these cards wholly.
 pub fn one_card_of_each_class_by_high_cards()
     ensures { (top : PlayingCard → Bool) (side : Side) (p : Board) (n : ℕ) → IsUpward top
-        → IsBoard p → is_side side (mover p) ≡ false → 1 ≤ left p
+        → IsBoard p → is_side side (mover p) ≡ false → 1 ≤ tricks_left p
         → IsWhole top p → ((c : PlayingCard) → has_card (tops p) c ≡ true
         → IsWorth top side p c n) → TakesBy top side p n }
 {}

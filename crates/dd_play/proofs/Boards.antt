@@ -12,7 +12,7 @@ use Rattle.dd_cards.specs.Cards.{has_card, same_card, without}
 use Rattle.dd_cards.specs.Seats.{seat_code, next_seat, seat_after, is_north_south}
 use Rattle.dd_cards.specs.Hands.{FourHands, hand_of, with_hand, times, IsSet}
 use Rattle.dd_cards.specs.Ranks.{IsRank}
-use Rattle.dd_play.specs.Board.{Board, IsBoard, cards_at, cards_left, mover, left, times_in}
+use Rattle.dd_play.specs.Board.{Board, IsBoard, cards_at, cards_left, mover, tricks_left, times_in}
 use Rattle.dd_play.specs.Tricks.{winner_of}
 use Rattle.dd_play.specs.Play.{legal, completes, trick_with, hands_after, after}
 use Rattle.dd_cards.specs.Suits.{suit_code}
@@ -55,18 +55,18 @@ abbrev open_after : Board → PlayingCard → Board
 open_after p c = record { hands = hands_after p c; strain = p.strain; first = p.first; trick = trick_with p c }
 
 -- the next hand has as many cards as the mover had
-open-left : (p : Board) (c : PlayingCard) → IsBoard p → length p.trick < 3 → left (open_after p c) ≡ left p
+open-left : (p : Board) (c : PlayingCard) → IsBoard p → length p.trick < 3 → tricks_left (open_after p c) ≡ tricks_left p
 open-left p c valid short =
     let n : ℕ = length p.trick in
     let longer : length (p.trick ++ c ∷ []) ≡ n + 1 = length-append p.trick (c ∷ []) in
     let mine = after-code p.first n in
     let next = after-code p.first (n + 1) in
     let other : seat_code (seat_after p.first (n + 1)) ≢ seat_code (mover p) = omega (arith, mine, next) in
-    let even : length (cards_at p (seat_after p.first (n + 1))) + (if nat_lt (n + 1) n then 1 else 0) ≡ left p = valid.even (n + 1) (omega arith) in
+    let even : length (cards_at p (seat_after p.first (n + 1))) + (if nat_lt (n + 1) n then 1 else 0) ≡ tricks_left p = valid.even (n + 1) (omega arith) in
     let flag : nat_lt (n + 1) n ≡ false = le-ltb (n + 1) n (omega arith) in
     ap (λ k. length (hand_of (hands_after p c) (seat_after p.first k))) longer
     ∙ ap length (hand-other p.hands (mover p) (seat_after p.first (n + 1)) (without (cards_at p (mover p)) c) other)
-    ∙ (let e : length (cards_at p (seat_after p.first (n + 1))) + 0 ≡ left p = rw flag at even in omega (arith, e))
+    ∙ (let e : length (cards_at p (seat_after p.first (n + 1))) + 0 ≡ tricks_left p = rw flag at even in omega (arith, e))
 
 abbrev pub flag_of : Bool → ℕ
 flag_of b = (if b then 1 else 0)
@@ -80,12 +80,12 @@ pub same-flag : (k n m : ℕ) → m ≡ n + 1 → k ≢ n → nat_lt k m ≡ nat
 same-flag k n m e ne = grind (arith, nat_tests)
 
 -- the mover now counts among the hands that have played
-open-even : (p : Board) (c : PlayingCard) → IsBoard p → length p.trick < 3 → length (without (cards_at p (mover p)) c) + 1 ≡ left p → (k : ℕ) → k < 4
-    → length (cards_at (open_after p c) (seat_after p.first k)) + (if nat_lt k (length (trick_with p c)) then 1 else 0) ≡ left (open_after p c)
+open-even : (p : Board) (c : PlayingCard) → IsBoard p → length p.trick < 3 → length (without (cards_at p (mover p)) c) + 1 ≡ tricks_left p → (k : ℕ) → k < 4
+    → length (cards_at (open_after p c) (seat_after p.first k)) + (if nat_lt k (length (trick_with p c)) then 1 else 0) ≡ tricks_left (open_after p c)
 open-even p c valid short fewer k within =
     let n : ℕ = length p.trick in
     let longer : length (p.trick ++ c ∷ []) ≡ n + 1 = length-append p.trick (c ∷ []) in
-    let same_left : left (open_after p c) ≡ left p = open-left p c valid short in
+    let same_left : tricks_left (open_after p c) ≡ tricks_left p = open-left p c valid short in
     elim (eqb_tells k n) [
       | inl same ↦ (
           let hand : length (cards_at (open_after p c) (seat_after p.first k)) ≡ length (without (cards_at p (mover p)) c) =
@@ -99,7 +99,7 @@ open-even p c valid short fewer k within =
           let apart : seat_code (seat_after p.first k) ≢ seat_code (mover p) = omega (arith, mine, own, other.1) in
           let hand : length (cards_at (open_after p c) (seat_after p.first k)) ≡ length (cards_at p (seat_after p.first k)) = ap length (hand-other p.hands (mover p) (seat_after p.first k) (without (cards_at p (mover p)) c) apart) in
           let flag : flag_of (nat_lt k (length (trick_with p c))) ≡ flag_of (nat_lt k n) = ap flag_of (same-flag k n (length (trick_with p c)) longer other.1) in
-          let even : length (cards_at p (seat_after p.first k)) + (if nat_lt k n then 1 else 0) ≡ left p = valid.even k within in
+          let even : length (cards_at p (seat_after p.first k)) + (if nat_lt k n then 1 else 0) ≡ tricks_left p = valid.even k within in
           omega (arith, hand, flag, same_left, even)
           )
     ]
@@ -109,7 +109,7 @@ abbrev closed_after : Board → PlayingCard → Board
 closed_after p c = record { hands = hands_after p c; strain = p.strain; first = winner_of (trick_with p c) p.first p.strain; trick = [] }
 
 -- each hand has one card fewer than the mover had
-closed-length : (p : Board) (c : PlayingCard) → IsBoard p → length p.trick ≡ 3 → length (without (cards_at p (mover p)) c) + 1 ≡ left p → (s : Seat) → length (hand_of (hands_after p c) s) + 1 ≡ left p
+closed-length : (p : Board) (c : PlayingCard) → IsBoard p → length p.trick ≡ 3 → length (without (cards_at p (mover p)) c) + 1 ≡ tricks_left p → (s : Seat) → length (hand_of (hands_after p c) s) + 1 ≡ tricks_left p
 closed-length p c valid full fewer s =
     let a = code-lt p.first in
     let b = code-lt s in
@@ -129,15 +129,15 @@ closed-length p c valid full fewer s =
           let hand : length (hand_of (hands_after p c) s) ≡ length (cards_at p s) = ap length (hand-other p.hands (mover p) s (without (cards_at p (mover p)) c) other.1) in
           let early : k < length p.trick = omega (arith, mine, code, other.1, full) in
           let flag : flag_of (nat_lt k (length p.trick)) ≡ 1 = flag-true _ (lt-ltb k (length p.trick) early) in
-          let even : length (cards_at p (seat_after p.first k)) + (if nat_lt k (length p.trick) then 1 else 0) ≡ left p = valid.even k within in
+          let even : length (cards_at p (seat_after p.first k)) + (if nat_lt k (length p.trick) then 1 else 0) ≡ tricks_left p = valid.even k within in
           let seat : length (cards_at p (seat_after p.first k)) ≡ length (cards_at p s) = ap (λ t. length (cards_at p t)) here in
           omega (arith, hand, flag, even, seat)
           )
     ]
 
 -- with no card on the trick each hand has the same length
-closed-even : (p : Board) (c : PlayingCard) → IsBoard p → length p.trick ≡ 3 → length (without (cards_at p (mover p)) c) + 1 ≡ left p → (k : ℕ) → k < 4
-    → length (cards_at (closed_after p c) (seat_after (closed_after p c).first k)) + (if nat_lt k 0 then 1 else 0) ≡ left (closed_after p c)
+closed-even : (p : Board) (c : PlayingCard) → IsBoard p → length p.trick ≡ 3 → length (without (cards_at p (mover p)) c) + 1 ≡ tricks_left p → (k : ℕ) → k < 4
+    → length (cards_at (closed_after p c) (seat_after (closed_after p c).first k)) + (if nat_lt k 0 then 1 else 0) ≡ tricks_left (closed_after p c)
 closed-even p c valid full fewer k within =
     let one = closed-length p c valid full fewer (seat_after (closed_after p c).first k) in
     let two = closed-length p c valid full fewer (closed_after p c).first in
@@ -204,7 +204,7 @@ after-once p c valid own d = go (same_card c d) refl
         omega (arith, moved, push, k, gone, had, once)
 
 -- the mover has one card fewer
-pub fewer-cards : (p : Board) (c : PlayingCard) → IsBoard p → has_card (cards_at p (mover p)) c ≡ true → length (without (cards_at p (mover p)) c) + 1 ≡ left p
+pub fewer-cards : (p : Board) (c : PlayingCard) → IsBoard p → has_card (cards_at p (mover p)) c ≡ true → length (without (cards_at p (mover p)) c) + 1 ≡ tricks_left p
 fewer-cards p c valid own = length-without (cards_at p (mover p)) c (in_hands (mover p) refl) own
   where
     in_hands : (s : Seat) → s ≡ mover p → times (cards_at p (mover p)) c ≤ 1
@@ -238,7 +238,7 @@ push-real trick c real own d has = go (has_card trick d) (same_card c d) refl re
 -- a trick that is complete counts one trick less, and any other card leaves the number of tricks as it is
 pub record Follows (p q : Board) : Type 0 where
   pub valid : IsBoard q
-  pub tricks : left q + (if completes p then 1 else 0) ≡ left p
+  pub tricks : tricks_left q + (if completes p then 1 else 0) ≡ tricks_left p
 
 -- a legal card leads to a legal state of play
 pub legal-leads : (p : Board) (c : PlayingCard) → IsBoard p → has_card (legal p) c ≡ true → Follows p (after p c)
@@ -250,7 +250,7 @@ legal-leads p c valid has = go (completes p) refl
     go : (b : Bool) → completes p ≡ b → Follows p (after p c)
     go true e =
         let full : length p.trick ≡ 3 = eqb-true (length p.trick) 3 e in
-        let fewer : length (without (cards_at p (mover p)) c) + 1 ≡ left p = fewer-cards p c valid own in
+        let fewer : length (without (cards_at p (mover p)) c) + 1 ≡ tricks_left p = fewer-cards p c valid own in
         let one = closed-length p c valid full fewer (closed_after p c).first in
         let k : flag_of (completes p) ≡ 1 = ap flag_of e in
         let f : after p c ≡ closed_after p c = ap (λ b. cond b (closed_after p c) (open_after p c)) e in
@@ -269,8 +269,8 @@ legal-leads p c valid has = go (completes p) refl
         let not_full : (length p.trick ≡ 3) → ⊥ = (λ h. (let yes : completes p ≡ true = eq-eqb (length p.trick) 3 h in cc)) in
         let short' : length p.trick ≤ 3 = valid.short in
         let short : length p.trick < 3 = omega (arith, not_full, short') in
-        let fewer : length (without (cards_at p (mover p)) c) + 1 ≡ left p = fewer-cards p c valid own in
-        let same : left (open_after p c) ≡ left p = open-left p c valid short in
+        let fewer : length (without (cards_at p (mover p)) c) + 1 ≡ tricks_left p = fewer-cards p c valid own in
+        let same : tricks_left (open_after p c) ≡ tricks_left p = open-left p c valid short in
         let k : flag_of (completes p) ≡ 0 = ap flag_of e in
         let longer : length (p.trick ++ c ∷ []) ≡ length p.trick + 1 = length-append p.trick (c ∷ []) in
         let f : after p c ≡ open_after p c = ap (λ b. cond b (closed_after p c) (open_after p c)) e in
@@ -322,17 +322,17 @@ gain-le true false = omega arith
 gain-le false b = omega arith
 
 -- nor do they when fewer cards are looked ahead
-pub ns_within-le : (n : ℕ) (p : Board) → IsBoard p → ns_within n p ≤ left p
+pub ns_within-le : (n : ℕ) (p : Board) → IsBoard p → ns_within n p ≤ tricks_left p
 unfolding ns_within
 ns_within-le zero p valid = zero-le
 ns_within-le (suc n) p valid =
-    best-le (side_of (mover p)) (left p) (legal p) (λ c. gain p c + ns_within n (after p c)) (λ c has.
+    best-le (side_of (mover p)) (tricks_left p) (legal p) (λ c. gain p c + ns_within n (after p c)) (λ c has.
     let q : Follows p (after p c) = legal-leads p c valid has in
-    let ih : ns_within n (after p c) ≤ left (after p c) = ns_within-le n (after p c) q.valid in
+    let ih : ns_within n (after p c) ≤ tricks_left (after p c) = ns_within-le n (after p c) q.valid in
     let g : gain p c ≤ flag_of (completes p) = gain-le (completes p) (is_north_south (winner_of (trick_with p c) p.first p.strain)) in
-    let tricks : left (after p c) + flag_of (completes p) ≡ left p = q.tricks in
+    let tricks : tricks_left (after p c) + flag_of (completes p) ≡ tricks_left p = q.tricks in
     omega (arith, ih, g, tricks))
 
 -- North and South take at most the tricks that are left
-pub ns-le : (p : Board) → IsBoard p → ns p ≤ left p
+pub ns-le : (p : Board) → IsBoard p → ns p ≤ tricks_left p
 ns-le p valid = ns_within-le (cards_left p) p valid

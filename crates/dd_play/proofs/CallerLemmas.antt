@@ -135,7 +135,7 @@ pub use Rattle.dd_play.proofs.Twins.{twins-won}
 -- where the other side is to play, each of its cards has to leave the side as many
 pub use Rattle.dd_play.proofs.ClaimRules.{every-card}
 -- a completed trick is won by one of the two sides
-pub use Rattle.dd_play.proofs.ClaimRules.{one-point}
+pub use Rattle.dd_play.proofs.ClaimRules.{one-trick}
 -- the two sides take all that are left
 pub use Rattle.dd_play.proofs.ClaimRules.{all}
 -- the two sides claim no more together than is left
@@ -143,7 +143,7 @@ pub use Rattle.dd_play.proofs.ClaimRules.{both}
 -- where the claims of the two sides add up to all tricks, each takes what it claims
 pub use Rattle.dd_play.proofs.ClaimRules.{exactly}
 -- the leader's tricks are those of its side
-pub use Rattle.dd_play.proofs.ClaimRules.{lead-won}
+pub use Rattle.dd_play.proofs.ClaimRules.{leaders_tricks-won}
 -- ---- fewer top cards cover more positions, and play keeps the order within a hand
 -- two relations of cards that can meet on one trick hold together
 pub use Rattle.dd_play.proofs.Fewer.{met-both}

@@ -6,11 +6,11 @@ use Rattle.dd_cards.specs.Cards.{has_card}
 use Rattle.dd_cards.specs.Sides.{side_of, other_side, same_side, is_side}
 use Rattle.dd_cards.specs.declared.side.Side.{Side}
 use Rattle.dd_cards.specs.declared.side.Side.TheVariants.{NorthSouth, EastWest}
-use Rattle.dd_play.specs.Board.{Board, IsBoard, mover, left}
+use Rattle.dd_play.specs.Board.{Board, IsBoard, mover, tricks_left}
 use Rattle.dd_play.specs.Tricks.{winner_of}
 use Rattle.dd_play.specs.Play.{legal, completes, trick_with, after}
-use Rattle.dd_play.specs.Value.{ns, lead}
-use Rattle.dd_play.specs.Won.{won, point}
+use Rattle.dd_play.specs.Value.{ns, leaders_tricks}
+use Rattle.dd_play.specs.Won.{won, trick_for}
 use Rattle.dd_play.specs.Simulations.{IsLegal}
 use Rattle.dd_play.specs.Claims.{Takes}
 use Rattle.dd_play.proofs.Boards.{ns-le, has-first}
@@ -26,27 +26,27 @@ fewer side p n m h k = omega arith
 
 -- where the side is to play, one of its cards is enough
 pub one-card : (side : Side) (p : Board) (c : PlayingCard) (n : ℕ) → IsBoard p → is_side side (mover p) ≡ true
-    → IsLegal p c → Takes side (after p c) n → Takes side p (n + point side p c)
+    → IsLegal p c → Takes side (after p c) n → Takes side p (n + trick_for side p c)
 one-card side p c n valid turn has h = let reach = can side p c valid turn has in omega (arith, reach, h)
 
 -- where a trick is left there is a legal card
-pub some-legal : (p : Board) → 1 ≤ left p → (d : PlayingCard) × IsLegal p d
+pub some-legal : (p : Board) → 1 ≤ tricks_left p → (d : PlayingCard) × IsLegal p d
 some-legal p some = go (legal p) (no-legal p)
   where
-    go : (cards : List PlayingCard) → (cards ≡ [] → left p ≡ 0) → (d : PlayingCard) × (has_card cards d ≡ true)
+    go : (cards : List PlayingCard) → (cards ≡ [] → tricks_left p ≡ 0) → (d : PlayingCard) × (has_card cards d ≡ true)
     go [] no_card = absurd (let e = no_card refl in omega (arith, e, some))
     go (d ∷ cards) no_card = (d, has-first d cards)
 
 -- where the other side is to play, each of its cards has to leave the side as many
-pub every-card : (side : Side) (p : Board) (n : ℕ) → IsBoard p → is_side side (mover p) ≡ false → 1 ≤ left p
-    → ((c : PlayingCard) → IsLegal p c → (m : ℕ) × Takes side (after p c) m × (n ≤ m + point side p c)) → Takes side p n
+pub every-card : (side : Side) (p : Board) (n : ℕ) → IsBoard p → is_side side (mover p) ≡ false → 1 ≤ tricks_left p
+    → ((c : PlayingCard) → IsLegal p c → (m : ℕ) × Takes side (after p c) m × (n ≤ m + trick_for side p c)) → Takes side p n
 every-card side p n valid turn some each =
     let d = some-legal p some in
     least side p n valid turn d.0 d.1 (λ c has. (let k = each c has in let t = k.1 in let e = k.2 in omega (arith, t, e)))
 
 -- a completed trick is won by one of the two sides
-pub one-point : (side : Side) (p : Board) (c : PlayingCard) → point side p c + point (other_side side) p c ≡ (if completes p then 1 else 0)
-one-point side p c = go side (completes p) (side_of (winner_of (trick_with p c) p.first p.strain))
+pub one-trick : (side : Side) (p : Board) (c : PlayingCard) → trick_for side p c + trick_for (other_side side) p c ≡ (if completes p then 1 else 0)
+one-trick side p c = go side (completes p) (side_of (winner_of (trick_with p c) p.first p.strain))
   where
     go : (s : Side) (a : Bool) (winner : Side) → (if a && same_side winner s then 1 else 0) + (if a && same_side winner (other_side s) then 1 else 0) ≡ (if a then 1 else 0)
     go NorthSouth true NorthSouth = omega arith
@@ -57,30 +57,30 @@ one-point side p c = go side (completes p) (side_of (winner_of (trick_with p c) 
     go EastWest false winner = omega arith
 
 -- the two sides take all that are left
-pub all : (side : Side) (p : Board) → IsBoard p → won side p + won (other_side side) p ≡ left p
+pub all : (side : Side) (p : Board) → IsBoard p → won side p + won (other_side side) p ≡ tricks_left p
 all NorthSouth p valid = let h = ns-le p valid in omega (arith, h)
 all EastWest p valid = let h = ns-le p valid in omega (arith, h)
 
 -- so they claim no more together
-pub both : (side : Side) (p : Board) (n m : ℕ) → IsBoard p → Takes side p n → Takes (other_side side) p m → n + m ≤ left p
+pub both : (side : Side) (p : Board) (n m : ℕ) → IsBoard p → Takes side p n → Takes (other_side side) p m → n + m ≤ tricks_left p
 both side p n m valid h k = let e = all side p valid in omega (arith, h, k, e)
 
 -- and where their claims add up to all of them, they take no more
-pub exactly : (side : Side) (p : Board) (n m : ℕ) → IsBoard p → Takes side p n → Takes (other_side side) p m → n + m ≡ left p → won side p ≡ n
+pub exactly : (side : Side) (p : Board) (n m : ℕ) → IsBoard p → Takes side p n → Takes (other_side side) p m → n + m ≡ tricks_left p → won side p ≡ n
 exactly side p n m valid h k e = let s = all side p valid in omega (arith, h, k, e, s)
 
 -- the leader's tricks are those of its side
-pub lead-won : (p : Board) → lead p ≡ won (side_of p.first) p
-lead-won p = go (side_of p.first)
+pub leaders_tricks-won : (p : Board) → leaders_tricks p ≡ won (side_of p.first) p
+leaders_tricks-won p = go (side_of p.first)
   where
-    go : (side : Side) → (if same_side side NorthSouth then ns p else (left p - ns p)) ≡ won side p
+    go : (side : Side) → (if same_side side NorthSouth then ns p else (tricks_left p - ns p)) ≡ won side p
     go NorthSouth = refl
     go EastWest = refl
 
 -- bounds of the leader's tricks are a claim of each side
-pub bounds : (p : Board) (lo hi : ℕ) → IsBoard p → p.trick ≡ [] → ((lo ≤ lead p) × (lead p ≤ hi))
-    ↔ (Takes (side_of p.first) p lo × Takes (other_side (side_of p.first)) p (left p - hi))
+pub bounds : (p : Board) (lo hi : ℕ) → IsBoard p → p.trick ≡ [] → ((lo ≤ leaders_tricks p) × (leaders_tricks p ≤ hi))
+    ↔ (Takes (side_of p.first) p lo × Takes (other_side (side_of p.first)) p (tricks_left p - hi))
 bounds p lo hi valid start =
-    let e = lead-won p in
+    let e = leaders_tricks-won p in
     let s = all (side_of p.first) p valid in
     (λ h. (let a = h.0 in let b = h.1 in (omega (arith, a, e), omega (arith, b, e, s))), λ h. (let a = h.0 in let b = h.1 in (omega (arith, a, e), omega (arith, b, e, s))))

@@ -10,7 +10,7 @@ use Rattle.dd_cards.specs.PlayingCard.{PlayingCard}
 use Rattle.dd_cards.specs.Cards.{is_of, same_card, has_card, deck}
 use Rattle.dd_cards.specs.Hands.{times}
 use Rattle.dd_cards.proofs.CallerLemmas.{has_card-deck, length-deck, length-filter-le, real-set, times-cons}
-use Rattle.dd_play.specs.Board.{Board, IsBoard, cards_at, cards_left, mover, left}
+use Rattle.dd_play.specs.Board.{Board, IsBoard, cards_at, cards_left, mover, tricks_left}
 use Rattle.dd_play.specs.Tricks.{or_else}
 use Rattle.dd_play.specs.Play.{legal, following}
 use Rattle.dd_play.proofs.Values.{times-has}
@@ -88,7 +88,7 @@ flags (suc (suc (suc zero))) h = refl
 flags (suc (suc (suc (suc n)))) h = absurd (omega (arith, h))
 
 -- each trick that is left takes a card of each hand
-pub cards-tricks : (p : Board) → IsBoard p → cards_left p + length p.trick ≡ 4 * left p
+pub cards-tricks : (p : Board) → IsBoard p → cards_left p + length p.trick ≡ 4 * tricks_left p
 cards-tricks p valid =
     let seats = by-seats p in
     let played = flags (length p.trick) valid.short in
@@ -99,7 +99,7 @@ cards-tricks p valid =
     omega (arith, seats, played, a, b, c, d)
 
 -- at most thirteen tricks are left
-pub left-13 : (p : Board) → IsBoard p → left p ≤ 13
+pub left-13 : (p : Board) → IsBoard p → tricks_left p ≤ 13
 left-13 p valid = let all = board-52 p valid in let tricks = cards-tricks p valid in omega (arith, all, tricks)
 
 -- and at most thirteen cards may be played

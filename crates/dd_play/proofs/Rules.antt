@@ -7,13 +7,13 @@ use Rattle.dd_cards.proofs.CallerLemmas.{same_card-eq}
 use Rattle.dd_cards.specs.Sides.{side_of, same_side, is_side}
 use Rattle.dd_cards.specs.declared.side.Side.{Side}
 use Rattle.dd_cards.specs.declared.side.Side.TheVariants.{NorthSouth, EastWest}
-use Rattle.dd_play.specs.Board.{Board, IsBoard, cards_at, mover, left}
+use Rattle.dd_play.specs.Board.{Board, IsBoard, cards_at, mover, tricks_left}
 use Rattle.dd_play.specs.Tricks.{or_else, winner_of}
 use Rattle.dd_play.specs.Play.{legal, following, completes, trick_with, after}
 use Rattle.dd_play.specs.Value.{better, best, gain, ns, ns_with}
 use Rattle.dd_play.proofs.Values.{ns-legal}
 use Rattle.dd_play.proofs.Boards.{Follows, legal-leads, has-first, in-rest, best-le, ns-le, flag_of}
-use Rattle.dd_play.specs.Won.{won, point}
+use Rattle.dd_play.specs.Won.{won, trick_for}
 
 -- ---- the best of some numbers
 
@@ -80,26 +80,26 @@ best-under-max b cards f each = best-le NorthSouth b cards f each
 -- ---- what one card is worth to each side
 
 -- a trick that is completed is won by one side and not by the other
-point-sum : (a : Bool) (side : Side) → flag_of (a && same_side side EastWest) + flag_of (a && same_side side NorthSouth) ≡ flag_of a
-point-sum true NorthSouth = omega arith
-point-sum true EastWest = omega arith
-point-sum false side = omega arith
+trick-sum : (a : Bool) (side : Side) → flag_of (a && same_side side EastWest) + flag_of (a && same_side side NorthSouth) ≡ flag_of a
+trick-sum true NorthSouth = omega arith
+trick-sum true EastWest = omega arith
+trick-sum false side = omega arith
 
 -- what the side takes when c is played
 abbrev pub won_with : Side → Board → PlayingCard → ℕ
-won_with side p c = point side p c + won side (after p c)
+won_with side p c = trick_for side p c + won side (after p c)
 
 -- what North and South take when a card is played
 pub won-north-south : (p : Board) (c : PlayingCard) → won_with NorthSouth p c ≡ ns_with p c
 won-north-south p c = refl
 
 -- what the one side takes when a card is played, the other does not
-pub won-east-west : (p : Board) (c : PlayingCard) → IsBoard p → has_card (legal p) c ≡ true → (won_with EastWest p c + ns_with p c ≡ left p)
+pub won-east-west : (p : Board) (c : PlayingCard) → IsBoard p → has_card (legal p) c ≡ true → (won_with EastWest p c + ns_with p c ≡ tricks_left p)
 won-east-west p c valid has =
     let q : Follows p (after p c) = legal-leads p c valid has in
-    let tricks : left (after p c) + flag_of (completes p) ≡ left p = q.tricks in
-    let most : ns (after p c) ≤ left (after p c) = ns-le (after p c) q.valid in
-    let e : point EastWest p c + gain p c ≡ flag_of (completes p) = point-sum (completes p) (side_of (winner_of (trick_with p c) p.first p.strain)) in
+    let tricks : tricks_left (after p c) + flag_of (completes p) ≡ tricks_left p = q.tricks in
+    let most : ns (after p c) ≤ tricks_left (after p c) = ns-le (after p c) q.valid in
+    let e : trick_for EastWest p c + gain p c ≡ flag_of (completes p) = trick-sum (completes p) (side_of (winner_of (trick_with p c) p.first p.strain)) in
     omega (arith, tricks, most, e)
 
 -- where the side is to play, each legal card is within its reach
@@ -150,7 +150,7 @@ most side p b valid turn d some each = go side (side_of (mover p)) refl turn eac
         omega (arith, s, k)
     go EastWest EastWest e t each =
         let s : ns p ≡ best EastWest (map (ns_with p) (legal p)) = ns-legal p valid ∙ ap (λ b. best b (map (ns_with p) (legal p))) e in
-        let k : left p - b ≤ best EastWest (map (ns_with p) (legal p)) = best-over-min (left p - b) (legal p) (ns_with p) d some (λ c has. (let w = won-east-west p c valid has in let h = each c has in omega (arith, w, h))) in
+        let k : tricks_left p - b ≤ best EastWest (map (ns_with p) (legal p)) = best-over-min (tricks_left p - b) (legal p) (ns_with p) d some (λ c has. (let w = won-east-west p c valid has in let h = each c has in omega (arith, w, h))) in
         omega (arith, s, k)
     go NorthSouth EastWest e t each = absurd (cc)
     go EastWest NorthSouth e t each = absurd (cc)
@@ -169,12 +169,12 @@ least side p b valid turn d some each = go side (side_of (mover p)) refl turn ea
         omega (arith, s, k)
     go EastWest NorthSouth e t each =
         let s : ns p ≡ best NorthSouth (map (ns_with p) (legal p)) = ns-legal p valid ∙ ap (λ b. best b (map (ns_with p) (legal p))) e in
-        let few : b ≤ left p = (let h = each d some in let w = won-east-west p d valid some in omega (arith, h, w)) in
-        let k : best NorthSouth (map (ns_with p) (legal p)) ≤ left p - b = best-under-max (left p - b) (legal p) (ns_with p) (λ c has. (let w = won-east-west p c valid has in let h = each c has in omega (arith, w, h))) in
+        let few : b ≤ tricks_left p = (let h = each d some in let w = won-east-west p d valid some in omega (arith, h, w)) in
+        let k : best NorthSouth (map (ns_with p) (legal p)) ≤ tricks_left p - b = best-under-max (tricks_left p - b) (legal p) (ns_with p) (λ c has. (let w = won-east-west p c valid has in let h = each c has in omega (arith, w, h))) in
         omega (arith, s, k, few)
 
 -- with no legal card no trick is left
-pub no-legal : (p : Board) → legal p ≡ [] → left p ≡ 0
+pub no-legal : (p : Board) → legal p ≡ [] → tricks_left p ≡ 0
 no-legal p e = hand p.trick (cards_at p (mover p)) e
   where
     hand : (trick cards : List PlayingCard) → following trick cards ≡ [] → length cards ≡ 0
@@ -190,6 +190,6 @@ no-legal p e = hand p.trick (cards_at p (mover p)) e
 pub none : (side : Side) (p : Board) → IsBoard p → legal p ≡ [] → won side p ≡ 0
 none side p valid e = go side (ns-le p valid) (no-legal p e)
   where
-    go : (side : Side) → ns p ≤ left p → left p ≡ 0 → won side p ≡ 0
+    go : (side : Side) → ns p ≤ tricks_left p → tricks_left p ≡ 0 → won side p ≡ 0
     go NorthSouth h k = omega (arith, h, k)
     go EastWest h k = omega (arith, h, k)

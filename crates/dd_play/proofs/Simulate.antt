@@ -7,7 +7,7 @@ use Rattle.dd_cards.specs.declared.side.Side.{Side}
 use Rattle.dd_play.specs.Board.{Board, IsBoard, cards_left, mover}
 use Rattle.dd_play.specs.Play.{legal, after}
 use Rattle.dd_play.proofs.Boards.{has-first}
-use Rattle.dd_play.specs.Won.{won, point}
+use Rattle.dd_play.specs.Won.{won, trick_for}
 use Rattle.dd_play.specs.Simulations.{IsLegal, IsSimulation}
 use Rattle.dd_play.proofs.Rules.{won_with, can, bears, most, least, none}
 use Rattle.dd_play.proofs.Values.{cards_left-after}
@@ -30,7 +30,7 @@ step R sim s p t q r later = go (is_side s (mover p)) refl
         let a = sim.forth s p t q r e c has in
         let ih : won s (after p c) ≤ won t (after q a.0) = later c a.0 has a.3 in
         let reach : won_with t q a.0 ≤ won t q = can t q a.0 valid' (sim.turns s p t q r ∙ e) a.1 in
-        let gained : point s p c ≤ point t q a.0 = a.2 in
+        let gained : trick_for s p c ≤ trick_for t q a.0 = a.2 in
         omega (arith, ih, reach, gained))
 
     theirs : is_side s (mover p) ≡ false → (cards : List PlayingCard) → legal q ≡ cards → won s p ≤ won t q
@@ -40,7 +40,7 @@ step R sim s p t q r later = go (is_side s (mover p)) refl
         let a = sim.back s p t q r e d has in
         let ih : won s (after p a.0) ≤ won t (after q d) = later a.0 d a.1 a.3 in
         let reach : won s p ≤ won_with s p a.0 = bears s p a.0 valid e a.1 in
-        let gained : point s p a.0 ≤ point t q d = a.2 in
+        let gained : trick_for s p a.0 ≤ trick_for t q d = a.2 in
         omega (arith, ih, reach, gained))
 
     go : (b : Bool) → is_side s (mover p) ≡ b → won s p ≤ won t q

@@ -18,7 +18,7 @@ use Rattle.dd_play.specs.Tricks.{winner_of, winning_place}
 use Rattle.dd_play.specs.Play.{completes, trick_with, after}
 use Rattle.dd_play.proofs.Values.{times-has}
 use Rattle.dd_play.proofs.Boards.{flag_of, legal-leads}
-use Rattle.dd_play.specs.Won.{point}
+use Rattle.dd_play.specs.Won.{trick_for}
 use Rattle.dd_play.specs.Simulations.{IsLegal}
 use Rattle.dd_play.specs.Covers.{Keeps, IsOver, Answers, AllAnswer, count_of, IsCover, IsSettled}
 use Rattle.dd_play.proofs.Counts.{count, count-cons, count-some, count-has, count-without, inject}
@@ -171,7 +171,7 @@ over-own top c t u e = absurd (let k : true ≡ false = sym t ∙ u in cc)
 -- after a card and its answer the relation holds as before, and the two are worth the same
 pub record Step (top : PlayingCard → Bool) (k : ℕ) (to from : PlayingCard → PlayingCard) (s : Side) (p : Board) (t : Side) (q : Board) (c d : PlayingCard) : Type 0 where
   pub cover : IsCover top k to from s (after p c) t (after q d)
-  pub worth : point t q d ≡ point s p c
+  pub worth : trick_for t q d ≡ trick_for s p c
 
 -- a legal card and its legal answer keep the relation, where the winner of a trick that they complete is settled
 pub stepped : (top : PlayingCard → Bool) (k : ℕ) (to from : PlayingCard → PlayingCard) (s : Side) (p : Board) (t : Side) (q : Board) → IsCover top k to from s p t q
@@ -289,10 +289,10 @@ stepped top k to from s p t q r c d has has' m settled =
           ap (count_of u) (hand-others q d (seat_after x k) apart) ∙ r.lengths x u ∙ sym (ap (count_of u) (hand-others p c x e)))
     ]
 
-    worth : point t q d ≡ point s p c
+    worth : trick_for t q d ≡ trick_for s p c
     worth = go (completes p) refl
       where
-        go : (b : Bool) → completes p ≡ b → point t q d ≡ point s p c
+        go : (b : Bool) → completes p ≡ b → trick_for t q d ≡ trick_for s p c
         go true e =
             let w : is_side t (winner_of (trick_with q d) q.first q.strain) ≡ is_side s (winner_of (trick_with p c) p.first p.strain) = ap (is_side t) (winner e) ∙ r.sides (winner_of (trick_with p c) p.first p.strain) in
             ap₂ (λ a b. flag_of (a && b)) completed w

@@ -8,9 +8,9 @@ use Rattle.dd_cards.specs.Cards.{is_of, has_card, same_card}
 use Rattle.dd_cards.proofs.CallerLemmas.{and-left, and-right, same_card-eq}
 use Rattle.dd_cards.specs.Sides.{is_side}
 use Rattle.dd_cards.specs.declared.side.Side.{Side}
-use Rattle.dd_play.specs.Board.{Board, IsBoard, mover, left}
+use Rattle.dd_play.specs.Board.{Board, IsBoard, mover, tricks_left}
 use Rattle.dd_play.specs.Play.{after}
-use Rattle.dd_play.specs.Won.{won, point}
+use Rattle.dd_play.specs.Won.{won, trick_for}
 use Rattle.dd_play.specs.Simulations.{IsLegal}
 use Rattle.dd_play.specs.Claims.{Takes}
 use Rattle.dd_play.specs.Covers.{ForMet, IsOver, AllAnswer, IsCover, IsSettled}
@@ -45,11 +45,11 @@ by-more few many s p n within up takes k to from t q r strict =
 -- ---- what a card is worth
 
 -- a legal card is worth what is claimed after it, and the trick that it completes, if the winner is settled
-pub worth-after : (top : PlayingCard → Bool) (s : Side) (p : Board) (c : PlayingCard) (n : ℕ) → IsLegal p c → IsSettled top p c → TakesBy top s (after p c) n → IsWorth top s p c (n + point s p c)
+pub worth-after : (top : PlayingCard → Bool) (s : Side) (p : Board) (c : PlayingCard) (n : ℕ) → IsLegal p c → IsSettled top p c → TakesBy top s (after p c) n → IsWorth top s p c (n + trick_for s p c)
 worth-after top s p c n has settled takes k to from t q r strict d has' a =
     let g = stepped top k to from s p t q r c d has has' a settled in
     let later : n ≤ won t (after q d) = takes k to from t (after q d) g.cover (strict-after top to from p q c d r.valid_p r.valid_q strict) in
-    let w : point t q d ≡ point s p c = g.worth in
+    let w : trick_for t q d ≡ trick_for s p c = g.worth in
     omega (arith, later, w)
 
 -- and less
@@ -77,7 +77,7 @@ by-one top s p c n mine has worth k to from t q r strict =
     omega (arith, w, reaches)
 
 -- where the other side is to play, each of its cards has to be worth as many
-pub by-each : (top : PlayingCard → Bool) (s : Side) (p : Board) (n : ℕ) → is_side s (mover p) ≡ false → 1 ≤ left p → ((c : PlayingCard) → IsLegal p c → IsWorth top s p c n) → TakesBy top s p n
+pub by-each : (top : PlayingCard → Bool) (s : Side) (p : Board) (n : ℕ) → is_side s (mover p) ≡ false → 1 ≤ tricks_left p → ((c : PlayingCard) → IsLegal p c → IsWorth top s p c n) → TakesBy top s p n
 by-each top s p n theirs some each k to from t q r strict =
     let x = some-legal p some in
     let y = answer top k to from s p t q r x.0 x.1 in

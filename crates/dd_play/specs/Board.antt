@@ -28,8 +28,8 @@ abbrev pub mover : Board → Seat
 mover p = seat_after p.first (length p.trick)
 
 -- the tricks left, the current one included: the number of the mover's cards
-abbrev pub left : Board → ℕ
-left p = length (cards_at p (mover p))
+abbrev pub tricks_left : Board → ℕ
+tricks_left p = length (cards_at p (mover p))
 
 -- the cards in the four hands
 abbrev pub cards_left : Board → ℕ
@@ -45,7 +45,7 @@ NoneTwice p = (c : PlayingCard) → times_in p.hands c + times p.trick c ≤ 1
 
 -- each hand that has played to the trick holds one card fewer than the mover, and each other hand as many
 abbrev pub IsEven : Board → Type 0
-IsEven p = (k : ℕ) → k < 4 → length (cards_at p (seat_after p.first k)) + (if nat_lt k (length p.trick) then 1 else 0) ≡ left p
+IsEven p = (k : ℕ) → k < 4 → length (cards_at p (seat_after p.first k)) + (if nat_lt k (length p.trick) then 1 else 0) ≡ tricks_left p
 
 -- A legal state of play: four sets of cards and at most three cards on the trick, no card twice among them, and each
 -- hand that has played to the trick holds one card fewer than the others.

@@ -7,7 +7,7 @@ use Rattle.dd_cards.specs.Cards.{is_of, has_card}
 use Rattle.dd_cards.specs.declared.side.Side.{Side}
 use Rattle.dd_play.specs.Board.{Board, cards_at}
 use Rattle.dd_play.specs.Play.{after}
-use Rattle.dd_play.specs.Won.{won, point}
+use Rattle.dd_play.specs.Won.{won, trick_for}
 use Rattle.dd_play.specs.Simulations.{IsLegal}
 use Rattle.dd_play.specs.Covers.{Keeps, IsOver, Answers, IsCover}
 
@@ -32,4 +32,4 @@ TakesBy top s p n = (k : ℕ) (to from : PlayingCard → PlayingCard) (t : Side)
 -- and when c is played, or there a card that answers it
 abbrev pub IsWorth : (PlayingCard → Bool) → Side → Board → PlayingCard → ℕ → Type 0
 IsWorth top s p c n = (k : ℕ) (to from : PlayingCard → PlayingCard) (t : Side) (q : Board) → IsCover top k to from s p t q → IsStrict top to from p q
-    → (d : PlayingCard) → IsLegal q d → Answers to from top c d → n ≤ point t q d + won t (after q d)
+    → (d : PlayingCard) → IsLegal q d → Answers to from top c d → n ≤ trick_for t q d + won t (after q d)

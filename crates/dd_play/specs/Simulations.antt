@@ -6,7 +6,7 @@ use Rattle.dd_cards.specs.Sides.{is_side}
 use Rattle.dd_cards.specs.declared.side.Side.{Side}
 use Rattle.dd_play.specs.Board.{Board, IsBoard, mover}
 use Rattle.dd_play.specs.Play.{legal, after}
-use Rattle.dd_play.specs.Won.{point}
+use Rattle.dd_play.specs.Won.{trick_for}
 
 -- a legal card
 abbrev pub IsLegal : Board → PlayingCard → Type 0
@@ -19,6 +19,6 @@ pub record IsSimulation (R : Side → Board → Side → Board → Type 0) : Typ
   pub turns : (s : Side) (p : Board) (t : Side) (q : Board) → R s p t q → is_side t (mover q) ≡ is_side s (mover p)
   pub ends : (s : Side) (p : Board) (t : Side) (q : Board) → R s p t q → legal q ≡ [] → legal p ≡ []
   pub forth : (s : Side) (p : Board) (t : Side) (q : Board) → R s p t q → is_side s (mover p) ≡ true → (c : PlayingCard) → IsLegal p c
-      → (d : PlayingCard) × IsLegal q d × (point s p c ≤ point t q d) × R s (after p c) t (after q d)
+      → (d : PlayingCard) × IsLegal q d × (trick_for s p c ≤ trick_for t q d) × R s (after p c) t (after q d)
   pub back : (s : Side) (p : Board) (t : Side) (q : Board) → R s p t q → is_side s (mover p) ≡ false → (d : PlayingCard) → IsLegal q d
-      → (c : PlayingCard) × IsLegal p c × (point s p c ≤ point t q d) × R s (after p c) t (after q d)
+      → (c : PlayingCard) × IsLegal p c × (trick_for s p c ≤ trick_for t q d) × R s (after p c) t (after q d)

@@ -6,7 +6,7 @@ use Rattle.dd_cards.specs.Seats.{is_north_south}
 use Rattle.dd_cards.specs.Sides.{side_of}
 use Rattle.dd_cards.specs.declared.side.Side.{Side}
 use Rattle.dd_cards.specs.declared.side.Side.TheVariants.{NorthSouth, EastWest}
-use Rattle.dd_play.specs.Board.{Board, cards_left, left, mover}
+use Rattle.dd_play.specs.Board.{Board, cards_left, tricks_left, mover}
 use Rattle.dd_play.specs.Tricks.{winner_of}
 use Rattle.dd_play.specs.Play.{legal, completes, trick_with, after}
 
@@ -21,9 +21,9 @@ best side [] = 0
 best side (x ∷ xs) = fold (better side) x xs
 
 -- a trick that this seat won
-abbrev pub point_of : Option Seat → ℕ
-point_of None = 0
-point_of (Some seat) = (if is_north_south seat then 1 else 0)
+abbrev pub north_souths_trick : Option Seat → ℕ
+north_souths_trick None = 0
+north_souths_trick (Some seat) = (if is_north_south seat then 1 else 0)
 
 -- 1 where c completes a trick that North or South wins
 abbrev pub gain : Board → PlayingCard → ℕ
@@ -44,8 +44,8 @@ ns_with p c = gain p c + ns (after p c)
 
 -- the tricks that the side of the mover takes when c is played (DDS: the score of a card)
 abbrev pub score : Board → PlayingCard → ℕ
-score p c = (if is_north_south (mover p) then ns_with p c else (left p - ns_with p c))
+score p c = (if is_north_south (mover p) then ns_with p c else (tricks_left p - ns_with p c))
 
 -- at an empty trick, the tricks that the leader's side takes
-abbrev pub lead : Board → ℕ
-lead p = (if is_north_south p.first then ns p else (left p - ns p))
+abbrev pub leaders_tricks : Board → ℕ
+leaders_tricks p = (if is_north_south p.first then ns p else (tricks_left p - ns p))

@@ -7,13 +7,13 @@ ghost use Rattle.dd_cards.specs.Cards.{has_card};
 ghost use Rattle.dd_cards.specs.Ranks.{IsRank};
 ghost use Rattle.dd_cards.specs.Sides.{side_of, other_side, is_side};
 ghost use Rattle.dd_cards.specs.declared.side.Side.{Side};
-ghost use Rattle.dd_play.specs.Board.{Board, IsBoard, mover, left, cards_left};
+ghost use Rattle.dd_play.specs.Board.{Board, IsBoard, mover, tricks_left, cards_left};
 ghost use Rattle.dd_play.specs.Tricks.{winning_place};
 ghost use Rattle.dd_play.specs.Strength.{strongest_place};
 ghost use Rattle.dd_play.specs.Play.{legal, completes, after};
-ghost use Rattle.dd_play.specs.Value.{best, ns, ns_with, lead};
+ghost use Rattle.dd_play.specs.Value.{best, ns, ns_with, leaders_tricks};
 ghost use Rattle.dd_play.specs.Deals.{spades, hearts, deal};
-ghost use Rattle.dd_play.specs.Won.{won, point};
+ghost use Rattle.dd_play.specs.Won.{won, trick_for};
 ghost use Rattle.dd_play.specs.Simulations.{IsLegal};
 ghost use Rattle.dd_play.specs.Claims.{Takes};
 ghost use Rattle.dd_play.specs.Covers.{IsSettled};
@@ -32,12 +32,12 @@ pub fn value_by_play()
 pub fn play_keeps_positions()
     ensures { (p : Board) (c : PlayingCard) → IsBoard p → has_card (legal p) c ≡ true
         → IsBoard (after p c) × (cards_left (after p c) + 1 ≡ cards_left p)
-        × (left (after p c) + (if completes p then 1 else 0) ≡ left p) }
+        × (tricks_left (after p c) + (if completes p then 1 else 0) ≡ tricks_left p) }
 {}
 
 /// North and South take no more tricks than are left.
 pub fn value_within_tricks()
-    ensures { (p : Board) → IsBoard p → ns p ≤ left p }
+    ensures { (p : Board) → IsBoard p → ns p ≤ tricks_left p }
 {}
 
 /// The winner by the Laws stands at the place of the greatest strength.
@@ -52,7 +52,7 @@ pub fn winner_by_strength()
 /// `nothing`, `fewer`: no trick, and no more than are claimed already.
 /// `one_card`: where the side is to play, one card's claim is enough, with the trick that the card completes.
 /// `every_card`: where the other side is to play, each of its cards has to leave the side as many.
-/// `point`: a completed trick is won by one of the two sides.
+/// `trick_for`: a completed trick is won by one of the two sides.
 /// `both`, `all`, `exactly`: the two sides share the tricks that are left.
 /// `bounds`: at the start of a trick, bounds of the leader's tricks are a claim of each side.
 pub fn claims()
@@ -60,22 +60,22 @@ pub fn claims()
     ensures fewer { (side : Side) (p : Board) (n m : ℕ) → Takes side p n → m ≤ n → Takes side p m }
     ensures one_card { (side : Side) (p : Board) (c : PlayingCard) (n : ℕ) → IsBoard p
         → is_side side (mover p) ≡ true
-        → IsLegal p c → Takes side (after p c) n → Takes side p (n + point side p c) }
+        → IsLegal p c → Takes side (after p c) n → Takes side p (n + trick_for side p c) }
     ensures every_card { (side : Side) (p : Board) (n : ℕ) → IsBoard p
-        → is_side side (mover p) ≡ false → 1 ≤ left p
+        → is_side side (mover p) ≡ false → 1 ≤ tricks_left p
         → ((c : PlayingCard) → IsLegal p c → (m : ℕ) × Takes side (after p c) m
-        × (n ≤ m + point side p c)) → Takes side p n }
-    ensures point { (side : Side) (p : Board) (c : PlayingCard)
-        → point side p c + point (other_side side) p c ≡ (if completes p then 1 else 0) }
+        × (n ≤ m + trick_for side p c)) → Takes side p n }
+    ensures trick_for { (side : Side) (p : Board) (c : PlayingCard)
+        → trick_for side p c + trick_for (other_side side) p c ≡ (if completes p then 1 else 0) }
     ensures both { (side : Side) (p : Board) (n m : ℕ) → IsBoard p → Takes side p n
-        → Takes (other_side side) p m → n + m ≤ left p }
+        → Takes (other_side side) p m → n + m ≤ tricks_left p }
     ensures all { (side : Side) (p : Board) → IsBoard p
-        → won side p + won (other_side side) p ≡ left p }
+        → won side p + won (other_side side) p ≡ tricks_left p }
     ensures exactly { (side : Side) (p : Board) (n m : ℕ) → IsBoard p → Takes side p n
-        → Takes (other_side side) p m → n + m ≡ left p → won side p ≡ n }
-    ensures bounds { (p : Board) (lo hi : ℕ) → IsBoard p → p.trick ≡ [] → ((lo ≤ lead p)
-        × (lead p ≤ hi))
-        ↔ (Takes (side_of p.first) p lo × Takes (other_side (side_of p.first)) p (left p - hi)) }
+        → Takes (other_side side) p m → n + m ≡ tricks_left p → won side p ≡ n }
+    ensures bounds { (p : Board) (lo hi : ℕ) → IsBoard p → p.trick ≡ [] → ((lo ≤ leaders_tricks p)
+        × (leaders_tricks p ≤ hi))
+        ↔ (Takes (side_of p.first) p lo × Takes (other_side (side_of p.first)) p (tricks_left p - hi)) }
 {}
 
 /// Claims that rest on some cards and all higher ones alone, and so hold at each position that differs below them: the rules
@@ -101,11 +101,11 @@ pub fn claims_by_high_cards()
         → is_side side (mover p) ≡ true
         → IsLegal p c → IsWorth top side p c n → TakesBy top side p n }
     ensures every_card { (top : PlayingCard → Bool) (side : Side) (p : Board) (n : ℕ)
-        → is_side side (mover p) ≡ false → 1 ≤ left p
+        → is_side side (mover p) ≡ false → 1 ≤ tricks_left p
         → ((c : PlayingCard) → IsLegal p c → IsWorth top side p c n) → TakesBy top side p n }
     ensures after { (top : PlayingCard → Bool) (side : Side) (p : Board) (c : PlayingCard) (n : ℕ)
         → IsLegal p c → IsSettled top p c
-        → TakesBy top side (after p c) n → IsWorth top side p c (n + point side p c) }
+        → TakesBy top side (after p c) n → IsWorth top side p c (n + trick_for side p c) }
     ensures less { (top : PlayingCard → Bool) (side : Side) (p : Board) (c : PlayingCard) (n m : ℕ)
         → IsWorth top side p c n → m ≤ n → IsWorth top side p c m }
     ensures wider { (few many : PlayingCard
@@ -123,19 +123,19 @@ pub fn claims_by_high_cards()
 /// Deals whose value can be counted by hand: the ace takes its trick for the leader's side, and against it; a king
 /// before the ace and queen is caught, and behind them it is not; a low trump takes an ace.
 pub fn worked_deals()
-    ensures ace { lead (deal (spades (14 ∷ [])) (spades (13 ∷ [])) (spades (12 ∷ [])) (spades (11
+    ensures ace { leaders_tricks (deal (spades (14 ∷ [])) (spades (13 ∷ [])) (spades (12 ∷ [])) (spades (11
         ∷ []))
         Strain.Notrump Seat.North) ≡ 1 }
-    ensures king { lead (deal (spades (14 ∷ [])) (spades (13 ∷ [])) (spades (12 ∷ [])) (spades (11
+    ensures king { leaders_tricks (deal (spades (14 ∷ [])) (spades (13 ∷ [])) (spades (12 ∷ [])) (spades (11
         ∷ []))
         Strain.Notrump Seat.East) ≡ 0 }
-    ensures caught { lead (deal (spades (3 ∷ 2 ∷ [])) (spades (13 ∷ 4 ∷ [])) (spades (14 ∷ 12
+    ensures caught { leaders_tricks (deal (spades (3 ∷ 2 ∷ [])) (spades (13 ∷ 4 ∷ [])) (spades (14 ∷ 12
         ∷ [])) (spades (6 ∷ 5 ∷ []))
         Strain.Notrump Seat.North) ≡ 2 }
-    ensures safe { lead (deal (spades (3 ∷ 2 ∷ [])) (spades (6 ∷ 5 ∷ [])) (spades (14 ∷ 12
+    ensures safe { leaders_tricks (deal (spades (3 ∷ 2 ∷ [])) (spades (6 ∷ 5 ∷ [])) (spades (14 ∷ 12
         ∷ [])) (spades (13 ∷ 4 ∷ []))
         Strain.Notrump Seat.North) ≡ 1 }
-    ensures ruff { lead (deal (spades (14 ∷ [])) (hearts (2 ∷ [])) (spades (2 ∷ [])) (spades (3
+    ensures ruff { leaders_tricks (deal (spades (14 ∷ [])) (hearts (2 ∷ [])) (spades (2 ∷ [])) (spades (3
         ∷ []))
         (Strain.Trump Suit.Hearts) Seat.North) ≡ 0 }
 {}

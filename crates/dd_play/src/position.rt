@@ -5,7 +5,7 @@ ghost use Rattle.dd_cards.specs.Cards.{has_card, is_of};
 ghost use Rattle.dd_cards.specs.Ranks.{IsRank};
 ghost use Rattle.dd_cards.specs.Seats.{seat_after};
 ghost use Rattle.dd_cards.specs.Hands.{hand_of, times, AreHands};
-ghost use Rattle.dd_play.specs.Board.{board_of, IsBoard, mover, left, times_in};
+ghost use Rattle.dd_play.specs.Board.{board_of, IsBoard, mover, tricks_left, times_in};
 ghost use Rattle.dd_play.specs.Tricks.{winner_of};
 ghost use Rattle.dd_play.specs.Play.{legal, completes, trick_with, after, hands_after};
 ghost use Rattle.dd_play.specs.Covers.{IsSettled, count_of};
@@ -157,7 +157,7 @@ impl Position {
 
     /// The tricks left, the current one included: 0 to 13.
     pub fn tricks_left(&self) -> u8
-        ensures tricks { result ≡ left self.now }
+        ensures tricks { result ≡ tricks_left self.now }
         ensures bound { result ≤ 13 }
         ensures board { IsBoard self.now }
     {

@@ -35,20 +35,20 @@ use Rattle.dd_program.proofs.Runs.{faultless-runs}
 -- ---- the subcommand
 
 -- a line without a fault enters `solve`, with its rows
-enters : (words : List Text) (s : Solves words) → subcommand_of program_app words ≡ Some (codes "solve", solve_rows s.rest)
-enters words s = ap (subcommand_of program_app) s.line ∙ subcommand-rows s.program s.rest
+enters : (arguments : List Text) (s : Solves arguments) → subcommand_of program_app arguments ≡ Some (codes "solve", solve_rows s.rest)
+enters arguments s = ap (subcommand_of program_app) s.line ∙ subcommand-rows s.program s.rest
 
 -- the same of `serve`
-enters-serve : (words : List Text) (s : Serves words) → subcommand_of program_app words ≡ Some (codes "serve", serve_rows s.rest)
-enters-serve words s = ap (subcommand_of program_app) s.line ∙ serve-rows s.program s.rest
+enters-serve : (arguments : List Text) (s : Serves arguments) → subcommand_of program_app arguments ≡ Some (codes "serve", serve_rows s.rest)
+enters-serve arguments s = ap (subcommand_of program_app) s.line ∙ serve-rows s.program s.rest
 
 -- the parse has the rows of the line
-has-rows : (app : App) (words : List Text) (m : ArgMatches) → app ≡ program_app → HasMatchesOf app words m → subcommand_rows_of m ≡ subcommand_of program_app words
-has-rows app words m is matches = (subst (λ a. HasMatchesOf a words m) is matches refl).1
+has-rows : (app : App) (arguments : List Text) (m : ArgMatches) → app ≡ program_app → HasMatchesOf app arguments m → subcommand_rows_of m ≡ subcommand_of program_app arguments
+has-rows app arguments m is matches = (subst (λ a. HasMatchesOf a arguments m) is matches refl).1
 
 -- a line without a fault is one of `solve` or of `serve`
-line-free : (app : App) (words : List Text) → app ≡ program_app → fault_of app words ≡ [] → Solves words ⊎ Serves words
-line-free app words is free = line-of words (subst (λ a. fault_of a words ≡ []) is free)
+line-free : (app : App) (arguments : List Text) → app ≡ program_app → fault_of app arguments ≡ [] → Solves arguments ⊎ Serves arguments
+line-free app arguments is free = line-of arguments (subst (λ a. fault_of a arguments ≡ []) is free)
 
 -- two letters that differ
 apart : (a b : ℕ) → a ≡ 111 → b ≡ 101 → a ≡ b → ⊥
@@ -68,46 +68,46 @@ same-name : (m : ArgMatches) → subcommand_name_of m ≡ option_map (λ p. p.0)
 same-name m = first-part (out-ArgMatches m).subcommand (λ b. (out-SubCommand (box_value b)).name.now) (λ b. rows_of (found_of (out-SubCommand (box_value b)).matches))
 
 -- the parse of a line without a fault met `solve` or `serve`
-pub meets : (app : App) (words : List Text) (m : ArgMatches) → app ≡ program_app → fault_of app words ≡ [] → HasMatchesOf app words m
+pub meets : (app : App) (arguments : List Text) (m : ArgMatches) → app ≡ program_app → fault_of app arguments ≡ [] → HasMatchesOf app arguments m
     → (subcommand_name_of m ≡ Some (codes "solve")) ⊎ (subcommand_name_of m ≡ Some (codes "serve"))
-meets app words m is free matches = elim (line-free app words is free) [
-  | inl s ↦ inl (same-name m ∙ ap (option_map (λ p. p.0)) (has-rows app words m is matches ∙ enters words s))
-  | inr s ↦ inr (same-name m ∙ ap (option_map (λ p. p.0)) (has-rows app words m is matches ∙ enters-serve words s))
+meets app arguments m is free matches = elim (line-free app arguments is free) [
+  | inl s ↦ inl (same-name m ∙ ap (option_map (λ p. p.0)) (has-rows app arguments m is matches ∙ enters arguments s))
+  | inr s ↦ inr (same-name m ∙ ap (option_map (λ p. p.0)) (has-rows app arguments m is matches ∙ enters-serve arguments s))
 ]
 
 -- the name that the parse met, and its rows, are those of the line
-entered-is : (app : App) (words : List Text) (m : ArgMatches) (name : Text) (rows : List Row) (entered : Text × List Row) → app ≡ program_app → HasMatchesOf app words m
-    → subcommand_of program_app words ≡ Some entered → subcommand_name_of m ≡ Some name → Some rows ≡ option_map (λ p. p.1) (subcommand_rows_of m)
+entered-is : (app : App) (arguments : List Text) (m : ArgMatches) (name : Text) (rows : List Row) (entered : Text × List Row) → app ≡ program_app → HasMatchesOf app arguments m
+    → subcommand_of program_app arguments ≡ Some entered → subcommand_name_of m ≡ Some name → Some rows ≡ option_map (λ p. p.1) (subcommand_rows_of m)
     → (name ≡ entered.0) × (rows ≡ entered.1)
-entered-is app words m name rows entered is matches line named has =
-    let parse : subcommand_rows_of m ≡ Some entered = has-rows app words m is matches ∙ line in
+entered-is app arguments m name rows entered is matches line named has =
+    let parse : subcommand_rows_of m ≡ Some entered = has-rows app arguments m is matches ∙ line in
     let names : Some name ≡ Some entered.0 = sym named ∙ same-name m ∙ ap (option_map (λ p. p.0)) parse in
     let all-rows : Some rows ≡ Some entered.1 = has ∙ ap (option_map (λ p. p.1)) parse in
     (let e : name ≡ entered.0 = cc in e, let e : rows ≡ entered.1 = cc in e)
 
 -- the rows that the parse of a line of `solve` met are what the line asks for
-pub asked-rows : (app : App) (words : List Text) (m : ArgMatches) (rows : List Row) → app ≡ program_app → fault_of app words ≡ [] → HasMatchesOf app words m
-    → subcommand_name_of m ≡ Some (codes "solve") → Some rows ≡ option_map (λ p. p.1) (subcommand_rows_of m) → Asked words rows
-asked-rows app words m rows is free matches named has = elim (line-free app words is free) [
+pub asked-rows : (app : App) (arguments : List Text) (m : ArgMatches) (rows : List Row) → app ≡ program_app → fault_of app arguments ≡ [] → HasMatchesOf app arguments m
+    → subcommand_name_of m ≡ Some (codes "solve") → Some rows ≡ option_map (λ p. p.1) (subcommand_rows_of m) → Asked arguments rows
+asked-rows app arguments m rows is free matches named has = elim (line-free app arguments is free) [
   | inl s ↦
-      let met = entered-is app words m (codes "solve") rows (codes "solve", solve_rows s.rest) is matches (enters words s) named has in
-      subst (Asked words) (sym met.1) (asked-of s.program s.rest words _ s.line (faultless-runs s.rest [] s.faultless))
+      let met = entered-is app arguments m (codes "solve") rows (codes "solve", solve_rows s.rest) is matches (enters arguments s) named has in
+      subst (Asked arguments) (sym met.1) (asked-of s.program s.rest arguments _ s.line (faultless-runs s.rest [] s.faultless))
   | inr s ↦
-      let met = entered-is app words m (codes "solve") rows (codes "serve", serve_rows s.rest) is matches (enters-serve words s) named has in
+      let met = entered-is app arguments m (codes "solve") rows (codes "serve", serve_rows s.rest) is matches (enters-serve arguments s) named has in
       absurd (other-name met.0)
 ]
 
 -- the parse of a line of `serve` has the rows that the line has
-pub serve-has : (app : App) (words : List Text) (m : ArgMatches) (rows : List Row) → app ≡ program_app → fault_of app words ≡ [] → HasMatchesOf app words m
+pub serve-has : (app : App) (arguments : List Text) (m : ArgMatches) (rows : List Row) → app ≡ program_app → fault_of app arguments ≡ [] → HasMatchesOf app arguments m
     → subcommand_name_of m ≡ Some (codes "serve") → Some rows ≡ option_map (λ p. p.1) (subcommand_rows_of m)
-    → (fault_of program_app words ≡ []) × (subcommand_of program_app words ≡ Some (codes "serve", rows))
-serve-has app words m rows is free matches named has = elim (line-free app words is free) [
+    → (fault_of program_app arguments ≡ []) × (subcommand_of program_app arguments ≡ Some (codes "serve", rows))
+serve-has app arguments m rows is free matches named has = elim (line-free app arguments is free) [
   | inl s ↦
-      let met = entered-is app words m (codes "serve") rows (codes "solve", solve_rows s.rest) is matches (enters words s) named has in
+      let met = entered-is app arguments m (codes "serve") rows (codes "solve", solve_rows s.rest) is matches (enters arguments s) named has in
       absurd (other-name (sym met.0))
   | inr s ↦
-      let met = entered-is app words m (codes "serve") rows (codes "serve", serve_rows s.rest) is matches (enters-serve words s) named has in
-      (subst (λ a. fault_of a words ≡ []) is free, enters-serve words s ∙ ap (λ r. Some (codes "serve", r)) (sym met.1))
+      let met = entered-is app arguments m (codes "serve") rows (codes "serve", serve_rows s.rest) is matches (enters-serve arguments s) named has in
+      (subst (λ a. fault_of a arguments ≡ []) is free, enters-serve arguments s ∙ ap (λ r. Some (codes "serve", r)) (sym met.1))
 ]
 
 -- ---- the arguments
@@ -117,10 +117,10 @@ abbrev HasNumbersOf : List Row → Args → Type 0
 HasNumbersOf rows args = (entries : ℕ) × (number_of (codes "entries") rows ≡ Some entries) × (args ≡ Solve (number_of (codes "budget") rows) entries)
 
 -- arguments with the numbers of the rows are what the line asks for
-pub asks-args : (words : List Text) (rows : List Row) (args : Args) → Asked words rows → HasNumbersOf rows args → Asks words args
-asks-args words rows args asked has =
+pub asks-args : (arguments : List Text) (rows : List Row) (args : Args) → Asked arguments rows → HasNumbersOf rows args → Asks arguments args
+asks-args arguments rows args asked has =
     let table-is : has.0 ≡ unwrap_or asked.table 4096 = let same : Some has.0 ≡ Some (unwrap_or asked.table 4096) = sym has.1 ∙ asked.has_entries in cc in
-    subst (Asks words) (sym has.2) (asked.table, subst (λ b. AsksToSolve words b asked.table) (sym asked.has_budget) asked.asks, table-is)
+    subst (Asks arguments) (sym has.2) (asked.table, subst (λ b. AsksToSolve arguments b asked.table) (sym asked.has_budget) asked.asks, table-is)
 
 -- the default is a size of a table too
 table-in-range : (e : Option ℕ) → IfSome e IsTableSize → IsTableSize (unwrap_or e 4096)
@@ -128,15 +128,15 @@ table-in-range None fits = (omega arith, omega arith)
 table-in-range (Some entries) fits = fits
 
 -- arguments of the rows of `serve` are what the line asks for
-pub asks-serve : (words : List Text) (rows : List Row) (args : Args) → (fault_of program_app words ≡ []) × (subcommand_of program_app words ≡ Some (codes "serve", rows))
-    → AsksToServeBy rows args → Asks words args
-asks-serve words rows (Solve budget entries) line by = absurd by
-asks-serve words rows (Serve listen workers shards entries budget websocket allow_stop) line by = (rows, line.0, line.1, by)
+pub asks-serve : (arguments : List Text) (rows : List Row) (args : Args) → (fault_of program_app arguments ≡ []) × (subcommand_of program_app arguments ≡ Some (codes "serve", rows))
+    → AsksToServeBy rows args → Asks arguments args
+asks-serve arguments rows (Solve budget entries) line by = absurd by
+asks-serve arguments rows (Serve listen workers shards entries budget websocket allow_stop) line by = (rows, line.0, line.1, by)
 
 -- the numbers of a line that asks lie in their ranges
-pub in-range : (words : List Text) (args : Args) → Asks words args → IsInRange args
-in-range words (Solve budget entries) asks = (asks.1.budget_fits, subst IsTableSize (sym asks.2) (table-in-range asks.0 asks.1.entries_fit))
-in-range words (Serve listen workers shards entries budget websocket allow_stop) (rows, free, line, by) =
+pub in-range : (arguments : List Text) (args : Args) → Asks arguments args → IsInRange args
+in-range arguments (Solve budget entries) asks = (asks.1.budget_fits, subst IsTableSize (sym asks.2) (table-in-range asks.0 asks.1.entries_fit))
+in-range arguments (Serve listen workers shards entries budget websocket allow_stop) (rows, free, line, by) =
     let workers-fit = subst (λ n. (1 ≤ n) × (n ≤ MOST_WORKERS)) (sym by.1.2) (number-fits MOST_WORKERS 4 by.1.0 (omega arith) (omega arith)) in
     let shards-fit = subst (λ n. (1 ≤ n) × (n ≤ MOST_SHARDS)) (sym by.2.2) (number-fits MOST_SHARDS 16 by.2.0 (omega arith) (omega arith)) in
     let entries-fit = subst IsTableSize (sym by.3.2) (number-fits MOST_SHAPES 4096 by.3.0 (omega arith) (omega arith)) in
@@ -152,21 +152,21 @@ entered_rows None = []
 entered_rows (Some entered) = entered.1
 
 -- a line of `solve` is none of `serve`
-solve-only : (words : List Text) (b e : Option ℕ) (rows : List Row) → AsksToSolve words b e → subcommand_of program_app words ≡ Some (codes "serve", rows) → ⊥
-solve-only words b e rows asks line =
-    let solve = walked-line words b e asks in
-    let as-solve : subcommand_of program_app words ≡ Some (codes "solve", solve_rows solve.1) = ap (subcommand_of program_app) solve.2 ∙ subcommand-rows solve.0 solve.1 in
+solve-only : (arguments : List Text) (b e : Option ℕ) (rows : List Row) → AsksToSolve arguments b e → subcommand_of program_app arguments ≡ Some (codes "serve", rows) → ⊥
+solve-only arguments b e rows asks line =
+    let solve = walked-line arguments b e asks in
+    let as-solve : subcommand_of program_app arguments ≡ Some (codes "solve", solve_rows solve.1) = ap (subcommand_of program_app) solve.2 ∙ subcommand-rows solve.0 solve.1 in
     let both : codes "solve" ≡ codes "serve" = ap entered_name (sym as-solve ∙ line) in
     other-name both
 
 -- a line asks for one thing
-pub asks-one : (words : List Text) (args other : Args) → Asks words args → Asks words other → IsSame other args
-asks-one words (Solve b e) (Solve c f) asks also =
-    let same = one-meaning words b asks.0 c also.0 asks.1 also.1 in
+pub asks-one : (arguments : List Text) (args other : Args) → Asks arguments args → Asks arguments other → IsSame other args
+asks-one arguments (Solve b e) (Solve c f) asks also =
+    let same = one-meaning arguments b asks.0 c also.0 asks.1 also.1 in
     (λ i. Solve (sym same.0 i) ((also.2 ∙ sym same.1 ∙ sym asks.2) i))
-asks-one words (Solve b e) (Serve m x t f c j d) asks also = solve-only words b asks.0 also.0 asks.1 also.2
-asks-one words (Serve l w s e b k a) (Solve c f) asks also = solve-only words c also.0 asks.0 also.1 asks.2
-asks-one words (Serve l w s e b k a) (Serve m x t f c j d) (rows, free, line, by) (rows2, free2, line2, by2) =
+asks-one arguments (Solve b e) (Serve m x t f c j d) asks also = solve-only arguments b asks.0 also.0 asks.1 also.2
+asks-one arguments (Serve l w s e b k a) (Solve c f) asks also = solve-only arguments c also.0 asks.0 also.1 asks.2
+asks-one arguments (Serve l w s e b k a) (Serve m x t f c j d) (rows, free, line, by) (rows2, free2, line2, by2) =
     let same : rows2 ≡ rows = ap entered_rows (sym line2 ∙ line) in
     let also = subst (λ r. AsksToServeBy r (Serve m x t f c j d)) same by2 in (
       also.0 ∙ sym by.0,
@@ -194,7 +194,7 @@ any-front p (x ∷ xs) ys is = go (p x) is (any-front p xs ys)
     go true e more = refl
     go false e more = more e
 
--- the same, with words before it
+-- the same, with arguments before it
 any-back : (p : Text → Bool) (xs ys : List Text) → list_any p ys ≡ true → list_any p (xs ++ ys) ≡ true
 any-back p [] ys is = is
 any-back p (x ∷ xs) ys is = or-right (p x) (list_any p (xs ++ ys)) (any-back p xs ys is)
@@ -203,10 +203,10 @@ any-back p (x ∷ xs) ys is = or-right (p x) (list_any p (xs ++ ys)) (any-back p
 abbrev begins : Text → Text → Bool
 begins option word = bytes_eq (take (length option) word) option
 
--- words of a line that has those of both options
-in-line : (p : Text → Bool) (words : List Text) (b e : Option ℕ) (asks : AsksToSolve words b e)
-    → (list_any p asks.of_budget ≡ true) ⊎ (list_any p asks.of_entries ≡ true) → list_any p words ≡ true
-in-line p words b e asks has = elim asks.line [
+-- arguments of a line that has those of both options
+in-line : (p : Text → Bool) (arguments : List Text) (b e : Option ℕ) (asks : AsksToSolve arguments b e)
+    → (list_any p asks.of_budget ≡ true) ⊎ (list_any p asks.of_entries ≡ true) → list_any p arguments ≡ true
+in-line p arguments b e asks has = elim asks.line [
   | inl is ↦ subst (λ ws. list_any p ws ≡ true) (sym is) (or-right (p asks.program) _ (or-right (p (codes "solve")) _
       (any-front p (asks.of_budget ++ asks.of_entries) asks.end (either asks.of_budget asks.of_entries has))))
   | inr is ↦ subst (λ ws. list_any p ws ≡ true) (sym is) (or-right (p asks.program) _ (or-right (p (codes "solve")) _
@@ -221,7 +221,7 @@ in-line p words b e asks has = elim asks.line [
     turned (inl a) = inr a
     turned (inr b) = inl b
 
--- words that give a budget have one that begins with its name
+-- arguments that give a budget have one that begins with its name
 budget-stands : (number : ℕ) (ws : List Text) → GivesOption (codes "--budget") (Some number) ws → list_any (begins (codes "--budget")) ws ≡ true
 budget-stands number ws (text, writes, inl is) = ap (list_any (begins (codes "--budget"))) is
 budget-stands number ws (text, writes, inr is) = ap (list_any (begins (codes "--budget"))) is
@@ -232,16 +232,16 @@ entries-stand number ws (text, writes, inl is) = ap (list_any (begins (codes "--
 entries-stand number ws (text, writes, inr is) = ap (list_any (begins (codes "--entries"))) is
 
 -- a line without a word that begins with `--budget` gives none
-no-budget : (words : List Text) (b e : Option ℕ) → AsksToSolve words b e → IsLeftOut (codes "--budget") words → b ≡ None
-no-budget words None e asks out = refl
-no-budget words (Some number) e asks out =
-    absurd (true≢false (sym (in-line (begins (codes "--budget")) words (Some number) e asks (inl (budget-stands number asks.of_budget asks.gives_budget))) ∙ out))
+no-budget : (arguments : List Text) (b e : Option ℕ) → AsksToSolve arguments b e → IsLeftOut (codes "--budget") arguments → b ≡ None
+no-budget arguments None e asks out = refl
+no-budget arguments (Some number) e asks out =
+    absurd (true≢false (sym (in-line (begins (codes "--budget")) arguments (Some number) e asks (inl (budget-stands number asks.of_budget asks.gives_budget))) ∙ out))
 
 -- the same of `--entries`, where the default stands in
-no-entries : (words : List Text) (b e : Option ℕ) → AsksToSolve words b e → IsLeftOut (codes "--entries") words → unwrap_or e 4096 ≡ 4096
-no-entries words b None asks out = refl
-no-entries words b (Some number) asks out =
-    absurd (true≢false (sym (in-line (begins (codes "--entries")) words b (Some number) asks (inr (entries-stand number asks.of_entries asks.gives_entries))) ∙ out))
+no-entries : (arguments : List Text) (b e : Option ℕ) → AsksToSolve arguments b e → IsLeftOut (codes "--entries") arguments → unwrap_or e 4096 ≡ 4096
+no-entries arguments b None asks out = refl
+no-entries arguments b (Some number) asks out =
+    absurd (true≢false (sym (in-line (begins (codes "--entries")) arguments b (Some number) asks (inr (entries-stand number asks.of_entries asks.gives_entries))) ∙ out))
 
 -- the rules of `serve` avoid a short flag or a place for this option, and have no default for it
 serve-avoids : (o : Text) → bytes_eq (codes "help") o ≡ false → Avoids serve_rules o
@@ -307,58 +307,58 @@ word-other o word out = first (long_of word) refl
     first (Some (name, v)) e = second name v (long_of-is word name v e) (arg_by_long serve_rules name) refl
 
 -- the same of each word of a line
-words-other : (o : Text) (words : List Text) → list_any (begins (45 ∷ 45 ∷ o)) words ≡ false → Each (NamesOther serve_rules o) words
-words-other o [] out = tt
-words-other o (word ∷ rest) out =
+arguments-other : (o : Text) (arguments : List Text) → list_any (begins (45 ∷ 45 ∷ o)) arguments ≡ false → Each (NamesOther serve_rules o) arguments
+arguments-other o [] out = tt
+arguments-other o (word ∷ rest) out =
     let parts = neither (begins (45 ∷ 45 ∷ o) word) (list_any (begins (45 ∷ 45 ∷ o)) rest) out in
-    (word-other o word parts.0, words-other o rest parts.1)
+    (word-other o word parts.0, arguments-other o rest parts.1)
 
 -- an option that is left out has no row
-left-out : (words : List Text) (s : Serves words) (rows : List Row) (o : Text) → subcommand_of program_app words ≡ Some (codes "serve", rows) → bytes_eq (codes "help") o ≡ false
-    → Each (λ a. (bytes_eq a.id o ≡ false) ⊎ (a.defaults ≡ [])) serve_rules → IsLeftOut (45 ∷ 45 ∷ o) words → one_of o rows ≡ None
-left-out words s rows o line other none out =
-    let rows-are : rows ≡ serve_rows s.rest = ap entered_rows (sym line ∙ enters-serve words s) in
+left-out : (arguments : List Text) (s : Serves arguments) (rows : List Row) (o : Text) → subcommand_of program_app arguments ≡ Some (codes "serve", rows) → bytes_eq (codes "help") o ≡ false
+    → Each (λ a. (bytes_eq a.id o ≡ false) ⊎ (a.defaults ≡ [])) serve_rules → IsLeftOut (45 ∷ 45 ∷ o) arguments → one_of o rows ≡ None
+left-out arguments s rows o line other none out =
+    let rows-are : rows ≡ serve_rows s.rest = ap entered_rows (sym line ∙ enters-serve arguments s) in
     let from-line : list_any (begins (45 ∷ 45 ∷ o)) (s.program ∷ codes "serve" ∷ s.rest) ≡ false = subst (λ ws. list_any (begins (45 ∷ 45 ∷ o)) ws ≡ false) s.line out in
     let after-program = (neither (begins (45 ∷ 45 ∷ o) s.program) _ from-line).1 in
     let after-name = (neither (begins (45 ∷ 45 ∷ o) (codes "serve")) (list_any (begins (45 ∷ 45 ∷ o)) s.rest) after-program).1 in
-    let end = walk-clean serve_rules o (serve-avoids o other) s.rest (walk_from nothing_held) (words-other o s.rest after-name)
+    let end = walk-clean serve_rules o (serve-avoids o other) s.rest (walk_from nothing_held) (arguments-other o s.rest after-name)
     (record { goes_on = refl; lacks = (refl, tt); waits_other = tt }) in
     let lacks : has_row o (serve_rows s.rest) ≡ false = defaults-lack o serve_rules _ none (settled-lacks serve_rules o (fold (walked serve_rules []) (walk_from nothing_held) s.rest).held end.lacks) in
     no-row o rows (subst (λ r. has_row o r ≡ false) (sym rows-are) lacks)
 
 -- an option that is left out of a line that asks has its default
-pub has-defaults : (words : List Text) (args : Args) → Asks words args → HasDefaults words args
-has-defaults words (Solve budget entries) asks = (
-  no-budget words budget asks.0 asks.1,
-  λ out. asks.2 ∙ no-entries words budget asks.0 asks.1 out,
+pub has-defaults : (arguments : List Text) (args : Args) → Asks arguments args → HasDefaults arguments args
+has-defaults arguments (Solve budget entries) asks = (
+  no-budget arguments budget asks.0 asks.1,
+  λ out. asks.2 ∙ no-entries arguments budget asks.0 asks.1 out,
 )
-has-defaults words (Serve listen workers shards entries budget websocket allow_stop) (rows, free, line, by) = elim (line-of words free) [
-  | inl s ↦ absurd (other-name (ap entered_name (sym (enters words s) ∙ line)))
+has-defaults arguments (Serve listen workers shards entries budget websocket allow_stop) (rows, free, line, by) = elim (line-of arguments free) [
+  | inl s ↦ absurd (other-name (ap entered_name (sym (enters arguments s) ∙ line)))
   | inr s ↦ (
-    λ out. number-default (codes "workers") rows MOST_WORKERS 4 workers (left-out words s rows (codes "workers") line refl (inr refl, (inr refl, (inr refl, (inr refl, (inr refl, (inl refl, (inl refl, (inr refl, tt)))))))) out) by.1,
-    λ out. number-default (codes "shards") rows MOST_SHARDS 16 shards (left-out words s rows (codes "shards") line refl (inr refl, (inr refl, (inr refl, (inr refl, (inr refl, (inl refl, (inl refl, (inr refl, tt)))))))) out) by.2,
-    λ out. number-default (codes "entries") rows MOST_SHAPES 4096 entries (left-out words s rows (codes "entries") line refl (inr refl, (inr refl, (inr refl, (inr refl, (inr refl, (inl refl, (inl refl, (inr refl, tt)))))))) out) by.3,
-    λ out. by.4.2 ∙ ap budget_in (none-given 64 (one_of (codes "budget") rows) by.4.0 (left-out words s rows (codes "budget") line refl (inr refl, (inr refl, (inr refl, (inr refl, (inr refl, (inl refl, (inl refl, (inr refl, tt)))))))) out) by.4.1),
+    λ out. number-default (codes "workers") rows MOST_WORKERS 4 workers (left-out arguments s rows (codes "workers") line refl (inr refl, (inr refl, (inr refl, (inr refl, (inr refl, (inl refl, (inl refl, (inr refl, tt)))))))) out) by.1,
+    λ out. number-default (codes "shards") rows MOST_SHARDS 16 shards (left-out arguments s rows (codes "shards") line refl (inr refl, (inr refl, (inr refl, (inr refl, (inr refl, (inl refl, (inl refl, (inr refl, tt)))))))) out) by.2,
+    λ out. number-default (codes "entries") rows MOST_SHAPES 4096 entries (left-out arguments s rows (codes "entries") line refl (inr refl, (inr refl, (inr refl, (inr refl, (inr refl, (inl refl, (inl refl, (inr refl, tt)))))))) out) by.3,
+    λ out. by.4.2 ∙ ap budget_in (none-given 64 (one_of (codes "budget") rows) by.4.0 (left-out arguments s rows (codes "budget") line refl (inr refl, (inr refl, (inr refl, (inr refl, (inr refl, (inl refl, (inl refl, (inr refl, tt)))))))) out) by.4.1),
   )
 ]
 
 -- ---- what is refused
 
 -- a line that asks for something has no fault
-pub asks-free : (app : App) (words : List Text) (args : Args) → app ≡ program_app → Asks words args → fault_of app words ≡ []
-asks-free app words (Solve budget entries) is asks =
-    let line = walked-line words budget asks.0 asks.1 in
-    subst (λ a. fault_of a words ≡ []) (sym is) (subst (λ ws. fault_of program_app ws ≡ []) (sym line.2) (solves-free line.0 line.1 line.3.faultless))
-asks-free app words (Serve listen workers shards entries budget websocket allow_stop) is asks = subst (λ a. fault_of a words ≡ []) (sym is) asks.1
+pub asks-free : (app : App) (arguments : List Text) (args : Args) → app ≡ program_app → Asks arguments args → fault_of app arguments ≡ []
+asks-free app arguments (Solve budget entries) is asks =
+    let line = walked-line arguments budget asks.0 asks.1 in
+    subst (λ a. fault_of a arguments ≡ []) (sym is) (subst (λ ws. fault_of program_app ws ≡ []) (sym line.2) (solves-free line.0 line.1 line.3.faultless))
+asks-free app arguments (Serve listen workers shards entries budget websocket allow_stop) is asks = subst (λ a. fault_of a arguments ≡ []) (sym is) asks.1
 
 -- the parser's error says that memory ran out, or the line asks for nothing
 abbrev pub Refuses : List Text → Error → Type 0
-Refuses words error = (kind_of error ≡ OutOfMemory) ⊎ ((args : Args) → ¬ Asks words args)
+Refuses arguments error = (kind_of error ≡ OutOfMemory) ⊎ ((args : Args) → ¬ Asks arguments args)
 
 -- a fault is no fault of a line that asks
-pub refusal : (app : App) (words : List Text) (error : Error) → app ≡ program_app → HasKind (fault_of app words) error → Refuses words error
-refusal app words error is (inl memory) = inl memory
-refusal app words error is (inr among) = inr (λ args asks. subst (IsAmong (kind_of error)) (asks-free app words args is asks) among)
+pub refusal : (app : App) (arguments : List Text) (error : Error) → app ≡ program_app → HasKind (fault_of app arguments) error → Refuses arguments error
+refusal app arguments error is (inl memory) = inl memory
+refusal app arguments error is (inr among) = inr (λ args asks. subst (IsAmong (kind_of error)) (asks-free app arguments args is asks) among)
 
 -- two that are there are the same
 pub some-same : {a b : Text} → Some a ≡ Some b → a ≡ b

@@ -97,7 +97,7 @@ used-lacks o a values rows other e = by-action (action_of a) (values_or_missing 
     by-action HelpLong vs = e
     by-action Version vs = e
 
--- ---- what is held between two words
+-- ---- what is held between two arguments
 
 -- nothing of the option is held
 abbrev pub Lacks : Text → Held → Type 0
@@ -283,8 +283,8 @@ walked-clean c o avoids word w named clean = go w.stopped clean.goes_on
         after-clean c o avoids word w _ _ clean met.0 met.1
     go (Some p) is = cc
 
--- words of which none names the option leave nothing of it
-pub walk-clean : (c : List Rule) (o : Text) → Avoids c o → (words : List Text) (w : Walk) → Each (NamesOther c o) words → Clean o w → Clean o (fold (walked c []) w words)
+-- arguments of which none names the option leave nothing of it
+pub walk-clean : (c : List Rule) (o : Text) → Avoids c o → (arguments : List Text) (w : Walk) → Each (NamesOther c o) arguments → Clean o w → Clean o (fold (walked c []) w arguments)
 walk-clean c o avoids [] w named clean = clean
 walk-clean c o avoids (word ∷ rest) w named clean = walk-clean c o avoids rest (walked c [] w word) named.1 (walked-clean c o avoids word w named.0 clean)
 

@@ -1,4 +1,4 @@
--- A line of `solve`: the words of its options, and what they ask for.
+-- A line of `solve`: the arguments of its options, and what they ask for.
 use Rattle.std.proofs.Common.{◌≡◌, ◌∙◌, ◌⊎◌, ◌≤◌, ℕ, codes, refl, sym, ap, subst, inl, inr, arith, List, [], ◌∷◌, ◌++◌, append_assoc, Option, Some, None}
 use Rattle.std.specs.Prelude.{IfSome, IsSome, option_map, unwrap_or}
 use Rattle.clap.specs.Walk.{Row, Text, idle}
@@ -10,64 +10,64 @@ use Rattle.dd_program.proofs.Options.{IsFaultless, Opt, budget, entries, here, r
 use Rattle.dd_program.proofs.Runs.{ArePlain, IsEnd, Ran, Spells, Use, flag, flag_with, uses-run}
 use Rattle.dd_program.proofs.Given.{Led, Passes, budget-led, entries-led, options-of, use_of, with_defaults}
 
--- the words of an option with its text
+-- the arguments of an option with its text
 abbrev GivesText : Opt → Option Text → List Text → Type 0
-GivesText o None words = words ≡ []
-GivesText o (Some text) words = (words ≡ flag o ∷ text ∷ []) ⊎ (words ≡ flag_with (o, text) ∷ [])
+GivesText o None arguments = arguments ≡ []
+GivesText o (Some text) arguments = (arguments ≡ flag o ∷ text ∷ []) ⊎ (arguments ≡ flag_with (o, text) ∷ [])
 
--- ---- words and uses
+-- ---- arguments and uses
 
--- words that are a use and others begin with its words
-one-spelled : (o : Opt) (x : Option Text) (us : List Use) (end words : List Text) → Spells (use_of o x ++ us) end words
-    → (of_o : List Text) × (rest : List Text) × GivesText o x of_o × (words ≡ of_o ++ rest) × Spells us end rest
-one-spelled o None us end words spells = ([], words, refl, refl, spells)
-one-spelled o (Some text) us end words (rest, inl is, spells) = (flag o ∷ text ∷ [], rest, inl refl, is, spells)
-one-spelled o (Some text) us end words (rest, inr is, spells) = (flag_with (o, text) ∷ [], rest, inr refl, is, spells)
+-- arguments that are a use and others begin with its arguments
+one-spelled : (o : Opt) (x : Option Text) (us : List Use) (end arguments : List Text) → Spells (use_of o x ++ us) end arguments
+    → (of_o : List Text) × (rest : List Text) × GivesText o x of_o × (arguments ≡ of_o ++ rest) × Spells us end rest
+one-spelled o None us end arguments spells = ([], arguments, refl, refl, spells)
+one-spelled o (Some text) us end arguments (rest, inl is, spells) = (flag o ∷ text ∷ [], rest, inl refl, is, spells)
+one-spelled o (Some text) us end arguments (rest, inr is, spells) = (flag_with (o, text) ∷ [], rest, inr refl, is, spells)
 
--- words that are a use alone are its words
-last-spelled : (o : Opt) (x : Option Text) (end words : List Text) → Spells (use_of o x) end words
-    → (of_o : List Text) × GivesText o x of_o × (words ≡ of_o ++ end)
-last-spelled o None end words spells = ([], refl, spells)
-last-spelled o (Some text) end words (rest, inl is, spells) = (flag o ∷ text ∷ [], inl refl, is ∙ ap (λ r. flag o ∷ text ∷ r) spells)
-last-spelled o (Some text) end words (rest, inr is, spells) = (flag_with (o, text) ∷ [], inr refl, is ∙ ap (λ r. flag_with (o, text) ∷ r) spells)
+-- arguments that are a use alone are its arguments
+last-spelled : (o : Opt) (x : Option Text) (end arguments : List Text) → Spells (use_of o x) end arguments
+    → (of_o : List Text) × GivesText o x of_o × (arguments ≡ of_o ++ end)
+last-spelled o None end arguments spells = ([], refl, spells)
+last-spelled o (Some text) end arguments (rest, inl is, spells) = (flag o ∷ text ∷ [], inl refl, is ∙ ap (λ r. flag o ∷ text ∷ r) spells)
+last-spelled o (Some text) end arguments (rest, inr is, spells) = (flag_with (o, text) ∷ [], inr refl, is ∙ ap (λ r. flag_with (o, text) ∷ r) spells)
 
--- words that are two uses are the words of the one and then of the other
-both-spelled : (a b : Opt) (x y : Option Text) (end words : List Text) → Spells (use_of a x ++ use_of b y) end words
-    → (of_a : List Text) × (of_b : List Text) × GivesText a x of_a × GivesText b y of_b × (words ≡ of_a ++ of_b ++ end)
-both-spelled a b x y end words spells =
-    let front = one-spelled a x (use_of b y) end words spells in
+-- arguments that are two uses are the arguments of the one and then of the other
+both-spelled : (a b : Opt) (x y : Option Text) (end arguments : List Text) → Spells (use_of a x ++ use_of b y) end arguments
+    → (of_a : List Text) × (of_b : List Text) × GivesText a x of_a × GivesText b y of_b × (arguments ≡ of_a ++ of_b ++ end)
+both-spelled a b x y end arguments spells =
+    let front = one-spelled a x (use_of b y) end arguments spells in
     let back = last-spelled b y end front.1 front.4 in
     (front.0, back.0, front.2, back.1, front.3 ∙ ap (λ r. front.0 ++ r) back.2 ∙ sym (append_assoc front.0 back.0 end))
 
--- the words of a use before others are that use and the others
+-- the arguments of a use before others are that use and the others
 spells-one : (o : Opt) (x : Option Text) (us : List Use) (end of_o rest : List Text) → GivesText o x of_o → Spells us end rest → Spells (use_of o x ++ us) end (of_o ++ rest)
 spells-one o None us end of_o rest is spells = subst (λ ws. Spells us end (ws ++ rest)) (sym is) spells
 spells-one o (Some text) us end of_o rest (inl is) spells = (rest, inl (ap (λ ws. ws ++ rest) is), spells)
 spells-one o (Some text) us end of_o rest (inr is) spells = (rest, inr (ap (λ ws. ws ++ rest) is), spells)
 
--- the words of a use alone are that use
+-- the arguments of a use alone are that use
 spells-last : (o : Opt) (x : Option Text) (end of_o : List Text) → GivesText o x of_o → Spells (use_of o x) end (of_o ++ end)
 spells-last o None end of_o is = ap (λ ws. ws ++ end) is
 spells-last o (Some text) end of_o (inl is) = (end, inl (ap (λ ws. ws ++ end) is), refl)
 spells-last o (Some text) end of_o (inr is) = (end, inr (ap (λ ws. ws ++ end) is), refl)
 
--- the words of two uses are these two
+-- the arguments of two uses are these two
 spells-both : (a b : Opt) (x y : Option Text) (end of_a of_b : List Text) → GivesText a x of_a → GivesText b y of_b
     → Spells (use_of a x ++ use_of b y) end (of_a ++ of_b ++ end)
 spells-both a b x y end of_a of_b is-a is-b =
     subst (Spells (use_of a x ++ use_of b y) end) (sym (append_assoc of_a of_b end)) (spells-one a x (use_of b y) end of_a (of_b ++ end) is-a (spells-last b y end of_b is-b))
 
--- ---- words and numbers
+-- ---- arguments and numbers
 
--- the words of a budget with a text that passes give its number
-gives-budget : (x : Option Text) (words : List Text) → IfSome x (Passes budget) → GivesText budget x words → GivesOption (codes "--budget") (option_map value_of x) words
-gives-budget None words passes is = is
-gives-budget (Some text) words passes is = (text, (budget-accepted text passes).0, is)
+-- the arguments of a budget with a text that passes give its number
+gives-budget : (x : Option Text) (arguments : List Text) → IfSome x (Passes budget) → GivesText budget x arguments → GivesOption (codes "--budget") (option_map value_of x) arguments
+gives-budget None arguments passes is = is
+gives-budget (Some text) arguments passes is = (text, (budget-accepted text passes).0, is)
 
 -- the same of the entries
-gives-entries : (x : Option Text) (words : List Text) → IfSome x (Passes entries) → GivesText entries x words → GivesOption (codes "--entries") (option_map value_of x) words
-gives-entries None words passes is = is
-gives-entries (Some text) words passes is = (text, (table-accepted text passes).0, is)
+gives-entries : (x : Option Text) (arguments : List Text) → IfSome x (Passes entries) → GivesText entries x arguments → GivesOption (codes "--entries") (option_map value_of x) arguments
+gives-entries None arguments passes is = is
+gives-entries (Some text) arguments passes is = (text, (table-accepted text passes).0, is)
 
 -- a text that passes is a number in the range of a budget
 budget-in-range : (x : Option Text) → IfSome x (Passes budget) → IfSome (option_map value_of x) IsBudget
@@ -102,20 +102,20 @@ entries-value (Some text) = refl
 -- ---- what a line of uses asks for
 
 -- the line asks to solve, and the rows have the numbers that it asks for
-pub record Asked (words : List Text) (rows : List Row) : Type 0 where
+pub record Asked (arguments : List Text) (rows : List Row) : Type 0 where
   pub positions : Option ℕ
   pub table : Option ℕ
-  pub asks : AsksToSolve words positions table
+  pub asks : AsksToSolve arguments positions table
   pub has_budget : number_of (codes "budget") rows ≡ positions
   pub has_entries : number_of (codes "entries") rows ≡ Some (unwrap_or table 4096)
   pub numbers : HasNumbers rows
 
--- the words of the two options
+-- the arguments of the two options
 abbrev Parted : Option Text → Option Text → List Text → List Text → Type 0
 Parted b e end rest = (of_budget : List Text) × (of_entries : List Text) × GivesText budget b of_budget × GivesText entries e of_entries
     × ((rest ≡ of_budget ++ of_entries ++ end) ⊎ (rest ≡ of_entries ++ of_budget ++ end))
 
--- the words of uses are those of the two options, in one order or the other
+-- the arguments of uses are those of the two options, in one order or the other
 parted : (us : List Use) (b e : Option Text) (end rest : List Text) → Spells us end rest
     → (us ≡ use_of budget b ++ use_of entries e) ⊎ (us ≡ use_of entries e ++ use_of budget b) → Parted b e end rest
 parted us b e end rest spells (inl is) =
@@ -126,8 +126,8 @@ parted us b e end rest spells (inr is) =
     (parts.1, parts.0, parts.3, parts.2, inr parts.4)
 
 -- a line of uses that lead to the rows asks for what they have
-pub asked-of : (program : Text) (rest words : List Text) (rows : List Row) → words ≡ program ∷ codes "solve" ∷ rest → Ran [] None rest rows → Asked words (with_defaults rows)
-asked-of program rest words rows is ran =
+pub asked-of : (program : Text) (rest arguments : List Text) (rows : List Row) → arguments ≡ program ∷ codes "solve" ∷ rest → Ran [] None rest rows → Asked arguments (with_defaults rows)
+asked-of program rest arguments rows is ran =
     let given = options-of ran.uses rows ran.leads in
     let parts = parted ran.uses given.budget_text given.entries_text ran.end rest ran.spells given.order in
     record {
@@ -159,23 +159,23 @@ asked-of program rest words rows is ran =
 
 -- ---- a line that asks meets no fault
 
--- the words give the option by this text, of this number
-record Given (o : Opt) (number : Option ℕ) (words : List Text) : Type 0 where
+-- the arguments give the option by this text, of this number
+record Given (o : Opt) (number : Option ℕ) (arguments : List Text) : Type 0 where
   text : Option Text
   passes : IfSome text (Passes o)
-  gives : GivesText o text words
+  gives : GivesText o text arguments
   is : option_map value_of text ≡ number
 
 -- a budget that is given has a text of its number
-budget-given : (b : Option ℕ) (words : List Text) → IfSome b IsBudget → GivesOption (codes "--budget") b words → Given budget b words
-budget-given None words fits is = record { text = None; passes = tt; gives = is; is = refl }
-budget-given (Some number) words fits (text, writes, is) =
+budget-given : (b : Option ℕ) (arguments : List Text) → IfSome b IsBudget → GivesOption (codes "--budget") b arguments → Given budget b arguments
+budget-given None arguments fits is = record { text = None; passes = tt; gives = is; is = refl }
+budget-given (Some number) arguments fits (text, writes, is) =
     record { text = Some text; passes = budget-accepts text number writes fits; gives = is; is = ap Some writes.1 }
 
 -- the same of the entries
-entries-given : (e : Option ℕ) (words : List Text) → IfSome e IsTableSize → GivesOption (codes "--entries") e words → Given entries e words
-entries-given None words fits is = record { text = None; passes = tt; gives = is; is = refl }
-entries-given (Some number) words fits (text, writes, is) =
+entries-given : (e : Option ℕ) (arguments : List Text) → IfSome e IsTableSize → GivesOption (codes "--entries") e arguments → Given entries e arguments
+entries-given None arguments fits is = record { text = None; passes = tt; gives = is; is = refl }
+entries-given (Some number) arguments fits (text, writes, is) =
     record { text = Some text; passes = table-accepts text number writes fits; gives = is; is = ap Some writes.1 }
 
 -- a text that passes is no flag
@@ -190,13 +190,13 @@ plain-last o None passes = tt
 plain-last budget (Some text) passes = (numeral-plain text passes.0, tt)
 plain-last entries (Some text) passes = (numeral-plain text (table-accepted text passes).0.0, tt)
 
--- the walk over the words meets no fault, and its rows have these numbers
+-- the walk over the arguments meets no fault, and its rows have these numbers
 pub record Walked (rest : List Text) (b e : Option ℕ) : Type 0 where
   pub faultless : IsFaultless (here [] None idle) rest
   pub has_budget : number_of (codes "budget") (with_defaults (rows_at_end (here [] None idle) rest)) ≡ b
   pub has_entries : number_of (codes "entries") (with_defaults (rows_at_end (here [] None idle) rest)) ≡ Some (unwrap_or e 4096)
 
--- uses that lead to rows are words over which the walk has them
+-- uses that lead to rows are arguments over which the walk has them
 walked-of : (us : List Use) (rest end : List Text) (x y : Option Text) (b e : Option ℕ) → Led us x y → Spells us end rest → IsEnd end → ArePlain us
     → option_map value_of x ≡ b → option_map value_of y ≡ e → Walked rest b e
 walked-of us rest end x y b e led spells ends plain is-b is-e =
@@ -208,9 +208,9 @@ walked-of us rest end x y b e led spells ends plain is-b is-e =
           ∙ ap Some (entries-value y ∙ ap (λ n. unwrap_or n 4096) is-e);
     }
 
--- a line that asks is one of `solve`, and the walk over its words has what it asks for
-pub walked-line : (words : List Text) (b e : Option ℕ) → AsksToSolve words b e → (program : Text) × (rest : List Text) × (words ≡ program ∷ codes "solve" ∷ rest) × Walked rest b e
-walked-line words b e asks =
+-- a line that asks is one of `solve`, and the walk over its arguments has what it asks for
+pub walked-line : (arguments : List Text) (b e : Option ℕ) → AsksToSolve arguments b e → (program : Text) × (rest : List Text) × (arguments ≡ program ∷ codes "solve" ∷ rest) × Walked rest b e
+walked-line arguments b e asks =
     let for-b = budget-given b asks.of_budget asks.budget_fits asks.gives_budget in
     let for-e = entries-given e asks.of_entries asks.entries_fit asks.gives_entries in
     elim asks.line [
@@ -233,10 +233,10 @@ walked-line words b e asks =
     ]
 
 -- a line asks for one budget and one number of entries
-pub one-meaning : (words : List Text) (b e c f : Option ℕ) → AsksToSolve words b e → AsksToSolve words c f → (b ≡ c) × (unwrap_or e 4096 ≡ unwrap_or f 4096)
-one-meaning words b e c f one other =
-    let first = walked-line words b e one in
-    let second = walked-line words c f other in
+pub one-meaning : (arguments : List Text) (b e c f : Option ℕ) → AsksToSolve arguments b e → AsksToSolve arguments c f → (b ≡ c) × (unwrap_or e 4096 ≡ unwrap_or f 4096)
+one-meaning arguments b e c f one other =
+    let first = walked-line arguments b e one in
+    let second = walked-line arguments c f other in
     let same : second.1 ≡ first.1 = let lines = sym second.2 ∙ first.2 in cc in
     let again = subst (λ rest. Walked rest c f) same second.3 in
     let entries-are : Some (unwrap_or e 4096) ≡ Some (unwrap_or f 4096) = sym first.3.has_entries ∙ again.has_entries in

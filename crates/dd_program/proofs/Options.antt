@@ -1,4 +1,4 @@
--- The options of `solve`, and the places of a walk over its words.
+-- The options of `solve`, and the places of a walk over its arguments.
 use Rattle.std.proofs.Common.{◌≡◌, ◌⊎◌, Bool, codes, true, false, refl, sym, inl, inr, List, [], ◌∷◌, Option, None}
 use Rattle.std.specs.Prelude.{option_map, fold}
 use Rattle.std.specs.Str.{bytes_eq}
@@ -43,7 +43,7 @@ known_name name =
     go false is-b false is-e true is-h = inr (inl (sym ((bytes_eq-Decides (codes "help") name).0 is-h)))
     go false is-b false is-e false is-h = inr (inr (rw (is-b, is-e, is-h) refl))
 
--- what a walk holds between two words
+-- what a walk holds between two arguments
 abbrev pub held_rows : List Row → Option (Text × List Text) → Held
 held_rows rows pending = record { rows = rows; pending = pending; skip = 0 }
 
@@ -55,11 +55,11 @@ here rows pending waiting = record { held = held_rows rows pending; waiting = wa
 abbrev pub pending_of : Option (Opt × Text) → Option (Text × List Text)
 pending_of = option_map (λ p. (name_of p.0, p.1 ∷ []))
 
--- the walk from here over these words, and the use of what is pending then, meet no fault
+-- the walk from here over these arguments, and the use of what is pending then, meet no fault
 abbrev pub IsFaultless : Walk → List Text → Type 0
-IsFaultless w words =
-    (walk_fault solve_shape [] w words ≡ []) × (settle_fault solve_rules false (fold (walked solve_rules []) w words).held ≡ [])
+IsFaultless w arguments =
+    (walk_fault solve_shape [] w arguments ≡ []) × (settle_fault solve_rules false (fold (walked solve_rules []) w arguments).held ≡ [])
 
--- the rows at the end of the walk from here over these words
+-- the rows at the end of the walk from here over these arguments
 abbrev pub rows_at_end : Walk → List Text → List Row
-rows_at_end w words = (settled solve_rules (fold (walked solve_rules []) w words).held).rows
+rows_at_end w arguments = (settled solve_rules (fold (walked solve_rules []) w arguments).held).rows

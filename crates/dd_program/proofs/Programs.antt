@@ -1,4 +1,4 @@
--- The walk over the words of the program, of which the first names the subcommand.
+-- The walk over the arguments of the program, of which the first names the subcommand.
 use Rattle.std.proofs.Common.{◌≡◌, ◌∙◌, ◌⊎◌, ℕ, Bool, cond, codes, true, false, ◌==◌, ◌||◌, refl, sym, ap, subst, inl, inr, List, [], ◌∷◌, ◌++◌, append-nil, append_assoc, Option, Some, None, is_some}
 use Rattle.std.specs.Prelude.{fold, slice_get}
 use Rattle.std.specs.Option.{option_map_or}
@@ -32,7 +32,7 @@ program_shape = (built program_app).top
 abbrev names : Names
 names = names_of (built program_app)
 
--- a walk that stopped stays, and keeps the words that follow
+-- a walk that stopped stays, and keeps the arguments that follow
 stopped-walk : (w : Walk) (name : Text) (seen rest : List Text)
     → fold (walked program_rules names) (record w { stopped = Some (name, seen) }) rest ≡ record w { stopped = Some (name, seen ++ rest) }
 unfolding walked
@@ -126,11 +126,11 @@ solve_faults rest = level_fault solve_shape [] nothing_held rest false []
 abbrev pub solve_rows : List Text → List Row
 solve_rows rest = with_defaults (rows_at_end (here [] None idle) rest)
 
--- the words are the program's name, `solve` and words in which its walk meets no fault
-pub record Solves (words : List Text) : Type 0 where
+-- the arguments are the program's name, `solve` and arguments in which its walk meets no fault
+pub record Solves (arguments : List Text) : Type 0 where
   pub program : Text
   pub rest : List Text
-  pub line : words ≡ program ∷ codes "solve" ∷ rest
+  pub line : arguments ≡ program ∷ codes "solve" ∷ rest
   pub faultless : IsFaultless (here [] None idle) rest
 
 -- the parse of a line of `solve` enters it with its rows
@@ -152,11 +152,11 @@ serve_rules = (built_leaf (inherited program_app.top serve_app.top)).rules
 abbrev pub serve_rows : List Text → List Row
 serve_rows rest = rows_after serve_rules [] rest
 
--- the words are the program's name, `serve` and others
-pub record Serves (words : List Text) : Type 0 where
+-- the arguments are the program's name, `serve` and others
+pub record Serves (arguments : List Text) : Type 0 where
   pub program : Text
   pub rest : List Text
-  pub line : words ≡ program ∷ codes "serve" ∷ rest
+  pub line : arguments ≡ program ∷ codes "serve" ∷ rest
 
 -- the parse of a line of `serve` enters it with its rows
 pub serve-rows : (program : Text) (rest : List Text) → subcommand_of program_app (program ∷ codes "serve" ∷ rest) ≡ Some (codes "serve", serve_rows rest)
@@ -180,7 +180,7 @@ line-from program word [] (inr (inr is)) e = let bad = subst (λ w. fault_of pro
 line-from program word (x ∷ xs) (inr (inr is)) e = let bad = subst (λ w. fault_of program_app (program ∷ w ∷ x ∷ xs) ≡ []) is e in cc
 
 -- a line without a fault is one of `solve` or of `serve`
-pub line-of : (words : List Text) → fault_of program_app words ≡ [] → Solves words ⊎ Serves words
+pub line-of : (arguments : List Text) → fault_of program_app arguments ≡ [] → Solves arguments ⊎ Serves arguments
 unfolding clap_on_literals
 line-of [] e = cc
 line-of (program ∷ []) e = cc
@@ -228,14 +228,14 @@ solve-faultless rest free =
     let end = (fold (walked solve_rules []) (here [] None idle) rest).held in
     both-free _ _ free.0 (both-free _ _ free.1 (both-free _ [] (defaults-free (settled solve_rules end).rows) refl))
 
--- what comes after the walk over the program's words
+-- what comes after the walk over the program's arguments
 abbrev after_walk : Walk → Kinds
 after_walk w = or_else (entered_fault (built program_app) w.stopped)
     (or_else (settle_fault program_rules false w.held)
     (or_else (defaults_fault (settled program_rules w.held).rows program_rules)
     (check_fault program_shape (finished program_rules w.held) (is_some (entered (built program_app) w.stopped)))))
 
--- a line whose words for `solve` meet no fault has none
+-- a line whose arguments for `solve` meet no fault has none
 pub solves-free : (program : Text) (rest : List Text) → IsFaultless (here [] None idle) rest → fault_of program_app (program ∷ codes "solve" ∷ rest) ≡ []
 unfolding clap_on_literals
 solves-free program rest free =

@@ -1,4 +1,4 @@
--- The walk over all the words of `solve`.
+-- The walk over all the arguments of `solve`.
 use Rattle.std.specs.Prelude.{⊤}
 use Rattle.std.proofs.Common.{◌≡◌, ◌∙◌, ◌⊎◌, codes, false, refl, sym, ap, subst, inl, inr, List, [], ◌∷◌, Option, Some, None}
 use Rattle.clap.specs.Walk.{Row, Text, Walk, idle, option, settled, used, walked}
@@ -22,11 +22,11 @@ flag o = 45 ∷ 45 ∷ with_value (name_of o) None
 abbrev pub flag_with : Use → Text
 flag_with u = 45 ∷ 45 ∷ with_value (name_of u.0) (Some u.1)
 
--- the words are these uses, and then the end
+-- the arguments are these uses, and then the end
 abbrev pub Spells : List Use → List Text → List Text → Type 0
-Spells [] end words = words ≡ end
-Spells (u ∷ us) end words =
-    (rest : List Text) × ((words ≡ flag u.0 ∷ u.1 ∷ rest) ⊎ (words ≡ flag_with u ∷ rest)) × Spells us end rest
+Spells [] end arguments = arguments ≡ end
+Spells (u ∷ us) end arguments =
+    (rest : List Text) × ((arguments ≡ flag u.0 ∷ u.1 ∷ rest) ⊎ (arguments ≡ flag_with u ∷ rest)) × Spells us end rest
 
 -- nothing, or a last `--`
 abbrev pub IsEnd : List Text → Type 0
@@ -43,17 +43,17 @@ abbrev pub with_pending : Option Use → List Use → List Use
 with_pending None us = us
 with_pending (Some u) us = u ∷ us
 
--- the words are uses which lead from the rows, with a use pending, to the rows
-pub record Ran (rows : List Row) (pending : Option Use) (words : List Text) (out : List Row) : Type 0 where
+-- the arguments are uses which lead from the rows, with a use pending, to the rows
+pub record Ran (rows : List Row) (pending : Option Use) (arguments : List Text) (out : List Row) : Type 0 where
   pub uses : List Use
   pub end : List Text
-  pub spells : Spells uses end words
+  pub spells : Spells uses end arguments
   pub ends : IsEnd end
   pub leads : Leads rows (with_pending pending uses) out
 
 -- ---- one word more
 
--- the first of words without a fault has none
+-- the first of arguments without a fault has none
 faultless-turn : (w : Walk) (word : Text) (rest : List Text) → IsFaultless w (word ∷ rest) → turn_fault solve_shape [] w word ≡ []
 unfolding walk_fault
 faultless-turn w word rest free = first-free _ _ free.0
@@ -64,7 +64,7 @@ unfolding walk_fault
 faultless-rest w after word rest is free =
     subst (λ v. IsFaultless v rest) is (second-free (turn_fault solve_shape [] w word) (walk_fault solve_shape [] (walked solve_rules [] w word) rest) free.0, free.1)
 
--- the rows at the end are those after the rest of the words
+-- the rows at the end are those after the rest of the arguments
 same-end : (w after : Walk) (word : Text) (rest : List Text) → walked solve_rules [] w word ≡ after → rows_at_end after rest ≡ rows_at_end w (word ∷ rest)
 same-end w after word rest is = sym (ap (λ v. rows_at_end v rest) is)
 
@@ -75,17 +75,17 @@ settled-first rows None us out free leads = leads
 settled-first rows (Some (budget, text)) us out free leads = (free, leads)
 settled-first rows (Some (entries, text)) us out free leads = (free, leads)
 
--- ---- words without a fault are uses
+-- ---- arguments without a fault are uses
 
--- what words without a fault are, where no option waits
+-- what arguments without a fault are, where no option waits
 abbrev IdleRuns : List Text → Type 0
-IdleRuns words = (rows : List Row) (pending : Option Use) → IsFaultless (here rows (pending_of pending) idle) words
-    → Ran rows pending words (rows_at_end (here rows (pending_of pending) idle) words)
+IdleRuns arguments = (rows : List Row) (pending : Option Use) → IsFaultless (here rows (pending_of pending) idle) arguments
+    → Ran rows pending arguments (rows_at_end (here rows (pending_of pending) idle) arguments)
 
 -- and where one does
 abbrev WaitingRuns : List Text → Type 0
-WaitingRuns words = (rows : List Row) (o : Opt) → IsFaultless (here rows (Some (name_of o, [])) (option (name_of o))) words
-    → (text : Text) × (rest : List Text) × (words ≡ text ∷ rest) × Ran rows (Some (o, text)) rest (rows_at_end (here rows (Some (name_of o, [])) (option (name_of o))) words)
+WaitingRuns arguments = (rows : List Row) (o : Opt) → IsFaultless (here rows (Some (name_of o, [])) (option (name_of o))) arguments
+    → (text : Text) × (rest : List Text) × (arguments ≡ text ∷ rest) × Ran rows (Some (o, text)) rest (rows_at_end (here rows (Some (name_of o, [])) (option (name_of o))) arguments)
 
 -- no word at all
 idle-none : IdleRuns []
@@ -181,18 +181,18 @@ waiting-more word rest idle-rest rows o free = elim (waiting-form rows o word (f
       (word, rest, refl, subst (Ran rows (Some (o, word)) rest) (same-end _ _ word rest step) later)
 ]
 
--- words without a fault are uses, and maybe a last `--`
-runs : (words : List Text) → IdleRuns words × WaitingRuns words
+-- arguments without a fault are uses, and maybe a last `--`
+runs : (arguments : List Text) → IdleRuns arguments × WaitingRuns arguments
 runs [] = (idle-none, waiting-none)
 runs (word ∷ rest) =
     let later = runs rest in
     (idle-more word rest later.0 later.1, waiting-more word rest later.0)
 
--- so of all the words of `solve`
-pub faultless-runs : (words : List Text) (rows : List Row) → IsFaultless (here rows None idle) words → Ran rows None words (rows_at_end (here rows None idle) words)
-faultless-runs words rows free = (runs words).0 rows None free
+-- so of all the arguments of `solve`
+pub faultless-runs : (arguments : List Text) (rows : List Row) → IsFaultless (here rows None idle) arguments → Ran rows None arguments (rows_at_end (here rows None idle) arguments)
+faultless-runs arguments rows free = (runs arguments).0 rows None free
 
--- ---- uses that pass are words without a fault
+-- ---- uses that pass are arguments without a fault
 
 -- the text of each use is no flag
 abbrev pub ArePlain : List Use → Type 0
@@ -206,11 +206,11 @@ settled-back rows None us out leads = (refl, leads)
 settled-back rows (Some (budget, text)) us out leads = (leads.0, leads.1)
 settled-back rows (Some (entries, text)) us out leads = (leads.0, leads.1)
 
--- the words meet no fault, and lead to the rows
+-- the arguments meet no fault, and lead to the rows
 abbrev RunsTo : Walk → List Text → List Row → Type 0
-RunsTo w words out = IsFaultless w words × (rows_at_end w words ≡ out)
+RunsTo w arguments out = IsFaultless w arguments × (rows_at_end w arguments ≡ out)
 
--- a word without a fault before words without one
+-- a word without a fault before arguments without one
 one-more : (w after : Walk) (word : Text) (rest : List Text) (out : List Row) → turn_fault solve_shape [] w word ≡ [] → walked solve_rules [] w word ≡ after
     → RunsTo after rest out → RunsTo w (word ∷ rest) out
 unfolding walk_fault
@@ -222,7 +222,7 @@ one-more w after word rest out free is run =
 pub both-free : (a b : Kinds) → a ≡ [] → b ≡ [] → or_else a b ≡ []
 both-free a b is-a is-b = ap (λ k. or_else k b) is-a ∙ is-b
 
--- the end of the words meets no fault
+-- the end of the arguments meets no fault
 ended-runs : (end : List Text) (rows : List Row) (pending : Option Use) (out : List Row) → IsEnd end → Leads rows (with_pending pending []) out
     → RunsTo (here rows (pending_of pending) idle) end out
 unfolding clap_on_literals
@@ -231,12 +231,12 @@ ended-runs end rows pending out ends leads = elim ends [
   | inr is ↦ subst (λ e. RunsTo (here rows (pending_of pending) idle) e out) (sym is) (let back = settled-back rows pending [] out leads in ((refl, back.0), back.1))
 ]
 
--- the words of uses that pass meet no fault, and lead where the uses lead
-pub uses-run : (us : List Use) (words end : List Text) (rows : List Row) (pending : Option Use) (out : List Row) → Spells us end words → IsEnd end → ArePlain us
-    → Leads rows (with_pending pending us) out → RunsTo (here rows (pending_of pending) idle) words out
-uses-run [] words end rows pending out spells ends are-plain leads =
+-- the arguments of uses that pass meet no fault, and lead where the uses lead
+pub uses-run : (us : List Use) (arguments end : List Text) (rows : List Row) (pending : Option Use) (out : List Row) → Spells us end arguments → IsEnd end → ArePlain us
+    → Leads rows (with_pending pending us) out → RunsTo (here rows (pending_of pending) idle) arguments out
+uses-run [] arguments end rows pending out spells ends are-plain leads =
     subst (λ ws. RunsTo (here rows (pending_of pending) idle) ws out) (sym spells) (ended-runs end rows pending out ends leads)
-uses-run ((o, text) ∷ us) words end rows pending out spells ends are-plain leads =
+uses-run ((o, text) ∷ us) arguments end rows pending out spells ends are-plain leads =
     let now = (settled solve_rules (held_rows rows (pending_of pending))).rows in
     let back = settled-back rows pending ((o, text) ∷ us) out leads in
     elim spells.1 [

@@ -156,7 +156,7 @@ waiting-form rows o word e = go (bytes_eq word (codes "--")) refl (long_of word)
         let plain-word = waiting-plain rows o word (short_of word) (rw met at free) in
         inr (rw (is, met) (ap (λ (m : Held × Step). after_step solve_rules word (here rows (Some (name_of o, [])) (option (name_of o))) m.0 m.1) plain-word))
 
--- ---- what the walk makes of the words
+-- ---- what the walk makes of the arguments
 
 -- an option with its text in one word
 pub joined-walked : (rows : List Row) (pending : Option (Text × List Text)) (o : Opt) (text : Text)

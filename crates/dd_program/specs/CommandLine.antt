@@ -18,11 +18,11 @@ Text = List ℕ
 abbrev pub IsNumberText : Text → ℕ → Type 0
 IsNumberText text number = IsNumeral 10 (without_leading_plus text) × (digits_value 10 (without_leading_plus text) ≡ number)
 
--- The words give the option this number, as `--option N` or as `--option=N`; no word gives it none.
+-- The arguments give the option this number, as `--option N` or as `--option=N`; no word gives it none.
 abbrev pub GivesOption : Text → Option ℕ → List Text → Type 0
-GivesOption option None words = words ≡ []
-GivesOption option (Some number) words =
-    (text : Text) × IsNumberText text number × ((words ≡ option ∷ text ∷ []) ⊎ (words ≡ (option ++ codes "=" ++ text) ∷ []))
+GivesOption option None arguments = arguments ≡ []
+GivesOption option (Some number) arguments =
+    (text : Text) × IsNumberText text number × ((arguments ≡ option ∷ text ∷ []) ⊎ (arguments ≡ (option ++ codes "=" ++ text) ∷ []))
 
 -- a budget is at most 1,000,000,000,000 positions
 abbrev pub IsBudget : ℕ → Type 0
@@ -33,12 +33,12 @@ abbrev pub IsTableSize : ℕ → Type 0
 IsTableSize entries = (1 ≤ entries) × (entries ≤ MOST_SHAPES)
 
 -- The line is the program's name, `solve`, the options that are given, each once and in either order, and maybe `--`.
-pub record AsksToSolve (words : List Text) (budget entries : Option ℕ) : Type 0 where
+pub record AsksToSolve (arguments : List Text) (budget entries : Option ℕ) : Type 0 where
   pub program : Text
   pub of_budget : List Text
   pub of_entries : List Text
   pub end : List Text
-  pub line : (words ≡ program ∷ codes "solve" ∷ (of_budget ++ of_entries ++ end)) ⊎ (words ≡ program ∷ codes "solve" ∷ (of_entries ++ of_budget ++ end))
+  pub line : (arguments ≡ program ∷ codes "solve" ∷ (of_budget ++ of_entries ++ end)) ⊎ (arguments ≡ program ∷ codes "solve" ∷ (of_entries ++ of_budget ++ end))
   pub gives_budget : GivesOption (codes "--budget") budget of_budget
   pub gives_entries : GivesOption (codes "--entries") entries of_entries
   pub ends : (end ≡ []) ⊎ (end ≡ codes "--" ∷ [])
@@ -47,8 +47,8 @@ pub record AsksToSolve (words : List Text) (budget entries : Option ℕ) : Type 
 
 -- The line asks for this. Without `--budget` there is no limit, and without `--entries` there are 4,096 of them.
 abbrev pub Asks : List Text → Args → Type 0
-Asks words (Solve budget entries) = (given : Option ℕ) × AsksToSolve words budget given × (entries ≡ unwrap_or given 4096)
-Asks words (Serve listen workers shards entries budget websocket allow_stop) = AsksToServe words (Serve listen workers shards entries budget websocket allow_stop)
+Asks arguments (Solve budget entries) = (given : Option ℕ) × AsksToSolve arguments budget given × (entries ≡ unwrap_or given 4096)
+Asks arguments (Serve listen workers shards entries budget websocket allow_stop) = AsksToServe arguments (Serve listen workers shards entries budget websocket allow_stop)
 
 -- the same is asked for: the same numbers, and an address of the same text
 abbrev pub IsSame : Args → Args → Type 0
@@ -66,12 +66,12 @@ IsInRange (Serve listen workers shards entries budget websocket allow_stop) =
 
 -- no word is the option's name or begins with it
 abbrev pub IsLeftOut : Text → List Text → Type 0
-IsLeftOut option words = list_any (λ word. bytes_eq (take (length option) word) option) words ≡ false
+IsLeftOut option arguments = list_any (λ word. bytes_eq (take (length option) word) option) arguments ≡ false
 
 -- an option that is left out has its default
 abbrev pub HasDefaults : List Text → Args → Type 0
-HasDefaults words (Solve budget entries) =
-    (IsLeftOut (codes "--budget") words → budget ≡ None) × (IsLeftOut (codes "--entries") words → entries ≡ 4096)
-HasDefaults words (Serve listen workers shards entries budget websocket allow_stop) =
-    (IsLeftOut (codes "--workers") words → workers ≡ 4) × (IsLeftOut (codes "--shards") words → shards ≡ 16)
-    × (IsLeftOut (codes "--entries") words → entries ≡ 4096) × (IsLeftOut (codes "--budget") words → budget ≡ None)
+HasDefaults arguments (Solve budget entries) =
+    (IsLeftOut (codes "--budget") arguments → budget ≡ None) × (IsLeftOut (codes "--entries") arguments → entries ≡ 4096)
+HasDefaults arguments (Serve listen workers shards entries budget websocket allow_stop) =
+    (IsLeftOut (codes "--workers") arguments → workers ≡ 4) × (IsLeftOut (codes "--shards") arguments → shards ≡ 16)
+    × (IsLeftOut (codes "--entries") arguments → entries ≡ 4096) × (IsLeftOut (codes "--budget") arguments → budget ≡ None)

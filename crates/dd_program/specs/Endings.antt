@@ -10,8 +10,8 @@ use Rattle.dd_lines.specs.CountedDevices.{bytes_of, failures_of, FailedOnce}
 use Rattle.dd_lines.specs.Served.{ServedAll, ServedBeginning, WroteText}
 use Rattle.dd_program.specs.declared.command_line.Args.{Args}
 use Rattle.dd_program.specs.declared.command_line.Args.TheVariants.{Serve, Solve}
-use Rattle.dd_program.specs.declared.command_line.WordsFault.{WordsFault}
-use Rattle.dd_program.specs.declared.command_line.WordsFault.TheVariants.{NotText, OutOfMemory as NoMemory}
+use Rattle.dd_program.specs.declared.command_line.ArgumentsFault.{ArgumentsFault}
+use Rattle.dd_program.specs.declared.command_line.ArgumentsFault.TheVariants.{NotText, OutOfMemory as NoMemory}
 use Rattle.dd_program.specs.declared.ending.Ending.{Ending}
 use Rattle.dd_program.specs.declared.ending.Ending.TheVariants.{Answered, Shown, Closed, BadLine, ReadFailed, WriteFailed, ListenFailed, OutOfMemory}
 use Rattle.dd_program.specs.CommandLine.{Text, Asks}
@@ -39,39 +39,39 @@ line_of ListenFailed = codes "ddserve: listen failed\n"
 line_of OutOfMemory = codes "ddserve: out of memory\n"
 line_of _ = []
 
--- ---- what the words ask for
+-- ---- what the arguments ask for
 
--- the words that the program was started with, or why they can't be had
+-- the arguments that the program was started with, or why they can't be had
 abbrev pub Words : Type 0
-Words = Result (List Text) WordsFault
+Words = Result (List Text) ArgumentsFault
 
--- the same of the words as strings
-abbrev pub words_of : {A B : Type 0} → Result (Vec (String A) B) WordsFault → Words
-words_of (Ok words) = Ok (map string_bytes words.items)
-words_of (Err fault) = Err fault
+-- the same of the arguments as strings
+abbrev pub arguments_of : {A B : Type 0} → Result (Vec (String A) B) ArgumentsFault → Words
+arguments_of (Ok arguments) = Ok (map string_bytes arguments.items)
+arguments_of (Err fault) = Err fault
 
--- the words ask for this
+-- the arguments ask for this
 abbrev pub AskFor : Words → Args → Type 0
-AskFor (Ok words) args = Asks words args
+AskFor (Ok arguments) args = Asks arguments args
 AskFor (Err fault) args = ⊥
 
--- the words ask for nothing
+-- the arguments ask for nothing
 abbrev pub AskForNothing : Words → Type 0
-AskForNothing words = (args : Args) → ¬ AskFor words args
+AskForNothing arguments = (args : Args) → ¬ AskFor arguments args
 
--- The words have an error of this kind: one of them is no text, or the parser of words counts it among their errors.
+-- The arguments have an error of this kind: one of them is no text, or the parser of arguments counts it among their errors.
 abbrev pub HaveError : Words → ErrorKind → Type 0
-HaveError (Ok words) error = IsAmong error (fault_of program_app words)
+HaveError (Ok arguments) error = IsAmong error (fault_of program_app arguments)
 HaveError (Err NotText) error = error ≡ kind.InvalidValue
 HaveError (Err NoMemory) error = ⊥
 
--- a call for help or for the version, which the parser of words counts as an error
+-- a call for help or for the version, which the parser of arguments counts as an error
 abbrev pub IsCall : ErrorKind → Type 0
 IsCall error = (error ≡ kind.DisplayHelp) ⊎ (error ≡ kind.DisplayVersion)
 
--- why words are not done: memory ran out, or they ask for nothing and have this error
+-- why arguments are not done: memory ran out, or they ask for nothing and have this error
 abbrev pub Explains : Words → ErrorKind → Type 0
-Explains words error = (error ≡ kind.OutOfMemory) ⊎ (AskForNothing words × HaveError words error)
+Explains arguments error = (error ≡ kind.OutOfMemory) ⊎ (AskForNothing arguments × HaveError arguments error)
 
 -- ---- what becomes of the streams
 
@@ -242,10 +242,10 @@ ShowsUntil error old new _ = ⊥
 
 -- ---- the run
 
--- What a run does up to its ending: it answers lines or serves clients where the words ask for that, and else shows their error; or memory ran
+-- What a run does up to its ending: it answers lines or serves clients where the arguments ask for that, and else shows their error; or memory ran
 -- out before either.
 abbrev pub Runs : Words → Streams → Streams → Ending → Type 0
-Runs words old new ending =
-    ((args : Args) × AskFor words args × AnswersUntil args old new ending)
-    ⊎ ((error : ErrorKind) × AskForNothing words × HaveError words error × ShowsUntil error old new ending)
+Runs arguments old new ending =
+    ((args : Args) × AskFor arguments args × AnswersUntil args old new ending)
+    ⊎ ((error : ErrorKind) × AskForNothing arguments × HaveError arguments error × ShowsUntil error old new ending)
     ⊎ ((ending ≡ OutOfMemory) × RunsOut old new)

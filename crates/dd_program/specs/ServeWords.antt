@@ -39,7 +39,7 @@ HasNumber option rows most default number = (given : Option ℕ) × IsGiven 32 o
 abbrev pub is_set : List ℕ → List Row → Bool
 is_set flag rows = option_map_or (λ text. bytes_eq text (codes "true")) (first_of flag rows) false
 
--- what the options of `serve` ask for, by the rows that the parser of words gave them
+-- what the options of `serve` ask for, by the rows that the parser of arguments gave them
 abbrev pub AsksToServeBy : List Row → Args → Type 0
 AsksToServeBy rows (Solve budget entries) = ⊥
 AsksToServeBy rows (Serve listen workers shards entries budget websocket allow_stop) =
@@ -51,7 +51,7 @@ AsksToServeBy rows (Serve listen workers shards entries budget websocket allow_s
     × (websocket ≡ is_set (codes "websocket") rows)
     × (allow_stop ≡ is_set (codes "allow-stop") rows)
 
--- The line is one of `serve`: the parser of words finds no fault in it, and the arguments are what it makes of the options.
+-- The line is one of `serve`: the parser of arguments finds no fault in it, and the arguments are what it makes of the options.
 abbrev pub AsksToServe : List (List ℕ) → Args → Type 0
-AsksToServe words args =
-    (rows : List Row) × (fault_of program_app words ≡ []) × (subcommand_of program_app words ≡ Some (codes "serve", rows)) × AsksToServeBy rows args
+AsksToServe arguments args =
+    (rows : List Row) × (fault_of program_app arguments ≡ []) × (subcommand_of program_app arguments ≡ Some (codes "serve", rows)) × AsksToServeBy rows args

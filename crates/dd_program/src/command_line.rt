@@ -1,4 +1,4 @@
-//! The words that the program is started with.
+//! The arguments that the program is started with.
 ghost use Rattle.std.specs.Prelude.{◌≡◌, ◌⊎◌, ◌≤◌, IfOk, IfErr, Some, codes, map, string_bytes};
 ghost use Rattle.clap.specs.Words.{app_of, fault_of, found_of, kind_of, rows_of, HasKind};
 ghost use Rattle.dd_program.specs.CommandLine.{Asks, HasDefaults, IsInRange, IsSame};
@@ -53,43 +53,43 @@ pub enum Args {
     },
 }
 
-/// Why the words of the command line can't be had.
+/// Why the arguments of the command line can't be had.
 #[derive(Clone, Copy, Debug, PartialEq, Eq)]
-pub enum WordsFault {
+pub enum ArgumentsFault {
     /// A word is not UTF-8 text.
     NotText,
     /// Memory ran out.
     OutOfMemory,
 }
 
-/// The words that the program was started with, its own name first.
-pub fn given_words(rt: &(impl Env + AllocGlobal)) -> Result<Vec<String>, WordsFault> {
+/// The arguments that the program was started with, its own name first.
+pub fn given_arguments(rt: &(impl Env + AllocGlobal)) -> Result<Vec<String>, ArgumentsFault> {
     match env::args(rt) {
-        Ok(words) => words
+        Ok(arguments) => arguments
             .collect(rt.alloc())
-            .map_err(|_| WordsFault::OutOfMemory),
-        Err(error) if error.kind() == io::ErrorKind::OutOfMemory => Err(WordsFault::OutOfMemory),
-        Err(_) => Err(WordsFault::NotText),
+            .map_err(|_| ArgumentsFault::OutOfMemory),
+        Err(error) if error.kind() == io::ErrorKind::OutOfMemory => Err(ArgumentsFault::OutOfMemory),
+        Err(_) => Err(ArgumentsFault::NotText),
     }
 }
 
 /// Reads a command line, of which the first word is the program's name.
 ///
-/// The error is a bad line, a call for help or for the version, or want of memory.
-pub fn read_args(alloc: Global, words: &[String]) -> Result<Args, Error>
-    ensures asked { IfOk result (Asks (map string_bytes words.now)) }
+/// The error is a bad line, a call for help or for the version, or lack of memory.
+pub fn read_args(alloc: Global, arguments: &[String]) -> Result<Args, Error>
+    ensures asked { IfOk result (Asks (map string_bytes arguments.now)) }
     // The line asks for nothing else.
-    ensures only { IfOk result (λ args. (other : Args) → Asks (map string_bytes words.now) other
+    ensures only { IfOk result (λ args. (other : Args) → Asks (map string_bytes arguments.now) other
         → IsSame other args) }
-    // A line that asks for something is refused for want of memory alone.
+    // A line that asks for something is refused for lack of memory alone.
     ensures refused { IfErr result (λ error. (kind_of error ≡ ErrorKind.OutOfMemory)
-        ⊎ ((args : Args) → ¬ Asks (map string_bytes words.now) args)) }
-    // An error is one that the words have.
-    ensures kinds { IfErr result (HasKind (fault_of program_app (map string_bytes words.now))) }
+        ⊎ ((args : Args) → ¬ Asks (map string_bytes arguments.now) args)) }
+    // An error is one that the arguments have.
+    ensures kinds { IfErr result (HasKind (fault_of program_app (map string_bytes arguments.now))) }
     ensures in_range { IfOk result IsInRange }
-    ensures defaults { IfOk result (HasDefaults (map string_bytes words.now)) }
+    ensures defaults { IfOk result (HasDefaults (map string_bytes arguments.now)) }
 {
-    let matches = program(alloc)?.try_get_matches_from(words)?;
+    let matches = program(alloc)?.try_get_matches_from(arguments)?;
     let (name, options) = matches.subcommand().unwrap();
     match name {
         "solve" => Ok(solve_args(options)),
@@ -154,7 +154,7 @@ fn is_set(options: &ArgMatches, flag: &str) -> bool
     }
 }
 
-/// The number that was given, which the parser of words has held to its range, or the default.
+/// The number that was given, which the parser of arguments has held to its range, or the default.
 fn number_in(given: Option<u32>, most: u32, default: u32) -> u32
     ensures { result ≡ number_in most default given }
 {
@@ -164,7 +164,7 @@ fn number_in(given: Option<u32>, most: u32, default: u32) -> u32
     }
 }
 
-/// The budget that was given, which the parser of words has held to its range, or none.
+/// The budget that was given, which the parser of arguments has held to its range, or none.
 fn budget_in(given: Option<u64>) -> Option<u64>
     ensures { result ≡ budget_in given }
 {

@@ -14,7 +14,7 @@ pub enum Ending {
     Shown,
     /// Clients were served until one of them stopped the program.
     Closed,
-    /// The words ask for nothing that the program does.
+    /// The arguments ask for nothing that the program does.
     BadLine,
     /// A read of the input failed.
     ReadFailed,
@@ -28,7 +28,7 @@ pub enum Ending {
 
 impl Ending {
     /// The line that the standard error gets of it, with its line feed. Nothing is said of an ending that is no failure,
-    /// nor here of a bad line, which the reader of the words explains.
+    /// nor here of a bad line, which the reader of the arguments explains.
     pub fn line(self) -> &'static str
         ensures { result.now ≡ line_of self }
     {
@@ -41,7 +41,7 @@ impl Ending {
         }
     }
 
-    /// 0 where what the words ask for was done, 1 after a fault of a device or of the listener or want of memory, 2 at
+    /// 0 where what the arguments ask for was done, 1 after a fault of a device or of the listener or lack of memory, 2 at
     /// a bad line.
     pub fn status(self) -> u8
         ensures { result ≡ status_of self }

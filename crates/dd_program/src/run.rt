@@ -1,10 +1,10 @@
-//! What the program does: from its words and its streams to its ending.
+//! What the program does: from its arguments and its streams to its ending.
 ghost use Rattle.std.specs.Prelude.{◌≡◌, ◌≤◌, IfOk, IfErr};
 ghost use Rattle.clap.specs.Words.{kind_of};
 ghost use Rattle.dd_program.specs.CommandLine.{IsInRange, IsTableSize};
-ghost use Rattle.dd_program.specs.Endings.{line_of, state_of, streams, words_of, Device, AskFor, Explains, Writes, SolvesUntil, ShowsUntil, Runs};
+ghost use Rattle.dd_program.specs.Endings.{line_of, state_of, streams, arguments_of, Device, AskFor, Explains, Writes, SolvesUntil, ShowsUntil, Runs};
 
-use crate::command_line::{Args, WordsFault, not_text, read_args};
+use crate::command_line::{Args, ArgumentsFault, not_text, read_args};
 use crate::ending::Ending;
 use crate::serving::serve;
 use clap::Error;
@@ -24,9 +24,9 @@ use std::time::Clock;
 /// The most bytes that one read takes.
 const PIECE: usize = 4_096;
 
-/// Does what the words ask for: answers the lines of the input on the output, serves the clients of an address, shows help
-/// or the version on the output, or says on the standard error what is wrong with the words.
-pub fn run_words<
+/// Does what the arguments ask for: answers the lines of the input on the output, serves the clients of an address, shows help
+/// or the version on the output, or says on the standard error what is wrong with the arguments.
+pub fn run_program<
     W: Threads + Wait + Clock + Eprint + Net<Listener = TcpListener, Stream = TcpStream> + Sync,
     R: Read,
     O: Write,
@@ -34,18 +34,18 @@ pub fn run_words<
 >(
     rt: &W,
     alloc: Global,
-    words: Result<Vec<String>, WordsFault>,
+    arguments: Result<Vec<String>, ArgumentsFault>,
     reader: &mut CountedDevice<R>,
     output: &mut CountedDevice<O>,
     errors: &mut CountedDevice<E>,
 ) -> Ending
-    ensures { Runs (words_of words)
+    ensures { Runs (arguments_of arguments)
         (streams (state_of R.remaining reader.old) (state_of O.contents output.old)
         (state_of E.contents errors.old))
         (streams (state_of R.remaining reader.new) (state_of O.contents output.new)
         (state_of E.contents errors.new)) result }
 {
-    match args_of(alloc, words) {
+    match args_of(alloc, arguments) {
         Ok(Args::Solve { budget, entries }) => {
             solve(rt, alloc, budget, entries, reader, output, errors)
         }
@@ -77,16 +77,16 @@ pub fn run_words<
     }
 }
 
-/// What the words ask for. The error is a bad line, a call for help or for the version, or want of memory.
-fn args_of(alloc: Global, words: Result<Vec<String>, WordsFault>) -> Result<Args, Error>
-    ensures asked { IfOk result (AskFor (words_of words)) }
+/// What the arguments ask for. The error is a bad line, a call for help or for the version, or lack of memory.
+fn args_of(alloc: Global, arguments: Result<Vec<String>, ArgumentsFault>) -> Result<Args, Error>
+    ensures asked { IfOk result (AskFor (arguments_of arguments)) }
     ensures in_range { IfOk result IsInRange }
-    ensures error { IfErr result (λ error. Explains (words_of words) (kind_of error)) }
+    ensures error { IfErr result (λ error. Explains (arguments_of arguments) (kind_of error)) }
 {
-    match words {
-        Ok(words) => read_args(alloc, words.as_slice()),
-        Err(WordsFault::NotText) => Err(not_text(alloc)),
-        Err(WordsFault::OutOfMemory) => Err(AllocError.into()),
+    match arguments {
+        Ok(arguments) => read_args(alloc, arguments.as_slice()),
+        Err(ArgumentsFault::NotText) => Err(not_text(alloc)),
+        Err(ArgumentsFault::OutOfMemory) => Err(AllocError.into()),
     }
 }
 

@@ -12,7 +12,7 @@ use Rattle.dd_cards.specs.Cards.{is_of, card_of, has_card}
 use Rattle.dd_cards.specs.Seats.{seat_code, seat_after}
 use Rattle.dd_cards.specs.Sides.{side_of, is_side}
 use Rattle.dd_cards.proofs.CallerLemmas.{and-left, and-right, else-false, is-same, not-true, same-self}
-use Rattle.dd_play.specs.Board.{Board, cards_at, left}
+use Rattle.dd_play.specs.Board.{Board, cards_at, tricks_left}
 use Rattle.dd_play.specs.Tricks.{is_trump}
 use Rattle.dd_play.specs.Won.{won}
 use Rattle.dd_play.specs.Covers.{IsCover}
@@ -43,8 +43,8 @@ pub record RestsAcross (top : PlayingCard → Bool) (p : Board) (n z y : Suit �
   pub room : (u : Suit) → (y u ≡ 0) ⊎ (n u + y u ≤ length_at p (seat_after p.first 2) u)
   pub alone : (u : Suit) → (y u ≡ z u) ⊎ ((i : ℕ) → i < 4 → i ≢ 2 → length_at p (seat_after p.first i) u ≤ n u + z u)
   pub entry : 1 ≤ z e
-  pub mine : total n + total y + trumps_at p.strain p p.first ≤ left p
-  pub his : total n + total y + trumps_at p.strain p (seat_after p.first 2) ≤ left p
+  pub mine : total n + total y + trumps_at p.strain p p.first ≤ tricks_left p
+  pub his : total n + total y + trumps_at p.strain p (seat_after p.first 2) ≤ tricks_left p
   pub joint : k ≤ joint_trumps p.strain p p.first
   pub trumps : IsJoint p.strain top p 0 k
 

@@ -11,7 +11,7 @@ use Rattle.dd_cards.specs.PlayingCard.{PlayingCard}
 use Rattle.dd_cards.specs.Cards.{is_of, card_of, has_card}
 use Rattle.dd_cards.specs.Seats.{seat_after}
 use Rattle.dd_cards.proofs.CallerLemmas.{and-left, and-right, else-false, or-split}
-use Rattle.dd_play.specs.Board.{Board, cards_at, left}
+use Rattle.dd_play.specs.Board.{Board, cards_at, tricks_left}
 use Rattle.dd_play.specs.Tricks.{is_trump}
 use Rattle.dd_play.specs.Reach.{reach}
 use Rattle.dd_play.proofs.CallerLemmas.{count, reach-within}
@@ -205,7 +205,7 @@ pub across-rests : (p : Board) (few cards : List PlayingCard) (s h di cl t u v w
     → s ≡ cashed p.strain p Spades → h ≡ cashed p.strain p Hearts → di ≡ cashed p.strain p Diamonds → cl ≡ cashed p.strain p Clubs
     → IsShared p Spades few s → IsShared p Hearts few h → IsShared p Diamonds few di → IsShared p Clubs few cl → ((e : PlayingCard) → has_card few e ≡ true → has_card cards e ≡ true)
     → IsNextShared p Spades cards a t → IsNextShared p Hearts cards b u → IsNextShared p Diamonds cards c v → IsNextShared p Clubs cards d w → SomeOf a b c d t u v w
-    → s + h + di + cl + (t + u + v + w) + trumps_at p.strain p p.first ≤ left p → s + h + di + cl + (t + u + v + w) + trumps_at p.strain p (seat_after p.first 2) ≤ left p
+    → s + h + di + cl + (t + u + v + w) + trumps_at p.strain p p.first ≤ tricks_left p → s + h + di + cl + (t + u + v + w) + trumps_at p.strain p (seat_after p.first 2) ≤ tricks_left p
     → m ≤ joint_trumps p.strain p p.first → RestsOnTrumps p.strain p p.first cards m
     → (e : Suit) × RestsAcross (reach cards) p (shares s h di cl) (λ x. min (shares t u v w x) (next_run p x)) (shares t u v w) e m
 across-rests p few cards s h di cl t u v w m a b c d s_is h_is d_is c_is sp he dm cb more sn hn dn cn some room spare joint trumps = elim some [

@@ -22,12 +22,12 @@ use mathlib.Core.Bool.{not}
 use Rattle.dd_cards.proofs.CallerLemmas.{and-left, and-right, else-false, not-true}
 use Rattle.dd_cards.specs.Sides.{is_side}
 use Rattle.dd_cards.specs.declared.side.Side.{Side}
-use Rattle.dd_play.specs.Board.{Board, IsBoard, cards_at, mover, left}
+use Rattle.dd_play.specs.Board.{Board, IsBoard, cards_at, mover, tricks_left}
 use Rattle.dd_play.specs.Tricks.{is_trump, winning_place, winner_of}
 use Rattle.dd_play.specs.Play.{completes, trick_with, after, following}
 use Rattle.dd_play.specs.Simulations.{IsLegal}
 use Rattle.dd_play.specs.Covers.{count_of}
-use Rattle.dd_play.specs.Won.{won, point}
+use Rattle.dd_play.specs.Won.{won, trick_for}
 use Rattle.dd_play.proofs.CallerLemmas.{Obeys, after-code, can, code-lt, count, count-cons, count-has, count-some, flag_of, hand-others, in-push, legal-in, legal-leads, legal-out, of-suit', own-card, strain-after, suit-of, trick-after, trick-closed, was-in, won_with}
 use Rattle.dd_quick.proofs.Plays.{whoever, count-own}
 use Rattle.dd_quick.proofs.FirstCard.{IsWeaker, first-wins}
@@ -422,7 +422,7 @@ module _ (strain : Strain) (o : Board) (aims : Aims) (n : Suit → ℕ) (s : Sid
       }
 
   -- where it is complete, the side has won it
-  won-it : completes p ≡ true → point s p c ≡ 1
+  won-it : completes p ≡ true → trick_for s p c ≡ 1
   won-it e = ap₂ (λ a b. flag_of (a && b)) e (ap (is_side s) led-wins ∙ from.ours)
 
 -- ---- one trick
@@ -498,7 +498,7 @@ mid : (strain : Strain) (o : Board) (aims : Aims) (n : Suit → ℕ) (s : Side) 
 mid strain o aims n s b next zero p m rest size from now = absurd (let h = from.valid.short in omega (arith, h, size))
 mid strain o aims n s b next (suc j) p m rest size from now = go (λ q r l f k. mid strain o aims n s b next j q m r l f k)
   where
-    some : 1 ≤ left p
+    some : 1 ≤ tricks_left p
     some =
         let full = from.valid.even 0 (omega arith) in
         let k : length p.trick ≡ suc (length rest) = ap length now.trick in
@@ -511,10 +511,10 @@ mid strain o aims n s b next (suc j) p m rest size from now = go (λ q r l f k. 
     leaves : (c : PlayingCard) → IsLegal p c → (length p.trick ≡ 2 → Throws aims n m (cards_at p (mover p)) c) → (x : Bool) → completes p ≡ x → Goes → b + 1 ≤ won_with s p c
     leaves c has plain true e ih =
         let three : length p.trick ≡ 3 = eqb-true (length p.trick) 3 e in
-        let point = won-it strain o aims n s p m rest c from now has plain e in
+        let trick_for = won-it strain o aims n s p m rest c from now has plain e in
         let later : b ≤ won s (after p c) = next (after p c) (trick-closed p c e).0 (later-after strain o aims n s p m rest c from now has plain) (cards-after strain o aims n s p m rest c from now has plain)
         (λ i l k. done-after strain o aims n s p m rest c from now has plain i l (omega (arith, k, three))) in
-        omega (arith, point, later)
+        omega (arith, trick_for, later)
     leaves c has plain false e ih =
         let long : length (p.trick ++ c ∷ []) ≡ length p.trick + 1 = length-append p.trick (c ∷ []) in
         let on : length (after p c).trick ≡ length (p.trick ++ c ∷ []) = ap length (trick-after p c e).0 in

@@ -14,7 +14,7 @@ use Rattle.dd_cards.specs.Cards.{is_of, card_of, has_card}
 use Rattle.dd_cards.specs.Seats.{seat_after}
 use Rattle.dd_cards.specs.Sides.{side_of}
 use Rattle.dd_cards.proofs.CallerLemmas.{and-left, and-right, else-true}
-use Rattle.dd_play.specs.Board.{Board, IsBoard, cards_at, left}
+use Rattle.dd_play.specs.Board.{Board, IsBoard, cards_at, tricks_left}
 use Rattle.dd_play.specs.Tricks.{is_trump}
 use Rattle.dd_play.specs.Reach.{TakesBy, reach}
 use Rattle.dd_play.proofs.CallerLemmas.{count, reach-upward, reach-within}
@@ -40,12 +40,12 @@ joint-rests (Trump t) p i cards m few rests = elim rests [
 -- ---- no more than is left
 
 -- before a trick a hand has no more trumps than tricks are left
-pub trumps-left : (strain : Strain) (p : Board) (i : ℕ) → IsBoard p → p.trick ≡ [] → i < 4 → trumps_at strain p (seat_after p.first i) ≤ left p
+pub trumps-left : (strain : Strain) (p : Board) (i : ℕ) → IsBoard p → p.trick ≡ [] → i < 4 → trumps_at strain p (seat_after p.first i) ≤ tricks_left p
 trumps-left Notrump p i valid start less = zero-le
 trumps-left (Trump t) p i valid start less = length-left p i t valid start less
 
 -- nor has the other side more joint trumps
-pub joint-left : (strain : Strain) (p : Board) → IsBoard p → p.trick ≡ [] → joint_trumps strain p (seat_after p.first 1) ≤ left p
+pub joint-left : (strain : Strain) (p : Board) → IsBoard p → p.trick ≡ [] → joint_trumps strain p (seat_after p.first 1) ≤ tricks_left p
 joint-left Notrump p valid start = zero-le
 joint-left (Trump t) p valid start =
     let a = length-left p 1 t valid start (omega arith) in
@@ -182,7 +182,7 @@ pub record IsSure (p : Board) (cards : List PlayingCard) (n : Suit → ℕ) (m :
 -- Shares of the side suits and of the joint trumps are so counted.
 pub leader-sure : (p : Board) (few cards : List PlayingCard) (s h di cl m : ℕ) → p.trick ≡ [] → IsShared p Spades few s → IsShared p Hearts few h → IsShared p Diamonds few di → IsShared p Clubs few cl
     → ((e : PlayingCard) → has_card few e ≡ true → has_card cards e ≡ true)
-    → s + h + di + cl ≤ left p - trumps_at p.strain p (seat_after p.first 2) → m ≤ joint_trumps p.strain p p.first → RestsOnTrumps p.strain p p.first cards m
+    → s + h + di + cl ≤ tricks_left p - trumps_at p.strain p (seat_after p.first 2) → m ≤ joint_trumps p.strain p p.first → RestsOnTrumps p.strain p p.first cards m
     → IsSure p cards (shares s h di cl) m
 leader-sure p few cards s h di cl m start sp he dm cb more throws joint trumps = record {
   can = can;
@@ -224,7 +224,7 @@ leader-sure p few cards s h di cl m start sp he dm cb more throws joint trumps =
 -- They are a claim by the cards on which they rest.
 pub leader-claim : (p : Board) (few cards : List PlayingCard) (s h di cl m : ℕ) → p.trick ≡ [] → IsShared p Spades few s → IsShared p Hearts few h → IsShared p Diamonds few di → IsShared p Clubs few cl
     → ((e : PlayingCard) → has_card few e ≡ true → has_card cards e ≡ true)
-    → s + h + di + cl ≤ left p - trumps_at p.strain p (seat_after p.first 2) → m ≤ joint_trumps p.strain p p.first → RestsOnTrumps p.strain p p.first cards m
+    → s + h + di + cl ≤ tricks_left p - trumps_at p.strain p (seat_after p.first 2) → m ≤ joint_trumps p.strain p p.first → RestsOnTrumps p.strain p p.first cards m
     → TakesBy (reach cards) (side_of p.first) p (s + h + di + cl + m)
 leader-claim p few cards s h di cl m start sp he dm cb more throws joint trumps =
     let sure = leader-sure p few cards s h di cl m start sp he dm cb more throws joint trumps in

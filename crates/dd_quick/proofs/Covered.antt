@@ -18,9 +18,9 @@ use Rattle.dd_cards.specs.Suits.{suit_code}
 use Rattle.dd_cards.specs.Seats.{seat_code, seat_after}
 use Rattle.dd_cards.specs.Sides.{side_of, other_side, is_side}
 use Rattle.dd_cards.proofs.CallerLemmas.{and-left, and-right, any-filter, else-false, is-other, is-same, same-other, same-self}
-use Rattle.dd_play.specs.Board.{Board, IsBoard, cards_at, left}
+use Rattle.dd_play.specs.Board.{Board, IsBoard, cards_at, tricks_left}
 use Rattle.dd_play.specs.Tricks.{is_trump}
-use Rattle.dd_play.specs.Value.{lead}
+use Rattle.dd_play.specs.Value.{leaders_tricks}
 use Rattle.dd_play.specs.Won.{won}
 use Rattle.dd_play.specs.Covers.{IsCover, AllAnswer, count_of}
 use Rattle.dd_play.specs.Reach.{TakesBy, reach}
@@ -159,7 +159,7 @@ by-suits (c ∷ cards) =
     go Clubs = refl
 
 -- as many tricks are left before a trick, where the leaders' suits are as long
-pub left-same : (p q : Board) → p.trick ≡ [] → q.trick ≡ [] → ((u : Suit) → length_at q q.first u ≡ length_at p p.first u) → left q ≡ left p
+pub left-same : (p q : Board) → p.trick ≡ [] → q.trick ≡ [] → ((u : Suit) → length_at q q.first u ≡ length_at p p.first u) → tricks_left q ≡ tricks_left p
 left-same p q start empty each =
     let a = by-suits (cards_at p p.first) in
     let b = by-suits (cards_at q q.first) in
@@ -167,8 +167,8 @@ left-same p q start empty each =
     let h = each Hearts in
     let d = each Diamonds in
     let l = each Clubs in
-    let mine : left p ≡ length (cards_at p p.first) = ap (λ trick. length (cards_at p (seat_after p.first (length trick)))) start in
-    let his : left q ≡ length (cards_at q q.first) = ap (λ trick. length (cards_at q (seat_after q.first (length trick)))) empty in
+    let mine : tricks_left p ≡ length (cards_at p p.first) = ap (λ trick. length (cards_at p (seat_after p.first (length trick)))) start in
+    let his : tricks_left q ≡ length (cards_at q q.first) = ap (λ trick. length (cards_at q (seat_after q.first (length trick)))) empty in
     omega (arith, a, b, s, h, d, l, mine, his)
 
 -- ---- claims
@@ -380,7 +380,7 @@ others-by top p m start few joint k to from t q r strict =
 -- ---- both sides
 
 -- what both sides are sure of is no more than what is left
-pub sure-within : (p : Board) (a b : List PlayingCard) (ours theirs : ℕ) → IsBoard p → TakesBy (reach a) (side_of p.first) p ours → TakesBy (reach b) (other_side (side_of p.first)) p theirs → ours + theirs ≤ left p
+pub sure-within : (p : Board) (a b : List PlayingCard) (ours theirs : ℕ) → IsBoard p → TakesBy (reach a) (side_of p.first) p ours → TakesBy (reach b) (other_side (side_of p.first)) p theirs → ours + theirs ≤ tricks_left p
 sure-within p a b ours theirs valid x y =
     both (side_of p.first) p ours theirs valid (by-here (reach a) (side_of p.first) p ours valid (reach-upward a) x)
     (by-here (reach b) (other_side (side_of p.first)) p theirs valid (reach-upward b) y)
@@ -388,9 +388,9 @@ sure-within p a b ours theirs valid x y =
 -- and it bounds the value of each position that is covered at the depths of the cards of both
 pub sure-bounds : (p : Board) (a b cards : List PlayingCard) (ours theirs : ℕ) (depths : Suit → ℕ) (lo hi : ℕ) → ((c : PlayingCard) → has_card cards c ≡ true → IsRank c.rank) → IsBoard p
     → ((c : PlayingCard) → has_card a c ≡ true → has_card cards c ≡ true) → ((c : PlayingCard) → has_card b c ≡ true → has_card cards c ≡ true) → ((u : Suit) → depths u ≡ depths_of (reach cards) p u)
-    → lo ≡ ours → hi ≡ left p - theirs → TakesBy (reach a) (side_of p.first) p ours → TakesBy (reach b) (other_side (side_of p.first)) p theirs
-    → (q : Board) → IsBoard q → Covers p depths q → (lo ≤ lead q) × (lead q ≤ hi)
+    → lo ≡ ours → hi ≡ tricks_left p - theirs → TakesBy (reach a) (side_of p.first) p ours → TakesBy (reach b) (other_side (side_of p.first)) p theirs
+    → (q : Board) → IsBoard q → Covers p depths q → (lo ≤ leaders_tricks q) × (leaders_tricks q ≤ hi)
 sure-bounds p a b cards ours theirs depths lo hi real valid mine others deep low high x y =
     noted cards depths p lo hi real valid (λ u. let e = deep u in omega (arith, e))
     (by-fewer (reach cards) (side_of p.first) p ours lo (by-more (reach a) (reach cards) (side_of p.first) p ours (reach-within a cards mine) (reach-upward a) x) (omega (arith, low)))
-    (by-fewer (reach cards) (other_side (side_of p.first)) p theirs (left p - hi) (by-more (reach b) (reach cards) (other_side (side_of p.first)) p theirs (reach-within b cards others) (reach-upward b) y) (omega (arith, high)))
+    (by-fewer (reach cards) (other_side (side_of p.first)) p theirs (tricks_left p - hi) (by-more (reach b) (reach cards) (other_side (side_of p.first)) p theirs (reach-within b cards others) (reach-upward b) y) (omega (arith, high)))

@@ -15,12 +15,12 @@ use Rattle.dd_cards.specs.Seats.{seat_code, seat_after}
 use Rattle.dd_cards.specs.Sides.{is_side}
 use Rattle.dd_cards.specs.declared.side.Side.{Side}
 use Rattle.dd_cards.proofs.CallerLemmas.{and-left, and-right, else-false, passes, same_card-eq}
-use Rattle.dd_play.specs.Board.{Board, IsBoard, cards_at, mover, left}
+use Rattle.dd_play.specs.Board.{Board, IsBoard, cards_at, mover, tricks_left}
 use Rattle.dd_play.specs.Tricks.{is_trump, deciding, is_highest_of, winning_place, or_else, winner_of}
 use Rattle.dd_play.specs.Play.{completes, trick_with, after, following}
 use Rattle.dd_play.specs.Simulations.{IsLegal}
 use Rattle.dd_play.specs.Covers.{count_of}
-use Rattle.dd_play.specs.Won.{won, point}
+use Rattle.dd_play.specs.Won.{won, trick_for}
 use Rattle.dd_play.proofs.CallerLemmas.{Obeys, after-code, can, code-lt, count, count-has, count-some, filter-has, filter-passes, flag_of, hand-others, has-first, in-rest, legal-in, legal-leads, legal-out, of-suit', own-card, same-or, strain-after, suit-of, trick-after, trick-closed, was-in, won_with}
 use Rattle.dd_quick.proofs.Plays.{whoever, count-own}
 use Rattle.dd_quick.proofs.FirstCard.{IsWeaker, none-higher}
@@ -230,7 +230,7 @@ module _ (s : Side) (q : Board) (m w : PlayingCard) (valid : IsBoard q) (start :
       ]
 
   -- there is a card to play
-  some-left : (p : Board) (trick : List PlayingCard) → IsFrom w q p → p.trick ≡ trick → 1 ≤ length trick → 1 ≤ left p
+  some-left : (p : Board) (trick : List PlayingCard) → IsFrom w q p → p.trick ≡ trick → 1 ≤ length trick → 1 ≤ tricks_left p
   some-left p trick from on l =
       let full = from.valid.even 0 (omega arith) in
       let k : length p.trick ≡ length trick = ap length on in
@@ -277,7 +277,7 @@ module _ (s : Side) (q : Board) (m w : PlayingCard) (valid : IsBoard q) (start :
               let pushed : trick_with p d ≡ m ∷ c ∷ w ∷ d ∷ [] = ap (λ t. t ++ d ∷ []) on in
               let place : winning_place p.strain (trick_with p d) ≡ 2 = ap₂ winning_place from.same pushed ∙ third-wins q.strain m c w d suits plain weak_m weak weak_d in
               let wins : winner_of (trick_with p d) p.first p.strain ≡ seat_after q.first 2 = ap₂ seat_after from.first place in
-              let point_is : point s p d ≡ 1 = ap₂ (λ a b. flag_of (a && b)) closed (ap (is_side s) wins ∙ partner-too s q.first ours) in
+              let point_is : trick_for s p d ≡ 1 = ap₂ (λ a b. flag_of (a && b)) closed (ap (is_side s) wins ∙ partner-too s q.first ours) in
               let first_is : (after p d).first ≡ seat_after q.first 2 = (trick-closed p d closed).1 ∙ wins in
               let keeps : cards_at (after p d) (after p d).first ≡ cards_at p (seat_after q.first 2) = ap (cards_at (after p d)) first_is ∙ stays p (m ∷ c ∷ w ∷ []) d 2 from on (omega arith) (omega arith) (omega arith) in
               let later : b ≤ won s (after p d) = next (after p d) (record {

@@ -15,12 +15,12 @@ use Rattle.dd_cards.specs.Cards.{is_of, same_card, has_card}
 use Rattle.dd_cards.specs.Seats.{seat_code, seat_after}
 use Rattle.dd_cards.specs.Sides.{side_of, is_side}
 use Rattle.dd_cards.proofs.CallerLemmas.{and-left, and-right, else-false, has_card-without, length-filter-le, not-true, same_card-eq, same_card-self}
-use Rattle.dd_play.specs.Board.{Board, IsBoard, cards_at, cards_left, left, mover}
+use Rattle.dd_play.specs.Board.{Board, IsBoard, cards_at, cards_left, tricks_left, mover}
 use Rattle.dd_play.specs.Tricks.{winning_place, winner_of}
 use Rattle.dd_play.specs.Play.{after, completes, following, trick_with}
 use Rattle.dd_play.specs.Simulations.{IsLegal}
 use Rattle.dd_play.specs.Covers.{count_of}
-use Rattle.dd_play.specs.Won.{point, won}
+use Rattle.dd_play.specs.Won.{trick_for, won}
 use Rattle.dd_play.proofs.CallerLemmas.{after-code, can, cards-tricks, cards_left-after, code-lt, count, count-has, count-some, flag_of, has-at, has-first, hand-others, hand-own, in-push, legal-in, legal-leads, of-suit', once-in, own-card, real-trick, same-or, strain-after, suit-of, trick-after, trick-closed, was-in, won_with}
 use Rattle.dd_quick.specs.QuickTricks.{from_rank, joint_trumps}
 use Rattle.dd_quick.proofs.Chosen.{count-never, count-split}
@@ -280,7 +280,7 @@ module _ (o : Board) (y : Seat) (u : Suit) (hi lo : PlayingCard) (guard : CanGua
           ]))
 
   -- y's trump on the trick without the highest wins it
-  lo-wins : (i : ℕ) (q : Board) (c : PlayingCard) (now : IsUnder i q) (has : IsLegal q c) → completes q ≡ true → has_card (q.trick ++ c ∷ []) lo ≡ true → has_card (q.trick ++ c ∷ []) hi ≡ false → point s q c ≡ 1
+  lo-wins : (i : ℕ) (q : Board) (c : PlayingCard) (now : IsUnder i q) (has : IsLegal q c) → completes q ≡ true → has_card (q.trick ++ c ∷ []) lo ≡ true → has_card (q.trick ++ c ∷ []) hi ≡ false → trick_for s q c ≡ 1
   lo-wins i q c now has full on off = ap₂ (λ a b. flag_of (a && b)) full (ap (λ k. is_side s (winner_of (trick_with q c) q.first k)) now.same ∙ ap (is_side s) seat ∙ own-side y)
     where
       top : is_top (Trump u) lo.rank lo ≡ true
@@ -351,7 +351,7 @@ module _ (o : Board) (y : Seat) (u : Suit) (hi lo : PlayingCard) (guard : CanGua
           highest mine gone = is-highest (after q c) board (strain-after q c ∙ now.same) closed.0 (part-on i q c now has) mine gone
 
           by-side : (b : Bool) → is_side s z.first ≡ b → has_card (cards_at z y) lo ≡ true → has_card (cards_at z x) hi ≡ true → 2 ≤ count_of u (cards_at z y) → 1 ≤ won_with s q c
-          by-side true f mine at two = (let one : point s q c ≡ 1 = ap₂ (λ a b. flag_of (a && b)) e (ap (is_side s) (sym closed.1) ∙ f) in omega (arith, one))
+          by-side true f mine at two = (let one : trick_for s q c ≡ 1 = ap₂ (λ a b. flag_of (a && b)) e (ap (is_side s) (sym closed.1) ∙ f) in omega (arith, one))
           by-side false f mine at two =
               let k = few in
               let later : 1 ≤ won s (after q c) = ih (place-of (after q c).first y).0 (after q c) (omega (arith, k, size)) (begins (after q c) board (strain-after q c ∙ now.same) closed.0 (part-on i q c now has) at mine two (λ g. let h : false ≡ true = sym f ∙ ap (is_side s) g ∙ own-side y in cc)) in
@@ -377,7 +377,7 @@ module _ (o : Board) (y : Seat) (u : Suit) (hi lo : PlayingCard) (guard : CanGua
     | inr apart ↦ whoever s q 1 now.valid some (λ c has. goes n i q c (takes n) size now has (y-on i q c now has (λ e. apart (sym e))))
   ]
     where
-      some : 1 ≤ left q
+      some : 1 ≤ tricks_left q
       some = (let four = cards-tricks q now.valid in omega (arith, four, size))
 
       at : mover q ≡ y → i ≡ length q.trick

@@ -22,12 +22,12 @@ use Rattle.dd_cards.specs.Seats.{seat_code, seat_after}
 use Rattle.dd_cards.proofs.CallerLemmas.{and-left, and-right, length-filter-le, passes, seat_code-injective}
 use Rattle.dd_cards.specs.Sides.{is_side}
 use Rattle.dd_cards.specs.declared.side.Side.{Side}
-use Rattle.dd_play.specs.Board.{Board, IsBoard, cards_at, cards_left, mover, left}
+use Rattle.dd_play.specs.Board.{Board, IsBoard, cards_at, cards_left, mover, tricks_left}
 use Rattle.dd_play.specs.Tricks.{is_trump, winning_place, winner_of}
 use Rattle.dd_play.specs.Strength.{strength, strongest_place}
 use Rattle.dd_play.specs.Play.{completes, trick_with, after, following}
 use Rattle.dd_play.specs.Simulations.{IsLegal}
-use Rattle.dd_play.specs.Won.{won, point}
+use Rattle.dd_play.specs.Won.{won, trick_for}
 use Rattle.dd_play.proofs.CallerLemmas.{after-code, can, cards-tricks, cards_left-after, code-lt, count, count-has, count-some, flag_of, hand-others, has-at, has-first, legal-in, legal-leads, own-card, place-within, real-trick, strain-after, strength_by, trick-after, trick-closed, was-in, winning-strongest, won_with}
 use Rattle.dd_quick.proofs.Plays.{whoever, count-own, count-push, place-push}
 use Rattle.dd_quick.proofs.JointPlans.{is_top, Follows, IsLed, Plan, IsPlanned, plan-for, long-plays, short-plays, other-plays, plan-done}
@@ -161,7 +161,7 @@ module _ (strain : Strain) (floor : ℕ) (theirs : PlayingCard → Bool) (a b : 
   ]
 
   -- a complete trick with one of them is the side's, or one of theirs is gone
-  wins : completes p ≡ true → 1 ≤ count (is_top strain floor) (trick_with p c) → in_play theirs (after p c) + 1 ≤ in_play theirs p + point s p c
+  wins : completes p ≡ true → 1 ≤ count (is_top strain floor) (trick_with p c) → in_play theirs (after p c) + 1 ≤ in_play theirs p + trick_for s p c
   wins e many =
       let some = count-some (is_top strain floor) (trick_with p c) many in
       let best = top-wins strain floor (trick_with p c) some.0 c (real-trick p c own.valid has) some.1 some.2 in
@@ -170,7 +170,7 @@ module _ (strain : Strain) (floor : ℕ) (theirs : PlayingCard → Bool) (a b : 
       elim (played-with w c best.0 best.1) [
         | inl ours ↦ (
             let side : is_side s (seat_after p.first w) ≡ true = elim ours [ inl k ↦ ap (is_side s) k ∙ ours_a | inr k ↦ ap (is_side s) k ∙ ours_b ] in
-            let one : point s p c ≡ 1 = ap₂ (λ a b. flag_of (a && b)) e (ap (λ x. is_side s (winner_of (trick_with p c) p.first x)) own.same ∙ side) in
+            let one : trick_for s p c ≡ 1 = ap₂ (λ a b. flag_of (a && b)) e (ap (λ x. is_side s (winner_of (trick_with p c) p.first x)) own.same ∙ side) in
             omega (arith, gone, one))
         | inr his ↦ (let one = count-has theirs (trick_with p c) (get_or (trick_with p c) w c) (has-at (trick_with p c) w c best.0) his in omega (arith, gone, one))
       ]
@@ -381,7 +381,7 @@ module _ (strain : Strain) (floor : ℕ) (theirs : PlayingCard → Bool) (a b : 
           each : m - in_play theirs p ≤ won s p
           each = whoever s p (m - in_play theirs p) now.own.valid some (λ c has. (let k = by c has in omega (arith, k)))
             where
-              some : 1 ≤ left p
+              some : 1 ≤ tricks_left p
               some = (let four = cards-tricks p now.own.valid in omega (arith, four, size))
 
               by : (c : PlayingCard) → IsLegal p c → m ≤ won_with s p c + in_play theirs p
@@ -406,28 +406,28 @@ module _ (strain : Strain) (floor : ℕ) (theirs : PlayingCard → Bool) (a b : 
       none : length p.trick ≡ 0
       none = ap length start
 
-      some : 1 ≤ left p
+      some : 1 ≤ tricks_left p
       some = (let four = cards-tricks p own.valid in let k = none in omega (arith, four, size, k))
 
       not-under : (a b : ℕ) → b ≡ 0 → nat_lt a b ≡ false
       not-under a b h = grind (arith, nat_tests)
 
       -- each hand has as many cards
-      full : (x : Seat) (i : ℕ) → i < 4 → x ≡ seat_after p.first i → length (cards_at p x) ≡ left p
+      full : (x : Seat) (i : ℕ) → i < 4 → x ≡ seat_after p.first i → length (cards_at p x) ≡ tricks_left p
       full x i l at =
           let e = own.valid.even i l in
           let flag : flag_of (nat_lt i (length p.trick)) ≡ 0 = ap flag_of (not-under i (length p.trick) none) in
           let same : length (cards_at p x) ≡ length (cards_at p (seat_after p.first i)) = ap (λ y. length (cards_at p y)) at in
           omega (arith, e, flag, same)
 
-      full_a : length (cards_at p a) ≡ left p
+      full_a : length (cards_at p a) ≡ tricks_left p
       full_a = full a at_a.0 at_a.1 at_a.2
 
-      full_b : length (cards_at p b) ≡ left p
+      full_b : length (cards_at p b) ≡ tricks_left p
       full_b = full b at_b.0 at_b.1 at_b.2
 
       -- one of the two leads
-      ours : (x : Seat) → mover p ≡ x → length (cards_at p x) ≡ left p → (at_a.0 ≡ 0) ⊎ (at_b.0 ≡ 0) → m ≤ sum p
+      ours : (x : Seat) → mover p ≡ x → length (cards_at p x) ≡ tricks_left p → (at_a.0 ≡ 0) ⊎ (at_b.0 ≡ 0) → m ≤ sum p
       ours x is many first =
           let k = some in
           let d = some-card (cards_at p x) (omega (arith, many, k)) in
@@ -462,8 +462,8 @@ module _ (strain : Strain) (floor : ℕ) (theirs : PlayingCard → Bool) (a b : 
           let one : length (after p c).trick ≡ 1 = ap length led in
           let mine : cards_at (after p c) a ≡ cards_at p a = hand-others p c a (not-first a at_a.0 at_a.1 at_a.2 away_a) in
           let his : cards_at (after p c) b ≡ cards_at p b = hand-others p c b (not-first b at_b.0 at_b.1 at_b.2 away_b) in
-          let many_a : length (cards_at (after p c) a) ≡ left p = ap length mine ∙ full_a in
-          let many_b : length (cards_at (after p c) b) ≡ left p = ap length his ∙ full_b in
+          let many_a : length (cards_at (after p c) a) ≡ tricks_left p = ap length mine ∙ full_a in
+          let many_b : length (cards_at (after p c) b) ≡ tricks_left p = ap length his ∙ full_b in
           let tops_a : count (is_top strain floor) (cards_at (after p c) a) ≡ count (is_top strain floor) (cards_at p a) = ap (count (is_top strain floor)) mine in
           let tops_b : count (is_top strain floor) (cards_at (after p c) b) ≡ count (is_top strain floor) (cards_at p b) = ap (count (is_top strain floor)) his in
           let trumps : count (is_trump strain) (cards_at (after p c) a) ≡ count (is_trump strain) (cards_at p a) = ap (count (is_trump strain)) mine in

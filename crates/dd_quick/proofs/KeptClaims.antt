@@ -13,7 +13,7 @@ use Rattle.dd_cards.specs.Cards.{is_of, card_of, has_card}
 use Rattle.dd_cards.specs.Seats.{seat_code, seat_after}
 use Rattle.dd_cards.specs.Sides.{side_of, other_side, is_side}
 use Rattle.dd_cards.proofs.CallerLemmas.{and-left, and-right, is-other, same-other}
-use Rattle.dd_play.specs.Board.{Board, IsBoard, cards_at, left}
+use Rattle.dd_play.specs.Board.{Board, IsBoard, cards_at, tricks_left}
 use Rattle.dd_play.specs.Covers.{count_of}
 use Rattle.dd_play.specs.Reach.{TakesBy, reach}
 use Rattle.dd_play.specs.Won.{won}
@@ -122,7 +122,7 @@ module _ (q : Board) (i : ℕ) (k : Suit → ℕ) (valid : IsBoard q) (start : q
           omega (arith, a, b)
 
   -- so its side takes as many tricks
-  numbers-taken : total (rounds_of (seat_after h 1) headed q) + total k ≤ left q → total k ≤ won (other_side (side_of q.first)) q
+  numbers-taken : total (rounds_of (seat_after h 1) headed q) + total k ≤ tricks_left q → total k ≤ won (other_side (side_of q.first)) q
   numbers-taken room =
       let m = many in
       let away : seat_code q.first ≢ seat_code h = (let a = after-code q.first i in let b = code-lt q.first in elim opposed [ inl e ↦ (λ z. omega (arith, a, b, e, z)) | inr e ↦ (λ z. omega (arith, a, b, e, z)) ]) in
@@ -134,21 +134,21 @@ module _ (q : Board) (i : ℕ) (k : Suit → ℕ) (valid : IsBoard q) (start : q
 -- the parts of what is counted
 record IsKept (p : Board) (seat : Seat) (need : ℕ) : Type 0 where
   plain : no_trumps p ≡ true
-  first : of_all (first_kept p seat) + of_all (free_rounds p seat) ≤ left p
+  first : of_all (first_kept p seat) + of_all (free_rounds p seat) ≤ tricks_left p
   winners : need ≤ of_all (run p seat)
-  room : need + of_all (free_rounds p seat) ≤ left p
+  room : need + of_all (free_rounds p seat) ≤ tricks_left p
 
 parts : (p : Board) (seat : Seat) (need : ℕ) → 1 ≤ need → need ≤ kept_winners p seat → IsKept p seat need
 unfolding kept_winners
-parts p seat need some few = go (no_trumps p) (nat_le (of_all (first_kept p seat) + of_all (free_rounds p seat)) (left p)) refl refl few
+parts p seat need some few = go (no_trumps p) (nat_le (of_all (first_kept p seat) + of_all (free_rounds p seat)) (tricks_left p)) refl refl few
   where
-    go : (a b : Bool) → no_trumps p ≡ a → nat_le (of_all (first_kept p seat) + of_all (free_rounds p seat)) (left p) ≡ b → need ≤ (if a && b then min (of_all (run p seat)) (left p - of_all (free_rounds p seat)) else 0) → IsKept p seat need
-    go true true e f most = (let first = leb-true (of_all (first_kept p seat) + of_all (free_rounds p seat)) (left p) f in record { plain = e; first = first; winners = omega (arith, most); room = omega (arith, most, some) })
+    go : (a b : Bool) → no_trumps p ≡ a → nat_le (of_all (first_kept p seat) + of_all (free_rounds p seat)) (tricks_left p) ≡ b → need ≤ (if a && b then min (of_all (run p seat)) (tricks_left p - of_all (free_rounds p seat)) else 0) → IsKept p seat need
+    go true true e f most = (let first = leb-true (of_all (first_kept p seat) + of_all (free_rounds p seat)) (tricks_left p) f in record { plain = e; first = first; winners = omega (arith, most); room = omega (arith, most, some) })
     go true false e f most = absurd (omega (arith, most, some))
     go false b e f most = absurd (omega (arith, most, some))
 
 -- kept winners are no more than the tricks left
-pub kept-left : (p : Board) (seat : Seat) → kept_winners p seat ≤ left p
+pub kept-left : (p : Board) (seat : Seat) → kept_winners p seat ≤ tricks_left p
 kept-left p seat = elim (cases_lt 0 (kept_winners p seat)) [
   | inl l ↦ (let k = (parts p seat (kept_winners p seat) (omega (arith, l)) (omega arith)).room in omega (arith, k))
   | inr l ↦ omega (arith, l)
@@ -170,7 +170,7 @@ kept-none p seat e = elim (cases_lt 0 (kept_winners p seat)) [
 
 -- what the code counts
 pub kept-is : (p : Board) (seat : Seat) (all first rounds : Suit → ℕ) (n : ℕ) → no_trumps p ≡ true → ((u : Suit) → all u ≡ run p seat u) → ((u : Suit) → first u ≡ first_kept p seat u) → ((u : Suit) → rounds u ≡ free_rounds p seat u)
-    → ((of_all first + of_all rounds ≤ left p) × (n ≡ min (of_all all) (left p - of_all rounds))) ⊎ ((left p < of_all first + of_all rounds) × (n ≡ 0)) → n ≡ kept_winners p seat
+    → ((of_all first + of_all rounds ≤ tricks_left p) × (n ≡ min (of_all all) (tricks_left p - of_all rounds))) ⊎ ((tricks_left p < of_all first + of_all rounds) × (n ≡ 0)) → n ≡ kept_winners p seat
 unfolding kept_winners
 kept-is p seat all first rounds n plain a f r counted =
     let sa = a Spades in let ha = a Hearts in let da = a Diamonds in let ca = a Clubs in
@@ -180,8 +180,8 @@ kept-is p seat all first rounds n plain a f r counted =
     let first_is : of_all first ≡ of_all (first_kept p seat) = omega (arith, sf, hf, df, cf) in
     let rounds_is : of_all rounds ≡ of_all (free_rounds p seat) = omega (arith, sr, hr, dr, cr) in
     elim counted [
-      | inl yes_it ↦ yes_it.1 ∙ rw (plain, le (of_all (first_kept p seat) + of_all (free_rounds p seat)) (left p) (let k = yes_it.0 in omega (arith, k, first_is, rounds_is))) (ap₂ (λ x y. min x (left p - y)) all_is rounds_is)
-      | inr no_it ↦ no_it.1 ∙ rw (plain, not-le (of_all (first_kept p seat) + of_all (free_rounds p seat)) (left p) (let k = no_it.0 in omega (arith, k, first_is, rounds_is))) refl
+      | inl yes_it ↦ yes_it.1 ∙ rw (plain, le (of_all (first_kept p seat) + of_all (free_rounds p seat)) (tricks_left p) (let k = yes_it.0 in omega (arith, k, first_is, rounds_is))) (ap₂ (λ x y. min x (tricks_left p - y)) all_is rounds_is)
+      | inr no_it ↦ no_it.1 ∙ rw (plain, not-le (of_all (first_kept p seat) + of_all (free_rounds p seat)) (tricks_left p) (let k = no_it.0 in omega (arith, k, first_is, rounds_is))) refl
     ]
   where
     le : (x y : ℕ) → x ≤ y → nat_le x y ≡ true

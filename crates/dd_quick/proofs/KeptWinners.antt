@@ -17,7 +17,7 @@ use Rattle.dd_cards.specs.Cards.{is_of, card_of, same_card, has_card}
 use Rattle.dd_cards.specs.Seats.{seat_code, seat_after}
 use Rattle.dd_cards.specs.Sides.{side_of, is_side}
 use Rattle.dd_cards.proofs.CallerLemmas.{and-left, and-right, else-false, filter-true, length-filter-le, not-true, same_card-eq, same_card-self}
-use Rattle.dd_play.specs.Board.{Board, IsBoard, cards_at, left, mover}
+use Rattle.dd_play.specs.Board.{Board, IsBoard, cards_at, tricks_left, mover}
 use Rattle.dd_play.specs.Tricks.{is_trump}
 use Rattle.dd_play.specs.Play.{after, following, legal}
 use Rattle.dd_play.specs.Simulations.{IsLegal}
@@ -47,11 +47,11 @@ pub record CanKeep (o : Board) (h : Seat) (guard : PlayingCard → Bool) (headed
   pub suits : (c : PlayingCard) → guard c ≡ true → headed c.suit ≡ true
 
 -- where tricks are left the mover has a legal card
-any-legal : (q : Board) → 1 ≤ left q → (c : PlayingCard) × IsLegal q c
+any-legal : (q : Board) → 1 ≤ tricks_left q → (c : PlayingCard) × IsLegal q c
 any-legal q some = go (legal q) refl
   where
     go : (cards : List PlayingCard) → legal q ≡ cards → (c : PlayingCard) × IsLegal q c
-    go [] e = absurd (let none : left q ≡ 0 = no-legal q e in omega (arith, none, some))
+    go [] e = absurd (let none : tricks_left q ≡ 0 = no-legal q e in omega (arith, none, some))
     go (c ∷ cards) e = (c, ap (λ l. has_card l c) e ∙ has-first c cards)
 
 module _ (o : Board) (h : Seat) (guard : PlayingCard → Bool) (headed : Suit → Bool) (hold : CanKeep o h guard headed) where
@@ -148,12 +148,12 @@ module _ (o : Board) (h : Seat) (guard : PlayingCard → Bool) (headed : Suit �
   places : (i j : ℕ) → i < 4 → j < 4 → i ≢ j → seat_code (seat_after h i) ≢ seat_code (seat_after h j)
   places i j l m e = (let x = after-code h i in let y = after-code h j in let z = code-lt h in λ k. omega (arith, x, y, z, k, l, m, e))
 
-  alone : (k n : ℕ) (p : Board) → left p ≡ k → IsAlone p → n ≤ count guard (cards_at p h) → n ≤ left p → n ≤ won t p
+  alone : (k n : ℕ) (p : Board) → tricks_left p ≡ k → IsAlone p → n ≤ count guard (cards_at p h) → n ≤ tricks_left p → n ≤ won t p
   alone zero n p size was few most = omega (arith, size, most)
   alone (suc k) n p size was few most = whoever t p n was.now.valid (omega (arith, size)) (λ m has. (let later = lead m has (λ z a b c d. alone k (n - 1) z a b c d) in omega (arith, later)))
     where
       Later : Type 0
-      Later = (z : Board) → left z ≡ k → IsAlone z → n - 1 ≤ count guard (cards_at z h) → n - 1 ≤ left z → n - 1 ≤ won t z
+      Later = (z : Board) → tricks_left z ≡ k → IsAlone z → n - 1 ≤ count guard (cards_at z h) → n - 1 ≤ tricks_left z → n - 1 ≤ won t z
 
       nothing : PlayingCard → Bool
       nothing c = false
@@ -195,7 +195,7 @@ module _ (o : Board) (h : Seat) (guard : PlayingCard → Bool) (headed : Suit �
                   let size = done.size in
                   omega (arith, a, b, all_p, all_z, x, y, less, size)
 
-              gone : k ≡ left z
+              gone : k ≡ tricks_left z
               gone = (let l = done.size in omega (arith, l, size))
 
               -- nobody of the other side has won it
@@ -236,7 +236,7 @@ module _ (o : Board) (h : Seat) (guard : PlayingCard → Bool) (headed : Suit �
     now : IsPart p
     away : seat_code p.first ≢ seat_code h
     keeps : (c : PlayingCard) → guard c ≡ true → has_card (cards_at p h) c ≡ true
-    room : total (rounds p) + kept ≤ left p
+    room : total (rounds p) + kept ≤ tricks_left p
 
   -- a hand that has those cards has as many
   all-kept : (test : PlayingCard → Bool) (cards : List PlayingCard) → ((c : PlayingCard) → test c ≡ true → guard c ≡ true) → ((c : PlayingCard) → test c ≡ true → has_card cards c ≡ true) → count test (cards_at o h) ≤ count guard cards
@@ -254,8 +254,8 @@ module _ (o : Board) (h : Seat) (guard : PlayingCard → Bool) (headed : Suit �
   open-rounds p u e = ap (λ b. if b then 0 else max (count_of u (cards_at p (seat_after h 1))) (count_of u (cards_at p (seat_after (seat_after h 1) 2)))) e
 
   -- a trick in a suit that the other side has, and that h does not head
-  module _ (n k : ℕ) (p : Board) (m : PlayingCard) (was : IsWaiting p) (has : IsLegal p m) (plain_suit : headed m.suit ≡ false) (some : 1 ≤ rounds p m.suit) (few : n ≤ kept) (size : left p ≡ suc k)
-      (ih : (i : ℕ) (z : Board) → left z ≡ k → IsWaiting z → i ≤ kept → i ≤ won t z) where
+  module _ (n k : ℕ) (p : Board) (m : PlayingCard) (was : IsWaiting p) (has : IsLegal p m) (plain_suit : headed m.suit ≡ false) (some : 1 ≤ rounds p m.suit) (few : n ≤ kept) (size : tricks_left p ≡ suc k)
+      (ih : (i : ℕ) (z : Board) → tricks_left z ≡ k → IsWaiting z → i ≤ kept → i ≤ won t z) where
     abbrev anything : PlayingCard → Bool
     anything c = true
 
@@ -330,7 +330,7 @@ module _ (o : Board) (h : Seat) (guard : PlayingCard → Bool) (headed : Suit �
             go Diamonds one s h d c = omega (arith, one, s, h, d, c)
             go Clubs one s h d c = omega (arith, one, s, h, d, c)
 
-        gone : left z ≡ k
+        gone : tricks_left z ≡ k
         gone = (let l = done.size in omega (arith, l, size))
 
         -- where h has not won it, it waits on
@@ -426,14 +426,14 @@ module _ (o : Board) (h : Seat) (guard : PlayingCard → Bool) (headed : Suit �
         trick-on t h rest this p m none_in n play (own-side h) wins 3 (after p m) (omega (arith, one)) begun.0
 
   -- so h's side takes as many tricks as it keeps winners
-  waits : (k n : ℕ) (p : Board) → left p ≡ k → IsWaiting p → n ≤ kept → n ≤ won t p
+  waits : (k n : ℕ) (p : Board) → tricks_left p ≡ k → IsWaiting p → n ≤ kept → n ≤ won t p
   waits zero n p size was few = (let room = was.room in omega (arith, size, room, few))
   waits (suc k) n p size was few = by (place-of h p.first) (λ i z a b c. waits k i z a b c)
     where
       Later : Type 0
-      Later = (i : ℕ) (z : Board) → left z ≡ k → IsWaiting z → i ≤ kept → i ≤ won t z
+      Later = (i : ℕ) (z : Board) → tricks_left z ≡ k → IsWaiting z → i ≤ kept → i ≤ won t z
 
-      some : 1 ≤ left p
+      some : 1 ≤ tricks_left p
       some = omega (arith, size)
 
       -- the other side leads
@@ -475,7 +475,7 @@ module _ (o : Board) (h : Seat) (guard : PlayingCard → Bool) (headed : Suit �
           | inr nowhere ↦ (
               let all = all-kept guard (cards_at p h) (λ c e. e) was.keeps in
               let room = was.room in
-              alone (left p) n p refl (record { now = was.now; first = at; void = λ c own x other. void none nowhere c own x other }) (omega (arith, few, all)) (omega (arith, few, room)))
+              alone (tricks_left p) n p refl (record { now = was.now; first = at; void = λ c own x other. void none nowhere c own x other }) (omega (arith, few, all)) (omega (arith, few, room)))
         ]
       ]
         where
@@ -502,5 +502,5 @@ module _ (o : Board) (h : Seat) (guard : PlayingCard → Bool) (headed : Suit �
       by (suc (suc (suc (suc j))), l, at) ih = absurd (omega (arith, l))
 
   -- where that holds at first
-  pub kept-taken : o.trick ≡ [] → seat_code o.first ≢ seat_code h → total (rounds o) + kept ≤ left o → kept ≤ won (side_of h) o
-  kept-taken start away room = waits (left o) kept o refl (record { now = record { valid = hold.valid; same = refl; start = start; part = λ x c k. k }; away = away; keeps = hold.own; room = room }) (omega arith)
+  pub kept-taken : o.trick ≡ [] → seat_code o.first ≢ seat_code h → total (rounds o) + kept ≤ tricks_left o → kept ≤ won (side_of h) o
+  kept-taken start away room = waits (tricks_left o) kept o refl (record { now = record { valid = hold.valid; same = refl; start = start; part = λ x c k. k }; away = away; keeps = hold.own; room = room }) (omega arith)

@@ -11,7 +11,7 @@ use Rattle.dd_cards.specs.Cards.{is_of, has_card}
 use Rattle.dd_cards.specs.Seats.{seat_code, seat_after}
 use Rattle.dd_cards.specs.Sides.{side_of, other_side, is_side}
 use Rattle.dd_cards.proofs.CallerLemmas.{and-left, and-right, else-false, is-other, or-split, or-right, same-other}
-use Rattle.dd_play.specs.Board.{Board, IsBoard, cards_at, left}
+use Rattle.dd_play.specs.Board.{Board, IsBoard, cards_at, tricks_left}
 use Rattle.dd_play.specs.Reach.{TakesBy, reach}
 use Rattle.dd_play.specs.Won.{won}
 use Rattle.dd_play.proofs.CallerLemmas.{after-code, code-lt, count, count-has, count-some, flag_of, once-in, same-or, suit-of}
@@ -125,7 +125,7 @@ module _ (q : Board) (a b : Suit → Bool) (valid : IsBoard q) (start : q.trick 
   kept-right = count-same guard right_head (hand_on q 3) (λ c own. ap (λ x. x || right_head c) (not-there 1 (inl refl) a by_left 3 c (λ e. two (sym e)) own)) ∙ heads-many 3 (inr refl) b by_right
 
   -- so their side takes a trick
-  later-taken : total (rounds_of q.first suits q) + 1 ≤ left q → total (rounds_of q.first suits q) + total (λ u. flag_of (a u)) ≤ left q → total (rounds_of q.first suits q) + total (λ u. flag_of (b u)) ≤ left q → 1 ≤ won (other_side (side_of q.first)) q
+  later-taken : total (rounds_of q.first suits q) + 1 ≤ tricks_left q → total (rounds_of q.first suits q) + total (λ u. flag_of (a u)) ≤ tricks_left q → total (rounds_of q.first suits q) + total (λ u. flag_of (b u)) ≤ tricks_left q → 1 ≤ won (other_side (side_of q.first)) q
   later-taken few room_left room_right = one-later q guard suits holds valid start few (λ x on. elim (opposite (other_side (side_of q.first)) q.first x (leaders-side q.first) on).1 [
     | inl e ↦ (let k = kept-left in let at : count guard (cards_at q x) ≡ count guard (hand_on q 1) = ap (λ y. count guard (cards_at q y)) ((opposite (other_side (side_of q.first)) q.first x (leaders-side q.first) on).2 ∙ ap (seat_after q.first) e) in omega (arith, k, at, room_left))
     | inr e ↦ (let k = kept-right in let at : count guard (cards_at q x) ≡ count guard (hand_on q 3) = ap (λ y. count guard (cards_at q y)) ((opposite (other_side (side_of q.first)) q.first x (leaders-side q.first) on).2 ∙ ap (seat_after q.first) e) in omega (arith, k, at, room_right))
@@ -134,27 +134,27 @@ module _ (q : Board) (a b : Suit → Bool) (valid : IsBoard q) (start : q.trick 
 -- the parts of what is counted
 record IsLaterTrick (p : Board) : Type 0 where
   plain : no_trumps p ≡ true
-  few : all_rounds p < left p
-  room_left : all_rounds p + headed p 1 ≤ left p
-  room_right : all_rounds p + headed p 3 ≤ left p
+  few : all_rounds p < tricks_left p
+  room_left : all_rounds p + headed p 1 ≤ tricks_left p
+  room_right : all_rounds p + headed p 3 ≤ tricks_left p
 
 parts : (p : Board) → has_later_trick p ≡ true → IsLaterTrick p
 unfolding has_later_trick
 parts p e =
     let rest = and-right (no_trumps p) _ e in
-    let rooms = and-right (nat_lt (all_rounds p) (left p)) _ rest in
+    let rooms = and-right (nat_lt (all_rounds p) (tricks_left p)) _ rest in
     record {
       plain = and-left (no_trumps p) _ e;
-      few = ltb-true (all_rounds p) (left p) (and-left (nat_lt (all_rounds p) (left p)) _ rest);
-      room_left = leb-true (all_rounds p + headed p 1) (left p) (and-left (nat_le (all_rounds p + headed p 1) (left p)) _ rooms);
-      room_right = leb-true (all_rounds p + headed p 3) (left p) (and-right (nat_le (all_rounds p + headed p 1) (left p)) _ rooms);
+      few = ltb-true (all_rounds p) (tricks_left p) (and-left (nat_lt (all_rounds p) (tricks_left p)) _ rest);
+      room_left = leb-true (all_rounds p + headed p 1) (tricks_left p) (and-left (nat_le (all_rounds p + headed p 1) (tricks_left p)) _ rooms);
+      room_right = leb-true (all_rounds p + headed p 3) (tricks_left p) (and-right (nat_le (all_rounds p + headed p 1) (tricks_left p)) _ rooms);
     }
 
 -- a later trick is one of those left
-pub later-most : (p : Board) → (if has_later_trick p then 1 else 0) ≤ left p
+pub later-most : (p : Board) → (if has_later_trick p then 1 else 0) ≤ tricks_left p
 later-most p = go (has_later_trick p) refl
   where
-    go : (b : Bool) → has_later_trick p ≡ b → (if b then 1 else 0) ≤ left p
+    go : (b : Bool) → has_later_trick p ≡ b → (if b then 1 else 0) ≤ tricks_left p
     go true e = (let k = (parts p e).few in omega (arith, k))
     go false e = omega arith
 

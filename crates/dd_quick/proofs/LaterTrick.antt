@@ -20,12 +20,12 @@ use Rattle.dd_cards.specs.Cards.{is_of, same_card, has_card}
 use Rattle.dd_cards.specs.Seats.{seat_code, seat_after}
 use Rattle.dd_cards.specs.Sides.{side_of, other_side, is_side}
 use Rattle.dd_cards.proofs.CallerLemmas.{else-false, filter-true, has_card-without, is-same, not-true, same_card-eq, seat_code-injective}
-use Rattle.dd_play.specs.Board.{Board, IsBoard, cards_at, left, mover}
+use Rattle.dd_play.specs.Board.{Board, IsBoard, cards_at, tricks_left, mover}
 use Rattle.dd_play.specs.Tricks.{is_trump, winner_of}
 use Rattle.dd_play.specs.Play.{after, completes, following, trick_with}
 use Rattle.dd_play.specs.Simulations.{IsLegal}
 use Rattle.dd_play.specs.Covers.{count_of}
-use Rattle.dd_play.specs.Won.{point, won}
+use Rattle.dd_play.specs.Won.{trick_for, won}
 use Rattle.dd_play.proofs.CallerLemmas.{Obeys, after-code, can, code-lt, count, count-has, count-some, flag_of, hand-others, hand-own, in-following, legal-in, legal-leads, legal-out, of-suit', own-card, same-or, strain-after, suit-of, trick-after, trick-closed, was-in, won_with}
 use Rattle.dd_quick.specs.SecondHand.{unled}
 use Rattle.dd_quick.proofs.Cashing.{IsMaster, hand_on, is_plain, total}
@@ -181,8 +181,8 @@ module _ (o : Board) (guard : PlayingCard → Bool) (headed : Suit → Bool) (ho
     theirs : is_side t p.first ≡ false
     part : (x : Seat) (c : PlayingCard) → has_card (cards_at p x) c ≡ true → has_card (cards_at o x) c ≡ true
     keeps : (x : Seat) (c : PlayingCard) → is_side t x ≡ true → guard c ≡ true → has_card (cards_at o x) c ≡ true → has_card (cards_at p x) c ≡ true
-    few : total (rounds p) + 1 ≤ left p
-    room : (x : Seat) → is_side t x ≡ true → total (rounds p) + count guard (cards_at p x) ≤ left p
+    few : total (rounds p) + 1 ≤ tricks_left p
+    room : (x : Seat) → is_side t x ≡ true → total (rounds p) + count guard (cards_at p x) ≤ tricks_left p
 
   -- In a trick to which m was led at p: the same so far, and the hands that have played have followed suit if they could.
   record IsUnder (p : Board) (m : PlayingCard) (q : Board) : Type 0 where
@@ -194,7 +194,7 @@ module _ (o : Board) (guard : PlayingCard → Bool) (headed : Suit → Bool) (ho
     keeps : (x : Seat) (c : PlayingCard) → is_side t x ≡ true → guard c ≡ true → has_card (cards_at o x) c ≡ true → has_card (cards_at q x) c ≡ true
     fewer : (x : Seat) (test : PlayingCard → Bool) → count test (cards_at q x) ≤ count test (cards_at p x)
     followed : (i : ℕ) → i < length q.trick → HasFollowed m.suit p q (seat_after p.first i)
-    paid : length (cards_at q p.first) + 1 ≡ left p
+    paid : length (cards_at q p.first) + 1 ≡ tricks_left p
 
   -- the leader is one of the two partners
   leader-of : (p : Board) → IsOutside p → (p.first ≡ o.first) ⊎ (p.first ≡ seat_after o.first 2)
@@ -265,7 +265,7 @@ module _ (o : Board) (guard : PlayingCard → Bool) (headed : Suit → Bool) (ho
     ]
 
     -- the leader has played
-    paid-on : length (cards_at (after q c) p.first) + 1 ≡ left p
+    paid-on : length (cards_at (after q c) p.first) + 1 ≡ tricks_left p
     paid-on = ap (λ cards. length cards + 1) (hand-others q c p.first (apart-places 0 (omega arith) (let k = begun in λ e. omega (arith, e, k)))) ∙ now.paid
 
     -- where the trick goes on
@@ -294,7 +294,7 @@ module _ (o : Board) (guard : PlayingCard → Bool) (headed : Suit → Bool) (ho
         let board = (legal-leads q c now.valid has).valid in
         let size = hand-left (after q c) board closed.0 p.first in
         let paid = paid-on in
-        let gone : left (after q c) + 1 ≡ left p = omega (arith, size, paid) in
+        let gone : tricks_left (after q c) + 1 ≡ tricks_left p = omega (arith, size, paid) in
         let less = total-rounds three in
         record {
           valid = board;
@@ -386,7 +386,7 @@ module _ (o : Board) (guard : PlayingCard → Bool) (headed : Suit → Bool) (ho
       legal d h = ap (λ trick. has_card (following trick (cards_at q (mover q))) d) now.led.1 ∙ h
 
   -- the trick to its end
-  trick-on : (p : Board) (m : PlayingCard) → IsOutside p → headed m.suit ≡ false → 1 ≤ count_of m.suit (cards_at p p.first) → 1 ≤ rounds p m.suit → ((q : Board) → left q + 1 ≡ left p → IsOutside q → 1 ≤ won t q)
+  trick-on : (p : Board) (m : PlayingCard) → IsOutside p → headed m.suit ≡ false → 1 ≤ count_of m.suit (cards_at p p.first) → 1 ≤ rounds p m.suit → ((q : Board) → tricks_left q + 1 ≡ tricks_left p → IsOutside q → 1 ≤ won t q)
       → (j : ℕ) (q : Board) → length q.trick + j ≡ 4 → IsUnder p m q → 1 ≤ won t q
   trick-on p m was plain_suit own some next zero q size now = absurd (let h = now.valid.short in omega (arith, h, size))
   trick-on p m was plain_suit own some next (suc j) q size now = go (is_side t (mover q)) refl (λ z n k. trick-on p m was plain_suit own some next j z n k)
@@ -403,7 +403,7 @@ module _ (o : Board) (guard : PlayingCard → Bool) (headed : Suit → Bool) (ho
       leaves c has free true e ih = ends (is_side t (winner_of (trick_with q c) q.first q.strain)) refl
         where
           ends : (w : Bool) → is_side t (winner_of (trick_with q c) q.first q.strain) ≡ w → 1 ≤ won_with t q c
-          ends true w = (let one : point t q c ≡ 1 = ap₂ (λ a b. flag_of (a && b)) e w in omega (arith, one))
+          ends true w = (let one : trick_for t q c ≡ 1 = ap₂ (λ a b. flag_of (a && b)) e w in omega (arith, one))
           ends false w =
               let on = outside-on p m q c was now has free plain_suit own e w in
               let paid = paid-on p m q c was now has free in
@@ -411,7 +411,7 @@ module _ (o : Board) (guard : PlayingCard → Bool) (headed : Suit → Bool) (ho
               let later : 1 ≤ won t (after q c) = next (after q c) (omega (arith, paid, size)) on in
               omega (arith, later)
 
-      some-left : 1 ≤ left q
+      some-left : 1 ≤ tricks_left q
       some-left =
           let even = now.valid.even 0 (omega arith) in
           let begun : 1 ≤ length q.trick = (let k : length q.trick ≡ length (m ∷ now.led.0) = ap length now.led.1 in omega (arith, k)) in
@@ -427,12 +427,12 @@ module _ (o : Board) (guard : PlayingCard → Bool) (headed : Suit → Bool) (ho
       go false e ih = whoever t q 1 now.valid some-left (λ c has. leaves c has (λ on. absurd (let k : false ≡ true = sym e ∙ on in cc)) (completes q) refl ih)
 
   -- so the other side takes a trick
-  comes-in : (k : ℕ) (p : Board) → left p ≡ k → IsOutside p → 1 ≤ won t p
+  comes-in : (k : ℕ) (p : Board) → tricks_left p ≡ k → IsOutside p → 1 ≤ won t p
   comes-in zero p size was = absurd (let few = was.few in omega (arith, few, size))
   comes-in (suc k) p size was = whoever t p 1 was.valid (omega (arith, size)) (λ m has. (let later = leads m has (headed m.suit) refl (λ q n w. comes-in k q n w) in omega (arith, later)))
     where
       Later : Type 0
-      Later = (q : Board) → left q ≡ k → IsOutside q → 1 ≤ won t q
+      Later = (q : Board) → tricks_left q ≡ k → IsOutside q → 1 ≤ won t q
 
       at : mover p ≡ p.first
       at = ap (λ trick. seat_after p.first (length trick)) was.start
@@ -497,5 +497,5 @@ module _ (o : Board) (guard : PlayingCard → Bool) (headed : Suit → Bool) (ho
           }
 
   -- where that holds at first
-  pub one-later : IsBoard o → o.trick ≡ [] → total (rounds o) + 1 ≤ left o → ((x : Seat) → is_side t x ≡ true → total (rounds o) + count guard (cards_at o x) ≤ left o) → 1 ≤ won t o
-  one-later valid start few room = comes-in (left o) o refl (record { valid = valid; same = refl; start = start; theirs = leaders-side o.first; part = λ x c h. h; keeps = λ x c on keep h. h; few = few; room = room })
+  pub one-later : IsBoard o → o.trick ≡ [] → total (rounds o) + 1 ≤ tricks_left o → ((x : Seat) → is_side t x ≡ true → total (rounds o) + count guard (cards_at o x) ≤ tricks_left o) → 1 ≤ won t o
+  one-later valid start few room = comes-in (tricks_left o) o refl (record { valid = valid; same = refl; start = start; theirs = leaders-side o.first; part = λ x c h. h; keeps = λ x c on keep h. h; few = few; room = room })

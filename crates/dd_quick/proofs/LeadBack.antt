@@ -15,7 +15,7 @@ use Rattle.dd_cards.specs.Suits.{suit_code}
 use Rattle.dd_cards.specs.Seats.{seat_code, seat_after}
 use Rattle.dd_cards.specs.declared.side.Side.{Side}
 use Rattle.dd_cards.proofs.CallerLemmas.{IsSet-with_card, IsSet-without, and-left, else-false, filter-true, hand_of-with_hand, has_card-filter, has_card-with_card, has_card-without, or-right, same-members, seat_code-injective, same_card-eq, same_card-self, times-cons, times-has_card}
-use Rattle.dd_play.specs.Board.{Board, IsBoard, cards_at, left, times_in}
+use Rattle.dd_play.specs.Board.{Board, IsBoard, cards_at, tricks_left, times_in}
 use Rattle.dd_play.specs.Covers.{AllAnswer, Answers, ForMet, IsCover, IsOver, Keeps, count_of}
 use Rattle.dd_play.proofs.CallerLemmas.{card-real, count, count-without, flag_of, hand-other, has-first, same-or, times-has, times-hand, times_in-with_hand, turn-apart}
 use Rattle.dd_quick.specs.SecondHand.{unled}
@@ -68,7 +68,7 @@ module _ (p : Board) (c : PlayingCard) (valid : IsBoard p) (led : p.trick ≡ c 
   count-back test = count-with test (cards_at p p.first) c (valid.sets p.first) (absent-led p.first) real-led
 
   -- how many cards a hand has
-  hand-size : (x : Seat) → seat_code x ≢ seat_code p.first → length (cards_at p x) ≡ left p
+  hand-size : (x : Seat) → seat_code x ≢ seat_code p.first → length (cards_at p x) ≡ tricks_left p
   hand-size x apart =
       let on = places-on p.first x apart in
       let even = valid.even on.0 on.2 in
@@ -80,7 +80,7 @@ module _ (p : Board) (c : PlayingCard) (valid : IsBoard p) (led : p.trick ≡ c 
       later : (a b : ℕ) → b ≡ 1 → 1 ≤ a → nat_lt a b ≡ false
       later a b e l = grind (arith, nat_tests)
 
-  leaders-size : length (cards_at p p.first) + 1 ≡ left p
+  leaders-size : length (cards_at p p.first) + 1 ≡ tricks_left p
   leaders-size =
       let even = valid.even 0 (omega arith) in
       let flag : flag_of (nat_lt 0 (length p.trick)) ≡ 1 = ap (λ trick. flag_of (nat_lt 0 (length trick))) led in
@@ -95,7 +95,7 @@ module _ (p : Board) (c : PlayingCard) (valid : IsBoard p) (led : p.trick ≡ c 
     others-back x apart = hand-other p.hands p.first x (with_card (cards_at p p.first) c) apart
 
     -- each hand has as many cards
-    size-back : (x : Seat) → length (cards_at (unled p c h) x) ≡ left p
+    size-back : (x : Seat) → length (cards_at (unled p c h) x) ≡ tricks_left p
     size-back x = elim (same-or x p.first) [
       | inl e ↦ (
           let a : length (cards_at (unled p c h) x) ≡ length (with_card (cards_at p p.first) c) = ap length (ap (cards_at (unled p c h)) e ∙ leaders-back) in

@@ -19,7 +19,7 @@ use Rattle.dd_cards.specs.Seats.{seat_code, seat_after}
 use Rattle.dd_cards.specs.Sides.{is_side}
 use Rattle.dd_cards.specs.declared.side.Side.{Side}
 use Rattle.dd_cards.proofs.CallerLemmas.{and-left, and-right, filter-true, not-true, or-right}
-use Rattle.dd_play.specs.Board.{Board, IsBoard, cards_at, left}
+use Rattle.dd_play.specs.Board.{Board, IsBoard, cards_at, tricks_left}
 use Rattle.dd_play.specs.Tricks.{is_trump}
 use Rattle.dd_play.specs.Covers.{count_of}
 use Rattle.dd_play.specs.Won.{won}
@@ -70,7 +70,7 @@ plain-of : (strain : Strain) (u : Suit) (cards : List PlayingCard) → is_trump 
 plain-of strain u cards plain = (let split = count-split (is_of u) (is_trump strain) cards in let none = no-trump-of strain u cards plain in omega (arith, split, none))
 
 -- before a trick each hand has as many cards as tricks are left
-full : (z : Board) (i : ℕ) → IsBoard z → z.trick ≡ [] → i < 4 → length (hand_on z i) ≡ left z
+full : (z : Board) (i : ℕ) → IsBoard z → z.trick ≡ [] → i < 4 → length (hand_on z i) ≡ tricks_left z
 full z i valid start l =
     let even = valid.even i l in
     let flag : flag_of (nat_lt i (length z.trick)) ≡ 0 = ap flag_of (not-under i (length z.trick) (ap length start)) in
@@ -100,8 +100,8 @@ pub record CanCross (q : Board) (sure next : PlayingCard → Bool) (n z y : Suit
   pub room : (u : Suit) → (y u ≡ 0) ⊎ (n u + y u ≤ count_of u (hand_on q 2))
   pub alone : (u : Suit) → (y u ≡ z u) ⊎ ((i : ℕ) → i < 4 → i ≢ 2 → count_of u (hand_on q i) ≤ n u + z u)
   pub entry : 1 ≤ z e
-  pub mine : total n + total y + trumps_at q.strain q q.first ≤ left q
-  pub his : total n + total y + trumps_at q.strain q (seat_after q.first 2) ≤ left q
+  pub mine : total n + total y + trumps_at q.strain q q.first ≤ tricks_left q
+  pub his : total n + total y + trumps_at q.strain q (seat_after q.first 2) ≤ tricks_left q
   pub joint : k ≤ joint_trumps q.strain q q.first
 
 -- an opponent is one of the partner's
@@ -238,7 +238,7 @@ module _ (s : Side) (q : Board) (sure next : PlayingCard → Bool) (n z y : Suit
 
   -- how many cards of a suit the other hands have at most when the leader has cashed, where that matters
   abbrev most : (u : Suit) → (y u ≡ z u) ⊎ ((i : ℕ) → i < 4 → i ≢ 2 → count_of u (hand_on q i) ≤ n u + z u) → ℕ
-  most u (inl e) = left q
+  most u (inl e) = tricks_left q
   most u (inr e) = z u
 
   most-holds : (u : Suit) (x : (y u ≡ z u) ⊎ ((i : ℕ) → i < 4 → i ≢ 2 → count_of u (hand_on q i) ≤ n u + z u)) (i : ℕ) → i < 4 → i ≢ 2 → count_of u (hand_on q i) ≤ n u + most u x
@@ -432,7 +432,7 @@ module _ (s : Side) (q : Board) (sure next : PlayingCard → Bool) (n z y : Suit
 
       -- by what it cashes
       abbrev his_aims : Aims
-      his_aims = record { sure = wins; kept = is_trump q.strain; low = no_cards; over = λ u. sure_of wins u (cards_at t t.first); rest = λ u. left t; least = no_cards }
+      his_aims = record { sure = wins; kept = is_trump q.strain; low = no_cards; over = λ u. sure_of wins u (cards_at t t.first); rest = λ u. tricks_left t; least = no_cards }
 
       starts-his : IsLater q.strain his_aims t s t
       starts-his = record {

@@ -20,13 +20,13 @@ use Rattle.dd_cards.specs.Cards.{is_of, same_card, has_card}
 use Rattle.dd_cards.specs.Seats.{seat_code, seat_after}
 use Rattle.dd_cards.specs.Sides.{is_side}
 use Rattle.dd_cards.proofs.CallerLemmas.{else-false, filter-true, has_card-without, passes, same_card-eq}
-use Rattle.dd_play.specs.Board.{Board, IsBoard, cards_at, mover, left}
+use Rattle.dd_play.specs.Board.{Board, IsBoard, cards_at, mover, tricks_left}
 use Rattle.dd_play.specs.Tricks.{is_trump, winning_place, winner_of}
 use Rattle.dd_play.specs.Strength.{strength, strongest_place}
 use Rattle.dd_play.specs.Play.{completes, trick_with, after}
 use Rattle.dd_play.specs.Simulations.{IsLegal}
 use Rattle.dd_play.specs.Covers.{count_of}
-use Rattle.dd_play.specs.Won.{won, point}
+use Rattle.dd_play.specs.Won.{won, trick_for}
 use Rattle.dd_play.proofs.CallerLemmas.{Obeys, after-code, can, code-lt, count, count-some, flag_of, hand-others, hand-own, has-at, has-first, legal-leads, legal-out, of-suit', own-card, place-within, real-trick, same-or, strain-after, strength_by, suit-of, trick-after, trick-closed, was-in, winning-strongest, won_with}
 use Rattle.dd_quick.proofs.Crossings.{HasFollowed, NoTrumps}
 use Rattle.dd_quick.proofs.JointTrumps.{place-of}
@@ -97,7 +97,7 @@ suit-wins strain led rest d real none = subst (λ w. IsHighest trick led.suit w 
 -- ---- hands and places
 
 -- before a trick each hand has as many cards as tricks are left
-pub hand-left : (p : Board) → IsBoard p → p.trick ≡ [] → (x : Seat) → length (cards_at p x) ≡ left p
+pub hand-left : (p : Board) → IsBoard p → p.trick ≡ [] → (x : Seat) → length (cards_at p x) ≡ tricks_left p
 hand-left p valid start x =
     let at = place-of p.first x in
     let even = valid.even at.0 at.1 in
@@ -134,7 +134,7 @@ module _ (s : Side) (h : Seat) (keep spend : PlayingCard → Bool) (p : Board) (
     pub followed : (i : ℕ) → i < length q.trick → HasFollowed m.suit p q (seat_after p.first i)
     pub played : (i : ℕ) (d : PlayingCard) → i < length q.trick → has_card (cards_at p (seat_after p.first i)) (get_or q.trick i d) ≡ true
     pub spent : (i : ℕ) (d : PlayingCard) → i < length q.trick → seat_after p.first i ≡ h → spend (get_or q.trick i d) ≡ true
-    pub paid : length (cards_at q p.first) + 1 ≡ left p
+    pub paid : length (cards_at q p.first) + 1 ≡ tricks_left p
 
   -- and its end, with the last card c
   pub record IsDone (q : Board) (c : PlayingCard) : Type 0 where
@@ -145,8 +145,8 @@ module _ (s : Side) (h : Seat) (keep spend : PlayingCard → Bool) (p : Board) (
     pub keeps : (d : PlayingCard) → keep d ≡ true → has_card (cards_at (after q c) h) d ≡ true
     pub fewer : (x : Seat) (test : PlayingCard → Bool) → count test (cards_at (after q c) x) ≤ count test (cards_at p x)
     pub followed : (x : Seat) → HasFollowed m.suit p (after q c) x
-    pub size : left (after q c) + 1 ≡ left p
-    pub points : is_side s (after q c).first ≡ true → point s q c ≡ 1
+    pub size : tricks_left (after q c) + 1 ≡ tricks_left p
+    pub points : is_side s (after q c).first ≡ true → trick_for s q c ≡ 1
     pub best : PlayingCard
     pub best_own : has_card (cards_at p (after q c).first) best ≡ true
     pub best_suit : best.suit ≡ m.suit
@@ -218,7 +218,7 @@ module _ (s : Side) (h : Seat) (keep spend : PlayingCard → Bool) (p : Board) (
       | inr r ↦ ap spend r.1 ∙ (free (turn ∙ ap (seat_after p.first) (sym r.0) ∙ at)).1
     ]
 
-    paid-on : length (cards_at (after q c) p.first) + 1 ≡ left p
+    paid-on : length (cards_at (after q c) p.first) + 1 ≡ tricks_left p
     paid-on = ap (λ cards. length cards + 1) (hand-others q c p.first (λ e. apart-places 0 (omega arith) (let k = begun in λ z. omega (arith, z, k)) (e))) ∙ now.paid
 
     -- where the trick goes on

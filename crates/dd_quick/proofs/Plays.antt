@@ -8,18 +8,18 @@ use Rattle.dd_cards.specs.Cards.{has_card, without}
 use Rattle.dd_cards.specs.Hands.{times}
 use Rattle.dd_cards.specs.Sides.{is_side}
 use Rattle.dd_cards.specs.declared.side.Side.{Side}
-use Rattle.dd_play.specs.Board.{Board, IsBoard, cards_at, mover, left}
+use Rattle.dd_play.specs.Board.{Board, IsBoard, cards_at, mover, tricks_left}
 use Rattle.dd_play.specs.Play.{legal, after}
 use Rattle.dd_play.specs.Simulations.{IsLegal}
 use Rattle.dd_play.specs.Won.{won}
 use Rattle.dd_play.proofs.CallerLemmas.{can, count, count-cons, count-without, flag_of, hand-own, has-first, in-rest, least, no-legal, once-in, own-card, times-has, won_with}
 
 -- what each legal card leaves the side, it takes, whoever is to play
-pub whoever : (s : Side) (p : Board) (b : ℕ) → IsBoard p → 1 ≤ left p → ((c : PlayingCard) → IsLegal p c → b ≤ won_with s p c) → b ≤ won s p
+pub whoever : (s : Side) (p : Board) (b : ℕ) → IsBoard p → 1 ≤ tricks_left p → ((c : PlayingCard) → IsLegal p c → b ≤ won_with s p c) → b ≤ won s p
 whoever s p b valid some each = go (is_side s (mover p)) refl (legal p) refl
   where
     go : (a : Bool) → is_side s (mover p) ≡ a → (cards : List PlayingCard) → legal p ≡ cards → b ≤ won s p
-    go a e [] l = absurd (let z : left p ≡ 0 = no-legal p l in omega (arith, z, some))
+    go a e [] l = absurd (let z : tricks_left p ≡ 0 = no-legal p l in omega (arith, z, some))
     go true e (x ∷ cards) l =
         let has : IsLegal p x = ap (λ l. has_card l x) l ∙ has-first x cards in
         let reach : won_with s p x ≤ won s p = can s p x valid e has in

@@ -14,7 +14,7 @@ use Rattle.dd_cards.specs.Cards.{card_of, is_of, has_card, without}
 use Rattle.dd_cards.specs.Seats.{seat_code, seat_after}
 use Rattle.dd_cards.specs.Sides.{side_of, is_side}
 use Rattle.dd_cards.proofs.CallerLemmas.{and-left, and-right, else-false, is-same}
-use Rattle.dd_play.specs.Board.{Board, IsBoard, cards_at, left}
+use Rattle.dd_play.specs.Board.{Board, IsBoard, cards_at, tricks_left}
 use Rattle.dd_play.specs.Tricks.{is_trump}
 use Rattle.dd_play.specs.Play.{following}
 use Rattle.dd_play.specs.Covers.{count_of}
@@ -78,7 +78,7 @@ any-card strain m trick hand first some = elim (cases_lt 0 (count_of m.suit hand
 -- it holds, and with it a trick for each of its trumps that no other hand can beat.
 module _ (p : Board) (c : PlayingCard) (h : Seat) (i : ℕ) (n : Suit → ℕ) (k : ℕ) (valid : IsBoard p) (led : p.trick ≡ c ∷ []) (opposed : IsOpposed i) (at : h ≡ seat_after p.first i)
     (can : CanTake (unled p c h) n 0) (trump : is_trump p.strain c ≡ true) (some : 1 ≤ k) (few : k ≤ run (unled p c h) h c.suit)
-    (spare : total n + 1 + trumps_at p.strain (unled p c h) (seat_after h 2) ≤ left (unled p c h)) where
+    (spare : total n + 1 + trumps_at p.strain (unled p c h) (seat_after h 2) ≤ tricks_left (unled p c h)) where
   abbrev before : Board
   before = unled p c h
 
@@ -170,7 +170,7 @@ module _ (p : Board) (c : PlayingCard) (h : Seat) (i : ℕ) (n : Suit → ℕ) (
         hand = ap (cards_at q) first ∙ now.mine
 
         aims : Aims
-        aims = keeping_trumps p.strain sure_trump (cards_at q q.first) (left q)
+        aims = keeping_trumps p.strain sure_trump (cards_at q q.first) (tricks_left q)
 
         later : IsLater p.strain aims q (side_of h) q
         later = record { trumps = λ d e. e; valid = now.valid; same = now.same; ours = ap (is_side (side_of h)) first ∙ own-side h; first = refl; part = λ x d has. has; mine = λ test only. refl; partners = λ test only. refl }
@@ -188,7 +188,7 @@ module _ (p : Board) (c : PlayingCard) (h : Seat) (i : ℕ) (n : Suit → ℕ) (
 
         lets : AllLetCash p.strain aims n q
         lets j l b = subst (λ x. LetsCash p.strain aims n no_cards j (cards_at q x) (cards_at q (seat_after x j))) (sym first)
-            (lets-cash p.strain sure_trump (cards_at q q.first) (left q) n j (cards_at q h) (cards_at q (seat_after h j)) can.plain (λ u. subst (λ x. count_of u (cards_at q (seat_after x j)) ≤ left q) first (length-left q j u now.valid empty b))
+            (lets-cash p.strain sure_trump (cards_at q q.first) (tricks_left q) n j (cards_at q h) (cards_at q (seat_after h j)) can.plain (λ u. subst (λ x. count_of u (cards_at q (seat_after x j)) ≤ tricks_left q) first (length-left q j u now.valid empty b))
             (subst (λ mine. LetsWin p.strain sure_trump n no_cards j mine (cards_at q (seat_after h j))) (sym now.mine) (now.lets_be j l b)))
 
         -- its other winners among the trumps are beaten by no opponent later
@@ -237,7 +237,7 @@ module _ (p : Board) (c : PlayingCard) (h : Seat) (i : ℕ) (n : Suit → ℕ) (
 
 -- so it is a claim by the cards on which that rests
 pub trumps-by : (top : PlayingCard → Bool) (p : Board) (c : PlayingCard) (h : Seat) (i : ℕ) (n : Suit → ℕ) (m : ℕ) → p.trick ≡ c ∷ [] → IsOpposed i → h ≡ seat_after p.first i → (IsBoard (unled p c h) → CanTake (unled p c h) n 0) → is_trump p.strain c ≡ true → 1 ≤ m
-    → RestsOnTops top (unled p c h) n → m ≤ count (λ d. (is_of c.suit d && is_winner (unled p c h) h d) && top d) (cards_at (unled p c h) h) → total n + 1 + trumps_at p.strain (unled p c h) (seat_after h 2) ≤ left (unled p c h)
+    → RestsOnTops top (unled p c h) n → m ≤ count (λ d. (is_of c.suit d && is_winner (unled p c h) h d) && top d) (cards_at (unled p c h) h) → total n + 1 + trumps_at p.strain (unled p c h) (seat_after h 2) ≤ tricks_left (unled p c h)
     → TakesBy top (side_of h) p (total n + m)
 trumps-by top p c h i n m led opposed at may trump some winners tops spare k to from t q r strict =
     let answer = answered to from top p.trick q.trick c led r.trick in
@@ -260,7 +260,7 @@ trumps-by top p c h i n m led opposed at may trump some winners tops spare k to 
 
 -- and what is counted there where a trump was led
 pub trump-claim : (p : Board) (c : PlayingCard) (before : Board) (cards : List PlayingCard) (n : Suit → ℕ) (m : ℕ) → IsBeforeLead p c before → IsSure before cards n 0 → is_trump p.strain c ≡ true → 1 ≤ m
-    → m ≤ count (λ d. (is_of c.suit d && is_winner before before.first d) && reach cards d) (cards_at before before.first) → total n + 1 + trumps_at before.strain before (seat_after before.first 2) ≤ left before
+    → m ≤ count (λ d. (is_of c.suit d && is_winner before before.first d) && reach cards d) (cards_at before before.first) → total n + 1 + trumps_at before.strain before (seat_after before.first 2) ≤ tricks_left before
     → TakesBy (reach cards) (side_of before.first) p (total n + m)
 trump-claim p c before cards n m ready sure trump some tops spare = elim ready.seat [ inl at ↦ go 1 (inl refl) at | inr at ↦ go 3 (inr refl) at ]
   where
@@ -269,4 +269,4 @@ trump-claim p c before cards n m ready sure trump some tops spare = elim ready.s
         trumps-by (reach cards) p c before.first i n m ready.led opposed at (λ valid. subst (λ o. CanTake o n 0) ready.was (sure.can (subst IsBoard (sym ready.was) valid))) trump some
         (subst (λ o. RestsOnTops (reach cards) o n) ready.was sure.tops)
         (subst (λ (o : Board). m ≤ count (λ d. (is_of c.suit d && is_winner o before.first d) && reach cards d) (cards_at o before.first)) ready.was tops)
-        (subst (λ (o : Board). total n + 1 + trumps_at o.strain o (seat_after before.first 2) ≤ left o) ready.was spare)
+        (subst (λ (o : Board). total n + 1 + trumps_at o.strain o (seat_after before.first 2) ≤ tricks_left o) ready.was spare)

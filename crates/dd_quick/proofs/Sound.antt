@@ -17,7 +17,7 @@ use Rattle.dd_cards.specs.Seats.{seat_code, seat_after}
 use Rattle.dd_cards.proofs.CallerLemmas.{and-left, and-right, any-filter, else-false, length-filter-le, or-right, or-split, same_card-eq}
 use Rattle.dd_cards.specs.Sides.{side_of, other_side, is_side}
 use Rattle.dd_cards.specs.declared.side.Side.{Side}
-use Rattle.dd_play.specs.Board.{Board, IsBoard, cards_at, left}
+use Rattle.dd_play.specs.Board.{Board, IsBoard, cards_at, tricks_left}
 use Rattle.dd_play.specs.Tricks.{is_trump}
 use Rattle.dd_play.specs.Covers.{count_of}
 use Rattle.dd_play.specs.Won.{won}
@@ -377,7 +377,7 @@ pub record CanTake (p : Board) (n : Suit → ℕ) (k : ℕ) : Type 0 where
   pub yields : (u : Suit) (i : ℕ) → 1 ≤ i → i < 4 → min (n u) (length_at p (seat_after p.first i) u) ≤ run p p.first u
   pub plain : (u : Suit) → 1 ≤ n u → is_trump p.strain (card_of u 0) ≡ false
   pub follows : (i : ℕ) → IsOpposed i → (trumps_at p.strain p (seat_after p.first i) ≡ 0) ⊎ ((u : Suit) → n u ≤ length_at p (seat_after p.first i) u)
-  pub throws : total n + trumps_at p.strain p (seat_after p.first 2) ≤ left p
+  pub throws : total n + trumps_at p.strain p (seat_after p.first 2) ≤ tricks_left p
   pub joint : k ≤ joint_trumps p.strain p p.first
 
 -- a seat's trumps by the test of a trump
@@ -390,7 +390,7 @@ trumps-count Notrump p x = none (cards_at p x)
     none (c ∷ cards) = none cards
 
 -- cards that the partner has beside its trumps are no trumps
-pub plain-left : (p : Board) (x : ℕ) → IsBoard p → p.trick ≡ [] → x + trumps_at p.strain p (seat_after p.first 2) ≤ left p → x ≤ count (is_plain p.strain) (hand_on p 2)
+pub plain-left : (p : Board) (x : ℕ) → IsBoard p → p.trick ≡ [] → x + trumps_at p.strain p (seat_after p.first 2) ≤ tricks_left p → x ≤ count (is_plain p.strain) (hand_on p 2)
 plain-left p x valid start few =
     let all = trumps-plain p.strain (hand_on p 2) in
     let trumps = trumps-count p.strain p (seat_after p.first 2) in
@@ -399,7 +399,7 @@ plain-left p x valid start few =
     omega (arith, all, trumps, even, flag, few)
 
 -- before a trick a hand has no more cards of a suit than tricks are left
-pub length-left : (p : Board) (i : ℕ) (u : Suit) → IsBoard p → p.trick ≡ [] → i < 4 → length_at p (seat_after p.first i) u ≤ left p
+pub length-left : (p : Board) (i : ℕ) (u : Suit) → IsBoard p → p.trick ≡ [] → i < 4 → length_at p (seat_after p.first i) u ≤ tricks_left p
 length-left p i u valid start less =
     let part = length-filter-le (is_of u) (cards_at p (seat_after p.first i)) in
     let even = valid.even i less in
@@ -416,7 +416,7 @@ keeping_trumps strain sure own most = record { sure = sure; kept = is_trump stra
 
 -- so the winners of the leader at this position
 abbrev pub leaders_aims : Board → Aims
-leaders_aims p = keeping_trumps p.strain (is_winner p p.first) (cards_at p p.first) (left p)
+leaders_aims p = keeping_trumps p.strain (is_winner p p.first) (cards_at p p.first) (tricks_left p)
 
 -- of side suits a hand may spare all cards where it keeps its trumps
 pub side-spared : (strain : Strain) (n : Suit → ℕ) (hand : List PlayingCard) → ((u : Suit) → 1 ≤ n u → is_trump strain (card_of u 0) ≡ false) → (u : Suit) → min (no_cards u + n u) (count_of u hand) ≤ spare_of (is_trump strain) u hand

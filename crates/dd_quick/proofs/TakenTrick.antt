@@ -16,11 +16,11 @@ use Rattle.dd_cards.specs.Cards.{is_of, same_card, has_card, without}
 use Rattle.dd_cards.specs.Seats.{seat_code, seat_after}
 use Rattle.dd_cards.specs.Sides.{side_of, is_side}
 use Rattle.dd_cards.proofs.CallerLemmas.{and-left, and-right, else-false, passes, same_card-eq}
-use Rattle.dd_play.specs.Board.{Board, IsBoard, cards_at, left, mover}
+use Rattle.dd_play.specs.Board.{Board, IsBoard, cards_at, tricks_left, mover}
 use Rattle.dd_play.specs.Tricks.{deciding, is_highest_of, is_trump, or_else, winner_of, winning_place}
 use Rattle.dd_play.specs.Play.{after, completes, following, trick_with}
 use Rattle.dd_play.specs.Simulations.{IsLegal}
-use Rattle.dd_play.specs.Won.{point, won}
+use Rattle.dd_play.specs.Won.{trick_for, won}
 use Rattle.dd_play.proofs.CallerLemmas.{Obeys, after-code, can, code-lt, count, count-some, filter-has, filter-passes, flag_of, hand-others, hand-own, has-first, in-push, in-rest, legal-in, legal-leads, legal-out, of-suit', own-card, strain-after, suit-of, trick-after, trick-closed, was-in, won_with}
 use Rattle.dd_quick.specs.SecondHand.{unled}
 use Rattle.dd_quick.proofs.FirstCard.{no-trump, none-higher}
@@ -224,7 +224,7 @@ takes-over strain o lets m own waits p now turn has = record {
     stays j l k = hand-others p m (seat_after o.first j) (let a = after-code o.first j in let b = code-lt o.first in let t : seat_code (mover p) ≡ seat_code o.first = ap seat_code turn in λ e. omega (arith, a, b, t, e, l, k))
 
 -- where a card lies on the trick, one more is to come
-pub some-left : (p : Board) → IsBoard p → 1 ≤ length p.trick → 1 ≤ left p
+pub some-left : (p : Board) → IsBoard p → 1 ≤ length p.trick → 1 ≤ tricks_left p
 some-left p valid begun =
     let full = valid.even 0 (omega arith) in
     let one : flag_of (nat_lt 0 (length p.trick)) ≡ 1 = ap flag_of (lt-ltb 0 (length p.trick) begun) in
@@ -322,7 +322,7 @@ module _ (p : Board) (c : PlayingCard) (h : Seat) (lets : Bool → ℕ → List 
   -- where the last card is played and h wins, its side has one trick more
   closes : (p2 : Board) (d : PlayingCard) → completes p2 ≡ true → winner_of (trick_with p2 d) p2.first p2.strain ≡ h → b ≤ won (side_of h) (after p2 d) → b + 1 ≤ won_with (side_of h) p2 d
   closes p2 d full wins later =
-      let one : point (side_of h) p2 d ≡ 1 = ap₂ (λ x y. flag_of (x && y)) full (ap (is_side (side_of h)) wins ∙ own-side h) in
+      let one : trick_for (side_of h) p2 d ≡ 1 = ap₂ (λ x y. flag_of (x && y)) full (ap (is_side (side_of h)) wins ∙ own-side h) in
       omega (arith, one, later)
 
   -- a card of the partner's

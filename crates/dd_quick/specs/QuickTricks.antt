@@ -11,7 +11,7 @@ use Rattle.dd_cards.specs.PlayingCard.{PlayingCard}
 use Rattle.dd_cards.specs.Ranks.{all_ranks}
 use Rattle.dd_cards.specs.Seats.{seat_after}
 use Rattle.dd_cards.specs.Cards.{is_of, card_of}
-use Rattle.dd_play.specs.Board.{Board, cards_at, left}
+use Rattle.dd_play.specs.Board.{Board, cards_at, tricks_left}
 use Rattle.dd_play.specs.Tricks.{is_trump}
 use Rattle.dd_play.specs.Reach.{reach}
 
@@ -61,7 +61,7 @@ cashed strain p suit = (if is_trump strain (card_of suit 0) then 0
 
 -- what the leader cashes in all side suits: as long as its partner has cards to throw that are no trumps
 abbrev pub side_tricks : Board → ℕ
-side_tricks p = min (cashed p.strain p Spades + cashed p.strain p Hearts + cashed p.strain p Diamonds + cashed p.strain p Clubs) (left p - trumps_at p.strain p (seat_after p.first 2))
+side_tricks p = min (cashed p.strain p Spades + cashed p.strain p Hearts + cashed p.strain p Diamonds + cashed p.strain p Clubs) (tricks_left p - trumps_at p.strain p (seat_after p.first 2))
 
 -- on how many of the highest cards left of the suit the leader's tricks in it rest
 abbrev pub depth : Board → Suit → ℕ
@@ -146,7 +146,7 @@ all_partners p = partners_cashed p.strain p Spades + partners_cashed p.strain p 
 
 -- how many tricks are left beside those that the leader cashes, where it and its partner keep their trumps
 abbrev pub beside_trumps : Board → ℕ
-beside_trumps p = left p - (side_tricks p + max (trumps_at p.strain p p.first) (trumps_at p.strain p (seat_after p.first 2)))
+beside_trumps p = tricks_left p - (side_tricks p + max (trumps_at p.strain p p.first) (trumps_at p.strain p (seat_after p.first 2)))
 
 -- Crossing: the leader cashes, then leads to its partner, and the partner cashes its winners, as long as both have other cards
 -- than trumps to throw.
@@ -183,7 +183,7 @@ headed p i = (if heads p i Spades then 1 else 0) + (if heads p i Hearts then 1 e
 -- The leader's side has to lead a suit that an opponent heads: it has not so many rounds of the others as tricks are left, and
 -- neither opponent has to throw the card with which it heads a suit.
 unfoldable pub has_later_trick : Board → Bool
-has_later_trick p = no_trumps p && (nat_lt (all_rounds p) (left p) && (nat_le (all_rounds p + headed p 1) (left p) && nat_le (all_rounds p + headed p 3) (left p)))
+has_later_trick p = no_trumps p && (nat_lt (all_rounds p) (tricks_left p) && (nat_le (all_rounds p + headed p 1) (tricks_left p) && nat_le (all_rounds p + headed p 3) (tricks_left p)))
 
 -- ---- kept winners
 
@@ -203,8 +203,8 @@ of_all number = number Spades + number Hearts + number Diamonds + number Clubs
 -- suits where the seat has no winner, and until then it has other cards to throw: those rounds, with one winner for each suit
 -- that it heads, are no more than the tricks left.
 unfoldable pub kept_winners : Board → Seat → ℕ
-kept_winners p seat = (if no_trumps p && nat_le (of_all (first_kept p seat) + of_all (free_rounds p seat)) (left p)
-    then min (of_all (run p seat)) (left p - of_all (free_rounds p seat)) else 0)
+kept_winners p seat = (if no_trumps p && nat_le (of_all (first_kept p seat) + of_all (free_rounds p seat)) (tricks_left p)
+    then min (of_all (run p seat)) (tricks_left p - of_all (free_rounds p seat)) else 0)
 
 -- those of the opponent that keeps more
 abbrev pub others_kept : Board → ℕ
@@ -218,7 +218,7 @@ quick_lo p = side_tricks p + joint_trumps p.strain p p.first + crossed p
 
 -- and no more than this
 unfoldable pub quick_hi : Board → ℕ
-quick_hi p = left p - max (max (joint_trumps p.strain p (seat_after p.first 1)) (if has_later_trick p then 1 else 0)) (others_kept p)
+quick_hi p = tricks_left p - max (max (joint_trumps p.strain p (seat_after p.first 1)) (if has_later_trick p then 1 else 0)) (others_kept p)
 
 -- the tricks that the leader cashes in a suit, and the number of cards on which they rest, if there are any
 abbrev pub IsCash : Board → Suit → ℕ → ℕ → Type 0

@@ -7,11 +7,11 @@ ghost use Rattle.dd_cards.specs.declared.suit.Suit.TheVariants.{Spades, Hearts, 
 ghost use Rattle.dd_cards.specs.PlayingCard.{PlayingCard};
 ghost use Rattle.dd_cards.specs.Sides.{side_of, other_side};
 ghost use Rattle.dd_cards.specs.Seats.{seat_after};
-ghost use Rattle.dd_play.specs.Board.{Board, IsBoard, left};
+ghost use Rattle.dd_play.specs.Board.{Board, IsBoard, tricks_left};
 ghost use Rattle.dd_play.specs.Covers.{count_of};
 ghost use Rattle.dd_play.specs.Intervals.{Holds};
 ghost use Rattle.dd_play.specs.Reach.{reach, TakesBy};
-ghost use Rattle.dd_play.specs.Value.{lead};
+ghost use Rattle.dd_play.specs.Value.{leaders_tricks};
 ghost use Rattle.dd_quick.specs.QuickTricks.{IsCash, IsNext, cashed, crossed, has_later_trick, joint_trumps};
 ghost use Rattle.dd_quick.specs.QuickTricks.{others_kept};
 ghost use Rattle.dd_quick.specs.QuickTricks.{quick_hi, quick_lo, side_tricks};
@@ -36,7 +36,7 @@ use dd_rank::Depths;
 #[tactic(auto, unfolding(crate::specs::QuickTricks::quick_lo, crate::specs::QuickTricks::quick_hi))]
 pub fn bounds(start: &TrickStart) -> (Interval, Depths)
     ensures holds { (q : Board) → IsBoard q → Covers start.now (depth_in result.1) q
-        → Holds result.0 (lead q) }
+        → Holds result.0 (leaders_tricks q) }
     ensures within { (quick_lo start.now ≤ result.0.lo) × (result.0.hi ≤ quick_hi start.now) }
     ensures depths { (u : SuitOf) → depth_in result.1 u ≤ count_of u (all_cards start.now) }
 {
@@ -80,7 +80,7 @@ pub fn for_leader(start: &TrickStart, need: u8) -> Option<Hand>
 /// The winners on which it rests that the other side takes at least `need` tricks, where its quick tricks are so many.
 #[tactic(auto, unfolding(crate::specs::QuickTricks::quick_hi))]
 pub fn against_leader(start: &TrickStart, need: u8) -> Option<Hand>
-    ensures found { need ≤ left start.now - quick_hi start.now → IsSome result }
+    ensures found { need ≤ tricks_left start.now - quick_hi start.now → IsSome result }
     ensures claim { IfSome result
         (λ cards. TakesBy (reach cards) (other_side (side_of start.now.first)) start.now need) }
 {

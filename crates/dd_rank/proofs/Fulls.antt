@@ -10,7 +10,7 @@ use Rattle.dd_cards.specs.Seats.{seat_code}
 use Rattle.dd_cards.proofs.CallerLemmas.{else-false}
 use Rattle.dd_cards.specs.Sides.{side_of}
 use Rattle.dd_play.specs.Board.{Board, IsBoard, cards_at}
-use Rattle.dd_play.specs.Value.{lead}
+use Rattle.dd_play.specs.Value.{leaders_tricks}
 use Rattle.dd_play.specs.Covers.{count_of}
 use Rattle.dd_play.proofs.CallerLemmas.{card-real, of-suit', reply', same-or}
 use Rattle.dd_rank.specs.Alike.{AreAlike}
@@ -76,5 +76,5 @@ full-alike p q depths valid_p valid_q full a =
     )
 
 -- so they have one value
-pub full-lead : (p q : Board) (depths : Suit → ℕ) → IsBoard p → IsBoard q → ((u : Suit) → depths u ≡ count_of u (all_cards p)) → Covers p depths q → lead q ≡ lead p
+pub full-lead : (p q : Board) (depths : Suit → ℕ) → IsBoard p → IsBoard q → ((u : Suit) → depths u ≡ count_of u (all_cards p)) → Covers p depths q → leaders_tricks q ≡ leaders_tricks p
 full-lead p q depths valid_p valid_q full a = alike-lead p q valid_p valid_q (full-alike p q depths valid_p valid_q full a)

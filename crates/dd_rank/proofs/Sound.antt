@@ -8,8 +8,8 @@ use Rattle.dd_cards.specs.Cards.{is_of}
 use Rattle.dd_cards.specs.Seats.{seat_after}
 use Rattle.dd_cards.specs.Sides.{side_of, other_side}
 use Rattle.dd_cards.specs.declared.side.Side.{Side}
-use Rattle.dd_play.specs.Board.{Board, IsBoard, cards_at, left, mover}
-use Rattle.dd_play.specs.Value.{lead}
+use Rattle.dd_play.specs.Board.{Board, IsBoard, cards_at, tricks_left, mover}
+use Rattle.dd_play.specs.Value.{leaders_tricks}
 use Rattle.dd_play.proofs.CallerLemmas.{all, count-cons, flag_of, lead-won}
 use Rattle.dd_play.specs.Won.{won}
 use Rattle.dd_play.specs.Covers.{IsCover, count_of}
@@ -57,7 +57,7 @@ suits-length (c ∷ cards) =
     one Clubs = refl
 
 -- a covered position has as many tricks left
-pub same-left : (k : ℕ) (depths : Suit → ℕ) (p q : Board) → IsCoverAt k depths p q → left q ≡ left p
+pub same-left : (k : ℕ) (depths : Suit → ℕ) (p q : Board) → IsCoverAt k depths p q → tricks_left q ≡ tricks_left p
 same-left k depths p q a =
     let l = λ (u : Suit). a.lengths p.first u in
     let s = l Spades in
@@ -72,14 +72,14 @@ same-left k depths p q a =
 
 -- what both sides claim at p bounds the value of each position that it covers
 pub sound-lead : (top : PlayingCard → Bool) (k : ℕ) (p q : Board) (lo hi : ℕ) → IsLifted top → IsBoard p → IsBoard q
-    → TakesBy top (side_of p.first) p lo → TakesBy top (other_side (side_of p.first)) p (left p - hi) → IsCoverAt k (depths_of top p) p q
-    → (lo ≤ lead q) × (lead q ≤ hi)
+    → TakesBy top (side_of p.first) p lo → TakesBy top (other_side (side_of p.first)) p (tricks_left p - hi) → IsCoverAt k (depths_of top p) p q
+    → (lo ≤ leaders_tricks q) × (leaders_tricks q ≤ hi)
 sound-lead top k p q lo hi lifted good_p good_q low high a =
     let r = covers-cover top k (depths_of top p) p q (lifted-top top p lifted) good_p good_q a in
-    let same : lead q ≡ won (side_of q.first) q = lead-won q in
+    let same : leaders_tricks q ≡ won (side_of q.first) q = lead-won q in
     let under : lo ≤ won (side_of q.first) q = by-covered top k p q lo lifted good_p good_q a low in
-    let over : left p - hi ≤ won (other_side (side_of q.first)) q =
+    let over : tricks_left p - hi ≤ won (other_side (side_of q.first)) q =
     high k (to_of p q) (to_of q p) (other_side (side_of q.first)) q (other-sides top k (to_of p q) (to_of q p) (side_of p.first) p (side_of q.first) q r.0) r.1 in
-    let both : won (side_of q.first) q + won (other_side (side_of q.first)) q ≡ left q = all (side_of q.first) q good_q in
-    let lefts : left q ≡ left p = same-left k (depths_of top p) p q a in
+    let both : won (side_of q.first) q + won (other_side (side_of q.first)) q ≡ tricks_left q = all (side_of q.first) q good_q in
+    let lefts : tricks_left q ≡ tricks_left p = same-left k (depths_of top p) p q a in
     (omega (arith, same, under), omega (arith, same, over, both, lefts))

@@ -87,11 +87,11 @@ shape_in s = record { strain = s.strain; lengths = s.lengths }
 unfoldable pub mix : ℕ → ℕ → ℕ
 mix number word = let product = bit_xor number word * 0x9E3779B97F4A7C15 % 2 ^ 64 in bit_xor product (product / 2 ^ 32)
 
--- a shape's mixing number, which spreads shapes over 64 bits
+-- a shape's hash, which spreads shapes over 64 bits
 abbrev pub mixing_number_of : ShapeOf → ℕ
 mixing_number_of s = mix (mix 0 (strain_code s.strain)) s.lengths
 
--- the mixing number of strings
+-- the hash of strings
 abbrev pub mixing_number_in : Strings → ℕ
 mixing_number_in s = mix (mix (mixing_number_of (shape_in s)) (s.spades + 2 ^ 32 * s.hearts)) (s.diamonds + 2 ^ 32 * s.clubs)
 
@@ -137,7 +137,7 @@ pub both-pass : (a b : Bool) → (a && b) ≡ true → (a ≡ true) × (b ≡ tr
 both-pass true b h = (refl, h)
 both-pass false b h = absurd (cc)
 
--- shapes with the same parts have one mixing number, and so are fed alike to a hasher
+-- shapes with the same parts have one hash, and so are fed alike to a hasher
 pub fed-shape : (x y : ShapeOf) → same_shape x y ≡ true → u64 (mixing_number_of x) ≡ u64 (mixing_number_of y)
 fed-shape x y h =
     let a = both-pass (strain_code x.strain == strain_code y.strain) (x.lengths == y.lengths) h in
@@ -145,7 +145,7 @@ fed-shape x y h =
     let lengths : x.lengths ≡ y.lengths = eqb-true _ _ a.1 in
     rw (strain, lengths) refl
 
--- strings with the same parts have one mixing number, and so are fed alike to a hasher
+-- strings with the same parts have one hash, and so are fed alike to a hasher
 pub fed-same : (x y : Strings) → same_strings x y ≡ true → u64 (mixing_number_in x) ≡ u64 (mixing_number_in y)
 fed-same x y h =
     let a = both-pass (strain_code x.strain == strain_code y.strain) _ h in

@@ -6,7 +6,7 @@ ghost use Rattle.dd_rank.specs.FirstOwners.{AreFirst, IsBeginning, first_in};
 ghost use Rattle.dd_rank.specs.Strings.{string_in};
 
 use crate::depths::Depths;
-use crate::lanes::Places;
+use crate::lanes::OwnerPlanes;
 use crate::owner_strings::OwnerStrings;
 use std::marker::Model;
 
@@ -16,7 +16,7 @@ pub struct FirstOwners {
     depths: Depths,
     // the bits in which so many cards stand, and the owners in them
     mask: u64,
-    places: Places,
+    places: OwnerPlanes,
 }
 
 impl Model for FirstOwners {
@@ -44,7 +44,7 @@ impl Default for FirstOwners {
         FirstOwners {
             depths: Depths::default(),
             mask: 0,
-            places: Places { odd: 0, far: 0 },
+            places: OwnerPlanes { odd: 0, far: 0 },
         }
     }
 }
@@ -92,7 +92,7 @@ impl FirstOwners {
 
     // The bits in which they stand, and the owners in them.
     #[inline]
-    pub(crate) fn bits(&self) -> (u64, Places) {
+    pub(crate) fn bits(&self) -> (u64, OwnerPlanes) {
         (self.mask, self.places)
     }
 }

@@ -34,17 +34,17 @@ static SPREAD: [u16; 128] = [
 /// The cards of the second and fourth hand, and those of the third and fourth, in each suit moved up so that the cards
 /// left of the suit have no gaps between them.
 #[derive(Clone, Copy, Debug)]
-pub(crate) struct Places {
+pub(crate) struct OwnerPlanes {
     pub(crate) odd: u64,
     pub(crate) far: u64,
 }
 
-impl Places {
+impl OwnerPlanes {
     /// These cards without the gaps of those that are gone.
     // From the three up, since the two has none below it: where a card is gone, all below it move up by one. Four suits at once,
     // without a branch.
     #[inline]
-    pub(crate) fn close_up(odd: u64, far: u64, gone: u64) -> Places
+    pub(crate) fn close_up(odd: u64, far: u64, gone: u64) -> OwnerPlanes
         requires odd { (u : SuitOf) → IsMask (lane odd u) }
         requires far { (u : SuitOf) → IsMask (lane far u) }
         requires apart { (u : SuitOf) (r : ℕ) → r < 16 → bit_at (lane gone u) r ≡ 1
@@ -62,16 +62,16 @@ impl Places {
             places += places & below;
         }
         let [odd, far] = places.to_array();
-        Places { odd, far }
+        OwnerPlanes { odd, far }
     }
 
     /// What of them stands under a mask.
     #[inline]
-    pub(crate) fn under(self, mask: u64) -> Places
+    pub(crate) fn under(self, mask: u64) -> OwnerPlanes
         ensures odd { result.odd ≡ bit_and self.odd mask }
         ensures far { result.far ≡ bit_and self.far mask }
     {
-        Places {
+        OwnerPlanes {
             odd: self.odd & mask,
             far: self.far & mask,
         }
@@ -79,7 +79,7 @@ impl Places {
 
     /// Are they the same?
     #[inline]
-    pub(crate) fn are(self, others: Places) -> bool
+    pub(crate) fn are(self, others: OwnerPlanes) -> bool
         ensures { result ≡ (nat_eq self.odd others.odd && nat_eq self.far others.far) }
     {
         // Both are asked: a branch would cost more.

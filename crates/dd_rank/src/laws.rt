@@ -6,8 +6,8 @@ ghost use Rattle.dd_cards.specs.PlayingCard.{PlayingCard};
 ghost use Rattle.dd_cards.specs.Ranks.{IsRank};
 ghost use Rattle.dd_cards.specs.Cards.{has_card};
 ghost use Rattle.dd_cards.specs.Sides.{side_of, other_side};
-ghost use Rattle.dd_play.specs.Board.{Board, IsBoard, left};
-ghost use Rattle.dd_play.specs.Value.{lead};
+ghost use Rattle.dd_play.specs.Board.{Board, IsBoard, tricks_left};
+ghost use Rattle.dd_play.specs.Value.{leaders_tricks};
 ghost use Rattle.dd_play.specs.Covers.{count_of};
 ghost use Rattle.dd_play.specs.Reach.{reach, TakesBy};
 ghost use Rattle.dd_rank.specs.Alike.{AreAlike, IsAlike};
@@ -16,8 +16,8 @@ ghost use Rattle.dd_rank.specs.Strings.{string_in, Strings, ShapeOf, strings_of,
 
 /// Alike positions have one value for the leader's side: also where all seats are turned, and so where none is.
 pub fn alike_positions()
-    ensures turned { (p q : Board) → IsBoard p → IsBoard q → AreAlike p q → lead q ≡ lead p }
-    ensures unturned { (p q : Board) → IsBoard p → IsBoard q → IsAlike p q → lead q ≡ lead p }
+    ensures turned { (p q : Board) → IsBoard p → IsBoard q → AreAlike p q → leaders_tricks q ≡ leaders_tricks p }
+    ensures unturned { (p q : Board) → IsBoard p → IsBoard q → IsAlike p q → leaders_tricks q ≡ leaders_tricks p }
 {}
 
 /// What holds of all positions that one covers at depths, and claims by the cards that these depths reach, are the same.
@@ -34,15 +34,15 @@ pub fn covered_positions()
     ensures told { (cards : List PlayingCard) (depths : Suit → ℕ) (p : Board) (lo hi : ℕ)
         → ((c : PlayingCard) → has_card cards c ≡ true → IsRank c.rank)
         → p.trick ≡ [] → ((u : Suit) → depths u ≤ depths_of (reach cards) p u)
-        → ((q : Board) → IsBoard q → Covers p depths q → (lo ≤ lead q) × (lead q ≤ hi))
+        → ((q : Board) → IsBoard q → Covers p depths q → (lo ≤ leaders_tricks q) × (leaders_tricks q ≤ hi))
         → TakesBy (reach cards) (side_of p.first) p lo
-        × TakesBy (reach cards) (other_side (side_of p.first)) p (left p - hi) }
+        × TakesBy (reach cards) (other_side (side_of p.first)) p (tricks_left p - hi) }
     ensures noted { (cards : List PlayingCard) (depths : Suit → ℕ) (p : Board) (lo hi : ℕ)
         → ((c : PlayingCard) → has_card cards c ≡ true → IsRank c.rank)
         → IsBoard p → ((u : Suit) → depths_of (reach cards) p u ≤ depths u)
         → TakesBy (reach cards) (side_of p.first) p lo
-        → TakesBy (reach cards) (other_side (side_of p.first)) p (left p - hi)
-        → (q : Board) → IsBoard q → Covers p depths q → (lo ≤ lead q) × (lead q ≤ hi) }
+        → TakesBy (reach cards) (other_side (side_of p.first)) p (tricks_left p - hi)
+        → (q : Board) → IsBoard q → Covers p depths q → (lo ≤ leaders_tricks q) × (leaders_tricks q ≤ hi) }
     ensures chained { (depths : Suit → ℕ) (p q r : Board) → Covers p depths q → Covers q depths r
         → Covers p depths r }
     ensures itself { (p : Board) (depths : Suit → ℕ) → p.trick ≡ [] → ((u : Suit)
@@ -65,7 +65,7 @@ pub fn covered_positions()
 /// `alike`: positions are alike exactly where their strings are the same.
 /// `keys`: the test by which keys are compared tells whether they are the same.
 /// `shapes`: and the test by which shapes are compared, whether those are.
-/// `mixed`: equal keys have one mixing number, which is all that a hasher is fed of them.
+/// `mixed`: equal keys have one hash, which is all that a hasher is fed of them.
 pub fn alike_strings()
     ensures alike { (p q : Board) → IsBoard p → IsBoard q → p.trick ≡ [] → q.trick ≡ []
         → (AreAlike p q ↔ strings_of q ≡ strings_of p) }

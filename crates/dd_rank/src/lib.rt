@@ -2,7 +2,7 @@
 //! the highest cards of each suit go.
 #![tactic(auto)]
 
-mod brief;
+mod signature;
 mod cover;
 mod covering;
 mod depths;
@@ -14,7 +14,7 @@ mod owner_strings;
 mod rank_key;
 mod shape;
 
-pub use brief::{Brief, FirstBrief, FirstBriefs};
+pub use signature::{Signature, FirstSignature, FirstSignatures};
 pub use cover::Cover;
 pub use covering::covers;
 pub use depths::Depths;

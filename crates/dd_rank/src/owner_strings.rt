@@ -3,7 +3,7 @@
 ghost use Rattle.std.specs.Prelude.{◌≡◌};
 ghost use Rattle.dd_rank.specs.Strings.{strings_of, shape_of, shape_in, mixing_number_in, outline_number_in, same_strings, same-strings, same-strings-partial, string_in};
 
-use crate::lanes::Places;
+use crate::lanes::OwnerPlanes;
 use crate::shape::{Shape, mix};
 use dd_cards::Suit;
 use dd_play::TrickStart;
@@ -15,7 +15,7 @@ use std::marker::Model;
 #[derive(Debug, Drop)]
 pub struct OwnerStrings {
     shape: Shape,
-    pub(crate) places: Places,
+    pub(crate) places: OwnerPlanes,
 }
 
 impl Model for OwnerStrings {
@@ -84,7 +84,7 @@ impl OwnerStrings {
         let left = leader.union(third).union(odd);
         OwnerStrings {
             shape,
-            places: Places::close_up(odd.mask(), far.mask(), !left.mask()),
+            places: OwnerPlanes::close_up(odd.mask(), far.mask(), !left.mask()),
         }
     }
 
@@ -98,14 +98,14 @@ impl OwnerStrings {
 
     /// A number of 64 bits that strings are spread over: equal for equal strings.
     #[inline]
-    pub fn mixing_number(&self) -> u64
+    pub fn hash_code(&self) -> u64
         ensures { result ≡ mixing_number_in self.now }
     {
         let majors = self.suit(Suit::Spades) as u64
             + self.suit(Suit::Hearts) as u64 * 0x1_0000_0000;
         let minors = self.suit(Suit::Diamonds) as u64
             + self.suit(Suit::Clubs) as u64 * 0x1_0000_0000;
-        mix(mix(self.shape.mixing_number(), majors), minors)
+        mix(mix(self.shape.hash_code(), majors), minors)
     }
 
     /// A number of 64 bits over which outlines are spread: a strain, the leader's number of cards of each suit, and the holder

@@ -54,10 +54,10 @@ impl RankKey {
 
     /// A number of 64 bits that classes are spread over: equal for equal keys.
     #[inline]
-    pub fn mixing_number(&self) -> u64
+    pub fn hash_code(&self) -> u64
         ensures { result ≡ mixing_number_in self.now }
     {
-        self.strings.mixing_number()
+        self.strings.hash_code()
     }
 }
 
@@ -83,6 +83,6 @@ impl Hash for RankKey {
 
     #[inline]
     fn hash<H: Hasher>(&self, state: &mut H) {
-        state.write_u64(self.mixing_number());
+        state.write_u64(self.hash_code());
     }
 }

@@ -56,7 +56,7 @@ impl Shape {
 
     /// A number of 64 bits that shapes are spread over: equal for equal shapes.
     #[inline]
-    pub fn mixing_number(self) -> u64
+    pub fn hash_code(self) -> u64
         ensures { result ≡ mixing_number_of self }
     {
         mix(mix(0, self.strain.code() as u64), self.lengths)
@@ -95,7 +95,7 @@ impl Hash for Shape {
 
     #[inline]
     fn hash<H: Hasher>(&self, state: &mut H) {
-        state.write_u64(self.mixing_number());
+        state.write_u64(self.hash_code());
     }
 }
 

@@ -26,7 +26,7 @@ use Rattle.dd_pbn.specs.Deals as deals
 use Rattle.dd_pbn.specs.Reading.{tag_of}
 use Rattle.dd_pbn.specs.Values.{IsTag}
 use Rattle.dd_pbn.proofs.CallerLemmas.{Reads-tag, deal-decided, decided}
-use Rattle.dd_play.specs.Board.{Board, board_of, times_in, NoneTwice, IsEven, left, cards_at}
+use Rattle.dd_play.specs.Board.{Board, board_of, times_in, NoneTwice, IsEven, tricks_left, cards_at}
 use Rattle.dd_play.proofs.CallerLemmas.{times_in-once}
 use Rattle.dd_pbn.specs.Values.{begins_tag}
 use Rattle.dd_reply.specs.declared.fault.Fault.{Fault}
@@ -130,7 +130,7 @@ same-decided f g (suc n) =
 
 -- whether the counts of cards fit is decided
 pub even-decided : (p : Board) → IsEven p ⊎ (IsEven p → ⊥)
-even-decided p = same-decided (λ k. length (cards_at p (seat_after p.first k)) + (if nat_lt k (length p.trick) then 1 else 0)) (λ _. left p) 4
+even-decided p = same-decided (λ k. length (cards_at p (seat_after p.first k)) + (if nat_lt k (length p.trick) then 1 else 0)) (λ _. tricks_left p) 4
 
 some-board : (board : Board) (solutions : ℕ) → AreHands board.hands → SomeMeaning (MeansBoard board solutions)
 some-board board solutions are =
@@ -138,7 +138,7 @@ some-board board solutions are =
       | inr double ↦ (Err CardTwice, means-twice board solutions double)
       | inl once ↦ elim (even-decided board) [
         | inr odd ↦ (Err UnevenHands, means-uneven board solutions once odd)
-        | inl even ↦ elim (eqb_tells (left board) 0) [
+        | inl even ↦ elim (eqb_tells (tricks_left board) 0) [
           | inl none ↦ (Err NoCard, means-empty board solutions once even none.1)
           | inr some ↦ (Ok (record { board = board; solutions = solutions }), means-some board solutions once even (let ne = some.1 in omega arith))
         ]
@@ -279,7 +279,7 @@ board-memory board solutions means =
     let twice : (NoneTwice board → ⊥) → ⊥ = λ double. (let no = means.twice double in cc) in
     twice (λ once.
     let uneven : (IsEven board → ⊥) → ⊥ = λ odd. (let no = means.uneven once odd in cc) in
-    uneven (λ even. elim (eqb_tells (left board) 0) [
+    uneven (λ even. elim (eqb_tells (tricks_left board) 0) [
       | inl none ↦ (let no = means.none once even none.1 in cc)
       | inr some ↦ (let no = means.some once even (let ne = some.1 in omega arith) in cc)
     ]))

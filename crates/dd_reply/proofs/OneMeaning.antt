@@ -16,7 +16,7 @@ use Rattle.dd_pbn.specs.Deals as deals
 use Rattle.dd_pbn.specs.Reading.{outcome, value_of, tag_of}
 use Rattle.dd_pbn.specs.Values.{IsValue, IsTag}
 use Rattle.dd_pbn.proofs.CallerLemmas.{Reads-tag, Reads-value, failed-read, spelled-read}
-use Rattle.dd_play.specs.Board.{Board, board_of, left}
+use Rattle.dd_play.specs.Board.{Board, board_of, tricks_left}
 use Rattle.dd_pbn.specs.Values.{begins_tag}
 use Rattle.dd_reply.specs.declared.fault.Fault.{Fault}
 use Rattle.serde_json.specs.Data.{Members}
@@ -48,9 +48,9 @@ one-board board solutions are a b means_a means_b =
       | inr double ↦ both _ a b (means_a.twice double) (means_b.twice double)
       | inl once ↦ elim (even-decided board) [
         | inr odd ↦ both _ a b (means_a.uneven once odd) (means_b.uneven once odd)
-        | inl even ↦ elim (eqb_tells (left board) 0) [
+        | inl even ↦ elim (eqb_tells (tricks_left board) 0) [
           | inl none ↦ both _ a b (means_a.none once even none.1) (means_b.none once even none.1)
-          | inr some ↦ (let more : 0 < left board = (let ne = some.1 in omega arith) in both _ a b (means_a.some once even more) (means_b.some once even more))
+          | inr some ↦ (let more : 0 < tricks_left board = (let ne = some.1 in omega arith) in both _ a b (means_a.some once even more) (means_b.some once even more))
         ]
       ]
     ]

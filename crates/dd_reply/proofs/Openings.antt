@@ -11,9 +11,9 @@ use Rattle.dd_cards.specs.Seats.{seat_code, seat_after}
 use Rattle.dd_cards.specs.Strains.{strain_code}
 use Rattle.dd_cards.specs.Sides.{side_of}
 use Rattle.dd_play.proofs.CallerLemmas.{times_in-once, all}
-use Rattle.dd_play.specs.Board.{Board, board_of, IsBoard, left, mover}
+use Rattle.dd_play.specs.Board.{Board, board_of, IsBoard, tricks_left, mover}
 use Rattle.dd_play.specs.Positions.{CanPlay}
-use Rattle.dd_play.specs.Value.{lead}
+use Rattle.dd_play.specs.Value.{leaders_tricks}
 use Rattle.dd_play.specs.Won.{won}
 use Rattle.dd_search.proofs.CallerLemmas.{lead-value}
 use Rattle.dd_reply.specs.Results.{AreEven, contract_of, contracts}
@@ -73,5 +73,5 @@ can-open hands strain leader valid even some = record {
     apart e = cc
 
 -- the leader's side takes no more than is left, and so many
-pub leaders-value : (p : Board) → IsBoard p → p.trick ≡ [] → (lead p ≡ won (side_of (mover p)) p) × (won (side_of (mover p)) p ≤ left p)
+pub leaders-value : (p : Board) → IsBoard p → p.trick ≡ [] → (leaders_tricks p ≡ won (side_of (mover p)) p) × (won (side_of (mover p)) p ≤ tricks_left p)
 leaders-value p valid start = (lead-value p start, (let h = all (side_of (mover p)) p valid in omega (arith, h)))

@@ -1,7 +1,7 @@
 -- What the cards of a position decide.
 use Rattle.std.proofs.Common.{◌≡◌, ℕ, ◌<◌, ◌≤◌, refl, arith, length}
 use Rattle.std.specs.Prelude.{Ok, Err}
-use Rattle.dd_play.specs.Board.{Board, NoneTwice, IsEven, left}
+use Rattle.dd_play.specs.Board.{Board, NoneTwice, IsEven, tricks_left}
 use Rattle.dd_play.specs.Positions.{IsFirstFault}
 use Rattle.dd_play.specs.declared.play_fault.PlayFault.{PlayFault}
 use Rattle.dd_play.specs.declared.play_fault.PlayFault.TheVariants.{Played, Twice, Uneven, Empty}
@@ -20,12 +20,12 @@ means-uneven board solutions once odd =
     record { twice = λ double. absurd (double once); uneven = λ _ _. refl; none = λ _ even _. absurd (odd even); some = λ _ even _. absurd (odd even) }
 
 -- a board whose counts fit and whose mover has no card has nothing to play
-pub means-empty : (board : Board) (solutions : ℕ) → NoneTwice board → IsEven board → left board ≡ 0 → MeansBoard board solutions (Err NoCard)
+pub means-empty : (board : Board) (solutions : ℕ) → NoneTwice board → IsEven board → tricks_left board ≡ 0 → MeansBoard board solutions (Err NoCard)
 means-empty board solutions once even empty =
     record { twice = λ double. absurd (double once); uneven = λ _ odd. absurd (odd even); none = λ _ _ _. refl; some = λ _ _ more. absurd (omega arith) }
 
 -- a board with no card twice, whose counts fit and whose mover has a card, is what is asked about
-pub means-some : (board : Board) (solutions : ℕ) → NoneTwice board → IsEven board → 0 < left board → MeansBoard board solutions (Ok (record { board = board; solutions = solutions }))
+pub means-some : (board : Board) (solutions : ℕ) → NoneTwice board → IsEven board → 0 < tricks_left board → MeansBoard board solutions (Ok (record { board = board; solutions = solutions }))
 means-some board solutions once even more =
     record { twice = λ double. absurd (double once); uneven = λ _ odd. absurd (odd even); none = λ _ _ empty. absurd (omega arith); some = λ _ _ _. refl }
 

@@ -17,7 +17,7 @@ use Rattle.dd_pbn.specs.declared.fault.PbnFault.TheVariants.{Grammar, Absent, Tw
 use Rattle.dd_pbn.specs.Reading.{◌>>=◌}
 use Rattle.dd_pbn.specs.Values.{begins_tag}
 use Rattle.dd_pbn.specs.Deals as deals
-use Rattle.dd_play.specs.Board.{Board, NoneTwice, IsEven, left}
+use Rattle.dd_play.specs.Board.{Board, NoneTwice, IsEven, tricks_left}
 use Rattle.dd_reply.specs.Questions.{Question}
 use Rattle.dd_reply.specs.Results.{AreEven}
 use Rattle.dd_reply.specs.declared.asked.Asked.{Asked}
@@ -155,8 +155,8 @@ pub record IsAskedOf (cards : FourHands) (fields : SolveFields) (board : Board) 
 pub record MeansBoard (board : Board) (solutions : ℕ) (meaning : Result Question Fault) : Type 0 where
   pub twice : (NoneTwice board → ⊥) → meaning ≡ Err CardTwice
   pub uneven : NoneTwice board → (IsEven board → ⊥) → meaning ≡ Err UnevenHands
-  pub none : NoneTwice board → IsEven board → left board ≡ 0 → meaning ≡ Err NoCard
-  pub some : NoneTwice board → IsEven board → 0 < left board → meaning ≡ Ok (record { board = board; solutions = solutions })
+  pub none : NoneTwice board → IsEven board → tricks_left board ≡ 0 → meaning ≡ Err NoCard
+  pub some : NoneTwice board → IsEven board → 0 < tricks_left board → meaning ≡ Ok (record { board = board; solutions = solutions })
 
 -- the trump, then the leader, then the cards played, then the solutions, then the cards together
 abbrev pub MeansHands : SolveFields → FourHands → Result Question Fault → Type 0

@@ -8,8 +8,8 @@ use Rattle.dd_cards.specs.declared.strain.Strain.TheVariants.{Trump, Notrump}
 use Rattle.dd_cards.specs.declared.suit.Suit.TheVariants.{Spades, Hearts, Diamonds, Clubs}
 use Rattle.dd_cards.specs.Hands.{FourHands}
 use Rattle.dd_cards.specs.Seats.{next_seat}
-use Rattle.dd_play.specs.Board.{Board, board_of, left}
-use Rattle.dd_play.specs.Value.{lead}
+use Rattle.dd_play.specs.Board.{Board, board_of, tricks_left}
+use Rattle.dd_play.specs.Value.{leaders_tricks}
 
 -- ---- the hands
 
@@ -46,7 +46,7 @@ opening hands contract = board_of hands contract.strain (next_seat contract.decl
 
 -- the tricks of the declarer's side, which are those that the leader's side does not take
 unfoldable pub tricks_of : FourHands → Contract → ℕ
-tricks_of hands contract = left (opening hands contract) - lead (opening hands contract)
+tricks_of hands contract = tricks_left (opening hands contract) - leaders_tricks (opening hands contract)
 
 -- the twenty results: by strain, then by declarer
 unfoldable pub results : FourHands → List ℕ

@@ -1,5 +1,5 @@
 ghost use Rattle.std.specs.Prelude.{◌≡◌, ◌≤◌, ◌↔◌, IsSome, IfSome};
-ghost use Rattle.dd_play.specs.Board.{left};
+ghost use Rattle.dd_play.specs.Board.{tricks_left};
 ghost use Rattle.dd_play.specs.Positions.{CanPlay};
 
 use dd_play::Position;
@@ -28,7 +28,7 @@ impl Request {
     /// A request for the cards of this position: all of them (3), those of the greatest score (2), or one of these (1).
     /// `None` where the solutions are not 1 to 3, or there is no card to play.
     pub fn new(position: Position, solutions: u8) -> Option<Request>
-        ensures valid { IsSome result ↔ ((1 ≤ solutions) × (solutions ≤ 3) × (1 ≤ left position)) }
+        ensures valid { IsSome result ↔ ((1 ≤ solutions) × (solutions ≤ 3) × (1 ≤ tricks_left position)) }
         ensures value { IfSome result (λ request. request ≡
             record { board = position; solutions = solutions }) }
     {

@@ -1,15 +1,15 @@
 //! The parts of a table, each of which is solved by itself.
 ghost use Rattle.std.specs.Prelude.{◌≡◌, ◌-◌, ◌<◌, ◌≤◌, ◌↔◌, [], IfOk, IsOk, IsTrue};
 ghost use Rattle.dd_cards.specs.Sides.{side_of};
-ghost use Rattle.dd_play.specs.Board.{left, mover};
-ghost use Rattle.dd_play.specs.Value.{lead};
+ghost use Rattle.dd_play.specs.Board.{tricks_left, mover};
+ghost use Rattle.dd_play.specs.Value.{leaders_tricks};
 ghost use Rattle.dd_play.specs.Won.{won};
 ghost use Rattle.dd_search.specs.Budgets.{EndsAs, IsEndless};
 ghost use Rattle.dd_reply.specs.Results.{part_result};
 
 use crate::table_request::{PARTS, TableRequest};
 use dd_play::Position;
-use dd_search::{Bounds, Halt, Meter, value, value_near};
+use dd_search::{Bounds, Halt, Meter, value, value_from_guess};
 use std::marker::Model;
 
 /// A part of a table with its result.
@@ -90,14 +90,14 @@ pub fn solve_part<B: Bounds, M: Meter>(
     // It has a result where the meter can say nothing else than to go on.
     ensures answers { IsEndless M.says → IsOk result }
 {
-    solve_part_near(request, part, None, table, meter)
+    solve_part_from_guess(request, part, None, table, meter)
 }
 
-/// The same, where North and South are thought to take some `near` tricks: the search is the shorter the nearer that is.
-pub(crate) fn solve_part_near<B: Bounds, M: Meter>(
+/// The same, where North and South are thought to take some `first_guess` tricks: the search is the shorter the nearer that is.
+pub(crate) fn solve_part_from_guess<B: Bounds, M: Meter>(
     request: &TableRequest,
     part: u8,
-    near: Option<u8>,
+    first_guess: Option<u8>,
     table: &mut B,
     meter: &mut M,
 ) -> Result<SolvedPart, Halt>
@@ -106,7 +106,7 @@ pub(crate) fn solve_part_near<B: Bounds, M: Meter>(
     ensures ends { EndsAs (M.says meter.new) result }
     ensures answers { IsEndless M.says → IsOk result }
 {
-    let tricks = declarers_tricks(&request.opening(part), near, table, meter)?;
+    let tricks = declarers_tricks(&request.opening(part), first_guess, table, meter)?;
     Ok(SolvedPart {
         request: request.copy(),
         part,
@@ -117,24 +117,24 @@ pub(crate) fn solve_part_near<B: Bounds, M: Meter>(
 // The tricks of the side that does not lead.
 fn declarers_tricks<B: Bounds, M: Meter>(
     position: &Position,
-    near: Option<u8>,
+    first_guess: Option<u8>,
     table: &mut B,
     meter: &mut M,
 ) -> Result<u8, Halt>
     requires start { position.now.trick ≡ [] }
-    ensures tricks { IfOk result (λ tricks. tricks ≡ left position.now - lead position.now) }
+    ensures tricks { IfOk result (λ tricks. tricks ≡ tricks_left position.now - leaders_tricks position.now) }
     ensures bound { IfOk result (λ tricks. tricks ≤ 13) }
     ensures ends { EndsAs (M.says meter.new) result }
     ensures answers { IsEndless M.says → IsOk result }
 {
-    let leaders = leaders_tricks(position, near, table, meter)?;
+    let leaders = tricks_of_leaders(position, first_guess, table, meter)?;
     Ok(position.tricks_left() - leaders)
 }
 
 // The tricks of the side that leads.
-fn leaders_tricks<B: Bounds, M: Meter>(
+fn tricks_of_leaders<B: Bounds, M: Meter>(
     position: &Position,
-    near: Option<u8>,
+    first_guess: Option<u8>,
     table: &mut B,
     meter: &mut M,
 ) -> Result<u8, Halt>
@@ -144,8 +144,8 @@ fn leaders_tricks<B: Bounds, M: Meter>(
     ensures ends { EndsAs (M.says meter.new) result }
     ensures answers { IsEndless M.says → IsOk result }
 {
-    match near {
-        Some(near) => value_near(position, near, table, meter),
+    match first_guess {
+        Some(first_guess) => value_from_guess(position, first_guess, table, meter),
         None => value(position, table, meter),
     }
 }

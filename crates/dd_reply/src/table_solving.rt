@@ -3,7 +3,7 @@ ghost use Rattle.std.specs.Prelude.{◌≡◌, ◌+◌, ◌*◌, ◌<◌, IfNone
 ghost use Rattle.dd_reply.specs.Results.{contract_of, first_results, results, tricks_of};
 
 use crate::solved_table::{Results, TricksList};
-use crate::table_part::solve_part_near;
+use crate::table_part::solve_part_from_guess;
 use crate::table_request::{PARTS, TableRequest};
 use arrayvec::ArrayVec;
 use dd_cards::Seat;
@@ -45,10 +45,10 @@ fn solve_strain<B: Bounds>(
     let part = 4 * strain;
     let all = request.hands().len(Seat::North);
     let west = tricks_within(request, part + 3, None, table, budget)?;
-    let near = all.saturating_sub(west);
-    let east = tricks_within(request, part + 1, Some(near), table, budget)?;
-    let near = all.saturating_sub(east);
-    let north = tricks_within(request, part, Some(near), table, budget)?;
+    let first_guess = all.saturating_sub(west);
+    let east = tricks_within(request, part + 1, Some(first_guess), table, budget)?;
+    let first_guess = all.saturating_sub(east);
+    let north = tricks_within(request, part, Some(first_guess), table, budget)?;
     let south = tricks_within(request, part + 2, Some(north), table, budget)?;
     tricks.push(north);
     tricks.push(east);
@@ -57,12 +57,12 @@ fn solve_strain<B: Bounds>(
     Some(())
 }
 
-// The result of a part, where North and South are thought to take some `near` tricks. `None` where the search spent its
+// The result of a part, where North and South are thought to take some `first_guess` tricks. `None` where the search spent its
 // budget.
 fn tricks_within<B: Bounds>(
     request: &TableRequest,
     part: u8,
-    near: Option<u8>,
+    first_guess: Option<u8>,
     table: &mut B,
     budget: Option<u64>,
 ) -> Option<u8>
@@ -71,8 +71,8 @@ fn tricks_within<B: Bounds>(
     ensures spent { IfNone result (IsSome budget) }
 {
     let solved = match budget {
-        Some(limit) => solve_part_near(request, part, near, table, &mut Budget::new(limit)),
-        None => solve_part_near(request, part, near, table, &mut Endless),
+        Some(limit) => solve_part_from_guess(request, part, first_guess, table, &mut Budget::new(limit)),
+        None => solve_part_from_guess(request, part, first_guess, table, &mut Endless),
     };
     match (solved, budget) {
         (Ok(solved), _) => Some(solved.tricks()),

@@ -15,15 +15,15 @@ use Rattle.dd_cards.specs.Seats.{is_north_south}
 use Rattle.dd_cards.specs.Sides.{side_of, other_side, same_side}
 use Rattle.dd_cards.specs.declared.side.Side.{Side}
 use Rattle.dd_cards.specs.declared.side.Side.TheVariants.{NorthSouth, EastWest}
-use Rattle.dd_play.specs.Board.{Board, IsBoard, mover, left}
+use Rattle.dd_play.specs.Board.{Board, IsBoard, mover, tricks_left}
 use Rattle.dd_play.specs.Play.{after}
-use Rattle.dd_play.specs.Value.{lead}
-use Rattle.dd_play.specs.Won.{point}
+use Rattle.dd_play.specs.Value.{leaders_tricks}
+use Rattle.dd_play.specs.Won.{trick_for}
 use Rattle.dd_play.specs.Simulations.{IsLegal}
 use Rattle.dd_play.specs.Claims.{Takes}
 use Rattle.dd_play.specs.Covers.{IsSettled, count_of}
 use Rattle.dd_play.specs.Reach.{reach, TakesBy}
-use Rattle.dd_play.proofs.CallerLemmas.{both, by-fewer, by-here, by-more, by-nothing, by-one, legal-leads, one-point, reach-of, reach-some, reach-upward, reach-within, worth-after, worth-fewer, worth-low, worth-more}
+use Rattle.dd_play.proofs.CallerLemmas.{both, by-fewer, by-here, by-more, by-nothing, by-one, legal-leads, one-trick, reach-of, reach-some, reach-upward, reach-within, worth-after, worth-fewer, worth-low, worth-more}
 use Rattle.dd_equal.specs.EqualCards.{tops, IsWhole}
 use Rattle.dd_equal.proofs.CallerLemmas.{each-class-whole, with-new}
 use Rattle.dd_rank.proofs.CallerLemmas.{itself, noted}
@@ -54,23 +54,23 @@ answers false p need cards h = h
 -- an answer holds where it was found
 pub answer-here : (p : Board) (need : ℕ) (cards : List PlayingCard) (said : Bool) → IsBoard p → IsAnswerBy p need cards said → IsAnswer p need said
 answer-here p need cards true valid h = by-here (reach cards) NorthSouth p need valid (reach-upward cards) h
-answer-here p need cards false valid h = by-here (reach cards) EastWest p (left p + 1 - need) valid (reach-upward cards) h
+answer-here p need cards false valid h = by-here (reach cards) EastWest p (tricks_left p + 1 - need) valid (reach-upward cards) h
 
 -- what is claimed after a card, with the trick that the card completes, is what was asked before it
-claimed-after : (said : Bool) (p : Board) (c : PlayingCard) (need rest : ℕ) → IsBoard p → IsLegal p c → 1 ≤ need → rest + point NorthSouth p c ≡ need
-    → claimed said p need ≤ claimed said (after p c) rest + point (claimant said) p c
+claimed-after : (said : Bool) (p : Board) (c : PlayingCard) (need rest : ℕ) → IsBoard p → IsLegal p c → 1 ≤ need → rest + trick_for NorthSouth p c ≡ need
+    → claimed said p need ≤ claimed said (after p c) rest + trick_for (claimant said) p c
 claimed-after true p c need rest valid has some e = omega (arith, e)
 claimed-after false p c need rest valid has some e =
     let tricks = (legal-leads p c valid has).tricks in
-    let one = one-point NorthSouth p c in
+    let one = one-trick NorthSouth p c in
     omega (arith, e, tricks, one, some)
 
 -- what is found after a legal card that is settled
-pub leads : (p q : Board) (need rest : ℕ) (c : PlayingCard) (later by : List PlayingCard) (said : Bool) → IsBoard p → IsLegal p c → 1 ≤ need → q ≡ after p c → rest + point NorthSouth p c ≡ need
+pub leads : (p q : Board) (need rest : ℕ) (c : PlayingCard) (later by : List PlayingCard) (said : Bool) → IsBoard p → IsLegal p c → 1 ≤ need → q ≡ after p c → rest + trick_for NorthSouth p c ≡ need
     → IsAnswerBy q rest later said → Within later by → IsSettled (reach by) p c → IsAnswerAfter p need c by said
 leads p q need rest c later by said valid has some next same answer within settled =
     let here : TakesBy (reach later) (claimant said) (after p c) (claimed said (after p c) rest) = claim said (after p c) rest later (subst (λ (r : Board). IsAnswerBy r rest later said) next answer) in
-    worth-fewer (reach by) (claimant said) p c (claimed said (after p c) rest + point (claimant said) p c) (claimed said p need)
+    worth-fewer (reach by) (claimant said) p c (claimed said (after p c) rest + trick_for (claimant said) p c) (claimed said p need)
     (worth-after (reach by) (claimant said) p c (claimed said (after p c) rest) has settled
     (by-more (reach later) (reach by) (claimant said) (after p c) (claimed said (after p c) rest) (reach-within later by within) (reach-upward later) here))
     (claimed-after said p c need rest valid has some same)
@@ -102,7 +102,7 @@ pub one-settles : (p : Board) (need : ℕ) (c : PlayingCard) (cards : List Playi
 one-settles p need c cards said side has h = answers said p need cards (by-one (reach cards) (claimant said) p c (claimed said p need) (turn said (side_of (mover p)) side) has h)
 
 -- where no card of the side to play is enough, the other side has it
-pub none-settles : (p : Board) (need : ℕ) (cards : List PlayingCard) (said : Bool) → IsBoard p → said ≡ not (is_north_south (mover p)) → 1 ≤ need → need ≤ left p → IsWhole (reach cards) p
+pub none-settles : (p : Board) (need : ℕ) (cards : List PlayingCard) (said : Bool) → IsBoard p → said ≡ not (is_north_south (mover p)) → 1 ≤ need → need ≤ tricks_left p → IsWhole (reach cards) p
     → ((c : PlayingCard) → has_card (tops p) c ≡ true → IsAnswerAfter p need c cards said) → IsAnswerBy p need cards said
 none-settles p need cards said valid side some most whole each =
     answers said p need cards (each-class-whole (reach cards) (claimant said) p (claimed said p need) (reach-upward cards) valid (turn-not said (side_of (mover p)) side) (omega (arith, some, most)) whole each)
@@ -163,9 +163,9 @@ reach-new cards x real = reach-of (with_card cards x) x x (with-new cards x real
 -- ---- what bounds tell
 
 -- bounds that settle the leader's question settle North and South's
-pub told-answer : (p : Board) (lo hi need leaders left_is : ℕ) (leads said : Bool) (cards : List PlayingCard) → leads ≡ is_north_south p.first → left_is ≡ left p → 1 ≤ need → need ≤ left p
+pub told-answer : (p : Board) (lo hi need leaders left_is : ℕ) (leads said : Bool) (cards : List PlayingCard) → leads ≡ is_north_south p.first → left_is ≡ tricks_left p → 1 ≤ need → need ≤ tricks_left p
     → (leads ≡ true → leaders ≡ need) → (leads ≡ false → leaders ≡ left_is + 1 - need) → (leaders ≤ lo) ⊎ (hi < leaders) → said ≡ beq (nat_le leaders lo) leads
-    → TakesBy (reach cards) (side_of p.first) p lo → TakesBy (reach cards) (other_side (side_of p.first)) p (left p - hi) → IsAnswerBy p need cards said
+    → TakesBy (reach cards) (side_of p.first) p lo → TakesBy (reach cards) (other_side (side_of p.first)) p (tricks_left p - hi) → IsAnswerBy p need cards said
 told-answer p lo hi need leaders left_is leads said cards side tricks some most ours theirs settles is low high = subst (λ (b : Bool). IsAnswerBy p need cards b) (sym is) (go leads side ours theirs (nat_le leaders lo) refl)
   where
     not-le : (a b : ℕ) → nat_le a b ≡ false → b < a
@@ -176,9 +176,9 @@ told-answer p lo hi need leaders left_is leads said cards side tricks some most 
 
     go : (b : Bool) → b ≡ is_north_south p.first → (b ≡ true → leaders ≡ need) → (b ≡ false → leaders ≡ left_is + 1 - need) → (k : Bool) → nat_le leaders lo ≡ k → IsAnswerBy p need cards (beq k b)
     go true s ours theirs true e = by-fewer (reach cards) NorthSouth p lo need (subst (λ (x : Side). TakesBy (reach cards) x p lo) (sym (claimant-of true p.first s)) low) (let l = leb-true leaders lo e in let o = ours refl in omega (arith, l, o))
-    go true s ours theirs false e = by-fewer (reach cards) EastWest p (left p - hi) (left p + 1 - need) (subst (λ (x : Side). TakesBy (reach cards) (other_side x) p (left p - hi)) (sym (claimant-of true p.first s)) high) (let l = over e in let o = ours refl in omega (arith, l, o))
-    go false s ours theirs true e = by-fewer (reach cards) EastWest p lo (left p + 1 - need) (subst (λ (x : Side). TakesBy (reach cards) x p lo) (sym (claimant-of false p.first s)) low) (let l = leb-true leaders lo e in let o = theirs refl in omega (arith, l, o, tricks))
-    go false s ours theirs false e = by-fewer (reach cards) NorthSouth p (left p - hi) need (subst (λ (x : Side). TakesBy (reach cards) (other_side x) p (left p - hi)) (sym (claimant-of false p.first s)) high) (let l = over e in let o = theirs refl in omega (arith, l, o, tricks, some, most))
+    go true s ours theirs false e = by-fewer (reach cards) EastWest p (tricks_left p - hi) (tricks_left p + 1 - need) (subst (λ (x : Side). TakesBy (reach cards) (other_side x) p (tricks_left p - hi)) (sym (claimant-of true p.first s)) high) (let l = over e in let o = ours refl in omega (arith, l, o))
+    go false s ours theirs true e = by-fewer (reach cards) EastWest p lo (tricks_left p + 1 - need) (subst (λ (x : Side). TakesBy (reach cards) x p lo) (sym (claimant-of false p.first s)) low) (let l = leb-true leaders lo e in let o = theirs refl in omega (arith, l, o, tricks))
+    go false s ours theirs false e = by-fewer (reach cards) NorthSouth p (tricks_left p - hi) need (subst (λ (x : Side). TakesBy (reach cards) (other_side x) p (tricks_left p - hi)) (sym (claimant-of false p.first s)) high) (let l = over e in let o = theirs refl in omega (arith, l, o, tricks, some, most))
 
 -- what two truth values that agree or differ tell
 same-beq : (a b : Bool) → beq a b ≡ true → a ≡ b
@@ -203,9 +203,9 @@ answered-for p need c by b said has side h wanted = one-settles p need c by said
 
 -- no card was enough for the side to play, so the other side has its answer
 pub all-tried : (p : Board) (need : ℕ) (untried cards all : List PlayingCard) (b : Bool) → IsBoard p → b ≡ is_north_south (mover p)
-    → 1 ≤ need → need ≤ left p → untried ≡ [] → AllLead p need untried cards (not b) → Within cards all → IsWhole (reach all) p → IsAnswerBy p need all (not b)
-all-tried p need untried cards all b valid side some most none lead more whole =
-    none-settles p need all (not b) valid (ap not side) some most whole (λ c has. elim (lead c has) [
+    → 1 ≤ need → need ≤ tricks_left p → untried ≡ [] → AllLead p need untried cards (not b) → Within cards all → IsWhole (reach all) p → IsAnswerBy p need all (not b)
+all-tried p need untried cards all b valid side some most none leaders_tricks more whole =
+    none-settles p need all (not b) valid (ap not side) some most whole (λ c has. elim (leaders_tricks c has) [
       | inl left_over ↦ absurd (let no : has_card [] c ≡ true = ap (λ xs. has_card xs c) (sym none) ∙ left_over in cc)
       | inr done ↦ leads-wider p need c cards all (not b) more done
     ])
@@ -214,17 +214,17 @@ all-tried p need untried cards all b valid side some most none lead more whole =
 
 -- a window of North and South's tricks, by these cards
 abbrev pub IsWindowBy : Board → List PlayingCard → ℕ → ℕ → Type 0
-IsWindowBy p cards lo hi = TakesBy (reach cards) NorthSouth p lo × TakesBy (reach cards) EastWest p (left p - hi)
+IsWindowBy p cards lo hi = TakesBy (reach cards) NorthSouth p lo × TakesBy (reach cards) EastWest p (tricks_left p - hi)
 
-pub yes-window : (p : Board) (need : ℕ) (cards : List PlayingCard) (said : Bool) (lo hi : ℕ) → IsAnswerBy p need cards said → said ≡ true → lo ≡ need → hi ≡ left p → IsWindowBy p cards lo hi
+pub yes-window : (p : Board) (need : ℕ) (cards : List PlayingCard) (said : Bool) (lo hi : ℕ) → IsAnswerBy p need cards said → said ≡ true → lo ≡ need → hi ≡ tricks_left p → IsWindowBy p cards lo hi
 yes-window p need cards said lo hi answer e low high =
     let k : TakesBy (reach cards) NorthSouth p need = subst (λ (x : Bool). IsAnswerBy p need cards x) e answer in
-    (by-fewer (reach cards) NorthSouth p need lo k (omega (arith, low)), by-fewer (reach cards) EastWest p 0 (left p - hi) (by-nothing (reach cards) EastWest p) (omega (arith, high)))
+    (by-fewer (reach cards) NorthSouth p need lo k (omega (arith, low)), by-fewer (reach cards) EastWest p 0 (tricks_left p - hi) (by-nothing (reach cards) EastWest p) (omega (arith, high)))
 
 pub no-window : (p : Board) (need : ℕ) (cards : List PlayingCard) (said : Bool) (lo hi : ℕ) → IsAnswerBy p need cards said → said ≡ false → lo ≡ 0 → hi ≡ need - 1 → 1 ≤ need → IsWindowBy p cards lo hi
 no-window p need cards said lo hi answer e low high some =
-    let k : TakesBy (reach cards) EastWest p (left p + 1 - need) = subst (λ (x : Bool). IsAnswerBy p need cards x) e answer in
-    (by-fewer (reach cards) NorthSouth p 0 lo (by-nothing (reach cards) NorthSouth p) (omega (arith, low)), by-fewer (reach cards) EastWest p (left p + 1 - need) (left p - hi) k (omega (arith, high, some)))
+    let k : TakesBy (reach cards) EastWest p (tricks_left p + 1 - need) = subst (λ (x : Bool). IsAnswerBy p need cards x) e answer in
+    (by-fewer (reach cards) NorthSouth p 0 lo (by-nothing (reach cards) NorthSouth p) (omega (arith, low)), by-fewer (reach cards) EastWest p (tricks_left p + 1 - need) (tricks_left p - hi) k (omega (arith, high, some)))
 
 -- the bounds from lo to hi are those from l to h seen from the other side, or the same where `leads` holds
 pub record IsTurned (leads : Bool) (n l h lo hi : ℕ) : Type 0 where
@@ -232,19 +232,19 @@ pub record IsTurned (leads : Bool) (n l h lo hi : ℕ) : Type 0 where
   pub other : OnFalse leads ((lo ≡ n - h) × (hi ≡ n - l))
 
 -- turned to the leader's
-pub turned-by : (p : Board) (cards : List PlayingCard) (l h lo hi : ℕ) (leads : Bool) (n : ℕ) → leads ≡ is_north_south p.first → n ≡ left p → IsTurned leads n l h lo hi → IsWindowBy p cards l h
-    → TakesBy (reach cards) (side_of p.first) p lo × TakesBy (reach cards) (other_side (side_of p.first)) p (left p - hi)
-turned-by p cards l h lo hi leads n side tricks turn w = subst (λ (x : Side). TakesBy (reach cards) x p lo × TakesBy (reach cards) (other_side x) p (left p - hi)) (claimant-of leads p.first side) (go leads turn)
+pub turned-by : (p : Board) (cards : List PlayingCard) (l h lo hi : ℕ) (leads : Bool) (n : ℕ) → leads ≡ is_north_south p.first → n ≡ tricks_left p → IsTurned leads n l h lo hi → IsWindowBy p cards l h
+    → TakesBy (reach cards) (side_of p.first) p lo × TakesBy (reach cards) (other_side (side_of p.first)) p (tricks_left p - hi)
+turned-by p cards l h lo hi leads n side tricks turn w = subst (λ (x : Side). TakesBy (reach cards) x p lo × TakesBy (reach cards) (other_side x) p (tricks_left p - hi)) (claimant-of leads p.first side) (go leads turn)
   where
-    go : (b : Bool) → IsTurned b n l h lo hi → TakesBy (reach cards) (claimant b) p lo × TakesBy (reach cards) (other_side (claimant b)) p (left p - hi)
+    go : (b : Bool) → IsTurned b n l h lo hi → TakesBy (reach cards) (claimant b) p lo × TakesBy (reach cards) (other_side (claimant b)) p (tricks_left p - hi)
     go true t =
         let a = t.same.0 in
         let b = t.same.1 in
-        (by-fewer (reach cards) NorthSouth p l lo w.0 (omega (arith, a)), by-fewer (reach cards) EastWest p (left p - h) (left p - hi) w.1 (omega (arith, b, tricks)))
+        (by-fewer (reach cards) NorthSouth p l lo w.0 (omega (arith, a)), by-fewer (reach cards) EastWest p (tricks_left p - h) (tricks_left p - hi) w.1 (omega (arith, b, tricks)))
     go false t =
         let a = t.other.0 in
         let b = t.other.1 in
-        (by-fewer (reach cards) EastWest p (left p - h) lo w.1 (omega (arith, a, tricks)), by-fewer (reach cards) NorthSouth p l (left p - hi) w.0 (omega (arith, b, tricks)))
+        (by-fewer (reach cards) EastWest p (tricks_left p - h) lo w.1 (omega (arith, a, tricks)), by-fewer (reach cards) NorthSouth p l (tricks_left p - hi) w.0 (omega (arith, b, tricks)))
 
 -- ---- claims of both sides, and the value
 
@@ -261,7 +261,7 @@ east-west-leads p cards n m b side e k =
     (h.1, h.0)
 
 -- both sides claim no more than is left
-pub claims-within : (p : Board) (ours theirs : ClaimBy) → IsBoard p → IsWindow p ours theirs → ours.tricks + theirs.tricks ≤ left p
+pub claims-within : (p : Board) (ours theirs : ClaimBy) → IsBoard p → IsWindow p ours theirs → ours.tricks + theirs.tricks ≤ tricks_left p
 claims-within p ours theirs valid w =
     both NorthSouth p ours.tricks theirs.tricks valid (by-here (reach ours.cards) NorthSouth p ours.tricks valid (reach-upward ours.cards) w.0) (by-here (reach theirs.cards) EastWest p theirs.tricks valid (reach-upward theirs.cards) w.1)
 
@@ -274,31 +274,31 @@ claim-wider side p claim cards n h more few =
 pub record IsExactly (p : Board) (n : ℕ) (cards : List PlayingCard) : Type 0 where
   pub valid : IsBoard p
   pub theirs : TakesBy (reach cards) NorthSouth p n
-  pub others : TakesBy (reach cards) EastWest p (left p - n)
-  pub within : n ≤ left p
+  pub others : TakesBy (reach cards) EastWest p (tricks_left p - n)
+  pub within : n ≤ tricks_left p
 
 -- the claims hold there
 pub exactly-theirs : (p : Board) (n : ℕ) (cards : List PlayingCard) → IsExactly p n cards → Takes NorthSouth p n
 exactly-theirs p n cards k = by-here (reach cards) NorthSouth p n k.valid (reach-upward cards) k.theirs
 
-pub exactly-others : (p : Board) (n : ℕ) (cards : List PlayingCard) → IsExactly p n cards → Takes EastWest p (left p - n)
-exactly-others p n cards k = by-here (reach cards) EastWest p (left p - n) k.valid (reach-upward cards) k.others
+pub exactly-others : (p : Board) (n : ℕ) (cards : List PlayingCard) → IsExactly p n cards → Takes EastWest p (tricks_left p - n)
+exactly-others p n cards k = by-here (reach cards) EastWest p (tricks_left p - n) k.valid (reach-upward cards) k.others
 
 -- so many the leader's side takes
 abbrev leaders : Board → ℕ → ℕ
-leaders p n = (if is_north_south p.first then n else (left p - n))
+leaders p n = (if is_north_south p.first then n else (tricks_left p - n))
 
 -- it claims them, and the other side the rest
-leaders-claims : (p : Board) (n : ℕ) (cards : List PlayingCard) → IsExactly p n cards → TakesBy (reach cards) (side_of p.first) p (leaders p n) × TakesBy (reach cards) (other_side (side_of p.first)) p (left p - leaders p n)
+leaders-claims : (p : Board) (n : ℕ) (cards : List PlayingCard) → IsExactly p n cards → TakesBy (reach cards) (side_of p.first) p (leaders p n) × TakesBy (reach cards) (other_side (side_of p.first)) p (tricks_left p - leaders p n)
 leaders-claims p n cards k = go (side_of p.first)
   where
-    go : (side : Side) → TakesBy (reach cards) side p (if same_side side NorthSouth then n else (left p - n)) × TakesBy (reach cards) (other_side side) p (left p - (if same_side side NorthSouth then n else (left p - n)))
+    go : (side : Side) → TakesBy (reach cards) side p (if same_side side NorthSouth then n else (tricks_left p - n)) × TakesBy (reach cards) (other_side side) p (tricks_left p - (if same_side side NorthSouth then n else (tricks_left p - n)))
     go NorthSouth = (k.theirs, k.others)
-    go EastWest = (k.others, by-fewer (reach cards) NorthSouth p n (left p - (left p - n)) k.theirs (let w = k.within in omega (arith, w)))
+    go EastWest = (k.others, by-fewer (reach cards) NorthSouth p n (tricks_left p - (tricks_left p - n)) k.theirs (let w = k.within in omega (arith, w)))
 
 -- and each position that is covered at the depths of the cards has that value
 covered-value : (p : Board) (n : ℕ) (cards : List PlayingCard) (depths : Suit → ℕ) → IsExactly p n cards → ((c : PlayingCard) → has_card cards c ≡ true → IsRank c.rank) → ((u : Suit) → depths u ≡ depths_of (reach cards) p u)
-    → (q : Board) → IsBoard q → Covers p depths q → lead q ≡ leaders p n
+    → (q : Board) → IsBoard q → Covers p depths q → leaders_tricks q ≡ leaders p n
 covered-value p n cards depths k real deep q good covers =
     let claims = leaders-claims p n cards k in
     let h = noted cards depths p (leaders p n) (leaders p n) real k.valid (λ u. let e = deep u in omega (arith, e)) claims.0 claims.1 q good covers in
@@ -314,21 +314,21 @@ pub record IsStartValue (p : Board) (n : ℕ) (cards : List PlayingCard) (depths
   pub deep : (u : Suit) → depths u ≡ depths_of (reach cards) p u
   pub within : (u : Suit) → depths u ≤ count_of u (all_cards p)
 
-start-value : (p : Board) (n : ℕ) (cards : List PlayingCard) (depths : Suit → ℕ) → IsStartValue p n cards depths → lead p ≡ leaders p n
+start-value : (p : Board) (n : ℕ) (cards : List PlayingCard) (depths : Suit → ℕ) → IsStartValue p n cards depths → leaders_tricks p ≡ leaders p n
 start-value p n cards depths k = covered-value p n cards depths k.exactly k.real k.deep p k.exactly.valid (itself p depths k.start k.within)
 
 -- the value, where North or South leads
-pub start-north-south : (p : Board) (n : ℕ) (cards : List PlayingCard) (depths : Suit → ℕ) (b : Bool) → IsStartValue p n cards depths → b ≡ is_north_south p.first → b ≡ true → n ≡ lead p
+pub start-north-south : (p : Board) (n : ℕ) (cards : List PlayingCard) (depths : Suit → ℕ) (b : Bool) → IsStartValue p n cards depths → b ≡ is_north_south p.first → b ≡ true → n ≡ leaders_tricks p
 start-north-south p n cards depths b k side e =
     let here : is_north_south p.first ≡ true = sym side ∙ e in
-    sym (start-value p n cards depths k ∙ ap (λ (x : Bool). if x then n else (left p - n)) here)
+    sym (start-value p n cards depths k ∙ ap (λ (x : Bool). if x then n else (tricks_left p - n)) here)
 
 -- and where East or West does
-pub start-east-west : (p : Board) (n : ℕ) (cards : List PlayingCard) (depths : Suit → ℕ) (b : Bool) → IsStartValue p n cards depths → b ≡ is_north_south p.first → b ≡ false → left p - n ≡ lead p
+pub start-east-west : (p : Board) (n : ℕ) (cards : List PlayingCard) (depths : Suit → ℕ) (b : Bool) → IsStartValue p n cards depths → b ≡ is_north_south p.first → b ≡ false → tricks_left p - n ≡ leaders_tricks p
 start-east-west p n cards depths b k side e =
     let here : is_north_south p.first ≡ false = sym side ∙ e in
-    sym (start-value p n cards depths k ∙ ap (λ (x : Bool). if x then n else (left p - n)) here)
+    sym (start-value p n cards depths k ∙ ap (λ (x : Bool). if x then n else (tricks_left p - n)) here)
 
 -- each position that is covered has it
-pub start-covered : (p : Board) (n : ℕ) (cards : List PlayingCard) (depths : Suit → ℕ) → IsStartValue p n cards depths → (q : Board) → IsBoard q → Covers p depths q → lead q ≡ lead p
+pub start-covered : (p : Board) (n : ℕ) (cards : List PlayingCard) (depths : Suit → ℕ) → IsStartValue p n cards depths → (q : Board) → IsBoard q → Covers p depths q → leaders_tricks q ≡ leaders_tricks p
 start-covered p n cards depths k q good covers = covered-value p n cards depths k.exactly k.real k.deep q good covers ∙ sym (start-value p n cards depths k)

@@ -7,7 +7,7 @@ ghost use Rattle.dd_search.specs.Budgets.{EndsAs, IsEndless};
 
 use crate::meter::{Halt, Meter};
 use crate::table::Bounds;
-use crate::takes::{answer_by_counting, takes, trick_of};
+use crate::zero_window::{answer_by_counting, zero_window, trick_of};
 use dd_cards::Card;
 use dd_play::Position;
 
@@ -37,7 +37,7 @@ pub fn reaches<B: Bounds, M: Meter>(
     let rest = need.saturating_sub(trick_of(winner));
     let yes = match answer_by_counting(&next, rest) {
         Some(yes) => yes,
-        None => takes(&next, rest, table, meter)?.is_yes(),
+        None => zero_window(&next, rest, table, meter)?.is_yes(),
     };
     Ok(yes == north_south)
 }

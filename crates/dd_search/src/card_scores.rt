@@ -11,7 +11,7 @@ use crate::meter::{Halt, Meter};
 use crate::order::Order;
 use crate::position_value::north_souths_tricks;
 use crate::table::Bounds;
-use crate::takes::trick_of;
+use crate::zero_window::trick_of;
 use dd_cards::Card;
 use dd_play::Position;
 

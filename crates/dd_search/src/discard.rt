@@ -6,7 +6,7 @@ ghost use Rattle.dd_cards.specs.Cards.{has_card};
 use crate::holdings::{code_of_highest, lowest};
 use crate::lead::Move;
 use crate::turn::Turn;
-use crate::view::View;
+use crate::trick_view::TrickView;
 use dd_cards::{Card, Hand, Holding, Rank, Suit};
 
 /// What the cards of a hand are worth that has none of the suit led.
@@ -14,7 +14,7 @@ use dd_cards::{Card, Hand, Holding, Rank, Suit};
 pub(crate) struct Discarding {
     // the trump suit, where it can ruff
     trump: Option<Suit>,
-    worth: Worth,
+    worth: DiscardWorth,
     // from the rank above this one on a trump beats what lies on the trick
     beaten: u8,
     // from the rank above this one on the next hand can't ruff higher
@@ -23,7 +23,7 @@ pub(crate) struct Discarding {
 
 // What a card is worth, by hand.
 #[derive(Clone, Copy, Debug)]
-struct Worth {
+struct DiscardWorth {
     discard: u8,
     // a trump that wins, and that the next hand can't beat
     holds: u8,
@@ -34,35 +34,35 @@ struct Worth {
 }
 
 // Partner wins, and a card that serves nowhere goes; a trump would take partner's trick.
-const ON_PARTNERS_TRICK: Worth = Worth {
+const ON_PARTNERS_TRICK: DiscardWorth = DiscardWorth {
     discard: 80,
     holds: 30,
     may_hold: 35,
     useless: 30,
 };
 // Second hand: partner does not win the trick by itself. Where the next hand can ruff higher partner is still to play.
-const SECOND_HAND: Worth = Worth {
+const SECOND_HAND: DiscardWorth = DiscardWorth {
     discard: 40,
     holds: 70,
     may_hold: 35,
     useless: 35,
 };
 // Third hand: a ruff that the next hand can beat costs it a high trump.
-const THIRD_HAND: Worth = Worth {
+const THIRD_HAND: DiscardWorth = DiscardWorth {
     discard: 40,
     holds: 90,
     may_hold: 60,
     useless: 5,
 };
 // Fourth hand: the trick is lost; a ruff would win it.
-const FOURTH_HAND: Worth = Worth {
+const FOURTH_HAND: DiscardWorth = DiscardWorth {
     discard: 34,
     holds: 80,
     may_hold: 80,
     useless: 5,
 };
 // Fourth hand: partner has won, and trumps are kept.
-const LAST_ON_PARTNERS_TRICK: Worth = Worth {
+const LAST_ON_PARTNERS_TRICK: DiscardWorth = DiscardWorth {
     discard: 50,
     holds: 34,
     may_hold: 34,
@@ -88,7 +88,7 @@ impl Discarding {
     }
 
     /// What the mover's cards are worth, of which none is of the suit led.
-    pub(crate) fn of(view: &View) -> Discarding {
+    pub(crate) fn of(view: &TrickView) -> Discarding {
         let best = view.best.code();
         let nexts = code_of_highest(view.next.suit);
         let worth = match view.turn {

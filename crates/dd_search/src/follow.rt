@@ -6,7 +6,7 @@ ghost use Rattle.dd_cards.specs.Cards.{has_card};
 
 use crate::holdings::{code_of_highest, lowest};
 use crate::turn::Turn;
-use crate::view::View;
+use crate::trick_view::TrickView;
 use dd_cards::{Card, Hand, Holding, Rank, Suit};
 
 /// The groups of the cards that a hand has of the suit led. What is in none comes last.
@@ -29,7 +29,7 @@ impl Following {
 
     /// The groups of these cards of the suit led.
     #[inline(always)]
-    pub(crate) fn of(own: Holding, view: &View) -> Following {
+    pub(crate) fn of(own: Holding, view: &TrickView) -> Following {
         match view.turn {
             Turn::First | Turn::Second => second(own, view),
             Turn::Third => third(own, view),
@@ -89,7 +89,7 @@ fn first_of_all(led: Suit, first: Holding) -> Following {
 
 // Second hand: what wins for good; where partner ruffs then the lowest; else what makes just one of the side's two hands be
 // ahead, then what makes both or none; last what the next hand beats whatever it plays.
-fn second(own: Holding, view: &View) -> Following {
+fn second(own: Holding, view: &TrickView) -> Following {
     let led = view.led;
     let none = Holding::new();
     let beats = own.above(view.best);
@@ -123,7 +123,7 @@ fn second(own: Holding, view: &View) -> Following {
 }
 
 // Third hand: what wins for good; third hand high where the next hand's cheapest winner is not enough; then what is ahead.
-fn third(own: Holding, view: &View) -> Following {
+fn third(own: Holding, view: &TrickView) -> Following {
     let led = view.led;
     let none = Holding::new();
     let beats = if view.ruffed {
@@ -149,7 +149,7 @@ fn third(own: Holding, view: &View) -> Following {
 
 // Fourth hand: the cheapest winner, where partner doesn't win.
 #[inline]
-fn fourth(own: Holding, view: &View) -> Following {
+fn fourth(own: Holding, view: &TrickView) -> Following {
     let wins = if view.partners || view.ruffed {
         Holding::new()
     } else {

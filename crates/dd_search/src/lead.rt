@@ -3,7 +3,7 @@ ghost use Rattle.std.specs.Prelude.{◌≡◌, ◌≤◌, true, IfSome};
 ghost use Rattle.dd_cards.specs.Cards.{has_card};
 
 use crate::holdings::code_of_highest;
-use crate::table::SettlingLeads;
+use crate::table::LeadHistory;
 use arrayvec::ArrayVec;
 use dd_cards::{Card, Hand, Holding, Rank, Strain, Suit};
 use dd_play::Position;
@@ -60,9 +60,9 @@ struct SuitView {
     // how good the suit looks
     weight: u16,
     // what a card of it is worth
-    worth: Worth,
+    worth: LeadWorth,
     // what it is worth where it is the highest left, or has an equal below it
-    special: Worth,
+    special: LeadWorth,
     // the rank of the highest card, where the leader has it
     own_top: u8,
     // whether the leader has the second highest card and not the highest
@@ -78,41 +78,41 @@ struct SuitView {
 
 // What a card is worth whose trick the leader's side wins when each hand plays well, and one whose trick it loses.
 #[derive(Clone, Copy, Debug)]
-struct Worth {
+struct LeadWorth {
     wins: u16,
     loses: u16,
 }
 
 // What a card is worth, by the first reason that holds.
 // An opponent's highest card stands alone: it falls, and the suit is the leader's side's.
-const LONE_TOP_CARD: Worth = Worth {
+const LONE_TOP_CARD: LeadWorth = LeadWorth {
     wins: 70,
     loses: 10,
 };
 // The leader has the highest card and partner the second highest: whichever is led, the other is left.
-const TOP_TWO_CARDS: Worth = Worth {
+const TOP_TWO_CARDS: LeadWorth = LeadWorth {
     wins: 40,
     loses: 40,
 };
 // The leader has the highest card, and leads it.
-const OWN_TOP_CARD: Worth = Worth {
+const OWN_TOP_CARD: LeadWorth = LeadWorth {
     wins: 25,
     loses: 55,
 };
 // The leader has it, and leads another card of the suit.
-const BELOW_OWN_TOP_CARD: Worth = Worth { wins: 20, loses: 0 };
+const BELOW_OWN_TOP_CARD: LeadWorth = LeadWorth { wins: 20, loses: 0 };
 // Partner has the highest card: any card goes to it.
-const TO_PARTNER: Worth = Worth {
+const TO_PARTNER: LeadWorth = LeadWorth {
     wins: 40,
     loses: 40,
 };
 // The leader has the second highest card, and the card has an equal: it drives the highest out, and the other is then high.
-const SEQUENCE: Worth = Worth {
+const SEQUENCE: LeadWorth = LeadWorth {
     wins: 55,
     loses: 25,
 };
 // Nothing more is known of it.
-const ANY_OTHER: Worth = Worth {
+const ANY_OTHER: LeadWorth = LeadWorth {
     wins: 40,
     loses: 10,
 };
@@ -155,7 +155,7 @@ impl Leading {
     }
 
     /// Puts these cards of the mover into the empty list, with no card on the trick.
-    pub(crate) fn weigh(&mut self, position: &Position, settling: SettlingLeads, choices: Hand) {
+    pub(crate) fn weigh(&mut self, position: &Position, settling: LeadHistory, choices: Hand) {
         let ruffs = Ruffs::of(position);
         let leads = &mut self.leads;
         let spades = weigh_suit(position, &ruffs, settling, Suit::Spades, choices, leads);
@@ -197,7 +197,7 @@ impl Leading {
 
 // What speaks for the suit by what settled starts of a trick like this one.
 #[inline]
-fn settled_before(settling: SettlingLeads, suit: Suit) -> u16
+fn settled_before(settling: LeadHistory, suit: Suit) -> u16
     ensures { result ≤ 100 }
 {
     let shape = if settling.of_shape == Some(suit) {
@@ -217,7 +217,7 @@ fn settled_before(settling: SettlingLeads, suit: Suit) -> u16
 fn weigh_suit(
     position: &Position,
     ruffs: &Ruffs,
-    settling: SettlingLeads,
+    settling: LeadHistory,
     suit: Suit,
     choices: Hand,
     leads: &mut ArrayVec<Move, 13>,
@@ -395,7 +395,7 @@ fn suit_view(position: &Position, ruffs: &Ruffs, suit: Suit) -> SuitView
 }
 
 // What the cards of a suit are worth, and what the special ones are, by whose the highest card is and whose the second.
-static WORTHS: [(Worth, Worth); 25] = [
+static WORTHS: [(LeadWorth, LeadWorth); 25] = [
     // the leader's, and then the leader's, the left hand's, partner's, the right hand's, nobody's
     (BELOW_OWN_TOP_CARD, OWN_TOP_CARD),
     (BELOW_OWN_TOP_CARD, OWN_TOP_CARD),
@@ -430,7 +430,7 @@ static WORTHS: [(Worth, Worth); 25] = [
 
 // The same, where an opponent's highest card may stand alone.
 #[inline]
-fn worths(top: u8, second: u8, lone: bool) -> (Worth, Worth)
+fn worths(top: u8, second: u8, lone: bool) -> (LeadWorth, LeadWorth)
     requires top { top ≤ 4 }
     requires second { second ≤ 4 }
 {

@@ -1,18 +1,18 @@
 //! The value of a position.
 ghost use Rattle.std.specs.Prelude.{◌≡◌, ◌-◌, ◌<◌, ◌≤◌, true, false, IfOk, OnOk, IsOk};
 ghost use Rattle.dd_cards.specs.Sides.{side_of};
-ghost use Rattle.dd_play.specs.Board.{mover, left};
+ghost use Rattle.dd_play.specs.Board.{mover, tricks_left};
 ghost use Rattle.dd_play.specs.Reach.{reach, TakesBy};
 ghost use Rattle.dd_play.specs.Won.{won};
 ghost use Rattle.dd_search.specs.Budgets.{EndsAs, IsEndless};
 
 use crate::claim::Claim;
 use crate::guess::guess;
-use crate::known::window;
+use crate::cutoffs::window;
 use crate::meter::{Halt, Meter, go_on};
 use crate::order::Order;
 use crate::table::Bounds;
-use crate::takes::takes_in_order;
+use crate::zero_window::zero_window_in_order;
 use dd_cards::Side;
 use dd_play::Position;
 
@@ -31,14 +31,14 @@ pub fn value<B: Bounds, M: Meter>(
     // It has an answer where the meter can say nothing else than to go on.
     ensures answers { IsEndless M.says → IsOk result }
 {
-    value_near(position, guess(position), table, meter)
+    value_from_guess(position, guess(position), table, meter)
 }
 
-/// The same, the first question being whether North and South take `near` of the tricks: it takes the fewer questions the
+/// The same, the first question being whether North and South take `first_guess` of the tricks: it takes the fewer questions the
 /// nearer that is to what they do.
-pub fn value_near<B: Bounds, M: Meter>(
+pub fn value_from_guess<B: Bounds, M: Meter>(
     position: &Position,
-    near: u8,
+    first_guess: u8,
     table: &mut B,
     meter: &mut M,
 ) -> Result<u8, Halt>
@@ -49,7 +49,7 @@ pub fn value_near<B: Bounds, M: Meter>(
     ensures ends { EndsAs (M.says meter.new) result }
     ensures answers { IsEndless M.says → IsOk result }
 {
-    let found = north_souths_tricks(position, near, Order::Best, table, meter)?;
+    let found = north_souths_tricks(position, first_guess, Order::Best, table, meter)?;
     if position.mover().is_north_south() {
         Ok(found.tricks)
     } else {
@@ -58,10 +58,10 @@ pub fn value_near<B: Bounds, M: Meter>(
 }
 
 /// The tricks that North and South take from here on, no more and no less, and the cards that both rest on. It ticks first,
-/// and asks first whether they take `near` tricks. The cards of the position itself are tried in this order.
+/// and asks first whether they take `first_guess` tricks. The cards of the position itself are tried in this order.
 pub(crate) fn north_souths_tricks<B: Bounds, M: Meter>(
     position: &Position,
-    near: u8,
+    first_guess: u8,
     order: Order,
     table: &mut B,
     meter: &mut M,
@@ -70,8 +70,8 @@ pub(crate) fn north_souths_tricks<B: Bounds, M: Meter>(
         (λ found. TakesBy (reach found.cards) Side.NorthSouth position.now found.tricks) }
     ensures others { IfOk result
         (λ found. TakesBy (reach found.cards) Side.EastWest position.now
-        (left position.now - found.tricks)) }
-    ensures within { IfOk result (λ found. found.tricks ≤ left position.now) }
+        (tricks_left position.now - found.tricks)) }
+    ensures within { IfOk result (λ found. found.tricks ≤ tricks_left position.now) }
     ensures ticked { OnOk result (M.ticked meter.old meter.new) }
     ensures ends { EndsAs (M.says meter.new) result }
 {
@@ -80,10 +80,10 @@ pub(crate) fn north_souths_tricks<B: Bounds, M: Meter>(
     let window = window(position, table);
     let mut ours = window.0;
     let mut theirs = window.1;
-    let mut need = near;
+    let mut need = first_guess;
     'window: while ours.tricks + theirs.tricks < left {
         need = next_question(need, ours.tricks, left - theirs.tricks);
-        let answer = takes_in_order(position, order, need, table, meter)?;
+        let answer = zero_window_in_order(position, order, need, table, meter)?;
         if answer.is_yes() {
             ours = Claim {
                 tricks: need,

@@ -3,7 +3,7 @@ ghost use Rattle.std.specs.Prelude.{◌≡◌, ◌≤◌, map, IfOk, OnOk, IsOk}
 ghost use Rattle.dd_cards.specs.declared.suit.Suit.{Suit as SuitOf};
 ghost use Rattle.dd_play.specs.Board.{Board, IsBoard};
 ghost use Rattle.dd_play.specs.Covers.{count_of};
-ghost use Rattle.dd_play.specs.Value.{lead, score};
+ghost use Rattle.dd_play.specs.Value.{leaders_tricks, score};
 ghost use Rattle.dd_equal.specs.EqualCards.{tops};
 ghost use Rattle.dd_rank.specs.Depths.{all_cards, depth_in, Covers};
 ghost use Rattle.dd_search.specs.Budgets.{EndsAs, IsEndless};
@@ -27,9 +27,9 @@ pub fn start_value<B: Bounds, M: Meter>(
     table: &mut B,
     meter: &mut M,
 ) -> Result<(u8, Depths), Halt>
-    ensures value { IfOk result (λ found. found.0 ≡ lead start.now) }
+    ensures value { IfOk result (λ found. found.0 ≡ leaders_tricks start.now) }
     ensures depths { IfOk result (λ found. (q : Board) → IsBoard q
-        → Covers start.now (depth_in found.1) q → lead q ≡ lead start.now) }
+        → Covers start.now (depth_in found.1) q → leaders_tricks q ≡ leaders_tricks start.now) }
     ensures within { IfOk result (λ found. (u : SuitOf)
         → depth_in found.1 u ≤ count_of u (all_cards start.now)) }
     ensures ticked { OnOk result (M.ticked meter.old meter.new) }
@@ -47,9 +47,9 @@ pub fn start_value_for_first<B: Bounds, M: Meter>(
     table: &mut B,
     meter: &mut M,
 ) -> Result<(u8, Depths), Halt>
-    ensures value { IfOk result (λ found. found.0 ≡ lead start.now) }
+    ensures value { IfOk result (λ found. found.0 ≡ leaders_tricks start.now) }
     ensures depths { IfOk result (λ found. (q : Board) → IsBoard q
-        → Covers start.now (depth_in found.1) q → lead q ≡ lead start.now) }
+        → Covers start.now (depth_in found.1) q → leaders_tricks q ≡ leaders_tricks start.now) }
     ensures within { IfOk result (λ found. (u : SuitOf)
         → depth_in found.1 u ≤ count_of u (all_cards start.now)) }
     ensures ticked { OnOk result (M.ticked meter.old meter.new) }
@@ -67,9 +67,9 @@ fn start_value_in_order<B: Bounds, M: Meter>(
     table: &mut B,
     meter: &mut M,
 ) -> Result<(u8, Depths), Halt>
-    ensures value { IfOk result (λ found. found.0 ≡ lead start.now) }
+    ensures value { IfOk result (λ found. found.0 ≡ leaders_tricks start.now) }
     ensures depths { IfOk result (λ found. (q : Board) → IsBoard q
-        → Covers start.now (depth_in found.1) q → lead q ≡ lead start.now) }
+        → Covers start.now (depth_in found.1) q → leaders_tricks q ≡ leaders_tricks start.now) }
     ensures within { IfOk result (λ found. (u : SuitOf)
         → depth_in found.1 u ≤ count_of u (all_cards start.now)) }
     ensures ticked { OnOk result (M.ticked meter.old meter.new) }
@@ -97,7 +97,7 @@ pub fn start_scores<B: Bounds, M: Meter>(
     ensures scores { IfOk result (λ found. found.0.items ≡ map
         (λ c. (c, score start.now c)) (tops start.now)) }
     ensures depths { IfOk result (λ found. (q : Board) → IsBoard q
-        → Covers start.now (depth_in found.1) q → lead q ≡ lead start.now) }
+        → Covers start.now (depth_in found.1) q → leaders_tricks q ≡ leaders_tricks start.now) }
     ensures within { IfOk result (λ found. (u : SuitOf)
         → depth_in found.1 u ≤ count_of u (all_cards start.now)) }
     ensures ends { EndsAs (M.says meter.new) result }
@@ -116,7 +116,7 @@ fn scores_up_to<B: Bounds, M: Meter>(
     table: &mut B,
     meter: &mut M,
 ) -> Result<ArrayVec<(Card, u8), 13>, Halt>
-    requires { best ≡ lead start.now }
+    requires { best ≡ leaders_tricks start.now }
     ensures scores { IfOk result (λ found. found.items ≡ map
         (λ c. (c, score start.now c)) (tops start.now)) }
     ensures ends { EndsAs (M.says meter.new) result }

@@ -3,7 +3,7 @@ ghost use Rattle.std.specs.Prelude.{IfSome, ◌<◌, ◌≤◌, ◌⊎◌, true,
 ghost use Rattle.dd_cards.specs.declared.suit.Suit.{Suit as SuitOf};
 ghost use Rattle.dd_play.specs.Board.{Board, IsBoard};
 ghost use Rattle.dd_play.specs.Covers.{count_of};
-ghost use Rattle.dd_play.specs.Value.{lead};
+ghost use Rattle.dd_play.specs.Value.{leaders_tricks};
 ghost use Rattle.dd_play.specs.Intervals.{Holds};
 ghost use Rattle.dd_rank.specs.Depths.{FourDepths, depth_in, all_cards, Covers};
 ghost use Rattle.dd_rank.specs.Strings.{strings_of};
@@ -50,16 +50,16 @@ pub trait Bounds {
 
     /// Where bounds of starts of this shape may stand: what a table can read ahead of the strings. It serves the time alone: no
     /// answer rests on it, so any place is right.
-    fn place_of(&self, _shape: Shape) -> Place {
-        Place::default()
+    fn probe_hint(&self, _shape: Shape) -> ProbeHint {
+        ProbeHint::default()
     }
 
-    /// The same as `settle`, where what `place_of` told of the start's shape is handed in.
+    /// The same as `settle`, where what `probe_hint` told of the start's shape is handed in.
     fn settle_at(
         &mut self,
         start: &TrickStart,
         strings: &OwnerStrings,
-        _place: Place,
+        _place: ProbeHint,
         need: u8,
     ) -> Option<(Interval, Depths)>
         requires { strings.now ≡ strings_of start.now }
@@ -75,7 +75,7 @@ pub trait Bounds {
     fn note(&mut self, start: &TrickStart, depths: Depths, interval: Interval)
         requires within { (u : SuitOf) → depth_in depths u ≤ count_of u (all_cards start.now) }
         requires holds { (q : Board) → IsBoard q → Covers start.now (depth_in depths) q
-            → Holds interval (lead q) };
+            → Holds interval (leaders_tricks q) };
 
     /// The same, where the start's strings are known.
     fn note_by(
@@ -88,15 +88,15 @@ pub trait Bounds {
         requires strings { strings.now ≡ strings_of start.now }
         requires within { (u : SuitOf) → depth_in depths u ≤ count_of u (all_cards start.now) }
         requires holds { (q : Board) → IsBoard q → Covers start.now (depth_in depths) q
-            → Holds interval (lead q) }
+            → Holds interval (leaders_tricks q) }
     {
         self.note(start, depths, interval);
     }
 
     /// The suits of leads that settled starts of a trick like the one with these strings. They serve the order of leads alone: no
     /// answer rests on them, so any are right.
-    fn settling_leads(&self, _strings: &OwnerStrings) -> SettlingLeads {
-        SettlingLeads::default()
+    fn lead_history(&self, _strings: &OwnerStrings) -> LeadHistory {
+        LeadHistory::default()
     }
 
     /// Hands over the suit of a lead that settled the start with these strings, which may be kept or not.
@@ -105,12 +105,12 @@ pub trait Bounds {
     /// what is told holds
     ghost holds: { (table : Self) (p : Board) (depths : FourDepths) (interval : Interval) (q :
         Board) → tells table p depths interval
-        → IsBoard q → Covers p (depth_in depths) q → Holds interval (lead q) };
+        → IsBoard q → Covers p (depth_in depths) q → Holds interval (leaders_tricks q) };
 }
 
 /// Where bounds of a shape may stand in a table, in the table's own terms.
 #[derive(Clone, Copy, Debug, Default)]
-pub struct Place {
+pub struct ProbeHint {
     /// the number of what stands there
     pub number: u32,
     /// a number that tells most shapes of one place apart
@@ -121,7 +121,7 @@ pub struct Place {
 
 /// The suits of leads that settled starts of a trick, where some are known.
 #[derive(Clone, Copy, Debug, Default)]
-pub struct SettlingLeads {
+pub struct LeadHistory {
     /// the last one at a start of the same shape
     pub of_shape: Option<Suit>,
     /// the last one at a start of the same outline

@@ -1,7 +1,7 @@
 //! Connections as they come.
 use crate::args::ServeFault;
 use crate::connection::serve_connection;
-use crate::house::House;
+use crate::server_state::ServerState;
 use dd_desk::{Naming, Pass};
 use std::io::Error;
 use std::net::{TcpListener, TcpStream};
@@ -22,7 +22,7 @@ const REST: u64 = 100;
 pub(crate) fn accept_connections<'s, E, J, R>(
     rt: &'s R,
     scope: &Scope<'s, E>,
-    house: &'s House<J>,
+    state: &'s ServerState<J>,
     own: &mut Pass<J>,
     listener: TcpListener,
 ) -> Result<(), ServeFault>
@@ -31,16 +31,16 @@ where
     R: Threads + Wait + Clock + Eprint + Sync,
 {
     for stream in listener.incoming() {
-        if house.stop.is_stopped() {
+        if state.stop.is_stopped() {
             break;
         }
         match stream {
-            Ok(stream) => start_connection(rt, scope, house, stream),
-            Err(error) if passes(&error) && house.stop.streams().lock(rt).is_any_open() => {
+            Ok(stream) => start_connection(rt, scope, state, stream),
+            Err(error) if passes(&error) && state.stop.streams().lock(rt).is_any_open() => {
                 thread::sleep(rt, Duration::from_millis(REST))
             }
             Err(_) => {
-                house.shut(rt, own);
+                state.shut(rt, own);
                 return Err(ServeFault::Listen);
             }
         }
@@ -59,27 +59,27 @@ fn passes(error: &Error) -> bool {
 fn start_connection<'s, E, J, R>(
     rt: &'s R,
     scope: &Scope<'s, E>,
-    house: &'s House<J>,
+    state: &'s ServerState<J>,
     stream: TcpStream,
 )
 where
     J: Naming + Send + Sync,
     R: Threads + Wait + Clock + Eprint + Sync,
 {
-    let Ok(stream) = Arc::new(house.alloc, stream) else {
+    let Ok(stream) = Arc::new(state.alloc, stream) else {
         return;
     };
     let Ok(kept) = Arc::try_clone(&stream) else {
         return;
     };
-    let Ok(key) = house.stop.streams().lock(rt).insert(kept) else {
+    let Ok(key) = state.stop.streams().lock(rt).insert(kept) else {
         return;
     };
     let serve = move || {
-        serve_connection(rt, house, &stream);
-        house.stop.streams().lock(rt).remove(key)
+        serve_connection(rt, state, &stream);
+        state.stop.streams().lock(rt).remove(key)
     };
     if scope.spawn(serve).is_err() {
-        house.stop.streams().lock(rt).remove(key);
+        state.stop.streams().lock(rt).remove(key);
     }
 }

@@ -1,5 +1,5 @@
 //! One connection.
-use crate::house::House;
+use crate::server_state::ServerState;
 use crate::session_stream::SessionStream;
 use crate::stop::StopPort;
 use dd_desk::{Fault, Naming, Pass};
@@ -17,50 +17,50 @@ const WRITE_LIMIT: u64 = 60;
 /// hands first.
 pub(crate) fn serve_connection<J: Naming, R: Wait + Eprint>(
     rt: &R,
-    house: &House<J>,
+    state: &ServerState<J>,
     stream: &TcpStream,
 ) {
     // Without these it is served too.
     let _ = stream.set_nodelay(true);
     let _ = stream.set_write_timeout(Some(Duration::from_secs(WRITE_LIMIT)));
-    match house.enrol(rt) {
+    match state.enrol(rt) {
         Ok(pass) => {
-            let pass = serve_session(rt, house, stream, pass);
-            house.take_back(rt, pass)
+            let pass = serve_session(rt, state, stream, pass);
+            state.take_back(rt, pass)
         }
-        Err(fault) => refuse(rt, house, stream, fault),
+        Err(fault) => refuse(rt, state, stream, fault),
     }
 }
 
 // The session of a pass, which comes back.
 fn serve_session<J: Naming, R: Wait>(
     rt: &R,
-    house: &House<J>,
+    state: &ServerState<J>,
     stream: &TcpStream,
     pass: Pass<J>,
 ) -> Pass<J> {
-    let port = DeskPort::new(rt, &house.desk, pass);
-    let mut port = StopPort::new(rt, port, &house.stop);
-    let allow_stop = house.args.allow_stop;
-    if house.args.websocket {
-        let stream = SessionStream::new(stream, &house.stop);
-        let _ = serve_socket(house.alloc, stream, &mut port, allow_stop);
+    let port = DeskPort::new(rt, &state.desk, pass);
+    let mut port = StopPort::new(rt, port, &state.stop);
+    let allow_stop = state.args.allow_stop;
+    if state.args.websocket {
+        let stream = SessionStream::new(stream, &state.stop);
+        let _ = serve_socket(state.alloc, stream, &mut port, allow_stop);
     } else {
-        let mut reader = CountedDevice::new(SessionStream::new(stream, &house.stop));
+        let mut reader = CountedDevice::new(SessionStream::new(stream, &state.stop));
         let mut writer = CountedDevice::new(stream);
-        let _ = serve_lines(house.alloc, &mut reader, &mut writer, &mut port, allow_stop);
+        let _ = serve_lines(state.alloc, &mut reader, &mut writer, &mut port, allow_stop);
     }
     port.into_inner().into_pass()
 }
 
 // The one line of a connection that gets no pass.
-fn refuse<J: Naming, R: Eprint>(rt: &R, house: &House<J>, stream: &TcpStream, fault: Fault) {
-    if matches!(fault, Fault::NoPass) && !house.told_full.swap(true, Ordering::SeqCst) {
+fn refuse<J: Naming, R: Eprint>(rt: &R, state: &ServerState<J>, stream: &TcpStream, fault: Fault) {
+    if matches!(fault, Fault::NoPass) && !state.told_full.swap(true, Ordering::SeqCst) {
         let _ = rt.eprintln(
             "ddserve: as many connections were served as there may be; each more is refused",
         );
     }
-    if !house.args.websocket {
+    if !state.args.websocket {
         let mut line = write_refusal(fault);
         line.push_str("\n");
         let _ = write_whole(&mut CountedDevice::new(stream), line.as_bytes());

@@ -4,7 +4,7 @@
 mod accepting;
 mod args;
 mod connection;
-mod house;
+mod server_state;
 mod open_streams;
 mod returned;
 mod server;

@@ -6,7 +6,7 @@ ghost use Rattle.dd_server.specs.ServeArgs.{HasTableSize};
 
 use crate::accepting::accept_connections;
 use crate::args::{ServeArgs, ServeFault};
-use crate::house::House;
+use crate::server_state::ServerState;
 use crate::returned::Returned;
 use crate::stop::Stop;
 use crate::working::start_workers;
@@ -65,7 +65,7 @@ fn serve_row<J: Naming + Send + Sync, R: Threads + Wait + Clock + Eprint + Sync,
     requires sum { (row.sum.name ≡ J.places) × (row.sum.parts ≡ J.parts) }
     ensures { IfOk result (IsLengthOfJournal J.limits) }
 {
-    let house = House {
+    let state = ServerState {
         alloc,
         args,
         desk: Desk::<J>::new(row),
@@ -74,8 +74,8 @@ fn serve_row<J: Naming + Send + Sync, R: Threads + Wait + Clock + Eprint + Sync,
         stop,
         told_full: AtomicBool::new(false),
     };
-    let ended = keep_open(rt, &house, listener, gate);
-    let House {
+    let ended = keep_open(rt, &state, listener, gate);
+    let ServerState {
         alloc: _,
         args: _,
         desk,
@@ -83,7 +83,7 @@ fn serve_row<J: Naming + Send + Sync, R: Threads + Wait + Clock + Eprint + Sync,
         returned,
         stop: _,
         told_full: _,
-    } = house;
+    } = state;
     let events = close(desk, returned.into_inner().into_passes())?;
     ended?;
     Ok(events)
@@ -103,26 +103,26 @@ fn close<J: Naming>(desk: Desk<J>, passes: Vec<Pass<J>>) -> Result<u64, ServeFau
 // Workers and connections, until all have ended.
 fn keep_open<J: Naming + Send + Sync, R: Threads + Wait + Clock + Eprint + Sync, G: Gate + Sync>(
     rt: &R,
-    house: &House<J>,
+    state: &ServerState<J>,
     listener: TcpListener,
     gate: &G,
 ) -> Result<(), ServeFault> {
     // The program's own pass, by which it shuts the book.
-    let Ok(mut own) = house.enrol(rt) else {
+    let Ok(mut own) = state.enrol(rt) else {
         return Err(ServeFault::Memory);
     };
     let (own, ended) = thread::scope(
         thread::scope_env(),
         rt,
         move |scope| -> (Pass<J>, Result<(), ServeFault>) {
-            let started = start_workers(rt, scope, house, &mut own, gate);
+            let started = start_workers(rt, scope, state, &mut own, gate);
             if started.is_err() {
                 return (own, started);
             }
-            let accepted = accept_connections(rt, scope, house, &mut own, listener);
+            let accepted = accept_connections(rt, scope, state, &mut own, listener);
             (own, accepted)
         },
     );
-    house.take_back(rt, own);
+    state.take_back(rt, own);
     ended
 }

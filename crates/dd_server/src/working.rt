@@ -1,6 +1,6 @@
 //! The workers of a run.
 use crate::args::ServeFault;
-use crate::house::House;
+use crate::server_state::ServerState;
 use dd_cache::Cache;
 use dd_desk::{Naming, Pass};
 use dd_table::View;
@@ -12,7 +12,7 @@ use std::thread::{Scope, Threads};
 pub(crate) fn start_workers<'s, E, J, R, G>(
     rt: &'s R,
     scope: &Scope<'s, E>,
-    house: &'s House<J>,
+    state: &'s ServerState<J>,
     own: &mut Pass<J>,
     gate: &'s G,
 ) -> Result<(), ServeFault>
@@ -21,9 +21,9 @@ where
     R: Threads + Wait + Sync,
     G: Gate + Sync,
 {
-    for _ in 0..house.args.workers {
-        if let Err(fault) = start_worker(rt, scope, house, own, gate) {
-            house.shut(rt, own);
+    for _ in 0..state.args.workers {
+        if let Err(fault) = start_worker(rt, scope, state, own, gate) {
+            state.shut(rt, own);
             return Err(fault);
         }
     }
@@ -34,7 +34,7 @@ where
 fn start_worker<'s, E, J, R, G>(
     rt: &'s R,
     scope: &Scope<'s, E>,
-    house: &'s House<J>,
+    state: &'s ServerState<J>,
     own: &mut Pass<J>,
     gate: &'s G,
 ) -> Result<(), ServeFault>
@@ -43,15 +43,15 @@ where
     R: Threads + Wait + Sync,
     G: Gate + Sync,
 {
-    let Ok(cache) = Cache::new(house.alloc, house.table.view(rt)) else {
+    let Ok(cache) = Cache::new(state.alloc, state.table.view(rt)) else {
         return Err(ServeFault::Memory);
     };
-    let Ok(pass) = house.enrol(rt) else {
+    let Ok(pass) = state.enrol(rt) else {
         return Err(ServeFault::Memory);
     };
-    if let Err(refused) = scope.spawn(move || work(rt, house, cache, pass, gate)) {
+    if let Err(refused) = scope.spawn(move || work(rt, state, cache, pass, gate)) {
         // After the shut it leaves at once, and its pass comes back.
-        house.shut(rt, own);
+        state.shut(rt, own);
         (refused.value)();
         return Err(ServeFault::Memory);
     }
@@ -61,13 +61,13 @@ where
 // The rounds of a worker, until it leaves and its pass comes back.
 fn work<J: Naming, R: Wait, G: Gate>(
     rt: &R,
-    house: &House<J>,
+    state: &ServerState<J>,
     mut cache: Cache<View<'_, R>>,
     pass: Pass<J>,
     gate: &G,
 ) {
-    let budget = house.args.budget;
-    let stop = house.stop.flag();
-    let pass = worker(rt, &house.desk, &mut cache, pass, gate, budget, stop);
-    house.take_back(rt, pass)
+    let budget = state.args.budget;
+    let stop = state.stop.flag();
+    let pass = worker(rt, &state.desk, &mut cache, pass, gate, budget, stop);
+    state.take_back(rt, pass)
 }

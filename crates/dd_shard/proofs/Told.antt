@@ -14,7 +14,7 @@ use Rattle.dd_cards.specs.Seats.{seat_after}
 use Rattle.dd_play.specs.Board.{Board, IsBoard, cards_at}
 use Rattle.dd_play.specs.Covers.{count_of}
 use Rattle.dd_play.specs.Intervals.{Holds}
-use Rattle.dd_play.specs.Value.{lead}
+use Rattle.dd_play.specs.Value.{leaders_tricks}
 use Rattle.dd_play.specs.declared.interval.Interval.{Interval}
 use Rattle.dd_play.proofs.CallerLemmas.{turn-turn}
 use Rattle.dd_rank.specs.Depths.{FourDepths, depth_in, all_cards, Covers, IsCoverAt}
@@ -85,7 +85,7 @@ tells-told p e told good tells = record {
 
 -- it holds of each position that p covers at the depths
 pub told-holds : (p : Board) (e : Entry) (r : Option (Interval × FourDepths)) → IsEntry e → Tells p e.pairs (option_map told_of r)
-    → IfSome r (λ told. (q : Board) → IsBoard q → Covers p (depth_in told.1) q → Holds told.0 (lead q))
+    → IfSome r (λ told. (q : Board) → IsBoard q → Covers p (depth_in told.1) q → Holds told.0 (leaders_tricks q))
 told-holds p e None good tells = tt
 told-holds p e (Some told) good tells = λ q board covers. (
     let t = tells-told p e (told_of told) good tells in
@@ -121,7 +121,7 @@ narrowed-pair shape x y a b same = record {
 }
 
 -- the bounds of a pair with the same cover hold the value of the position itself
-pub same-holds : (shape : ShapeOf) (x : Pair) (cover : CoverOf) → IsPair shape x → IsBoard cover.board → IsSameCover (cover_of x) cover → (x.lo ≤ lead cover.board) × (lead cover.board ≤ x.hi)
+pub same-holds : (shape : ShapeOf) (x : Pair) (cover : CoverOf) → IsPair shape x → IsBoard cover.board → IsSameCover (cover_of x) cover → (x.lo ≤ leaders_tricks cover.board) × (leaders_tricks cover.board ≤ x.hi)
 same-holds shape x cover a board same = a.sound cover.board board same.1
 
 -- what is left of an entry of at most eight pairs of its shape, once such a pair goes first, is an entry

@@ -3,7 +3,7 @@ use Rattle.std.specs.Prelude.{◌≡◌, ◌≢◌, ℕ, ◌≤◌, ◌⊎◌, L
 use Rattle.dd_cards.specs.declared.suit.Suit.{Suit}
 use Rattle.dd_play.specs.Board.{Board, IsBoard}
 use Rattle.dd_play.specs.Covers.{count_of}
-use Rattle.dd_play.specs.Value.{lead}
+use Rattle.dd_play.specs.Value.{leaders_tricks}
 use Rattle.dd_rank.specs.Depths.{FourDepths, depth_in, all_cards, Covers}
 use Rattle.dd_rank.specs.Strings.{ShapeOf, shape_of}
 use Rattle.dd_rank.specs.Cover.{CoverOf, IsSameCover}
@@ -53,7 +53,7 @@ pair_at p told = record { board = p; depths = told.depths; lo = told.lo; hi = to
 
 -- the value of each position that the pair covers lies within its bounds
 abbrev pub IsSound : Pair → Type 0
-IsSound x = (q : Board) → IsBoard q → IsCoverOf x q → (x.lo ≤ lead q) × (lead q ≤ x.hi)
+IsSound x = (q : Board) → IsBoard q → IsCoverOf x q → (x.lo ≤ leaders_tricks q) × (leaders_tricks q ≤ x.hi)
 
 -- a pair of a shape: a start of a trick of that shape, depths that the cards left allow, and bounds that hold
 pub record IsPair (shape : ShapeOf) (x : Pair) : Type 0 where

@@ -3,7 +3,7 @@ ghost use Rattle.std.specs.Prelude.{◌≡◌, ◌≤◌, List, [], ◌∷◌, l
 ghost use Rattle.dd_cards.specs.declared.suit.Suit.{Suit};
 ghost use Rattle.dd_play.specs.Board.{Board, IsBoard};
 ghost use Rattle.dd_play.specs.Covers.{count_of};
-ghost use Rattle.dd_play.specs.Value.{lead};
+ghost use Rattle.dd_play.specs.Value.{leaders_tricks};
 ghost use Rattle.dd_play.specs.Intervals.{Holds};
 ghost use Rattle.dd_rank.specs.Depths.{depth_in, all_cards, Covers};
 ghost use Rattle.dd_rank.specs.Strings.{shape_of, strings_of};
@@ -60,7 +60,7 @@ impl Shard {
     pub fn look(&mut self, position: &TrickStart) -> Option<(Interval, Depths)>
         ensures looks { Looks position.now (option_map told_of result) self.old self.new }
         ensures holds { IfSome result (λ told. (q : Board) → IsBoard q
-            → Covers position.now (depth_in told.1) q → Holds told.0 (lead q)) }
+            → Covers position.now (depth_in told.1) q → Holds told.0 (leaders_tricks q)) }
         ensures within { IfSome result (λ told. (u : Suit)
             → depth_in told.1 u ≤ count_of u (all_cards position.now)) }
     {
@@ -76,7 +76,7 @@ impl Shard {
         requires { strings.now ≡ strings_of position.now }
         ensures looks { Looks position.now (option_map told_of result) self.old self.new }
         ensures holds { IfSome result (λ told. (q : Board) → IsBoard q
-            → Covers position.now (depth_in told.1) q → Holds told.0 (lead q)) }
+            → Covers position.now (depth_in told.1) q → Holds told.0 (leaders_tricks q)) }
         ensures within { IfSome result (λ told. (u : Suit)
             → depth_in told.1 u ≤ count_of u (all_cards position.now)) }
     {
@@ -95,7 +95,7 @@ impl Shard {
     ) -> Result<(), AllocError>
         requires within { (u : Suit) → depth_in depths u ≤ count_of u (all_cards position.now) }
         requires holds { (q : Board) → IsBoard q → Covers position.now (depth_in depths) q
-            → Holds interval (lead q) }
+            → Holds interval (leaders_tricks q) }
         ensures ok { OnOk result
             (Notes position.now (told_of (interval, depths)) self.old self.new) }
         ensures err { OnErr result ((self.new ≡ self.old)
@@ -117,7 +117,7 @@ impl Shard {
         requires strings { strings.now ≡ strings_of position.now }
         requires within { (u : Suit) → depth_in depths u ≤ count_of u (all_cards position.now) }
         requires holds { (q : Board) → IsBoard q → Covers position.now (depth_in depths) q
-            → Holds interval (lead q) }
+            → Holds interval (leaders_tricks q) }
         ensures ok { OnOk result
             (Notes position.now (told_of (interval, depths)) self.old self.new) }
         ensures err { OnErr result ((self.new ≡ self.old)

@@ -2,7 +2,7 @@
 ghost use Rattle.std.specs.Prelude.{◌≡◌, ◌≤◌, [], ◌∷◌, ◌++◌, List, length, Option, Some, MatchOption, Contains, option_map};
 ghost use Rattle.dd_play.specs.Board.{Board, IsBoard};
 ghost use Rattle.dd_play.specs.Intervals.{Holds};
-ghost use Rattle.dd_play.specs.Value.{lead};
+ghost use Rattle.dd_play.specs.Value.{leaders_tricks};
 ghost use Rattle.dd_rank.specs.Strings.{strings_of, shape_in, shape_of};
 ghost use Rattle.dd_rank.specs.Cover.{IsSameCover};
 ghost use Rattle.dd_shard.specs.Entries.{Pair, cover_of, IsCoverOf, NoneCovers, Tells, PutsFirst};

@@ -1,7 +1,7 @@
 -- What the front of a table keeps: exact values of positions at the start of a trick, one in a cell.
 use Rattle.std.specs.Prelude.{◌≡◌, ℕ, ◌<◌, ◌⊎◌, List, slice_index_or, Option, None, Some}
 use Rattle.dd_play.specs.Board.{Board, IsBoard}
-use Rattle.dd_play.specs.Value.{lead}
+use Rattle.dd_play.specs.Value.{leaders_tricks}
 use Rattle.dd_rank.specs.Alike.{AreAlike}
 
 -- a position at the start of a trick, and a number of tricks of its leader's side
@@ -11,7 +11,7 @@ pub record Exact : Type 0 where
 
 -- the number is the value of each position that is alike to it
 abbrev pub IsExact : Exact → Type 0
-IsExact e = (q : Board) → IsBoard q → AreAlike e.board q → lead q ≡ e.value
+IsExact e = (q : Board) → IsBoard q → AreAlike e.board q → leaders_tricks q ≡ e.value
 
 -- A get of p: nothing is answered, or the value that the cell holds, and it holds that of a position to which p is alike.
 abbrev pub Gets : Board → Option ℕ → Option Exact → Type 0

@@ -1,6 +1,6 @@
 //! An exact value in a cell of the front.
 ghost use Rattle.std.specs.Prelude.{◌≡◌, IfNone, IfSome};
-ghost use Rattle.dd_play.specs.Value.{lead};
+ghost use Rattle.dd_play.specs.Value.{leaders_tricks};
 ghost use Rattle.dd_rank.specs.Alike.{AreAlike};
 ghost use Rattle.dd_rank.specs.Strings.{strings_of};
 ghost use Rattle.dd_table.specs.Front.{IsExact};
@@ -36,7 +36,7 @@ impl FrontEntry {
     /// An entry of this position with these strings, with its value.
     pub(crate) fn new(start: &TrickStart, strings: &OwnerStrings, value: u8) -> FrontEntry
         requires strings { strings.now ≡ strings_of start.now }
-        requires value { value ≡ lead start.now }
+        requires value { value ≡ leaders_tricks start.now }
         ensures { result ≡ record { board = start.now; value = value } }
     {
         // The proof reads here that it is a legal state of play, and that alike positions have one value.
@@ -66,7 +66,7 @@ impl FrontEntry {
 
     /// The value of a position that is alike to the entry's, and nothing of another.
     pub fn value_of(&self, start: &TrickStart) -> Option<u8>
-        ensures value { IfSome result (λ value. value ≡ lead start.now) }
+        ensures value { IfSome result (λ value. value ≡ leaders_tricks start.now) }
         ensures some { IfSome result (λ value. AreAlike self.now.board start.now
             × (value ≡ self.now.value)) }
         ensures none { IfNone result (¬ AreAlike self.now.board start.now) }
@@ -77,7 +77,7 @@ impl FrontEntry {
     // The same, where the strings of the position are known.
     pub(crate) fn value_by(&self, start: &TrickStart, strings: &OwnerStrings) -> Option<u8>
         requires { strings.now ≡ strings_of start.now }
-        ensures value { IfSome result (λ value. value ≡ lead start.now) }
+        ensures value { IfSome result (λ value. value ≡ leaders_tricks start.now) }
         ensures some { IfSome result (λ value. AreAlike self.now.board start.now
             × (value ≡ self.now.value)) }
         ensures none { IfNone result (¬ AreAlike self.now.board start.now) }

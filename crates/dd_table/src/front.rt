@@ -2,7 +2,7 @@
 ghost use Rattle.std.specs.Prelude.{◌≡◌, ◌<◌, Some, IfSome, IfNone, IfOk, OnErr, MatchOption, true};
 ghost use Rattle.std.specs.declared.option.Option.TheVariants.{None};
 ghost use Rattle.dd_play.specs.Board.{Board};
-ghost use Rattle.dd_play.specs.Value.{lead};
+ghost use Rattle.dd_play.specs.Value.{leaders_tricks};
 ghost use Rattle.dd_rank.specs.Alike.{AreAlike};
 ghost use Rattle.dd_rank.specs.Strings.{strings_of};
 ghost use Rattle.dd_table.specs.Front.{Exact, Gets, IsNoteOf};
@@ -29,7 +29,7 @@ pub(crate) fn slot_by(strings: &OwnerStrings) -> u16
     ensures slot { (p : Board) → strings.now ≡ strings_of p → result ≡ slot_of p }
     ensures bound { result < FRONT_CELLS }
 {
-    ((strings.mixing_number() >> 32) % FRONT_CELLS as u64) as u16
+    ((strings.hash_code() >> 32) % FRONT_CELLS as u64) as u16
 }
 
 // None of these calls takes a lock: a cell is read and set by one atomic step.
@@ -69,7 +69,7 @@ impl SharedTable {
         requires { IsNoteOf self.now note.old }
         ensures table { IsNoteOf self.now note.new }
         ensures slot { note.new.slot ≡ note.old.slot }
-        ensures value { IfSome result (λ value. value ≡ lead start.now) }
+        ensures value { IfSome result (λ value. value ≡ leaders_tricks start.now) }
         ensures gets { Gets start.now result note.new.known }
         ensures none { IfNone result (IfSome note.new.known (λ e. ¬ AreAlike e.board start.now)) }
         ensures same { IfSome note.old.known (λ e. note.new.known ≡ Some e) }
@@ -89,7 +89,7 @@ impl SharedTable {
     ) -> Result<bool, AllocError>
         requires table { IsNoteOf self.now note.old }
         requires slot { note.old.slot ≡ slot_of start.now }
-        requires value { value ≡ lead start.now }
+        requires value { value ≡ leaders_tricks start.now }
         ensures table { IsNoteOf self.now note.new }
         ensures slot { note.new.slot ≡ note.old.slot }
         ensures taken { IfOk result (λ taken. taken ≡ true
@@ -112,7 +112,7 @@ impl SharedTable {
         requires strings { strings.now ≡ strings_of start.now }
         requires table { IsNoteOf self.now note.old }
         requires slot { note.old.slot ≡ slot_of start.now }
-        requires value { value ≡ lead start.now }
+        requires value { value ≡ leaders_tricks start.now }
         ensures table { IsNoteOf self.now note.new }
         ensures slot { note.new.slot ≡ note.old.slot }
         ensures taken { IfOk result (λ taken. taken ≡ true

@@ -4,7 +4,7 @@ ghost use Rattle.dd_cards.specs.declared.suit.Suit.{Suit};
 ghost use Rattle.dd_play.specs.Board.{Board, IsBoard};
 ghost use Rattle.dd_play.specs.Covers.{count_of};
 ghost use Rattle.dd_play.specs.Intervals.{Holds};
-ghost use Rattle.dd_play.specs.Value.{lead};
+ghost use Rattle.dd_play.specs.Value.{leaders_tricks};
 ghost use Rattle.dd_rank.specs.Depths.{all_cards, depth_in, Covers};
 ghost use Rattle.dd_rank.specs.Strings.{strings_of};
 ghost use Rattle.dd_table.specs.Places.{shard_of};
@@ -68,7 +68,7 @@ impl SharedTable {
     /// at the depths that come with them, and nothing where it knows none.
     pub fn look<R: Wait>(&self, rt: &R, start: &TrickStart) -> Option<(Interval, Depths)>
         ensures holds { IfSome result (λ told. (q : Board) → IsBoard q
-            → Covers start.now (depth_in told.1) q → Holds told.0 (lead q)) }
+            → Covers start.now (depth_in told.1) q → Holds told.0 (leaders_tricks q)) }
         ensures within { IfSome result (λ told. (u : Suit)
             → depth_in told.1 u ≤ count_of u (all_cards start.now)) }
     {
@@ -84,7 +84,7 @@ impl SharedTable {
     ) -> Option<(Interval, Depths)>
         requires { strings.now ≡ strings_of start.now }
         ensures holds { IfSome result (λ told. (q : Board) → IsBoard q
-            → Covers start.now (depth_in told.1) q → Holds told.0 (lead q)) }
+            → Covers start.now (depth_in told.1) q → Holds told.0 (leaders_tricks q)) }
         ensures within { IfSome result (λ told. (u : Suit)
             → depth_in told.1 u ≤ count_of u (all_cards start.now)) }
     {
@@ -104,7 +104,7 @@ impl SharedTable {
         requires strings { strings.now ≡ strings_of start.now }
         requires within { (u : Suit) → depth_in depths u ≤ count_of u (all_cards start.now) }
         requires holds { (q : Board) → IsBoard q → Covers start.now (depth_in depths) q
-            → Holds interval (lead q) }
+            → Holds interval (leaders_tricks q) }
     {
         let mut shard = self.shard(strings.shape()).lock(rt);
         // Bounds more that find no memory are bounds less to look at, and no fault.
@@ -128,7 +128,7 @@ fn shard_of(count: usize, shape: Shape) -> usize
     ensures place { result ≡ shard_of count shape }
     ensures bound { result < count }
 {
-    ((shape.mixing_number() >> 32) % count as u64) as usize
+    ((shape.hash_code() >> 32) % count as u64) as usize
 }
 
 // So many shards that have learned nothing.

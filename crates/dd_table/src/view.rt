@@ -4,7 +4,7 @@ ghost use Rattle.dd_cards.specs.declared.suit.Suit.{Suit};
 ghost use Rattle.dd_play.specs.Board.{Board, IsBoard};
 ghost use Rattle.dd_play.specs.Covers.{count_of};
 ghost use Rattle.dd_play.specs.Intervals.{Holds};
-ghost use Rattle.dd_play.specs.Value.{lead};
+ghost use Rattle.dd_play.specs.Value.{leaders_tricks};
 ghost use Rattle.dd_rank.specs.Depths.{all_cards, depth_in, Covers};
 ghost use Rattle.dd_rank.specs.Strings.{strings_of};
 
@@ -33,7 +33,7 @@ impl SharedTable {
         requires { strings.now ≡ strings_of start.now }
         ensures exact { IfSome result (λ told. told.0.lo ≡ told.0.hi) }
         ensures holds { IfSome result (λ told. (q : Board) → IsBoard q
-            → Covers start.now (depth_in told.1) q → Holds told.0 (lead q)) }
+            → Covers start.now (depth_in told.1) q → Holds told.0 (leaders_tricks q)) }
         ensures within { IfSome result (λ told. (u : Suit)
             → depth_in told.1 u ≤ count_of u (all_cards start.now)) }
     {
@@ -51,7 +51,7 @@ impl SharedTable {
     // Offers the value of a position with these strings to its cell, where that is empty.
     fn offer(&self, start: &TrickStart, strings: &OwnerStrings, value: u8)
         requires strings { strings.now ≡ strings_of start.now }
-        requires value { value ≡ lead start.now }
+        requires value { value ≡ leaders_tricks start.now }
     {
         let mut note = self.front_note(slot_by(strings));
         if self.front_held(&mut note).is_none() {
@@ -64,12 +64,12 @@ impl SharedTable {
 impl<'a, R: Wait> Bounds for View<'a, R> {
     ghost use Rattle.dd_play.specs.Board.{Board, IsBoard};
     ghost use Rattle.dd_play.specs.Intervals.{Holds};
-    ghost use Rattle.dd_play.specs.Value.{lead};
+    ghost use Rattle.dd_play.specs.Value.{leaders_tricks};
     ghost use Rattle.dd_rank.specs.Depths.{depth_in, Covers};
 
     // What it tells holds. What the table still has depends on what all threads told it since.
     ghost tells = { λ view p depths interval. (q : Board) → IsBoard q
-        → Covers p (depth_in depths) q → Holds interval (lead q) };
+        → Covers p (depth_in depths) q → Holds interval (leaders_tricks q) };
 
     ghost holds = { λ view p depths interval q told. told q };
 

@@ -6,7 +6,7 @@
 #![tactic(auto)]
 
 use dd_lines::CountedDevice;
-use dd_program::{given_words, run_words};
+use dd_program::{given_arguments, run_program};
 use std::io;
 use std::process::ExitCode;
 
@@ -14,6 +14,6 @@ fn main(rt: HostRuntime) -> ExitCode {
     let mut input = CountedDevice::new(rt.reader());
     let mut output = CountedDevice::new(io::writer(&rt));
     let mut errors = CountedDevice::new(rt.stderr());
-    let words = given_words(&rt);
-    run_words(&rt, rt.alloc(), words, &mut input, &mut output, &mut errors).exit_code()
+    let arguments = given_arguments(&rt);
+    run_program(&rt, rt.alloc(), arguments, &mut input, &mut output, &mut errors).exit_code()
 }

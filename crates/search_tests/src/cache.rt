@@ -3,7 +3,7 @@ use dd_cards::{Card, Hands, Rank, Seat, Strain, Suit};
 use dd_pbn::read_deal;
 use dd_play::{Interval, Position, TrickStart};
 use dd_rank::{OwnerStrings, Shape};
-use dd_search::{Bounds, Endless, NoTable, Place, start_value};
+use dd_search::{Bounds, Endless, NoTable, ProbeHint, start_value};
 use std::alloc::AllocError;
 
 // North and the others clockwise with two spades each, at notrump with this leader.
@@ -74,15 +74,15 @@ fn what_was_read_ahead_settles_as_a_look_does(rt: HostRuntime) -> Result<(), All
     assert_eq!(rt; noted(&caught, &mut cache), Some(2));
     let strings = OwnerStrings::of(&caught);
     let shape = Shape::of(&caught);
-    let place = cache.place_of(shape);
+    let place = cache.probe_hint(shape);
     let found = [
         cache.settle_at(&caught, &strings, place, 2).is_some(),
         // Any place is right: where nothing stands nothing is told.
         cache
-            .settle_at(&caught, &strings, Place::default(), 2)
+            .settle_at(&caught, &strings, ProbeHint::default(), 2)
             .is_some(),
         NoTable
-            .settle_at(&caught, &strings, NoTable.place_of(shape), 2)
+            .settle_at(&caught, &strings, NoTable.probe_hint(shape), 2)
             .is_some(),
     ];
     assert_eq!(rt; found, [true, false, false]);
@@ -183,7 +183,7 @@ fn dealt(deal: &str) -> Option<TrickStart> {
 
 // The suits of leads that are remembered for the start, by shape and by outline.
 fn remembered<B: Bounds>(cache: &Cache<B>, start: &TrickStart) -> (Option<Suit>, Option<Suit>) {
-    let leads = cache.settling_leads(&OwnerStrings::of(start));
+    let leads = cache.lead_history(&OwnerStrings::of(start));
     (leads.of_shape, leads.of_outline)
 }
 

@@ -78,7 +78,7 @@ fn positions_are_alike_by_the_owners_seen_from_the_leader(rt: HostRuntime) {
             are_alike(&one, &other),
             key == other_key,
             hash_of(&key) == hash_of(&other_key),
-            key.mixing_number() == other_key.mixing_number(),
+            key.hash_code() == other_key.hash_code(),
         ];
         assert_eq!(rt; found, [want; 4], "{what}");
         assert!(rt; are_alike(other_key.sample(), &other), "the sample: {what}");
@@ -151,7 +151,7 @@ fn equal_shapes_have_one_mixing_number(rt: HostRuntime) {
     let found = [
         // Two spades a hand.
         shape == same,
-        shape.mixing_number() == same.mixing_number(),
+        shape.hash_code() == same.hash_code(),
         // Hearts are trumps.
         shape == OwnerStrings::of(&hearts).shape(),
         OwnerStrings::of(&one) == *RankKey::of(&one).strings(),

@@ -1,5 +1,5 @@
 ghost use Rattle.std.specs.Prelude.{◌≡◌, ◌≤◌, IsTrue, IfSome};
-ghost use Rattle.dd_play.specs.Value.{lead};
+ghost use Rattle.dd_play.specs.Value.{leaders_tricks};
 ghost use Rattle.dd_play.specs.Intervals.{Holds};
 ghost use Rattle.dd_play.specs.Deals.{spades, deal};
 
@@ -71,7 +71,7 @@ fn is_deal(start: &TrickStart, north: &[u8], east: &[u8], south: &[u8], west: &[
 
 // N:32 K4 AQ 65. A king before the ace and queen is caught.
 fn caught_king(rt: &impl Abort) -> TrickStart
-    ensures { lead result ≡ 2 }
+    ensures { leaders_tricks result ≡ 2 }
 {
     worked_deals();
     let start = deal_at(rt, b"3KA624Q5");
@@ -81,7 +81,7 @@ fn caught_king(rt: &impl Abort) -> TrickStart
 
 // N:32 65 AQ K4. A king behind the ace and queen is not.
 fn safe_king(rt: &impl Abort) -> TrickStart
-    ensures { lead result ≡ 1 }
+    ensures { leaders_tricks result ≡ 1 }
 {
     worked_deals();
     let start = deal_at(rt, b"36AK25Q4");
@@ -91,7 +91,7 @@ fn safe_king(rt: &impl Abort) -> TrickStart
 
 // N:A K Q J. An ace takes its trick.
 fn ace(rt: &impl Abort) -> TrickStart
-    ensures { lead result ≡ 1 }
+    ensures { leaders_tricks result ≡ 1 }
 {
     worked_deals();
     let start = deal_at(rt, b"AKQJ");
@@ -111,7 +111,7 @@ fn bounds(lo: u8, hi: u8) -> Interval
 
 // Notes bounds of the value at the depths of all cards: covered positions are alike, and have that value too.
 fn note_value(shard: &mut Shard, start: &TrickStart, bounds: Interval) -> Result<(), AllocError>
-    requires { Holds bounds (lead start.now) }
+    requires { Holds bounds (leaders_tricks start.now) }
 {
     let _ = start.position();
     shard.note(start, Depths::full(start), bounds)
@@ -135,7 +135,7 @@ fn note_known(
     lo: u8,
     hi: u8,
 ) -> Result<bool, AllocError>
-    requires { lead start.now ≡ value }
+    requires { leaders_tricks start.now ≡ value }
 {
     if value < lo || hi < value {
         return Ok(false);

@@ -8,7 +8,7 @@ ghost use Rattle.std.specs.Prelude.{◌≤◌, IfSome};
 ghost use Rattle.dd_cards.specs.declared.suit.Suit.{Suit as SuitOf};
 ghost use Rattle.dd_play.specs.Board.{Board, IsBoard};
 ghost use Rattle.dd_play.specs.Covers.{count_of};
-ghost use Rattle.dd_play.specs.Value.{lead};
+ghost use Rattle.dd_play.specs.Value.{leaders_tricks};
 ghost use Rattle.dd_play.specs.Intervals.{Holds};
 ghost use Rattle.dd_rank.specs.Depths.{all_cards, depth_in, Covers};
 
@@ -55,7 +55,7 @@ impl Log {
 // The value as bounds that hold at its depths.
 fn exact_bounds(start: &TrickStart) -> Option<(Interval, Depths)>
     ensures holds { IfSome result (λ told. (q : Board) → IsBoard q
-        → Covers start.now (depth_in told.1) q → Holds told.0 (lead q)) }
+        → Covers start.now (depth_in told.1) q → Holds told.0 (leaders_tricks q)) }
     ensures within { IfSome result (λ told. (u : SuitOf)
         → depth_in told.1 u ≤ count_of u (all_cards start.now)) }
 {
@@ -73,7 +73,7 @@ fn exact_bounds(start: &TrickStart) -> Option<(Interval, Depths)>
 
 impl Bounds for Log {
     ghost tells = { λ table p depths interval. (q : Board) → IsBoard q
-        → Covers p (depth_in depths) q → Holds interval (lead q) };
+        → Covers p (depth_in depths) q → Holds interval (leaders_tricks q) };
 
     ghost holds = { λ table p depths interval q told. told q };
 

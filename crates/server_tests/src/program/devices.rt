@@ -1,6 +1,6 @@
 //! Devices of memory, and a run over them.
 use dd_lines::CountedDevice;
-use dd_program::{Ending, WordsFault, run_words};
+use dd_program::{Ending, ArgumentsFault, run_program};
 use std::alloc::{AllocError, Global};
 use std::io;
 use std::io::{Error, ErrorKind, Read, Write};
@@ -92,7 +92,7 @@ pub fn run_over<
 >(
     rt: &W,
     alloc: Global,
-    words: Result<Vec<String>, WordsFault>,
+    words: Result<Vec<String>, ArgumentsFault>,
     input: &str,
     devices: Devices,
 ) -> Outcome {
@@ -108,7 +108,7 @@ pub fn run_over<
         taken: Vec::new(alloc),
         room: devices.errors,
     });
-    let ending = run_words(rt, alloc, words, &mut reader, &mut output, &mut errors);
+    let ending = run_program(rt, alloc, words, &mut reader, &mut output, &mut errors);
     Outcome {
         ending,
         unread: reader.into_inner().bytes.len(),

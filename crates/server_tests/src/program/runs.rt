@@ -1,5 +1,5 @@
 use crate::program::devices::{Devices, Outcome, SOUND, run_line, run_over};
-use dd_program::{Ending, VERSION, WordsFault, given_words};
+use dd_program::{Ending, VERSION, ArgumentsFault, given_arguments};
 use std::alloc::{AllocError, Global};
 use std::env::FillError;
 use std::net::{Net, TcpListener, TcpStream};
@@ -191,9 +191,9 @@ fn a_device_that_fails_is_named_and_the_run_ends_with_1(rt: HostRuntime) -> Resu
 
 #[test]
 fn words_that_cannot_be_had_are_a_bad_line_or_want_of_memory(rt: HostRuntime) {
-    let outcome = run_over(&rt, rt.alloc(), Err(WordsFault::NotText), ace(), SOUND);
+    let outcome = run_over(&rt, rt.alloc(), Err(ArgumentsFault::NotText), ace(), SOUND);
     assert!(rt; is_refused(&outcome, "a word of the command line is not UTF-8 text"));
-    let outcome = run_over(&rt, rt.alloc(), Err(WordsFault::OutOfMemory), ace(), SOUND);
+    let outcome = run_over(&rt, rt.alloc(), Err(ArgumentsFault::OutOfMemory), ace(), SOUND);
     let said = "ddserve: out of memory\n";
     assert!(rt; has_failed(&outcome, Ending::OutOfMemory, "", said));
     assert_eq!(rt; outcome.unread, ace().len());
@@ -223,8 +223,8 @@ impl Env for Started<'_> {
 }
 
 // What the words of such an environment are read as.
-fn read_words(alloc: Global, words: &[&[u8]]) -> Result<Vec<String>, WordsFault> {
-    given_words(&(Started { words }, alloc))
+fn read_words(alloc: Global, words: &[&[u8]]) -> Result<Vec<String>, ArgumentsFault> {
+    given_arguments(&(Started { words }, alloc))
 }
 
 #[test]
@@ -236,7 +236,7 @@ fn the_words_are_those_of_the_environment(rt: HostRuntime) {
         assert_eq!(rt; word.as_str(), want);
     }
     let read = read_words(rt.alloc(), &[b"ddserve", b"\xff"]);
-    assert_eq!(rt; read.err(), Some(WordsFault::NotText));
+    assert_eq!(rt; read.err(), Some(ArgumentsFault::NotText));
 }
 
 // A position of three classes, of which two are best.

@@ -1,4 +1,4 @@
-use Rattle.dd_play.proofs.ClaimRules.{nothing, fewer, one-card, every-card, one-point, both, all, exactly, bounds}
+use Rattle.dd_play.proofs.ClaimRules.{nothing, fewer, one-card, every-card, one-trick, both, all, exactly, bounds}
 use Rattle.dd_play.proofs.laws.claims.Goals as goal
 
 pub returns-clause-nothing : goal.returns-clause-nothing
@@ -13,8 +13,8 @@ returns-clause-one_card c = one-card
 pub returns-clause-every_card : goal.returns-clause-every_card
 returns-clause-every_card c = every-card
 
-pub returns-clause-point : goal.returns-clause-point
-returns-clause-point c = one-point
+pub returns-clause-trick_for : goal.returns-clause-trick_for
+returns-clause-trick_for c = one-trick
 
 pub returns-clause-both : goal.returns-clause-both
 returns-clause-both c = both

@@ -15,19 +15,19 @@ use Rattle.dd_program.proofs.command_line.read_args.Goals.{After-unwrap, After-s
 pub returns-in_err-matches-clause-refused : goal.returns-in_err-matches-clause-refused
 returns-in_err-matches-clause-refused c =
     let is = c.in_ok-program.ensures in
-    let words = map string_bytes c.args.words.now in
+    let arguments = map string_bytes c.args.arguments.now in
     let kinds = c.in_err-matches.ensures.kinds (ap is_simple_and_free is ∙ program_is_simple) in
     passed-up c.from_residual-in_err-matches.result c.in_err-matches.field-0.0 _ c.from_residual-in_err-matches.ensures.1
-    (refusal (app_of c.in_ok-program.field-0) words c.in_err-matches.field-0.0 is kinds)
+    (refusal (app_of c.in_ok-program.field-0) arguments c.in_err-matches.field-0.0 is kinds)
 
 -- the parser let the line through without a fault
-free : (c : After-unwrap) → fault_of (app_of c.in_ok-program.field-0) (map string_bytes c.args.words.now) ≡ []
+free : (c : After-unwrap) → fault_of (app_of c.in_ok-program.field-0) (map string_bytes c.args.arguments.now) ≡ []
 free c = c.in_ok-matches.ensures.kinds (ap is_simple_and_free c.in_ok-program.ensures ∙ program_is_simple)
 
 -- the rows that `solve` got are those that the line asks for
-asked : (c : After-unwrap) → c.unwrap.result.0.now ≡ codes "solve" → Asked (map string_bytes c.args.words.now) (rows_of (found_of c.unwrap.result.1.now))
+asked : (c : After-unwrap) → c.unwrap.result.0.now ≡ codes "solve" → Asked (map string_bytes c.args.arguments.now) (rows_of (found_of c.unwrap.result.1.now))
 asked c named =
-    asked-rows (app_of c.in_ok-program.field-0) (map string_bytes c.args.words.now) c.in_ok-matches.matches (rows_of (found_of c.unwrap.result.1.now)) c.in_ok-program.ensures
+    asked-rows (app_of c.in_ok-program.field-0) (map string_bytes c.args.arguments.now) c.in_ok-matches.matches (rows_of (found_of c.unwrap.result.1.now)) c.in_ok-program.ensures
     (free c) c.in_ok-matches.ensures.matches (sym c.subcommand.ensures.name ∙ ap (option_map (λ p. p.0.now)) c.unwrap.ensures ∙ ap Some named)
     (sym (ap (option_map (λ p. rows_of (found_of p.1.now))) c.unwrap.ensures) ∙ c.subcommand.ensures.rows)
 
@@ -36,15 +36,15 @@ solve_args-requires c = (asked (goal.at.solve_args-requires c).After-unwrap c.in
 
 -- the rows that `serve` got are those of the line
 serves : (c : After-unwrap) → c.unwrap.result.0.now ≡ codes "serve"
-    → (fault_of program_app (map string_bytes c.args.words.now) ≡ []) × (subcommand_of program_app (map string_bytes c.args.words.now) ≡ Some (codes "serve", rows_of (found_of c.unwrap.result.1.now)))
+    → (fault_of program_app (map string_bytes c.args.arguments.now) ≡ []) × (subcommand_of program_app (map string_bytes c.args.arguments.now) ≡ Some (codes "serve", rows_of (found_of c.unwrap.result.1.now)))
 serves c named =
-    serve-has (app_of c.in_ok-program.field-0) (map string_bytes c.args.words.now) c.in_ok-matches.matches (rows_of (found_of c.unwrap.result.1.now)) c.in_ok-program.ensures
+    serve-has (app_of c.in_ok-program.field-0) (map string_bytes c.args.arguments.now) c.in_ok-matches.matches (rows_of (found_of c.unwrap.result.1.now)) c.in_ok-program.ensures
     (free c) c.in_ok-matches.ensures.matches (sym c.subcommand.ensures.name ∙ ap (option_map (λ p. p.0.now)) c.unwrap.ensures ∙ ap Some named)
     (sym (ap (option_map (λ p. rows_of (found_of p.1.now))) c.unwrap.ensures) ∙ c.subcommand.ensures.rows)
 
 pub unreachable-requires : goal.unreachable-requires
 unreachable-requires c =
-    let named = meets (app_of c.in_ok-program.field-0) (map string_bytes c.args.words.now) c.in_ok-matches.matches c.in_ok-program.ensures
+    let named = meets (app_of c.in_ok-program.field-0) (map string_bytes c.args.arguments.now) c.in_ok-matches.matches c.in_ok-program.ensures
     (free (goal.at.unreachable-requires c).After-unwrap) c.in_ok-matches.ensures.matches in
     let name : (text : Text) → subcommand_name_of c.in_ok-matches.matches ≡ Some text → Some c.unwrap.result.0.now ≡ Some text =
     λ text is. sym (ap (option_map (λ p. p.0.now)) c.unwrap.ensures) ∙ c.subcommand.ensures.name ∙ is in
@@ -56,14 +56,14 @@ unreachable-requires c =
 pub returns-in_err-matches-clause-kinds : goal.returns-in_err-matches-clause-kinds
 returns-in_err-matches-clause-kinds c =
     let is = c.in_ok-program.ensures in
-    let words = map string_bytes c.args.words.now in
+    let arguments = map string_bytes c.args.arguments.now in
     let kinds = c.in_err-matches.ensures.kinds (ap is_simple_and_free is ∙ program_is_simple) in
     passed-up c.from_residual-in_err-matches.result c.in_err-matches.field-0.0 _ c.from_residual-in_err-matches.ensures.1
-    (subst (λ a. HasKind (fault_of a words) c.in_err-matches.field-0.0) is kinds)
+    (subst (λ a. HasKind (fault_of a arguments) c.in_err-matches.field-0.0) is kinds)
 
 -- so the arguments are what the line asks for
-solved : (c : After-solve_args) → Asked (map string_bytes c.args.words.now) (rows_of (found_of c.unwrap.result.1.now)) → Asks (map string_bytes c.args.words.now) c.solve_args.result
-solved c is = asks-args (map string_bytes c.args.words.now) (rows_of (found_of c.unwrap.result.1.now)) c.solve_args.result is c.solve_args.ensures
+solved : (c : After-solve_args) → Asked (map string_bytes c.args.arguments.now) (rows_of (found_of c.unwrap.result.1.now)) → Asks (map string_bytes c.args.arguments.now) c.solve_args.result
+solved c is = asks-args (map string_bytes c.args.arguments.now) (rows_of (found_of c.unwrap.result.1.now)) c.solve_args.result is c.solve_args.ensures
 
 pub returns-in-solve-clause-asked : goal.returns-in-solve-clause-asked
 returns-in-solve-clause-asked c =
@@ -71,28 +71,28 @@ returns-in-solve-clause-asked c =
 
 pub returns-in-solve-clause-only : goal.returns-in-solve-clause-only
 returns-in-solve-clause-only c =
-    λ other asks-other. asks-one (map string_bytes c.args.words.now) c.solve_args.result other (solved (goal.at.returns-in-solve-clause-only c).After-solve_args (asked (goal.at.returns-in-solve-clause-only c).After-unwrap c.in-solve.is)) asks-other
+    λ other asks-other. asks-one (map string_bytes c.args.arguments.now) c.solve_args.result other (solved (goal.at.returns-in-solve-clause-only c).After-solve_args (asked (goal.at.returns-in-solve-clause-only c).After-unwrap c.in-solve.is)) asks-other
 
 pub returns-in-solve-clause-in_range : goal.returns-in-solve-clause-in_range
 returns-in-solve-clause-in_range c =
-    in-range (map string_bytes c.args.words.now) c.solve_args.result (solved (goal.at.returns-in-solve-clause-in_range c).After-solve_args (asked (goal.at.returns-in-solve-clause-in_range c).After-unwrap c.in-solve.is))
+    in-range (map string_bytes c.args.arguments.now) c.solve_args.result (solved (goal.at.returns-in-solve-clause-in_range c).After-solve_args (asked (goal.at.returns-in-solve-clause-in_range c).After-unwrap c.in-solve.is))
 
 pub returns-in-solve-clause-defaults : goal.returns-in-solve-clause-defaults
 returns-in-solve-clause-defaults c =
-    has-defaults (map string_bytes c.args.words.now) c.solve_args.result (solved (goal.at.returns-in-solve-clause-defaults c).After-solve_args (asked (goal.at.returns-in-solve-clause-defaults c).After-unwrap c.in-solve.is))
+    has-defaults (map string_bytes c.args.arguments.now) c.solve_args.result (solved (goal.at.returns-in-solve-clause-defaults c).After-solve_args (asked (goal.at.returns-in-solve-clause-defaults c).After-unwrap c.in-solve.is))
 
 pub returns-in-serve-clause-asked : goal.returns-in-serve-clause-asked
 returns-in-serve-clause-asked c =
-    asks-serve (map string_bytes c.args.words.now) (rows_of (found_of c.unwrap.result.1.now)) c.in_ok-serve_args-in-serve.field-0 (serves (goal.at.returns-in-serve-clause-asked c).After-unwrap c.in-serve.is) c.in_ok-serve_args-in-serve.ensures
+    asks-serve (map string_bytes c.args.arguments.now) (rows_of (found_of c.unwrap.result.1.now)) c.in_ok-serve_args-in-serve.field-0 (serves (goal.at.returns-in-serve-clause-asked c).After-unwrap c.in-serve.is) c.in_ok-serve_args-in-serve.ensures
 
 pub returns-in-serve-clause-only : goal.returns-in-serve-clause-only
 returns-in-serve-clause-only c =
-    λ other asks-other. asks-one (map string_bytes c.args.words.now) c.in_ok-serve_args-in-serve.field-0 other (asks-serve (map string_bytes c.args.words.now) (rows_of (found_of c.unwrap.result.1.now)) c.in_ok-serve_args-in-serve.field-0 (serves (goal.at.returns-in-serve-clause-only c).After-unwrap c.in-serve.is) c.in_ok-serve_args-in-serve.ensures) asks-other
+    λ other asks-other. asks-one (map string_bytes c.args.arguments.now) c.in_ok-serve_args-in-serve.field-0 other (asks-serve (map string_bytes c.args.arguments.now) (rows_of (found_of c.unwrap.result.1.now)) c.in_ok-serve_args-in-serve.field-0 (serves (goal.at.returns-in-serve-clause-only c).After-unwrap c.in-serve.is) c.in_ok-serve_args-in-serve.ensures) asks-other
 
 pub returns-in-serve-clause-in_range : goal.returns-in-serve-clause-in_range
 returns-in-serve-clause-in_range c =
-    in-range (map string_bytes c.args.words.now) c.in_ok-serve_args-in-serve.field-0 (asks-serve (map string_bytes c.args.words.now) (rows_of (found_of c.unwrap.result.1.now)) c.in_ok-serve_args-in-serve.field-0 (serves (goal.at.returns-in-serve-clause-in_range c).After-unwrap c.in-serve.is) c.in_ok-serve_args-in-serve.ensures)
+    in-range (map string_bytes c.args.arguments.now) c.in_ok-serve_args-in-serve.field-0 (asks-serve (map string_bytes c.args.arguments.now) (rows_of (found_of c.unwrap.result.1.now)) c.in_ok-serve_args-in-serve.field-0 (serves (goal.at.returns-in-serve-clause-in_range c).After-unwrap c.in-serve.is) c.in_ok-serve_args-in-serve.ensures)
 
 pub returns-in-serve-clause-defaults : goal.returns-in-serve-clause-defaults
 returns-in-serve-clause-defaults c =
-    has-defaults (map string_bytes c.args.words.now) c.in_ok-serve_args-in-serve.field-0 (asks-serve (map string_bytes c.args.words.now) (rows_of (found_of c.unwrap.result.1.now)) c.in_ok-serve_args-in-serve.field-0 (serves (goal.at.returns-in-serve-clause-defaults c).After-unwrap c.in-serve.is) c.in_ok-serve_args-in-serve.ensures)
+    has-defaults (map string_bytes c.args.arguments.now) c.in_ok-serve_args-in-serve.field-0 (asks-serve (map string_bytes c.args.arguments.now) (rows_of (found_of c.unwrap.result.1.now)) c.in_ok-serve_args-in-serve.field-0 (serves (goal.at.returns-in-serve-clause-defaults c).After-unwrap c.in-serve.is) c.in_ok-serve_args-in-serve.ensures)

@@ -1,6 +1,6 @@
 use Rattle.std.proofs.Common.{◌+◌, ap, ◌∙◌, refl, subst, arith}
 use Rattle.dd_cards.specs.Sides.{side_of, other_side}
-use Rattle.dd_play.specs.Board.{Board, left}
+use Rattle.dd_play.specs.Board.{Board, tricks_left}
 use Rattle.dd_play.specs.Reach.{TakesBy, reach}
 use Rattle.dd_quick.proofs.Claims.{joint-left}
 use Rattle.dd_cards.specs.Seats.{seat_after}
@@ -36,13 +36,13 @@ pub invariant_of-interval : goal.invariant_of-interval
 invariant_of-interval c =
     let k = both (goal.at.invariant_of-interval c).After-of_cards in
     let h = sure-within c.args.start.now c.sure_cards.result c.all_others_cards.result (c.leaders-ours.result.side + c.leaders-ours.result.trumps + c.crossing-partners.result.tricks) c.all_others-theirs.result c.position-position.ensures.board k.ours k.theirs in
-    let e = c.tricks_left.ensures.tricks ∙ ap left c.position-position.ensures.value in
+    let e = c.tricks_left.ensures.tricks ∙ ap tricks_left c.position-position.ensures.value in
     record { ordered = omega (arith, h, e) }
 
 pub returns-clause-holds : goal.returns-clause-holds
 returns-clause-holds c =
     let k = both (goal.at.returns-clause-holds c).After-of_cards in
     let p = c.args.start.now in
-    let left_is = c.tricks_left.ensures.tricks ∙ ap left c.position-position.ensures.value in
+    let left_is = c.tricks_left.ensures.tricks ∙ ap tricks_left c.position-position.ensures.value in
     sure-bounds p c.sure_cards.result c.all_others_cards.result c.union-cards.result (c.leaders-ours.result.side + c.leaders-ours.result.trumps + c.crossing-partners.result.tricks) c.all_others-theirs.result _ _ _ c.of_cards.ensures.real c.position-position.ensures.board
     c.union-cards.ensures.left c.union-cards.ensures.right c.of_cards.ensures.depths refl (omega (arith, left_is)) k.ours k.theirs

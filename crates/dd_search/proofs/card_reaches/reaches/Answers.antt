@@ -3,7 +3,7 @@ use Rattle.dd_cards.specs.Seats.{is_north_south}
 use Rattle.dd_search.specs.ClaimsBy.{IsAnswer}
 use Rattle.dd_search.proofs.Scores.{AskedOf, asked-north-south, asked-east-west}
 use Rattle.dd_search.proofs.card_reaches.reaches.Goals as goal
-use Rattle.dd_search.proofs.card_reaches.reaches.Goals.{then-north_south, else-north_south, in-Some, in-None+in_ok-takes-in-None}
+use Rattle.dd_search.proofs.card_reaches.reaches.Goals.{then-north_south, else-north_south, in-Some, in-None+in_ok-zero_window-in-None}
 
 pub returns-clause-answer : goal.returns-clause-answer
 returns-clause-answer g c =
@@ -13,7 +13,7 @@ returns-clause-answer g c =
     let side = c.is_north_south-north_south.ensures ∙ ap is_north_south c.mover.ensures.seat in
     let answer : IsAnswer q rest c.match-answer_by_counting.yes = elim c.match-answer_by_counting.branch [
       | in-Some w ↦ subst (λ (x : Bool). IsAnswer q rest x) (sym w.yes-is) w.in-Some.ensures.answer
-      | in-None+in_ok-takes-in-None w ↦ subst (λ (x : Bool). IsAnswer q rest x) (sym w.yes-is) (subst (λ (x : Bool). IsAnswer q rest x) (sym w.is_yes-yes.ensures) w.in_ok-takes-in-None.ensures.answer)
+      | in-None+in_ok-zero_window-in-None w ↦ subst (λ (x : Bool). IsAnswer q rest x) (sym w.yes-is) (subst (λ (x : Bool). IsAnswer q rest x) (sym w.is_yes-yes.ensures) w.in_ok-zero_window-in-None.ensures.answer)
     ] in
     let asked : AskedOf p q c.args.card c.if-north_south.need rest c.trick_of.result c.play-next.result.1 c.match-answer_by_counting.yes = record {
       valid = c.play-next.ensures.board;

@@ -1,5 +1,5 @@
 use Rattle.std.proofs.Common.{◌≡◌, ◌+◌, ◌-◌, true, false, sym, ap, ◌∙◌, subst, arith, Bool}
-use Rattle.dd_play.specs.Board.{left}
+use Rattle.dd_play.specs.Board.{tricks_left}
 use Rattle.dd_play.specs.Reach.{reach, TakesBy}
 use Rattle.dd_search.specs.ClaimsBy.{ClaimBy, IsAnswerBy}
 use Rattle.dd_search.proofs.Relied.{claims-within, claim-wider}
@@ -19,13 +19,13 @@ window-preserved-then-is_yes g c =
     let need = c.next_question-need.result in
     let said : c.in_ok-answer.answer.yes ≡ true = sym c.is_yes.ensures ∙ c.if-is_yes.true in
     let cards = sym c.cards.ensures in
-    let answer : IsAnswerBy p need c.in_ok-answer.answer.cards true = subst (λ (b : Bool). IsAnswerBy p need c.in_ok-answer.answer.cards b) said c.in_ok-answer.ensures.rests in
+    let answer : IsAnswerBy p need c.in_ok-answer.answer.cards true = subst (λ (b : Bool). IsAnswerBy p need c.in_ok-answer.answer.cards b) said c.in_ok-answer.ensures.winning_ranks in
     let here : TakesBy (reach c.cards.result) NorthSouth p need = subst (λ x. TakesBy (reach x) NorthSouth p need) cards answer in
     let ours : ClaimBy = record { tricks = need; cards = c.cards.result } in
     record {
       window = (here, c.window.invariant.window.1);
       within = claims-within p ours c.window.theirs c.tricks_left-left.ensures.board (here, c.window.invariant.window.1);
-      ticked = g.met.M.Meter.later c.args.meter.now c.window.meter c.takes_in_order.new.meter c.window.invariant.ticked c.in_ok-answer.ensures.ticked;
+      ticked = g.met.M.Meter.later c.args.meter.now c.window.meter c.zero_window_in_order.new.meter c.window.invariant.ticked c.in_ok-answer.ensures.ticked;
     }
 
 pub window-preserved : goal.window-preserved
@@ -34,14 +34,14 @@ window-preserved g c =
     let need = c.next_question-need.result in
     let said : c.in_ok-answer.answer.yes ≡ false = sym c.is_yes.ensures ∙ c.if-is_yes.false in
     let cards = sym c.cards-else-is_yes.ensures in
-    let answer : IsAnswerBy p need c.in_ok-answer.answer.cards false = subst (λ (b : Bool). IsAnswerBy p need c.in_ok-answer.answer.cards b) said c.in_ok-answer.ensures.rests in
+    let answer : IsAnswerBy p need c.in_ok-answer.answer.cards false = subst (λ (b : Bool). IsAnswerBy p need c.in_ok-answer.answer.cards b) said c.in_ok-answer.ensures.winning_ranks in
     let rest = ap (λ n. n + 1 - need) (sym c.tricks_left-left.ensures.tricks) in
-    let here : TakesBy (reach c.cards-else-is_yes.result) EastWest p (c.tricks_left-left.result + 1 - need) = subst (λ n. TakesBy (reach c.cards-else-is_yes.result) EastWest p n) rest (subst (λ x. TakesBy (reach x) EastWest p (left p + 1 - need)) cards answer) in
+    let here : TakesBy (reach c.cards-else-is_yes.result) EastWest p (c.tricks_left-left.result + 1 - need) = subst (λ n. TakesBy (reach c.cards-else-is_yes.result) EastWest p n) rest (subst (λ x. TakesBy (reach x) EastWest p (tricks_left p + 1 - need)) cards answer) in
     let theirs : ClaimBy = record { tricks = c.tricks_left-left.result + 1 - need; cards = c.cards-else-is_yes.result } in
     record {
       window = (c.window.invariant.window.0, here);
       within = claims-within p c.window.ours theirs c.tricks_left-left.ensures.board (c.window.invariant.window.0, here);
-      ticked = g.met.M.Meter.later c.args.meter.now c.window.meter c.takes_in_order.new.meter c.window.invariant.ticked c.in_ok-answer.ensures.ticked;
+      ticked = g.met.M.Meter.later c.args.meter.now c.window.meter c.zero_window_in_order.new.meter c.window.invariant.ticked c.in_ok-answer.ensures.ticked;
     }
 
 pub returns-clause-theirs : goal.returns-clause-theirs

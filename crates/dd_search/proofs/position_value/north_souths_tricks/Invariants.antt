@@ -1,5 +1,5 @@
 use Rattle.std.proofs.Common.{◌+◌, ◌-◌, ◌≤◌}
-use Rattle.dd_play.specs.Board.{left}
+use Rattle.dd_play.specs.Board.{tricks_left}
 use Rattle.dd_search.specs.ClaimsBy.{IsWindow}
 use Rattle.dd_search.proofs.position_value.north_souths_tricks.Given as goal
 
@@ -7,9 +7,9 @@ use Rattle.dd_search.proofs.position_value.north_souths_tricks.Given as goal
 abbrev pub invariant-window : goal.invariant-window
 invariant-window g l = record {
   window : IsWindow l.position l.ours l.theirs;
-  within : l.ours.tricks + l.theirs.tricks ≤ left l.position;
+  within : l.ours.tricks + l.theirs.tricks ≤ tricks_left l.position;
   ticked : g.M.Meter.ticked l.fn.meter l.meter;
 }
 
 abbrev pub decreases-window : goal.decreases-window
-decreases-window g l = left l.position - (l.ours.tricks + l.theirs.tricks)
+decreases-window g l = tricks_left l.position - (l.ours.tricks + l.theirs.tricks)

@@ -1,6 +1,6 @@
 use Rattle.std.proofs.Common.{◌≡◌, ap, sym, subst, ◌∙◌, arith, List, get_or}
 use Rattle.dd_play.specs.Board.{Board}
-use Rattle.dd_play.specs.Value.{score, lead}
+use Rattle.dd_play.specs.Value.{score, leaders_tricks}
 use Rattle.dd_equal.specs.EqualCards.{EqualCards, classes_of}
 use Rattle.dd_search.proofs.Greatest.{score-most, lead-value}
 use Rattle.dd_search.proofs.Classes.{class-legal, few-classes, scores-more, scores-all}
@@ -24,7 +24,7 @@ score_up_to-requires-clause-most g c =
     let most = score-most p class.top (rw same c.position-position.ensures.board) has in
     let value = lead-value p (ap (λ (q : Board). q.trick) same ∙ c.position-position.ensures.start) in
     let best = c.requires in
-    let moved = ap lead same in
+    let moved = ap leaders_tricks same in
     omega (arith, most, value, best, moved)
 
 pub push-requires : goal.push-requires

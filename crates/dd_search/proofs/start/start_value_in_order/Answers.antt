@@ -6,7 +6,7 @@ use Rattle.dd_cards.specs.Cards.{has_card}
 use Rattle.dd_play.specs.Reach.{reach, TakesBy}
 use Rattle.dd_cards.specs.Seats.{is_north_south}
 use Rattle.dd_cards.specs.declared.side.Side.TheVariants.{NorthSouth, EastWest}
-use Rattle.dd_play.specs.Board.{Board, left}
+use Rattle.dd_play.specs.Board.{Board, tricks_left}
 use Rattle.dd_rank.specs.Depths.{depth_in, depths_of}
 use Rattle.dd_search.specs.ClaimsBy.{ClaimBy}
 use Rattle.dd_search.proofs.Relied.{IsStartValue, start-north-south, start-east-west, start-covered}
@@ -22,8 +22,8 @@ found g c =
       exactly = record {
         valid = c.position-position.ensures.board;
         theirs = subst (λ (q : Board). TakesBy (reach c.in_ok-found.found.cards) NorthSouth q c.in_ok-found.found.tricks) c.position-position.ensures.value c.in_ok-found.ensures.theirs;
-        others = subst (λ (q : Board). TakesBy (reach c.in_ok-found.found.cards) EastWest q (left q - c.in_ok-found.found.tricks)) c.position-position.ensures.value c.in_ok-found.ensures.others;
-        within = subst (λ (q : Board). c.in_ok-found.found.tricks ≤ left q) c.position-position.ensures.value c.in_ok-found.ensures.within;
+        others = subst (λ (q : Board). TakesBy (reach c.in_ok-found.found.cards) EastWest q (tricks_left q - c.in_ok-found.found.tricks)) c.position-position.ensures.value c.in_ok-found.ensures.others;
+        within = subst (λ (q : Board). c.in_ok-found.found.tricks ≤ tricks_left q) c.position-position.ensures.value c.in_ok-found.ensures.within;
       };
       start = c.position-position.ensures.start;
       real = subst (λ (cards : List PlayingCard). (d : PlayingCard) → has_card cards d ≡ true → IsRank d.rank) same c.of_cards-depths.ensures.real;
@@ -42,8 +42,8 @@ returns-then-is_north_south-clause-depths g c = start-covered _ _ _ _ (found g (
 
 pub returns-else-is_north_south-clause-value : goal.returns-else-is_north_south-clause-value
 returns-else-is_north_south-clause-value g c =
-    ap (λ n. n - c.found.inside.tricks) (c.tricks_left.ensures.tricks ∙ ap left c.position-position.ensures.value)
-    ∙ ap (λ (a : ClaimBy). left c.args.start.now - a.tricks) c.found.view_is
+    ap (λ n. n - c.found.inside.tricks) (c.tricks_left.ensures.tricks ∙ ap tricks_left c.position-position.ensures.value)
+    ∙ ap (λ (a : ClaimBy). tricks_left c.args.start.now - a.tricks) c.found.view_is
     ∙ start-east-west c.args.start.now c.in_ok-found.found.tricks c.in_ok-found.found.cards (depth_in c.of_cards-depths.result) c.is_north_south.result (found g (goal.at.returns-else-is_north_south-clause-value g c).After-is_north_south)
     (c.is_north_south.ensures ∙ ap is_north_south (c.first.ensures ∙ ap (λ (q : Board). q.first) c.position-position.ensures.value)) c.if-is_north_south.false
 

@@ -2,7 +2,7 @@ use Rattle.std.proofs.Common.{◌≡◌, sym, ap, ap₂, ◌∙◌, subst, None}
 use Rattle.std.specs.Map.{lookup}
 use Rattle.dd_play.specs.Board.{Board, IsBoard}
 use Rattle.dd_play.specs.Intervals.{Holds}
-use Rattle.dd_play.specs.Value.{lead}
+use Rattle.dd_play.specs.Value.{leaders_tricks}
 use Rattle.dd_rank.specs.Depths.{FourDepths, depth_in}
 use Rattle.dd_rank.proofs.CallerLemmas.{itself}
 use Rattle.dd_rank.specs.Strings.{ShapeOf, shape_of, shape_in}
@@ -44,7 +44,7 @@ note-requires-clause-known c = λ x has same.
 
 pub note-requires-clause-holds : goal.note-requires-clause-holds
 note-requires-clause-holds c =
-    subst (λ (p : Board). Holds c.args.interval (lead p)) (sym c.new-cover.ensures.0)
+    subst (λ (p : Board). Holds c.args.interval (leaders_tricks p)) (sym c.new-cover.ensures.0)
     (c.requires.holds c.args.position.now c.position.ensures.board (itself c.args.position.now (depth_in c.args.depths) c.position.ensures.start c.requires.within))
 
 -- what is put first

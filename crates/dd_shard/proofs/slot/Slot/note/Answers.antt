@@ -1,6 +1,6 @@
 use Rattle.std.proofs.Common.{◌≡◌, ℕ, ◌<◌, ◌≤◌, refl, sym, ap, ◌∙◌, subst, arith, List, ◌∷◌, ◌++◌, [], reverse, Contains, Option, Some, None}
 use Rattle.std.proofs.lemmas.Bool.{eqb-true, eqb-false}
-use Rattle.dd_play.specs.Value.{lead}
+use Rattle.dd_play.specs.Value.{leaders_tricks}
 use Rattle.dd_play.specs.Intervals.{Holds}
 use Rattle.dd_rank.specs.Cover.{CoverOf, IsSameCover}
 use Rattle.dd_shard.specs.Entries.{most_pairs, Pair, cover_of, PutsFirst}
@@ -21,7 +21,7 @@ unreachable-requires c =
     found-there c.self.inside.pairs.items on.0 (Some on.1) (Some c.in-Some-remove.pair) on.2 c.in-Some.place cut on.4 c.in-Some-remove.ensures.value in
     let one : c.in-Some-remove.pair ≡ on.1 = cc in
     let held = c.requires.known (pair_of on.1.cover on.1.bounds) (seen-pair c.self.inside.pairs.items c.args.self.now on.0 on.1 on.2 cut c.self.view_is) on.6 in
-    c.in-None-meet.ensures (lead c.args.cover.board) (subst (λ (x : Bounded). Holds x.bounds (lead c.args.cover.board)) (sym one) held, c.requires.holds)
+    c.in-None-meet.ensures (leaders_tricks c.args.cover.board) (subst (λ (x : Bounded). Holds x.bounds (leaders_tricks c.args.cover.board)) (sym one) held, c.requires.holds)
 
 pub unreachable-requires-in-None-remove : goal.unreachable-requires-in-None-remove
 unreachable-requires-in-None-remove c =
@@ -46,7 +46,7 @@ room c = elim c.match-place_of.branch [
       let cut : c.self.inside.pairs.items ≡ on.0 ++ Some on.1 ∷ on.2 = sym c.deref.ensures.0 ∙ on.3 in
       let held = c.requires.known (pair_of on.1.cover on.1.bounds) (seen-pair c.self.inside.pairs.items c.args.self.now on.0 on.1 on.2 cut c.self.view_is) on.6 in
       rw (w.bounds-is, w.self-inside-is) (
-      room-taken c.args.cover c.args.bounds w.in-Some-meet.both (lead c.args.cover.board) w.in-Some.place c.self.inside.pairs.items w.remove.new.self.items on.0 on.1 w.in-Some-remove.pair on.2
+      room-taken c.args.cover c.args.bounds w.in-Some-meet.both (leaders_tricks c.args.cover.board) w.in-Some.place c.self.inside.pairs.items w.remove.new.self.items on.0 on.1 w.in-Some-remove.pair on.2
       c.self.invariant cut on.4 on.5 on.6 w.in-Some-remove.ensures.value w.in-Some-remove.ensures.items held c.requires.holds w.in-Some-meet.ensures))
   | in-None+then-is_full w ↦ (
       rw (w.bounds-is, w.self-inside-is) (

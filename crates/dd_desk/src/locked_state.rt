@@ -1,0 +1,133 @@
+//! What lies under the desk's lock.
+ghost use Rattle.std.specs.Prelude.{◌≡◌, ◌+◌, ◌<◌, ◌≤◌, true, false, [], length, map, take, vec_len, Some, ◌⊎◌, MatchResult, MatchBool, IfOk};
+ghost use Rattle.dd_book.specs.Calls.{IsIdle};
+ghost use Rattle.dd_book.specs.Jobs.{is_open_job, own_job};
+ghost use Rattle.dd_desk.specs.declared.fault.Fault.TheVariants.{NoPass};
+ghost use Rattle.dd_desk.specs.Receipts.{below};
+
+use crate::event::Event;
+use crate::fault::Fault;
+use crate::bells::{Rings, Concerns};
+use crate::history::History;
+use crate::names::{ReceiptCounts, Naming, PlaceSums};
+use crate::receipt_log::{CountedLog, ReceiptLog};
+use dd_book::Limits;
+use once_cell::race::Note;
+use std::alloc::Global;
+use std::sync::ledger;
+use std::sync::ledger::{Blank, Share};
+
+/// The book with its journal, a note of the cell of each place, which knows the event there, the
+/// books of both ledgers, and the parts of the passes that were not given yet.
+#[derive(Drop)]
+pub struct LockedState<J: Naming> {
+    pub(crate) history: History,
+    pub(crate) marks: Vec<Note<Event>>,
+    pub(crate) given: u64,
+    pub(crate) count: ledger::Book<ReceiptCounts<J>>,
+    pub(crate) sum: ledger::Book<PlaceSums<J>>,
+    pub(crate) spare_count: Share<ReceiptCounts<J>>,
+    pub(crate) spare_sum: Share<PlaceSums<J>>,
+    pub ghost within: { history.limits.events ≤ length J.cells },
+    pub ghost marked: { map (λ n. n.cell) marks.items
+        ≡ take (vec_len history.journal) J.cells },
+    pub ghost knows: { map (λ n. n.known) marks.items ≡ map Some history.journal.items },
+    pub ghost counted: { count.total ≡ vec_len history.journal },
+    pub ghost placed: { sum.total ≡ below (vec_len history.journal) },
+    pub ghost limits_are: { history.limits ≡ J.limits },
+    pub ghost all_is: { history.limits.passes ≡ J.all },
+    pub ghost parts: { (spare_count.parts + given ≡ J.all)
+        × (spare_sum.parts + given ≡ J.all) },
+    pub ghost idle: { (spare_count.amount ≡ 0) × (spare_sum.amount ≡ 0) },
+}
+
+impl<J: Naming> LockedState<J> {
+    /// An empty history, with all parts of both ledgers.
+    pub(crate) fn new(alloc: Global, limits: Limits, count: Blank, sum: Blank) -> LockedState<J>
+        requires limits { limits ≡ J.limits }
+        requires events { limits.events ≡ length J.cells }
+        requires passes { (limits.passes ≡ J.all) × (J.all ≡ J.parts) }
+        requires count { (count.name ≡ J.counts) × (count.parts ≡ J.parts) }
+        requires sum { (sum.name ≡ J.places) × (sum.parts ≡ J.parts) }
+    {
+        let (count, spare_count) = count.open::<ReceiptCounts<J>>();
+        let (sum, spare_sum) = sum.open::<PlaceSums<J>>();
+        LockedState {
+            history: History::new(alloc, limits),
+            marks: Vec::new(alloc),
+            given: 0,
+            count,
+            sum,
+            spare_count,
+            spare_sum,
+        }
+    }
+
+    /// A new pass, under the next number: refused exactly where as many were given as there may be.
+    pub(crate) fn enrol(&mut self, alloc: Global) -> Result<CountedLog<J>, Fault>
+        ensures pass { IfOk result (λ held. (held.log.number ≡ self.old.given + 1)
+            × (held.log.receipts.items ≡ [])) }
+        ensures given { MatchResult result (λ _. self.new.given ≡ self.old.given + 1)
+            (λ _. self.new.given ≡ self.old.given) }
+        ensures full { MatchResult result (λ _. self.old.given < self.old.history.limits.passes)
+            (λ f. (f ≡ NoPass) × (self.old.given ≡ self.old.history.limits.passes)) }
+        ensures same { self.new.history ≡ self.old.history }
+    {
+        let LockedState {
+            history,
+            marks: _,
+            given,
+            count: _,
+            sum: _,
+            spare_count,
+            spare_sum,
+        } = self;
+        if *given >= history.limits.passes() {
+            return Err(Fault::NoPass);
+        }
+        let count = spare_count.split_off(1, 0);
+        let sum = spare_sum.split_off(1, 0);
+        *given += 1;
+        let log = ReceiptLog::new(alloc, *given);
+        Ok(CountedLog { log, count, sum })
+    }
+
+    /// Must a fetch of this job wait? It must while the job is the caller's and open, nobody shut and the journal has room.
+    pub(crate) fn keeps_fetch_waiting(&self, caller: u64, job: u64) -> bool
+        ensures { result ≡ false →
+            (is_open_job (own_job self.now.history.book.jobs caller job) ≡ false)
+            ⊎ (self.now.history.book.shut ≡ true)
+            ⊎ (vec_len self.now.history.journal ≡ self.now.history.limits.events) }
+    {
+        !self.history.is_full()
+            && !self.history.is_shut()
+            && self.history.is_open(caller, job)
+    }
+
+    /// Whose bells are to ring after a call.
+    pub(crate) fn rings(&self, told: Concerns, answered: bool) -> Rings {
+        if !answered {
+            return Rings::Nobody;
+        }
+        if self.history.is_full() {
+            return Rings::Everybody(self.given);
+        }
+        match told {
+            Concerns::Nobody => Rings::Nobody,
+            Concerns::OwnerOf(job) => match self.history.owner_of_ended(job) {
+                Some(owner) => Rings::One(owner),
+                None => Rings::Nobody,
+            },
+            Concerns::Everybody => Rings::Everybody(self.given),
+        }
+    }
+
+    /// Must a claim wait? It must while nothing waits, nobody shut and the journal has room.
+    pub(crate) fn keeps_waiting(&self) -> bool
+        ensures { MatchBool result (IsIdle self.now.history.book)
+            ((IsIdle self.now.history.book → ⊥)
+            ⊎ (vec_len self.now.history.journal ≡ self.now.history.limits.events)) }
+    {
+        !self.history.is_full() && self.history.is_idle()
+    }
+}

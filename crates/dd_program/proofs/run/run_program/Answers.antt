@@ -1,0 +1,20 @@
+use Rattle.std.proofs.Common.{◌∙◌, inl, inr}
+use Rattle.dd_program.specs.Endings.{state_of, streams}
+use Rattle.dd_program.proofs.Attended.{as-serve}
+use Rattle.dd_program.proofs.run.run_program.Goals as goal
+
+pub returns : goal.returns
+returns g c = elim c.in-Err.ensures.error [
+  | inl memory ↦ absurd (c.in_default.not-OutOfMemory (c.kind.ensures ∙ memory))
+  | inr (nothing, has) ↦ inr (inl (_, nothing, has, c.show.ensures _))
+]
+
+pub returns-in-Ok-Serve : goal.returns-in-Ok-Serve
+returns-in-Ok-Serve g c =
+    let input = state_of g.R.Read.remaining c.args.reader.now in
+    inl (
+      c.in-Ok-Serve.field-0,
+      c.in-Ok-Serve.ensures.asked,
+      as-serve c.in-Ok-Serve.field-0 _ _ _ _ _ _ _ (streams input (state_of g.O.Write.contents c.args.output.now) (state_of g.E.Write.contents c.args.errors.now))
+          (streams input (state_of g.O.Write.contents c.serve.new.output) (state_of g.E.Write.contents c.serve.new.errors)) c.serve.result c.in-Ok-Serve.field-0-is (c.serve.ensures input),
+    )

@@ -1,0 +1,99 @@
+//! What is seen at once of owners: those of the two highest cards of each suit. It tells soon that others differ, and no
+//! more: no answer rests on it.
+
+use crate::first_owners::FirstOwners;
+use crate::lanes::OwnerPlanes;
+use crate::owner_strings::OwnerStrings;
+use std::simd::cmp::SimdPartialEq;
+use std::simd::u16x8;
+
+/// The owners of the two highest cards of each suit of a start of a trick.
+// Four bits a suit, the spades' on top, and in them the two bits of the second and fourth hand the lowest.
+#[derive(Clone, Copy, Debug)]
+pub struct Signature {
+    owners: u16,
+}
+
+/// The same of first owners, as far as there are so many.
+#[derive(Clone, Copy, Debug)]
+pub struct FirstSignature {
+    owners: u16,
+    mask: u16,
+}
+
+// The two lowest bits of each suit's sixteen.
+const TWO_LOWEST: u64 = 0x0003_0003_0003_0003;
+
+// The product with it has the four lowest bits of each suit's sixteen in its upper sixteen, side by side.
+const GATHER: u64 = 0x0001_0010_0100_1000;
+
+/// How many signatures stand together.
+const TOGETHER: usize = 8;
+
+/// Eight signatures of first owners, which are compared at once.
+#[derive(Clone, Copy, Debug)]
+pub struct FirstSignatures {
+    owners: [u16; TOGETHER],
+    masks: [u16; TOGETHER],
+}
+
+impl Default for FirstSignatures {
+    /// None: each place has owners that hardly a position has.
+    fn default() -> FirstSignatures {
+        FirstSignatures {
+            owners: [u16::MAX; TOGETHER],
+            masks: [u16::MAX; TOGETHER],
+        }
+    }
+}
+
+impl OwnerStrings {
+    /// The owners of the two highest cards of each suit.
+    #[inline]
+    pub fn signature(&self) -> Signature {
+        Signature {
+            owners: top_two(self.places),
+        }
+    }
+}
+
+impl FirstOwners {
+    /// The first two owners of each suit, as far as there are so many.
+    #[inline]
+    pub fn signature(&self) -> FirstSignature {
+        let (mask, places) = self.bits();
+        FirstSignature {
+            owners: top_two(places),
+            mask: top_two(OwnerPlanes {
+                odd: mask,
+                far: mask,
+            }),
+        }
+    }
+}
+
+impl FirstSignatures {
+    /// Puts one at this place, 0 to 7; a greater one is taken modulo 8.
+    #[inline]
+    pub fn put(&mut self, place: usize, signature: FirstSignature) {
+        self.owners[place % TOGETHER] = signature.owners;
+        self.masks[place % TOGETHER] = signature.mask;
+    }
+
+    /// The places of those that may be of the position, by what is seen of both: bit n for place n.
+    #[inline]
+    pub fn may_be_in(&self, position: Signature) -> u64 {
+        let differing = u16x8::from_array(self.owners) ^ u16x8::splat(position.owners);
+        let seen = differing & u16x8::from_array(self.masks);
+        seen.simd_eq(u16x8::splat(0)).to_bitmask()
+    }
+}
+
+// The owners of the two highest cards of each suit.
+// The two bits of a suit are brought together, and then by the product the four suits.
+#[inline]
+fn top_two(places: OwnerPlanes) -> u16 {
+    let odd = places.odd >> 13 & TWO_LOWEST;
+    let far = places.far >> 11 & TWO_LOWEST << 2;
+    ((odd | far).wrapping_mul(GATHER) >> 48) as u16
+}

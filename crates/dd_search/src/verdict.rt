@@ -1,0 +1,54 @@
+//! An answer, and the cards that it rests on.
+ghost use Rattle.std.specs.Prelude.{◌≡◌};
+
+use dd_cards::Hand;
+use std::marker::Model;
+
+/// Whether North and South take so many tricks, and the cards that it rests on: it holds as well where the cards below
+/// these are others.
+// One word, so that it is returned in registers beside a halt: the cards' mask, and in the lowest bit, which no card has,
+// whether they do.
+#[derive(Debug, Drop)]
+pub(crate) struct Verdict {
+    bits: u64,
+}
+
+impl Model for Verdict {
+    ghost use Rattle.std.specs.Prelude.{ℕ, ◌*◌, ◌/◌, ◌%◌, nat_eq};
+    ghost use Rattle.dd_cards.specs.HandMasks.{cards_of, IsHandMask};
+    ghost use Rattle.dd_search.specs.ClaimsBy.{AnswerBy};
+
+    ghost Value = { AnswerBy };
+
+    ghost view = { λ a. record { yes = nat_eq (a.bits % 2) 1; cards = cards_of (a.bits / 2 * 2) } };
+
+    ghost invariant = { λ a. IsHandMask (a.bits / 2 * 2) };
+}
+
+impl Verdict {
+    #[inline]
+    pub(crate) fn new(yes: bool, cards: Hand) -> Verdict
+        ensures { result ≡ record { yes = yes; cards = cards } }
+    {
+        let said = if yes { 1 } else { 0 };
+        Verdict {
+            bits: cards.mask() + said,
+        }
+    }
+
+    /// Do they take so many?
+    #[inline]
+    pub(crate) fn is_yes(&self) -> bool
+        ensures { result ≡ self.now.yes }
+    {
+        self.bits % 2 == 1
+    }
+
+    /// The cards that it rests on.
+    #[inline]
+    pub(crate) fn cards(&self) -> Hand
+        ensures { result ≡ self.now.cards }
+    {
+        Hand::of_mask(self.bits / 2 * 2)
+    }
+}

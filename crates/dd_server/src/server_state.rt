@@ -1,0 +1,55 @@
+//! What the threads of a run share.
+ghost use Rattle.std.specs.Prelude.{◌≡◌};
+
+use crate::args::ServeArgs;
+use crate::returned::Returned;
+use crate::stop::Stop;
+use dd_desk::{Desk, Fault, Naming, Pass};
+use dd_table::SharedTable;
+use std::alloc::Global;
+use std::sync::atomic::AtomicBool;
+use std::sync::{Mutex, Wait};
+
+/// What the threads of a run share.
+#[derive(Drop)]
+pub(crate) struct ServerState<J: Naming> {
+    pub(crate) alloc: Global,
+    pub(crate) args: ServeArgs,
+    pub(crate) desk: Desk<J>,
+    pub(crate) table: SharedTable,
+    pub(crate) returned: Mutex<Returned<J>>,
+    pub(crate) stop: Stop,
+    // It was said that no pass is left.
+    pub(crate) told_full: AtomicBool,
+}
+
+impl<J: Naming> ServerState<J> {
+    /// A pass, with room kept for its return.
+    pub(crate) fn enrol<R: Wait>(&self, rt: &R) -> Result<Pass<J>, Fault> {
+        if self.returned.lock(rt).expect_one().is_err() {
+            return Err(Fault::Memory);
+        }
+        let pass = self.desk.enrol(rt);
+        if pass.is_err() {
+            self.returned.lock(rt).expect_one_less();
+        }
+        pass
+    }
+
+    /// The pass comes back.
+    pub(crate) fn take_back<R: Wait>(&self, rt: &R, pass: Pass<J>) {
+        self.returned.lock(rt).take_back(pass);
+    }
+
+    /// Shuts the book and stops the run.
+    pub(crate) fn shut<R: Wait>(&self, rt: &R, pass: &mut Pass<J>) {
+        for _ in rt.forever() {
+            // Only memory may be there at the next try.
+            if !matches!(self.desk.shut(rt, pass), Err(Fault::Memory)) {
+                break;
+            }
+            std::thread::yield_now();
+        }
+        self.stop.stop(rt);
+    }
+}
