@@ -99,7 +99,7 @@ impl Hash for Shape {
     }
 }
 
-// One word mixed into a number.
+// One word hashed into a number.
 #[inline]
 #[tactic(auto, unfolding(crate::specs::Strings::mix))]
 pub(crate) fn mix(number: u64, word: u64) -> u64
