@@ -71,7 +71,13 @@ fn tricks_within<B: Bounds>(
     ensures spent { IfNone result (IsSome budget) }
 {
     let solved = match budget {
-        Some(limit) => solve_part_from_guess(request, part, first_guess, table, &mut Budget::new(limit)),
+        Some(limit) => solve_part_from_guess(
+            request,
+            part,
+            first_guess,
+            table,
+            &mut Budget::new(limit),
+        ),
         None => solve_part_from_guess(request, part, first_guess, table, &mut Endless),
     };
     match (solved, budget) {

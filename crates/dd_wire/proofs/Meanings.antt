@@ -32,7 +32,8 @@ use Rattle.dd_pbn.specs.Values.{begins_tag}
 use Rattle.dd_wire.specs.declared.fault.Fault.{Fault}
 use Rattle.dd_wire.specs.declared.fault.Fault.TheVariants.{LineTooLong, NotAnObject, WrongField, CardTwice, WrongTrump, WrongFirst, WrongPlayed, WrongSolutions, UnevenHands, NoCard, OutOfMemory}
 use Rattle.dd_solve.specs.Questions.{Question}
-use Rattle.dd_wire.specs.Requests.{SolveFields, Means, MeansObject, MeansDeal, MeansTable, MeansFields, MeansHands, MeansBoard, IsAskedOf, SpellsDeal, SpellsNone, asked_as, deal_fault, are_cards, pair_of_card, longest_line, object_of, solve_fields, table_deal}
+use Rattle.dd_wire.specs.Requests.{SolveFields, Means, MeansObject, MeansDeal, MeansTable, MeansFields, MeansHands, MeansBoard, IsAskedOf, SpellsDeal, SpellsNone, asked_as, deal_fault, are_cards, pair_of_card, object_of, solve_fields, table_deal}
+use Rattle.dd_lines.specs.Line.{longest_line}
 use Rattle.dd_solve.specs.declared.asked.Asked.{Asked}
 use Rattle.dd_solve.specs.declared.asked.Asked.TheVariants.{Solve, Table}
 use Rattle.dd_solve.specs.Results.{AreEven}

@@ -22,7 +22,8 @@ use Rattle.dd_wire.specs.declared.fault.Fault.{Fault}
 use Rattle.serde_json.specs.Data.{Members}
 use Rattle.dd_solve.specs.declared.asked.Asked.{Asked}
 use Rattle.dd_solve.specs.declared.asked.Asked.TheVariants.{Solve, Table}
-use Rattle.dd_wire.specs.Requests.{SolveFields, Means, MeansObject, MeansDeal, MeansTable, MeansFields, MeansHands, MeansBoard, IsAskedOf, asked_as, table_deal, deal_fault, are_cards, pair_of_card, longest_line, object_of, solve_fields}
+use Rattle.dd_wire.specs.Requests.{SolveFields, Means, MeansObject, MeansDeal, MeansTable, MeansFields, MeansHands, MeansBoard, IsAskedOf, asked_as, table_deal, deal_fault, are_cards, pair_of_card, object_of, solve_fields}
+use Rattle.dd_lines.specs.Line.{longest_line}
 use Rattle.dd_wire.proofs.Meanings.{none-twice-decided, even-decided, hands-decided}
 
 -- two meanings that are one value are one

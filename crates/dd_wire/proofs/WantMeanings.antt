@@ -7,7 +7,8 @@ use Rattle.dd_solve.specs.declared.asked.Asked.{Asked}
 use Rattle.dd_wire.specs.declared.fault.Fault.{Fault}
 use Rattle.dd_wire.specs.declared.fault.Fault.TheVariants.{LineTooLong, NotAnObject, OutOfMemory}
 use Rattle.dd_wire.specs.declared.want.Want.{Want}
-use Rattle.dd_wire.specs.Requests.{MeansObject, longest_line, object_of}
+use Rattle.dd_wire.specs.Requests.{MeansObject, object_of}
+use Rattle.dd_lines.specs.Line.{longest_line}
 use Rattle.dd_wire.specs.Wants.{MeansWant, MeansWanted, session_call, submitted}
 use Rattle.dd_wire.proofs.Meanings.{SomeMeaning, by-test, by-option, by-fields, some-object, object-memory}
 use Rattle.dd_wire.proofs.OneMeaning.{AtMostOne, both, one-by-test, one-by-option, one-object}

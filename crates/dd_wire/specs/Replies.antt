@@ -8,7 +8,8 @@ use Rattle.dd_wire.specs.Faults.{fault_number}
 use Rattle.dd_solve.specs.Results.{results}
 use Rattle.dd_solve.specs.declared.asked.Asked.{Asked}
 use Rattle.dd_solve.specs.declared.asked.Asked.TheVariants.{Solve, Table}
-use Rattle.dd_wire.specs.Requests.{Means, longest_line}
+use Rattle.dd_wire.specs.Requests.{Means}
+use Rattle.dd_lines.specs.Line.{longest_line}
 use Rattle.dd_solve.specs.ScoredClasses.{ScoredClass, answer}
 
 -- {"equals":e,"rank":r,"score":n,"suit":s}

@@ -23,12 +23,8 @@ use Rattle.dd_solve.specs.Results.{AreEven}
 use Rattle.dd_solve.specs.declared.asked.Asked.{Asked}
 use Rattle.dd_solve.specs.declared.asked.Asked.TheVariants.{Solve, Table}
 use Rattle.dd_wire.specs.declared.fault.Fault.{Fault}
-use Rattle.dd_wire.specs.declared.request_reader.TheConstants.{LONGEST_LINE}
+use Rattle.dd_lines.specs.Line.{longest_line}
 use Rattle.dd_wire.specs.declared.fault.Fault.TheVariants.{LineTooLong, NotAnObject, WrongField, DealText, HandLeftOut, CardTwice, WrongTrump, WrongFirst, WrongPlayed, WrongSolutions, UnevenHands, NoCard}
-
--- the most bytes of a request line
-abbrev pub longest_line : ℕ
-longest_line = LONGEST_LINE
 
 -- the fields of a request to solve; the cards played as pairs of a suit's code and a rank
 pub record SolveFields : Type 0 where

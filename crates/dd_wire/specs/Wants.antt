@@ -9,7 +9,8 @@ use Rattle.dd_wire.specs.declared.fault.Fault.{Fault}
 use Rattle.dd_wire.specs.declared.fault.Fault.TheVariants.{LineTooLong, NotAnObject}
 use Rattle.dd_wire.specs.declared.want.Want.{Want}
 use Rattle.dd_wire.specs.declared.want.Want.TheVariants.{Submit, Cancel, Fetch, Stop}
-use Rattle.dd_wire.specs.Requests.{MeansObject, longest_line, object_of, keys_of, are_among, text_at, whole_number_at}
+use Rattle.dd_wire.specs.Requests.{MeansObject, object_of, keys_of, are_among, text_at, whole_number_at}
+use Rattle.dd_lines.specs.Line.{longest_line}
 
 -- the names of the fields of a call that names a job
 abbrev pub job_keys : List (List ℕ)

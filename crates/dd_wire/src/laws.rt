@@ -7,9 +7,9 @@ ghost use Rattle.dd_play.specs.Board.{board_of};
 ghost use Rattle.dd_wire.specs.Requests.{Means};
 ghost use Rattle.dd_wire.specs.Wants.{MeansWant};
 
-use dd_solve::Asked;
 use crate::fault::Fault;
 use crate::want::Want;
+use dd_solve::Asked;
 
 /// A line has a meaning, and only one.
 pub fn one_meaning()

@@ -3,14 +3,11 @@ ghost use Rattle.std.specs.Prelude.{◌≡◌, ◌≤◌, ◌⊎◌, IsSome};
 ghost use Rattle.arrayvec.specs.ArrayString.{array_string_len};
 ghost use Rattle.dd_wire.specs.Replies.{IsReply, asked_text, spent_text};
 
-use dd_solve::Asked;
-use crate::reply::{LONGEST_REPLY, Reply, write_answer, write_fault, write_spent, write_table};
-use dd_solve::Request;
+use crate::reply::{write_answer, write_fault, write_spent, write_table};
 use crate::request_reader::read_request;
-use dd_solve::solve;
-use dd_solve::TableRequest;
-use dd_solve::solve_table;
+use dd_lines::{LONGEST_REPLY, ReplyText};
 use dd_search::{Bounds, Budget, Endless};
+use dd_solve::{Asked, Request, TableRequest, solve, solve_table};
 use std::alloc::Global;
 
 /// The reply to a line of any length, without a line feed at its end.
@@ -22,7 +19,7 @@ pub fn reply_to_line<B: Bounds>(
     line: &[u8],
     table: &mut B,
     budget: Option<u64>,
-) -> Reply
+) -> ReplyText
     ensures text { IsReply budget line.now result.bytes }
     ensures bound { array_string_len result ≤ LONGEST_REPLY }
 {
@@ -35,7 +32,7 @@ pub fn reply_to_line<B: Bounds>(
 }
 
 /// The answer to a request, or that the budget is spent.
-fn reply_within<B: Bounds>(request: Request, table: &mut B, limit: u64) -> Reply
+fn reply_within<B: Bounds>(request: Request, table: &mut B, limit: u64) -> ReplyText
     ensures text { (result.bytes ≡ asked_text (Asked.Solve request)) ⊎ (result.bytes ≡ spent_text) }
     ensures bound { array_string_len result ≤ LONGEST_REPLY }
 {
@@ -46,7 +43,7 @@ fn reply_within<B: Bounds>(request: Request, table: &mut B, limit: u64) -> Reply
 }
 
 /// The answer to a request, however long it takes.
-fn reply_in_the_end<B: Bounds>(request: Request, table: &mut B) -> Reply
+fn reply_in_the_end<B: Bounds>(request: Request, table: &mut B) -> ReplyText
     ensures text { result.bytes ≡ asked_text (Asked.Solve request) }
     ensures bound { array_string_len result ≤ LONGEST_REPLY }
 {
@@ -57,7 +54,7 @@ fn reply_in_the_end<B: Bounds>(request: Request, table: &mut B) -> Reply
 }
 
 /// The results of a table, or that the search for one of them spent the budget.
-fn table_reply<B: Bounds>(request: &TableRequest, table: &mut B, budget: Option<u64>) -> Reply
+fn table_reply<B: Bounds>(request: &TableRequest, table: &mut B, budget: Option<u64>) -> ReplyText
     ensures text { (result.bytes ≡ asked_text (Asked.Table request.now)) ⊎
         (IsSome budget × (result.bytes ≡ spent_text)) }
     ensures bound { array_string_len result ≤ LONGEST_REPLY }

@@ -3,25 +3,15 @@ ghost use Rattle.std.specs.Prelude.{◌≡◌, ◌+◌, ◌≤◌, ◌++◌, dec
 ghost use Rattle.arrayvec.specs.ArrayString.{array_string_len};
 ghost use Rattle.dd_wire.specs.Replies.{class_text, cards_member, answer_text, list_text, table_member, table_text, job_member, numbered_fault_text, fault_text, spent_text};
 
-use dd_solve::{Answer, Scored};
 use crate::fault::Fault;
-use dd_solve::Results;
-use arrayvec::ArrayString;
+use dd_lines::{LONGEST_REPLY, ReplyText};
+use dd_solve::{Answer, Results, Scored};
 use itoa::Buffer;
-
-/// The most bytes of a reply without its line feed.
-pub const LONGEST_REPLY: usize = 1_024;
-
-/// The most bytes of a reply with its line feed.
-const LONGEST_REPLY_LINE: usize = LONGEST_REPLY + 1;
 
 // The strains, and the seats that may declare.
 const STRAINS: usize = 5;
 
 const SEATS: usize = 4;
-
-/// The text of a reply, with room for its line feed.
-pub type Reply = ArrayString<LONGEST_REPLY_LINE>;
 
 /// The most bytes that `push_cards` appends.
 pub const CARDS_ROOM: usize = 751;
@@ -33,7 +23,7 @@ pub const TABLE_ROOM: usize = 145;
 pub const JOB_ROOM: usize = 26;
 
 /// The reply to a request that has no answer: `{"fault":n}`.
-pub fn write_fault(fault: Fault) -> Reply
+pub fn write_fault(fault: Fault) -> ReplyText
     ensures text { result.bytes ≡ fault_text fault }
     ensures bound { array_string_len result ≤ LONGEST_REPLY }
 {
@@ -41,11 +31,11 @@ pub fn write_fault(fault: Fault) -> Reply
 }
 
 /// The reply that tells the fault of this number: `{"fault":n}`.
-pub fn write_numbered_fault(number: u8) -> Reply
+pub fn write_numbered_fault(number: u8) -> ReplyText
     ensures text { result.bytes ≡ numbered_fault_text number }
     ensures bound { array_string_len result ≤ LONGEST_REPLY }
 {
-    let mut text = ArrayString::new();
+    let mut text = ReplyText::new();
     text.push_str("{\"fault\":");
     push_number(&mut text, number as u16);
     text.push_str("}");
@@ -53,21 +43,21 @@ pub fn write_numbered_fault(number: u8) -> Reply
 }
 
 /// The reply to a request whose budget was spent before there was an answer: `{"state":"spent"}`.
-pub fn write_spent() -> Reply
+pub fn write_spent() -> ReplyText
     ensures text { result.bytes ≡ spent_text }
     ensures bound { array_string_len result ≤ LONGEST_REPLY }
 {
-    let mut text = ArrayString::new();
+    let mut text = ReplyText::new();
     text.push_str("{\"state\":\"spent\"}");
     text
 }
 
 /// The reply to a request that has an answer: `{"cards":[C,C,..]}`, as `push_cards` has the cards.
-pub fn write_answer(answer: &Answer) -> Reply
+pub fn write_answer(answer: &Answer) -> ReplyText
     ensures text { result.bytes ≡ answer_text answer.now }
     ensures bound { array_string_len result ≤ LONGEST_REPLY }
 {
-    let mut text = ArrayString::new();
+    let mut text = ReplyText::new();
     text.push_str("{");
     push_cards(&mut text, answer);
     text.push_str("}");
@@ -75,11 +65,11 @@ pub fn write_answer(answer: &Answer) -> Reply
 }
 
 /// The reply to a request for a table that has its results: `{"table":[[a,b,c,d],..]}`, as `push_table` has the table.
-pub fn write_table(results: &Results) -> Reply
+pub fn write_table(results: &Results) -> ReplyText
     ensures text { result.bytes ≡ table_text results.now }
     ensures bound { array_string_len result ≤ LONGEST_REPLY }
 {
-    let mut text = ArrayString::new();
+    let mut text = ReplyText::new();
     text.push_str("{");
     push_table(&mut text, results);
     text.push_str("}");
@@ -88,7 +78,7 @@ pub fn write_table(results: &Results) -> Reply
 
 /// Appends the member `"cards":[C,C,..]`, each class C as `{"equals":mask,"rank":rank,"score":tricks,"suit":suit}`, in
 /// the order of the answer.
-pub fn push_cards(text: &mut Reply, answer: &Answer)
+pub fn push_cards(text: &mut ReplyText, answer: &Answer)
     requires room { array_string_len text.old + CARDS_ROOM ≤ LONGEST_REPLY }
     ensures bytes { text.new.bytes ≡ text.old.bytes ++ cards_member answer.now }
     ensures bound { array_string_len text.new ≤ array_string_len text.old + CARDS_ROOM }
@@ -105,7 +95,7 @@ pub fn push_cards(text: &mut Reply, answer: &Answer)
 
 /// Appends the member `"table":[[a,b,c,d],..]`, a list of four numbers for each strain (spades, hearts, diamonds, clubs,
 /// notrump), by declarer (North, East, South, West).
-pub fn push_table(text: &mut Reply, results: &Results)
+pub fn push_table(text: &mut ReplyText, results: &Results)
     requires room { array_string_len text.old + TABLE_ROOM ≤ LONGEST_REPLY }
     ensures bytes { text.new.bytes ≡ text.old.bytes ++ table_member results.now }
     ensures bound { array_string_len text.new ≤ array_string_len text.old + TABLE_ROOM }
@@ -122,7 +112,7 @@ pub fn push_table(text: &mut Reply, results: &Results)
 }
 
 /// Appends the member `"job":j`.
-pub fn push_job(text: &mut Reply, job: u64)
+pub fn push_job(text: &mut ReplyText, job: u64)
     requires room { array_string_len text.old + JOB_ROOM ≤ LONGEST_REPLY }
     ensures bytes { text.new.bytes ≡ text.old.bytes ++ job_member job }
     ensures bound { array_string_len text.new ≤ array_string_len text.old + JOB_ROOM }
@@ -133,7 +123,7 @@ pub fn push_job(text: &mut Reply, job: u64)
 }
 
 // Appends a list of four numbers.
-fn push_list(text: &mut Reply, numbers: &[u8])
+fn push_list(text: &mut ReplyText, numbers: &[u8])
     requires room { array_string_len text.old + 26 ≤ LONGEST_REPLY }
     requires four { length numbers.now ≡ SEATS }
     ensures bytes { text.new.bytes ≡ text.old.bytes ++ list_text numbers.now }
@@ -150,7 +140,7 @@ fn push_list(text: &mut Reply, numbers: &[u8])
 }
 
 // Appends the text of a class.
-fn push_class(text: &mut Reply, scored: &Scored)
+fn push_class(text: &mut ReplyText, scored: &Scored)
     requires { array_string_len text.old + 56 ≤ LONGEST_REPLY }
     ensures bytes { text.new.bytes ≡ text.old.bytes ++ class_text scored.now }
     ensures bound { array_string_len text.new ≤ array_string_len text.old + 56 }
@@ -168,7 +158,7 @@ fn push_class(text: &mut Reply, scored: &Scored)
 }
 
 // Appends a number in decimal.
-fn push_number(text: &mut Reply, number: u16)
+fn push_number(text: &mut ReplyText, number: u16)
     requires { array_string_len text.old + 5 ≤ LONGEST_REPLY }
     ensures bytes { text.new.bytes ≡ text.old.bytes ++ decimal number }
     ensures bound { array_string_len text.new ≤ array_string_len text.old + 5 }

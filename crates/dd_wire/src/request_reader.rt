@@ -11,22 +11,19 @@ ghost use Rattle.dd_cards.specs.Hands.{AreHands, FourHands};
 ghost use Rattle.dd_pbn.specs.declared.fault.PbnFault.{PbnFault};
 ghost use Rattle.dd_play.specs.Board.{board_of};
 ghost use Rattle.dd_solve.specs.Questions.{Question};
-ghost use Rattle.dd_wire.specs.Requests.{Means, MeansObject, MeansDeal, MeansTable, MeansFields, MeansHands, MeansBoard, SpellsDeal, SpellsNone, asked_as, deal_fault, pair_of_card, longest_line, object_of, solve_keys, table_keys, are_among, keys_of, solve_fields, table_deal, text_at, whole_number_at, pairs_at, pairs_of};
+ghost use Rattle.dd_wire.specs.Requests.{Means, MeansObject, MeansDeal, MeansTable, MeansFields, MeansHands, MeansBoard, SpellsDeal, SpellsNone, asked_as, deal_fault, pair_of_card, object_of, solve_keys, table_keys, are_among, keys_of, solve_fields, table_deal, text_at, whole_number_at, pairs_at, pairs_of};
+ghost use Rattle.dd_lines.specs.Line.{longest_line};
 ghost use Rattle.dd_wire.specs.Reading.{IsUnread, ArePlayed, ReadsPlayed, ReadsFields, pair_in, cards_in, played_in, fields_of, play_fault};
 
-use dd_solve::Asked;
 use crate::fault::Fault;
-use dd_solve::Request;
-use dd_solve::TableRequest;
 use arrayvec::ArrayVec;
 use dd_cards::{Card, Hands, Rank, Seat, Strain, Suit};
+use dd_lines::LONGEST_LINE;
 use dd_pbn::{PbnFault, begins_tag, read_deal, read_tag};
 use dd_play::{PlayFault, Position};
+use dd_solve::{Asked, Request, TableRequest};
 use serde_json::{Error, Map, Value};
 use std::alloc::Global;
-
-/// The most bytes of a line that is read.
-pub const LONGEST_LINE: usize = 4_096;
 
 // The most cards that lie on a trick before it is complete.
 const MOST_PLAYED: usize = 3;

@@ -3,12 +3,14 @@ ghost use Rattle.std.specs.Prelude.{◌≡◌, ◌≢◌, ◌<◌, ◌≤◌, le
 ghost use Rattle.std.specs.List.{list_any};
 ghost use Rattle.std.specs.Str.{bytes_eq};
 ghost use Rattle.serde_json.specs.View.{members_view};
-ghost use Rattle.dd_wire.specs.Requests.{are_among, keys_of, longest_line};
+ghost use Rattle.dd_wire.specs.Requests.{are_among, keys_of};
+ghost use Rattle.dd_lines.specs.Line.{longest_line};
 ghost use Rattle.dd_wire.specs.Wants.{MeansWant, MeansWanted, session_call, named_job, is_alone, job_keys, alone_keys};
 
 use crate::fault::Fault;
-use crate::request_reader::{LONGEST_LINE, asked_by, read_object, text_at, whole_number_at};
+use crate::request_reader::{asked_by, read_object, text_at, whole_number_at};
 use crate::want::Want;
+use dd_lines::LONGEST_LINE;
 use serde_json::{Map, Value};
 use std::alloc::Global;
 
