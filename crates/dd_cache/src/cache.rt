@@ -16,7 +16,7 @@ use crate::told::Told;
 use dd_cards::{Seat, Suit};
 use dd_play::{Interval, TrickStart};
 use dd_rank::{Depths, FirstOwners, OwnerStrings, Shape, alike_strings, covered_positions};
-use dd_search::{Bounds, ProbeHint, LeadHistory};
+use dd_search::{Bounds, LeadHistory, ProbeHint};
 use std::alloc::{AllocError, Global};
 
 // The pages that there may be, and the places at which they are found: powers of two.
@@ -82,7 +82,7 @@ impl<B: Drop> Cache<B> {
             next: PAGES,
             of_shapes,
             of_outlines,
-            deals: 1,
+            generation: 1,
             deal: Deal {
                 strain: 0,
                 north: 0,
@@ -197,9 +197,9 @@ impl<B> Cache<B> {
     fn keep(&mut self, shape: Shape, new: Told)
         requires { IsSound shape new }
     {
-        let mixed = shape.hash_code();
+        let hash = shape.hash_code();
         let signature = new.firsts.signature();
-        let Some(newest) = self.newest.get_mut(place(mixed)) else {
+        let Some(newest) = self.newest.get_mut(place(hash)) else {
             return;
         };
         let number = *newest;
@@ -219,7 +219,10 @@ impl<B> Cache<B> {
             _ => new,
         };
         *newest = self.next;
-        self.add(Head::new(tag(mixed), number, signature), Page::new(shape, new));
+        self.add(
+            Head::new(tag(hash), number, signature),
+            Page::new(shape, new),
+        );
     }
 
     // Puts a page into the ring: in the place of the oldest, where it is full.
@@ -260,19 +263,19 @@ impl<B: Bounds> Bounds for Cache<B> {
         strings: &OwnerStrings,
         need: u8,
     ) -> Option<(Interval, Depths)> {
-        let place = self.probe_hint(strings.shape());
+        let hint = self.probe_hint(strings.shape());
         self.settle_at(start, strings, hint, need)
     }
 
     /// Reads what of the newest page of the shape a look reads first.
     #[inline]
     fn probe_hint(&self, shape: Shape) -> ProbeHint {
-        let mixed = shape.hash_code();
-        let number = match self.newest.get(place(mixed)) {
+        let hash = shape.hash_code();
+        let number = match self.newest.get(place(hash)) {
             Some(newest) => *newest,
             None => 0,
         };
-        let tag = tag(mixed);
+        let tag = tag(hash);
         ProbeHint {
             number,
             tag,
@@ -316,7 +319,11 @@ impl<B: Bounds> Bounds for Cache<B> {
 
     fn lead_history(&self, strings: &OwnerStrings) -> LeadHistory {
         LeadHistory {
-            of_shape: lead_at(&self.of_shapes, self.generation, strings.shape().hash_code()),
+            of_shape: lead_at(
+                &self.of_shapes,
+                self.generation,
+                strings.shape().hash_code(),
+            ),
             of_outline: lead_at(&self.of_outlines, self.generation, strings.outline_number()),
         }
     }
@@ -343,8 +350,8 @@ impl<B: Bounds> Bounds for Cache<B> {
 
 // The lead of this deal that stands at the place of this number.
 #[inline]
-fn lead_at(leads: &Vec<u16>, deal: u16, mixed: u64) -> Option<Suit> {
-    let entry = *leads.get(place(mixed))?;
+fn lead_at(leads: &Vec<u16>, deal: u16, hash: u64) -> Option<Suit> {
+    let entry = *leads.get(place(hash))?;
     if entry / 4 == deal {
         Suit::from_code((entry % 4) as u8)
     } else {
@@ -354,8 +361,8 @@ fn lead_at(leads: &Vec<u16>, deal: u16, mixed: u64) -> Option<Suit> {
 
 // Puts the entry there.
 #[inline]
-fn put_lead(leads: &mut Vec<u16>, mixed: u64, entry: u16) {
-    if let Some(old) = leads.get_mut(place(mixed)) {
+fn put_lead(leads: &mut Vec<u16>, hash: u64, entry: u16) {
+    if let Some(old) = leads.get_mut(place(hash)) {
         *old = entry;
     }
 }
@@ -393,12 +400,12 @@ impl Deal {
 
 // Where the pages of a shape with this hash are found.
 #[inline]
-fn place(mixed: u64) -> usize {
-    (mixed >> 48) as usize
+fn place(hash: u64) -> usize {
+    (hash >> 48) as usize
 }
 
 // What tells most shapes of one place apart.
 #[inline]
-fn tag(mixed: u64) -> u32 {
-    (mixed & 0xFFFF_FFFF) as u32
+fn tag(hash: u64) -> u32 {
+    (hash & 0xFFFF_FFFF) as u32
 }

@@ -1,6 +1,6 @@
 //! What is read of a page before the page itself.
 
-use dd_rank::{Signature, FirstSignature, FirstSignatures};
+use dd_rank::{FirstSignature, FirstSignatures, Signature};
 
 /// The head of a page. Heads stand together, apart from the pages: a look walks over many of them, and most pages it needn't
 /// read. A head only tells where to look: no answer rests on it.

@@ -5,11 +5,11 @@ ghost use Rattle.dd_book.specs.Jobs.{is_open_job, own_job};
 ghost use Rattle.dd_desk.specs.declared.fault.Fault.TheVariants.{NoPass};
 ghost use Rattle.dd_desk.specs.Receipts.{below};
 
+use crate::bells::{Concerns, Rings};
 use crate::event::Event;
 use crate::fault::Fault;
-use crate::bells::{Rings, Concerns};
 use crate::history::History;
-use crate::names::{ReceiptCounts, Naming, PlaceSums};
+use crate::names::{Naming, PlaceSums, ReceiptCounts};
 use crate::receipt_log::{CountedLog, ReceiptLog};
 use dd_book::Limits;
 use once_cell::race::Note;
@@ -99,9 +99,7 @@ impl<J: Naming> LockedState<J> {
             ⊎ (self.now.history.book.shut ≡ true)
             ⊎ (vec_len self.now.history.journal ≡ self.now.history.limits.events) }
     {
-        !self.history.is_full()
-            && !self.history.is_shut()
-            && self.history.is_open(caller, job)
+        !self.history.is_full() && !self.history.is_shut() && self.history.is_open(caller, job)
     }
 
     /// Whose bells are to ring after a call.

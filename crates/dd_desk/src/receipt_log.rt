@@ -4,7 +4,7 @@ ghost use Rattle.dd_desk.specs.Receipts.{told_by, rises, next_of};
 ghost use Rattle.dd_desk.specs.Closing.{sum_of_places};
 
 use crate::event::{Event, Receipt};
-use crate::names::{ReceiptCounts, Naming, PlaceSums};
+use crate::names::{Naming, PlaceSums, ReceiptCounts};
 use once_cell::race::Note;
 use std::alloc::Global;
 use std::marker::PhantomData;

@@ -7,7 +7,8 @@ use Rattle.clap.specs.declared.error.kind.ErrorKind.{ErrorKind}
 use Rattle.clap.specs.declared.error.kind.ErrorKind.TheVariants as kind
 use Rattle.dd_lines.specs.declared.counted_device.CountedDevice.{CountedDevice}
 use Rattle.dd_lines.specs.CountedDevices.{bytes_of, failures_of, FailedOnce}
-use Rattle.dd_lines.specs.Served.{ServedAll, ServedBeginning, WroteText}
+use Rattle.dd_lines.specs.Served.{WroteText}
+use Rattle.dd_tool.specs.Served.{ServedAll, ServedBeginning}
 use Rattle.dd_program.specs.declared.command_line.Args.{Args}
 use Rattle.dd_program.specs.declared.command_line.Args.TheVariants.{Serve, Solve}
 use Rattle.dd_program.specs.declared.command_line.ArgumentsFault.{ArgumentsFault}

@@ -9,7 +9,7 @@ use Rattle.dd_cards.specs.Sides.{side_of, is_side}
 use Rattle.dd_play.specs.Board.{Board, IsBoard, cards_at}
 use Rattle.dd_play.specs.Value.{leaders_tricks}
 use Rattle.dd_play.specs.Covers.{ForMet, Keeps, IsOver, AllAnswer, count_of, IsCover, any_card}
-use Rattle.dd_play.proofs.CallerLemmas.{inject, lead-won, of-suit', once-in, suit-of, twins-won}
+use Rattle.dd_play.proofs.CallerLemmas.{inject, leaders_tricks-won, of-suit', once-in, suit-of, twins-won}
 use Rattle.dd_rank.specs.Alike.{IsAlikeBy, AreAlike, IsAlike}
 use Rattle.dd_cards.proofs.CallerLemmas.{next-side, same-others}
 
@@ -63,9 +63,9 @@ alike-cover k to from p q valid_p valid_q a =
 -- Alike positions have one value.
 pub alike-lead : (p q : Board) → IsBoard p → IsBoard q → AreAlike p q → leaders_tricks q ≡ leaders_tricks p
 alike-lead p q valid_p valid_q a =
-    lead-won q
+    leaders_tricks-won q
     ∙ twins-won (side_of p.first) p (side_of q.first) q (a.0, a.1, a.2, alike-cover a.0 a.1 a.2 p q valid_p valid_q a.3)
-    ∙ sym (lead-won p)
+    ∙ sym (leaders_tricks-won p)
 
 -- And so have those that are alike without a turn.
 pub is-alike-lead : (p q : Board) → IsBoard p → IsBoard q → IsAlike p q → leaders_tricks q ≡ leaders_tricks p

@@ -10,7 +10,7 @@ use Rattle.dd_cards.specs.Sides.{side_of, other_side}
 use Rattle.dd_cards.specs.declared.side.Side.{Side}
 use Rattle.dd_play.specs.Board.{Board, IsBoard, cards_at, tricks_left, mover}
 use Rattle.dd_play.specs.Value.{leaders_tricks}
-use Rattle.dd_play.proofs.CallerLemmas.{all, count-cons, flag_of, lead-won}
+use Rattle.dd_play.proofs.CallerLemmas.{all, count-cons, flag_of, leaders_tricks-won}
 use Rattle.dd_play.specs.Won.{won}
 use Rattle.dd_play.specs.Covers.{IsCover, count_of}
 use Rattle.dd_rank.specs.Depths.{IsCoverAt, depths_of}
@@ -76,7 +76,7 @@ pub sound-lead : (top : PlayingCard → Bool) (k : ℕ) (p q : Board) (lo hi : �
     → (lo ≤ leaders_tricks q) × (leaders_tricks q ≤ hi)
 sound-lead top k p q lo hi lifted good_p good_q low high a =
     let r = covers-cover top k (depths_of top p) p q (lifted-top top p lifted) good_p good_q a in
-    let same : leaders_tricks q ≡ won (side_of q.first) q = lead-won q in
+    let same : leaders_tricks q ≡ won (side_of q.first) q = leaders_tricks-won q in
     let under : lo ≤ won (side_of q.first) q = by-covered top k p q lo lifted good_p good_q a low in
     let over : tricks_left p - hi ≤ won (other_side (side_of q.first)) q =
     high k (to_of p q) (to_of q p) (other_side (side_of q.first)) q (other-sides top k (to_of p q) (to_of q p) (side_of p.first) p (side_of q.first) q r.0) r.1 in

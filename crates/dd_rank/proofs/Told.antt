@@ -10,7 +10,7 @@ use Rattle.dd_play.specs.Board.{Board, IsBoard, tricks_left}
 use Rattle.dd_play.specs.Value.{leaders_tricks}
 use Rattle.dd_play.specs.Won.{won}
 use Rattle.dd_play.specs.Reach.{reach, TakesBy}
-use Rattle.dd_play.proofs.CallerLemmas.{all, lead-won, reach-some, reach-upward}
+use Rattle.dd_play.proofs.CallerLemmas.{all, leaders_tricks-won, reach-some, reach-upward}
 use Rattle.dd_rank.specs.Depths.{Covers, depths_of}
 use Rattle.dd_rank.proofs.Covered.{IsLifted}
 use Rattle.dd_rank.proofs.Looked.{covers-less, by-looked, by-looked'}
@@ -27,11 +27,11 @@ pub told : (cards : List PlayingCard) (depths : Suit → ℕ) (p : Board) (lo hi
 told cards depths p lo hi real start enough each = (
   by-looked (reach cards) depths p lo (lifted-reach cards real) start enough (λ k q good a.
       let h = (each q good (k, a)).0 in
-      let e : leaders_tricks q ≡ won (side_of q.first) q = lead-won q in
+      let e : leaders_tricks q ≡ won (side_of q.first) q = leaders_tricks-won q in
       omega (arith, h, e)),
   by-looked' (reach cards) depths p (tricks_left p - hi) (lifted-reach cards real) start enough (λ k q good a.
       let h = (each q good (k, a)).1 in
-      let e : leaders_tricks q ≡ won (side_of q.first) q = lead-won q in
+      let e : leaders_tricks q ≡ won (side_of q.first) q = leaders_tricks-won q in
       let both : won (side_of q.first) q + won (other_side (side_of q.first)) q ≡ tricks_left q = all (side_of q.first) q good in
       let lefts : tricks_left q ≡ tricks_left p = same-left k depths p q a in
       omega (arith, h, e, both, lefts)),

@@ -83,17 +83,17 @@ shape_of p = record { strain = p.strain; lengths = all_lengths p }
 abbrev pub shape_in : Strings → ShapeOf
 shape_in s = record { strain = s.strain; lengths = s.lengths }
 
--- one word mixed into a number below 2 ^ 64: times an odd number of 64 bits, and the upper half put over the lower
+-- one word hashed into a number below 2 ^ 64: times an odd number of 64 bits, and the upper half put over the lower
 unfoldable pub mix : ℕ → ℕ → ℕ
 mix number word = let product = bit_xor number word * 0x9E3779B97F4A7C15 % 2 ^ 64 in bit_xor product (product / 2 ^ 32)
 
 -- a shape's hash, which spreads shapes over 64 bits
-abbrev pub mixing_number_of : ShapeOf → ℕ
-mixing_number_of s = mix (mix 0 (strain_code s.strain)) s.lengths
+abbrev pub hash_of : ShapeOf → ℕ
+hash_of s = mix (mix 0 (strain_code s.strain)) s.lengths
 
 -- the hash of strings
-abbrev pub mixing_number_in : Strings → ℕ
-mixing_number_in s = mix (mix (mixing_number_of (shape_in s)) (s.spades + 2 ^ 32 * s.hearts)) (s.diamonds + 2 ^ 32 * s.clubs)
+abbrev pub hash_in : Strings → ℕ
+hash_in s = mix (mix (hash_of (shape_in s)) (s.spades + 2 ^ 32 * s.hearts)) (s.diamonds + 2 ^ 32 * s.clubs)
 
 -- a number of strings' outline: of the strain, the leader's lengths and the owners of the highest cards
 abbrev pub outline_number_in : Strings → ℕ
@@ -138,7 +138,7 @@ both-pass true b h = (refl, h)
 both-pass false b h = absurd (cc)
 
 -- shapes with the same parts have one hash, and so are fed alike to a hasher
-pub fed-shape : (x y : ShapeOf) → same_shape x y ≡ true → u64 (mixing_number_of x) ≡ u64 (mixing_number_of y)
+pub fed-shape : (x y : ShapeOf) → same_shape x y ≡ true → u64 (hash_of x) ≡ u64 (hash_of y)
 fed-shape x y h =
     let a = both-pass (strain_code x.strain == strain_code y.strain) (x.lengths == y.lengths) h in
     let strain : strain_code x.strain ≡ strain_code y.strain = eqb-true _ _ a.0 in
@@ -146,7 +146,7 @@ fed-shape x y h =
     rw (strain, lengths) refl
 
 -- strings with the same parts have one hash, and so are fed alike to a hasher
-pub fed-same : (x y : Strings) → same_strings x y ≡ true → u64 (mixing_number_in x) ≡ u64 (mixing_number_in y)
+pub fed-same : (x y : Strings) → same_strings x y ≡ true → u64 (hash_in x) ≡ u64 (hash_in y)
 fed-same x y h =
     let a = both-pass (strain_code x.strain == strain_code y.strain) _ h in
     let b = both-pass (x.lengths == y.lengths) _ a.1 in

@@ -12,7 +12,7 @@ ghost use Rattle.dd_play.specs.Covers.{count_of};
 ghost use Rattle.dd_play.specs.Reach.{reach, TakesBy};
 ghost use Rattle.dd_rank.specs.Alike.{AreAlike, IsAlike};
 ghost use Rattle.dd_rank.specs.Depths.{all_cards, Covers, depths_of};
-ghost use Rattle.dd_rank.specs.Strings.{string_in, Strings, ShapeOf, strings_of, shape_of, mixing_number_in, same_strings, same_shape};
+ghost use Rattle.dd_rank.specs.Strings.{string_in, Strings, ShapeOf, strings_of, shape_of, hash_in, same_strings, same_shape};
 
 /// Alike positions have one value for the leader's side: also where all seats are turned, and so where none is.
 pub fn alike_positions()
@@ -65,12 +65,12 @@ pub fn covered_positions()
 /// `alike`: positions are alike exactly where their strings are the same.
 /// `keys`: the test by which keys are compared tells whether they are the same.
 /// `shapes`: and the test by which shapes are compared, whether those are.
-/// `mixed`: equal keys have one hash, which is all that a hasher is fed of them.
+/// `hashed`: equal keys have one hash, which is all that a hasher is fed of them.
 pub fn alike_strings()
     ensures alike { (p q : Board) → IsBoard p → IsBoard q → p.trick ≡ [] → q.trick ≡ []
         → (AreAlike p q ↔ strings_of q ≡ strings_of p) }
     ensures keys { (x y : Strings) → (same_strings x y ≡ true ↔ x ≡ y) }
     ensures shapes { (x y : ShapeOf) → (same_shape x y ≡ true ↔ x ≡ y) }
-    ensures mixed { (x y : Strings) → same_strings x y ≡ true → mixing_number_in x
-        ≡ mixing_number_in y }
+    ensures hashed { (x y : Strings) → same_strings x y ≡ true → hash_in x
+        ≡ hash_in y }
 {}

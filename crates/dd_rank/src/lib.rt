@@ -2,7 +2,6 @@
 //! the highest cards of each suit go.
 #![tactic(auto)]
 
-mod signature;
 mod cover;
 mod covering;
 mod depths;
@@ -13,8 +12,8 @@ mod likeness;
 mod owner_strings;
 mod rank_key;
 mod shape;
+mod signature;
 
-pub use signature::{Signature, FirstSignature, FirstSignatures};
 pub use cover::Cover;
 pub use covering::covers;
 pub use depths::Depths;
@@ -24,3 +23,4 @@ pub use likeness::are_alike;
 pub use owner_strings::OwnerStrings;
 pub use rank_key::RankKey;
 pub use shape::Shape;
+pub use signature::{FirstSignature, FirstSignatures, Signature};

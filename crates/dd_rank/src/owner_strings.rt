@@ -1,7 +1,7 @@
 //! Who holds the cards that are left, as one number a suit.
 
 ghost use Rattle.std.specs.Prelude.{◌≡◌};
-ghost use Rattle.dd_rank.specs.Strings.{strings_of, shape_of, shape_in, mixing_number_in, outline_number_in, same_strings, same-strings, same-strings-partial, string_in};
+ghost use Rattle.dd_rank.specs.Strings.{strings_of, shape_of, shape_in, hash_in, outline_number_in, same_strings, same-strings, same-strings-partial, string_in};
 
 use crate::lanes::OwnerPlanes;
 use crate::shape::{Shape, mix};
@@ -99,7 +99,7 @@ impl OwnerStrings {
     /// A number of 64 bits that strings are spread over: equal for equal strings.
     #[inline]
     pub fn hash_code(&self) -> u64
-        ensures { result ≡ mixing_number_in self.now }
+        ensures { result ≡ hash_in self.now }
     {
         let majors = self.suit(Suit::Spades) as u64
             + self.suit(Suit::Hearts) as u64 * 0x1_0000_0000;

@@ -1,6 +1,6 @@
 ghost use Rattle.std.specs.Prelude.{◌≡◌};
 ghost use Rattle.std.specs.Hash as fed;
-ghost use Rattle.dd_rank.specs.Strings.{strings_of, mixing_number_in, same_strings, same-strings, same-strings-partial, fed-same};
+ghost use Rattle.dd_rank.specs.Strings.{strings_of, hash_in, same_strings, same-strings, same-strings-partial, fed-same};
 
 use crate::owner_strings::OwnerStrings;
 use dd_play::TrickStart;
@@ -55,7 +55,7 @@ impl RankKey {
     /// A number of 64 bits that classes are spread over: equal for equal keys.
     #[inline]
     pub fn hash_code(&self) -> u64
-        ensures { result ≡ mixing_number_in self.now }
+        ensures { result ≡ hash_in self.now }
     {
         self.strings.hash_code()
     }
@@ -77,7 +77,7 @@ impl Eq for RankKey {
 }
 
 impl Hash for RankKey {
-    ghost hash_input = { λ k. fed.u64 (mixing_number_in k) };
+    ghost hash_input = { λ k. fed.u64 (hash_in k) };
 
     ghost respects_eq = { fed-same };
 

@@ -1,7 +1,7 @@
 ghost use Rattle.std.specs.Prelude.{◌≡◌, bit_and};
 ghost use Rattle.dd_cards.specs.Strains.{strain_code};
 ghost use Rattle.std.specs.Hash as fed;
-ghost use Rattle.dd_rank.specs.Strings.{fed-shape, mix, mixing_number_of, same-shape, same-shape-partial, same_shape, shape_of};
+ghost use Rattle.dd_rank.specs.Strings.{fed-shape, mix, hash_of, same-shape, same-shape-partial, same_shape, shape_of};
 
 use crate::lanes::suit_lengths;
 use dd_cards::Strain;
@@ -57,7 +57,7 @@ impl Shape {
     /// A number of 64 bits that shapes are spread over: equal for equal shapes.
     #[inline]
     pub fn hash_code(self) -> u64
-        ensures { result ≡ mixing_number_of self }
+        ensures { result ≡ hash_of self }
     {
         mix(mix(0, self.strain.code() as u64), self.lengths)
     }
@@ -89,7 +89,7 @@ impl Eq for Shape {
 }
 
 impl Hash for Shape {
-    ghost hash_input = { λ s. fed.u64 (mixing_number_of s) };
+    ghost hash_input = { λ s. fed.u64 (hash_of s) };
 
     ghost respects_eq = { fed-shape };
 
@@ -99,7 +99,7 @@ impl Hash for Shape {
     }
 }
 
-// One word mixed into a number.
+// One word hashed into a number.
 #[inline]
 #[tactic(auto, unfolding(crate::specs::Strings::mix))]
 pub(crate) fn mix(number: u64, word: u64) -> u64

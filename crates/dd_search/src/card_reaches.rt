@@ -7,7 +7,7 @@ ghost use Rattle.dd_search.specs.Budgets.{EndsAs, IsEndless};
 
 use crate::meter::{Halt, Meter};
 use crate::table::Bounds;
-use crate::zero_window::{answer_by_counting, zero_window, trick_of};
+use crate::zero_window::{answer_by_counting, trick_of, zero_window};
 use dd_cards::Card;
 use dd_play::Position;
 

@@ -12,9 +12,9 @@ ghost use Rattle.dd_rank.specs.Depths.{all_cards, depth_in, Covers};
 ghost use Rattle.dd_rank.specs.Strings.{strings_of};
 ghost use Rattle.dd_search.specs.ClaimsBy.{IsAnswerBy, IsWindow, north_souths};
 
-use crate::verdict::Verdict;
 use crate::claim::Claim;
 use crate::table::{Bounds, ProbeHint};
+use crate::verdict::Verdict;
 use dd_play::{Interval, Position, TrickStart};
 use dd_quick::{against_leader, bounds as quick_bounds, for_leader, for_second_hand};
 use dd_rank::{Depths, OwnerStrings};
@@ -59,7 +59,7 @@ pub(crate) fn told_answer<B: Bounds>(
     let leads = position.first().is_north_south();
     let left = position.tricks_left();
     let leaders = if leads { need } else { left + 1 - need };
-    match table.settle_at(start, strings, place, leaders) {
+    match table.settle_at(start, strings, hint, leaders) {
         Some(told) => Some(Verdict::new((leaders <= told.0.lo) == leads, told.1.cards(start))),
         None => None,
     }

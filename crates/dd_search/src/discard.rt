@@ -5,8 +5,8 @@ ghost use Rattle.dd_cards.specs.Cards.{has_card};
 
 use crate::holdings::{code_of_highest, lowest};
 use crate::lead::Move;
-use crate::turn::Turn;
 use crate::trick_view::TrickView;
+use crate::turn::Turn;
 use dd_cards::{Card, Hand, Holding, Rank, Suit};
 
 /// What the cards of a hand are worth that has none of the suit led.

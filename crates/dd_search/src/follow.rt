@@ -5,8 +5,8 @@ ghost use Rattle.dd_cards.specs.Ranks.{has_rank};
 ghost use Rattle.dd_cards.specs.Cards.{has_card};
 
 use crate::holdings::{code_of_highest, lowest};
-use crate::turn::Turn;
 use crate::trick_view::TrickView;
+use crate::turn::Turn;
 use dd_cards::{Card, Hand, Holding, Rank, Suit};
 
 /// The groups of the cards that a hand has of the suit led. What is in none comes last.

@@ -1,26 +1,26 @@
 //! How many tricks a card wins when both sides play as well as can be. It takes no memory of its own.
 #![tactic(auto)]
 
-mod verdict;
 mod card_reaches;
 mod card_scores;
 mod claim;
+mod cutoffs;
 mod discard;
 mod follow;
 mod guess;
 mod holdings;
-mod cutoffs;
 mod laws;
 mod lead;
 mod meter;
 mod order;
 mod position_value;
-mod winning_ranks;
 mod start;
 mod table;
-mod zero_window;
-mod turn;
 mod trick_view;
+mod turn;
+mod verdict;
+mod winning_ranks;
+mod zero_window;
 
 pub use card_reaches::reaches;
 pub use card_scores::{score, score_up_to};
@@ -28,4 +28,4 @@ pub use laws::value_is_the_greatest_score;
 pub use meter::{Budget, Endless, Halt, Meter, Tick};
 pub use position_value::{value, value_from_guess};
 pub use start::{start_scores, start_value, start_value_for_first};
-pub use table::{Bounds, NoTable, ProbeHint, LeadHistory};
+pub use table::{Bounds, LeadHistory, NoTable, ProbeHint};

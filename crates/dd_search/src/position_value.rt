@@ -7,8 +7,8 @@ ghost use Rattle.dd_play.specs.Won.{won};
 ghost use Rattle.dd_search.specs.Budgets.{EndsAs, IsEndless};
 
 use crate::claim::Claim;
-use crate::guess::guess;
 use crate::cutoffs::window;
+use crate::guess::guess;
 use crate::meter::{Halt, Meter, go_on};
 use crate::order::Order;
 use crate::table::Bounds;

@@ -49,7 +49,7 @@ pub trait Bounds {
     }
 
     /// Where bounds of starts of this shape may stand: what a table can read ahead of the strings. It serves the time alone: no
-    /// answer rests on it, so any place is right.
+    /// answer rests on it, so any hint is right.
     fn probe_hint(&self, _shape: Shape) -> ProbeHint {
         ProbeHint::default()
     }
@@ -59,7 +59,7 @@ pub trait Bounds {
         &mut self,
         start: &TrickStart,
         strings: &OwnerStrings,
-        _place: ProbeHint,
+        _hint: ProbeHint,
         need: u8,
     ) -> Option<(Interval, Depths)>
         requires { strings.now ≡ strings_of start.now }

@@ -11,14 +11,14 @@ ghost use Rattle.dd_search.specs.ClaimsBy.{IsAnswer, IsAnswerBy, IsAnswerAfter};
 ghost use Rattle.dd_search.specs.Turns.{cards_before};
 ghost use Rattle.dd_search.specs.declared.turn.Turn.{Turn};
 
-use crate::verdict::Verdict;
 use crate::cutoffs::{note_answer, quick_answer, second_hands_answer, told_answer};
 use crate::lead::Leading;
 use crate::meter::{Halt, Meter, go_on};
-use crate::order::{Order, MovePicker};
-use crate::winning_ranks::{settled_by, still_untried};
+use crate::order::{MovePicker, Order};
 use crate::table::{Bounds, LeadHistory};
 use crate::turn::Turn;
+use crate::verdict::Verdict;
+use crate::winning_ranks::{settled_by, still_untried};
 use dd_cards::{Card, Hand, Seat};
 use dd_equal::{tops_at, whole_at};
 use dd_play::{Position, TrickStart};
@@ -392,7 +392,7 @@ fn answer_after_trick<B: Bounds, M: Meter>(
 #[inline]
 fn rest_after(need: u8, winner: Option<Seat>) -> u8
     requires { 1 ≤ need }
-    ensures { result + point_of winner ≡ need }
+    ensures { result + north_souths_trick winner ≡ need }
 {
     need - trick_of(winner)
 }
@@ -416,7 +416,7 @@ pub(crate) fn answer_by_counting(position: &Position, need: u8) -> Option<bool>
 /// A trick for North and South.
 #[inline]
 pub(crate) fn trick_of(winner: Option<Seat>) -> u8
-    ensures value { result ≡ point_of winner }
+    ensures value { result ≡ north_souths_trick winner }
     ensures bound { result ≤ 1 }
 {
     match winner {

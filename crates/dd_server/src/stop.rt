@@ -2,7 +2,7 @@
 use crate::open_streams::OpenStreams;
 use dd_book::Reply;
 use dd_desk::Fault;
-use dd_reply::Want;
+use dd_wire::Want;
 use dd_session::BookPort;
 use std::alloc::Global;
 use std::io;

@@ -6,7 +6,7 @@ use Rattle.dd_desk.specs.declared.fault.Fault.{Fault}
 use Rattle.dd_desk.specs.Faults.{IsOfCall}
 use Rattle.dd_desk.specs.Receipts.{ReceiptOf, PassOf}
 use Rattle.dd_lines.specs.CountedDevices.{one_more}
-use Rattle.dd_reply.specs.declared.want.Want.{Want}
+use Rattle.dd_wire.specs.declared.want.Want.{Want}
 
 -- a call that was made over a port, with its reply
 abbrev pub Told : Type 0

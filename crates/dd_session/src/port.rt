@@ -5,7 +5,7 @@ ghost use Rattle.dd_session.specs.Ports.{call_by, new_port};
 
 use dd_book::Reply;
 use dd_desk::{Desk, Fault, Naming, Pass};
-use dd_reply::Want;
+use dd_wire::Want;
 use std::marker::Model;
 use std::sync::Wait;
 

@@ -67,8 +67,8 @@ impl Slot {
     pub fn note(&mut self, cover: Cover, bounds: Interval)
         requires shape { HaveShape (shape_of cover.board) self.old }
         requires known { (x : Pair) → Contains self.old x → IsSameCover (cover_of x) cover
-            → (x.lo ≤ lead cover.board) × (lead cover.board ≤ x.hi) }
-        requires holds { Holds bounds (lead cover.board) }
+            → (x.lo ≤ leaders_tricks cover.board) × (leaders_tricks cover.board ≤ x.hi) }
+        requires holds { Holds bounds (leaders_tricks cover.board) }
         ensures { PutsFirst (pair_of cover bounds) self.old self.new }
     {
         let bounds = match place_of(&self.pairs, &cover) {

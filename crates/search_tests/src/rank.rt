@@ -136,7 +136,7 @@ fn covers_are_the_same_where_depths_and_owners_are(rt: HostRuntime) {
 }
 
 #[test]
-fn equal_shapes_have_one_mixing_number(rt: HostRuntime) {
+fn equal_shapes_have_one_hash(rt: HostRuntime) {
     let one = start(&SPADES, Strain::Notrump, Seat::North).expect(&rt, "two cards a hand");
     let two = start(&[14, 13, 12, 11, 2, 3, 4, 5], Strain::Notrump, Seat::East).expect(
         &rt,

@@ -6,7 +6,7 @@ use crate::desk::checked::check;
 use crate::desk::worked::ask;
 use dd_book::{Call, Limits, Outcome, Reply};
 use dd_desk::{Desk, Naming, Pass, Row};
-use dd_reply::{Request, solve};
+use dd_solve::{Request, solve};
 use dd_search::{Endless, NoTable};
 use request_tests::book::drawn::draw;
 use request_tests::book::made::{Asks, Ends, Made, Step, make};

@@ -1,6 +1,6 @@
 //! Calls as lines of words, and replies as texts.
 use dd_book::{Call, JobState, Reply};
-use dd_reply::{read_request, write_answer, write_table};
+use dd_wire::{read_request, write_answer, write_table};
 use std::alloc::{AllocError, Global};
 
 /// One card each, and North's takes the trick.

@@ -5,7 +5,7 @@ use crate::book::made::hands;
 use dd_book::{Call, JobState, Outcome, Reply};
 use dd_cards::{Card, Hands, Rank, Seat, Strain, Suit};
 use dd_play::Position;
-use dd_reply::{Asked, Request, TableRequest, solve, solve_part};
+use dd_solve::{Asked, Request, TableRequest, solve, solve_part};
 use dd_search::{Endless, NoTable};
 use std::alloc::{AllocError, Global};
 

@@ -1,6 +1,7 @@
 //! A run over devices of memory.
 use crate::devices::{Pieces, Taker};
-use dd_lines::{CountedDevice, LineFault, solve_lines};
+use dd_tool::solve_lines;
+use dd_lines::{CountedDevice, LineFault};
 use dd_search::NoTable;
 use std::alloc::Global;
 

@@ -1,6 +1,7 @@
 use crate::rows::{after_bar, before_bar};
 use dd_cards::{Card, Rank, Seat, Suit};
-use dd_reply::{Asked, Request, read_request};
+use dd_solve::{Asked, Request};
+use dd_wire::read_request;
 use std::alloc::{AllocError, Global};
 use std::test::Fail;
 

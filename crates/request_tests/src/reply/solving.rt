@@ -5,7 +5,7 @@ use dd_cards::{Card, Rank, Seat, Strain, Suit};
 use dd_pbn::read_deal;
 use dd_play::{Interval, Position, TrickStart};
 use dd_rank::Depths;
-use dd_reply::{Answer, Request, solve};
+use dd_solve::{Answer, Request, solve};
 use dd_search::{Bounds, Budget, Endless, Halt, NoTable};
 
 // Counts the looks and the notes, and keeps the last interval.

@@ -1,4 +1,4 @@
-use dd_reply::{Fault, write_fault, write_spent};
+use dd_wire::{Fault, write_fault, write_spent};
 
 #[test]
 fn a_spent_budget_is_told(rt: HostRuntime) {

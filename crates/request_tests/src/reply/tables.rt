@@ -4,7 +4,7 @@ ghost use Rattle.std.specs.Prelude.{◌≤◌};
 use super::worked::first_with_another_reply;
 use dd_pbn::read_deal;
 use dd_play::PlayFault;
-use dd_reply::{SolvedPart, SolvedTable, TableRequest, solve_part};
+use dd_solve::{SolvedPart, SolvedTable, TableRequest, solve_part};
 use dd_search::{Budget, Endless, Halt, NoTable};
 use std::alloc::Global;
 use std::test::Fail;

@@ -1,6 +1,6 @@
 //! Requests whose answers can be counted by hand.
 use crate::rows::{after_bar, before_bar};
-use dd_reply::reply_to_line;
+use dd_wire::reply_to_line;
 use dd_search::NoTable;
 use std::alloc::Global;
 

@@ -2,7 +2,8 @@
 use dd_cards::{Seat, Strain};
 use dd_pbn::read_deal;
 use dd_play::{Position, TrickStart};
-use dd_reply::{Request, solve, write_answer};
+use dd_solve::{Request, solve};
+use dd_wire::write_answer;
 use dd_search::{Bounds, Endless};
 use std::process::Abort;
 

@@ -1,6 +1,6 @@
 //! What follows a line.
 use crate::session::words::plain;
-use dd_reply::Want;
+use dd_wire::Want;
 use dd_session::{Session, Step};
 use request_tests::rows::{after_bar, before_bar};
 use std::alloc::{AllocError, Global};

@@ -1,5 +1,6 @@
 //! What follows a line, in words.
-use dd_reply::{Asked, Want};
+use dd_solve::Asked;
+use dd_wire::Want;
 use dd_session::Step;
 use std::alloc::{AllocError, Global};
 

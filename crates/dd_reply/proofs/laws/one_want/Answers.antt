@@ -1,8 +1,0 @@
-use Rattle.dd_reply.proofs.WantMeanings.{some-want, one-want}
-use Rattle.dd_reply.proofs.laws.one_want.Goals as goal
-
-pub returns-clause-some : goal.returns-clause-some
-returns-clause-some c = some-want
-
-pub returns-clause-only : goal.returns-clause-only
-returns-clause-only c = one-want

@@ -1,0 +1,5 @@
+pub mod Worlds
+pub mod Steps
+pub mod Runs
+pub mod MayCome
+pub mod ManyRuns

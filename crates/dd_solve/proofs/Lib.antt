@@ -1,0 +1,5 @@
+pub mod Answered
+pub mod Best
+pub mod ByScore
+pub mod Openings
+pub mod Parts

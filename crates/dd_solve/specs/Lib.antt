@@ -1,0 +1,4 @@
+pub mod Questions
+pub mod Results
+pub mod ScoredClasses
+pub mod Classes

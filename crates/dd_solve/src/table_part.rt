@@ -1,0 +1,151 @@
+//! The parts of a table, each of which is solved by itself.
+ghost use Rattle.std.specs.Prelude.{◌≡◌, ◌-◌, ◌<◌, ◌≤◌, ◌↔◌, [], IfOk, IsOk, IsTrue};
+ghost use Rattle.dd_cards.specs.Sides.{side_of};
+ghost use Rattle.dd_play.specs.Board.{tricks_left, mover};
+ghost use Rattle.dd_play.specs.Value.{leaders_tricks};
+ghost use Rattle.dd_play.specs.Won.{won};
+ghost use Rattle.dd_search.specs.Budgets.{EndsAs, IsEndless};
+ghost use Rattle.dd_solve.specs.Results.{part_result};
+
+use crate::table_request::{PARTS, TableRequest};
+use dd_play::Position;
+use dd_search::{Bounds, Halt, Meter, value, value_from_guess};
+use std::marker::Model;
+
+/// A part of a table with its result.
+#[derive(Drop)]
+pub struct SolvedPart {
+    request: TableRequest,
+    part: u8,
+    tricks: u8,
+}
+
+impl Model for SolvedPart {
+    ghost use Rattle.std.specs.Prelude.{◌≡◌, ◌<◌, ◌≤◌};
+    ghost use Rattle.dd_solve.specs.Results.{PartResult, tricks_of, contract_of};
+
+    ghost Value = { PartResult };
+
+    ghost view = { λ s. record { hands = s.request; part = s.part; tricks = s.tricks } };
+
+    ghost invariant = { λ s. (s.part < 20) × (s.tricks ≤ 13) ×
+        (s.tricks ≡ tricks_of s.request (contract_of s.part)) };
+}
+
+impl SolvedPart {
+    /// The request whose part it is.
+    pub fn request(&self) -> &TableRequest
+        ensures { result.now ≡ self.now.hands }
+    {
+        &self.request
+    }
+
+    /// The number of the part, 0 to 19: four times the strain's code and the declarer's.
+    pub fn part(&self) -> u8
+        ensures value { result ≡ self.now.part }
+        ensures bound { result < PARTS }
+    {
+        self.part
+    }
+
+    /// The tricks, 0 to 13, of the declarer's side.
+    pub fn tricks(&self) -> u8
+        ensures value { result ≡ self.now.tricks }
+        ensures bound { result ≤ 13 }
+        ensures solved { self.now ≡ part_result self.now.hands self.now.part }
+    {
+        self.tricks
+    }
+
+    /// Is it this part of the request?
+    pub(crate) fn is_part_of(&self, request: &TableRequest, part: u8) -> bool
+        ensures { IsTrue result ↔ (self.now ≡ part_result request.now part) }
+    {
+        self.part == part && self.request.is_same(request)
+    }
+
+    /// The same part with the same result. It takes no memory.
+    pub fn copy(&self) -> SolvedPart
+        ensures { result ≡ self.now }
+    {
+        SolvedPart {
+            request: self.request.copy(),
+            part: self.part,
+            tricks: self.tricks,
+        }
+    }
+}
+
+/// Finds the result of a part, 0 to 19, of a table: the tricks of the declarer's side. It takes no memory. An error says why
+/// the search ended without a result; what was noted by then holds.
+pub fn solve_part<B: Bounds, M: Meter>(
+    request: &TableRequest,
+    part: u8,
+    table: &mut B,
+    meter: &mut M,
+) -> Result<SolvedPart, Halt>
+    requires { part < PARTS }
+    ensures solved { IfOk result (λ solved. solved ≡ part_result request.now part) }
+    ensures ends { EndsAs (M.says meter.new) result }
+    // It has a result where the meter can say nothing else than to go on.
+    ensures answers { IsEndless M.says → IsOk result }
+{
+    solve_part_from_guess(request, part, None, table, meter)
+}
+
+/// The same, where North and South are thought to take some `first_guess` tricks: the search is the shorter the nearer that is.
+pub(crate) fn solve_part_from_guess<B: Bounds, M: Meter>(
+    request: &TableRequest,
+    part: u8,
+    first_guess: Option<u8>,
+    table: &mut B,
+    meter: &mut M,
+) -> Result<SolvedPart, Halt>
+    requires { part < PARTS }
+    ensures solved { IfOk result (λ solved. solved ≡ part_result request.now part) }
+    ensures ends { EndsAs (M.says meter.new) result }
+    ensures answers { IsEndless M.says → IsOk result }
+{
+    let tricks = declarers_tricks(&request.opening(part), first_guess, table, meter)?;
+    Ok(SolvedPart {
+        request: request.copy(),
+        part,
+        tricks,
+    })
+}
+
+// The tricks of the side that does not lead.
+fn declarers_tricks<B: Bounds, M: Meter>(
+    position: &Position,
+    first_guess: Option<u8>,
+    table: &mut B,
+    meter: &mut M,
+) -> Result<u8, Halt>
+    requires start { position.now.trick ≡ [] }
+    ensures tricks { IfOk result (λ tricks. tricks ≡ tricks_left position.now - leaders_tricks position.now) }
+    ensures bound { IfOk result (λ tricks. tricks ≤ 13) }
+    ensures ends { EndsAs (M.says meter.new) result }
+    ensures answers { IsEndless M.says → IsOk result }
+{
+    let leaders = tricks_of_leaders(position, first_guess, table, meter)?;
+    Ok(position.tricks_left() - leaders)
+}
+
+// The tricks of the side that leads.
+fn tricks_of_leaders<B: Bounds, M: Meter>(
+    position: &Position,
+    first_guess: Option<u8>,
+    table: &mut B,
+    meter: &mut M,
+) -> Result<u8, Halt>
+    ensures value { IfOk result
+        (λ tricks. tricks ≡ won (side_of (mover position.now)) position.now) }
+    ensures bound { IfOk result (λ tricks. tricks ≤ 13) }
+    ensures ends { EndsAs (M.says meter.new) result }
+    ensures answers { IsEndless M.says → IsOk result }
+{
+    match first_guess {
+        Some(first_guess) => value_from_guess(position, first_guess, table, meter),
+        None => value(position, table, meter),
+    }
+}

@@ -1,0 +1,12 @@
+//! The line tool: each line of a stream is answered by itself, by one thread or by many, and the replies keep their order.
+#![tactic(auto)]
+
+mod answered;
+mod line_queue;
+mod pool;
+mod solver;
+mod workers;
+
+pub use pool::{Pool, answer_ahead};
+pub use solver::solve_lines;
+pub use workers::{solve_lines_ahead, solve_lines_on};

@@ -1,0 +1,5 @@
+-- What the crates above may cite of these proofs: they import nothing else of them.
+
+-- ---- Every line has a meaning.
+-- every line has a meaning
+pub use Rattle.dd_wire.proofs.Meanings.{some-meaning}

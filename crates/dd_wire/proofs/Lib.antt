@@ -1,0 +1,11 @@
+pub mod CallerLemmas
+pub mod Examples
+pub mod Keys
+pub mod Meanings
+pub mod Objects
+pub mod OneMeaning
+pub mod Pairs
+pub mod RequestExamples
+pub mod Starts
+pub mod Texts
+pub mod WantMeanings

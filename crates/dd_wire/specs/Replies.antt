@@ -1,0 +1,76 @@
+-- The text of a reply: JSON without spaces, keys in the order of their bytes.
+use Rattle.std.specs.Prelude.{◌≡◌, ℕ, ◌+◌, ◌*◌, ◌<◌, ◌≤◌, ◌⊎◌, List, ◌++◌, map, length, codes, decimal, Option, IsSome, Result, Ok, Err}
+use Rattle.std.specs.List.{join_with_byte, range_with_len, slice_range}
+use Rattle.dd_cards.specs.Suits.{suit_code}
+use Rattle.dd_wire.specs.declared.fault.Fault.{Fault}
+use Rattle.dd_wire.specs.declared.fault.Fault.TheVariants.{OutOfMemory}
+use Rattle.dd_wire.specs.Faults.{fault_number}
+use Rattle.dd_solve.specs.Results.{results}
+use Rattle.dd_solve.specs.declared.asked.Asked.{Asked}
+use Rattle.dd_solve.specs.declared.asked.Asked.TheVariants.{Solve, Table}
+use Rattle.dd_wire.specs.Requests.{Means}
+use Rattle.dd_lines.specs.Line.{longest_line}
+use Rattle.dd_solve.specs.ScoredClasses.{ScoredClass, answer}
+
+-- {"equals":e,"rank":r,"score":n,"suit":s}
+abbrev pub class_text : ScoredClass → List ℕ
+class_text class =
+    codes "{\"equals\":" ++ decimal class.equals ++ codes ",\"rank\":" ++ decimal class.card.rank
+    ++ codes ",\"score\":" ++ decimal class.score ++ codes ",\"suit\":" ++ decimal (suit_code class.card.suit) ++ codes "}"
+
+-- "cards":[C,C,..]
+abbrev pub cards_member : List ScoredClass → List ℕ
+cards_member classes = codes "\"cards\":[" ++ join_with_byte 44 (map class_text classes) ++ codes "]"
+
+-- {"cards":[C,C,..]}
+abbrev pub answer_text : List ScoredClass → List ℕ
+answer_text classes = codes "{" ++ cards_member classes ++ codes "}"
+
+-- [a,b,..]
+abbrev pub list_text : List ℕ → List ℕ
+list_text numbers = codes "[" ++ join_with_byte 44 (map decimal numbers) ++ codes "]"
+
+-- of twenty results those of a strain, by its code
+abbrev pub of_strain : List ℕ → ℕ → List ℕ
+of_strain results strain = slice_range results (4 * strain) (4 * strain + 4)
+
+-- "table":[[a,b,c,d],..], a list for each strain
+abbrev pub table_member : List ℕ → List ℕ
+table_member results = codes "\"table\":[" ++ join_with_byte 44 (map (λ strain. list_text (of_strain results strain)) (range_with_len 0 5)) ++ codes "]"
+
+-- {"table":[[a,b,c,d],..]}
+abbrev pub table_text : List ℕ → List ℕ
+table_text results = codes "{" ++ table_member results ++ codes "}"
+
+-- "job":j
+abbrev pub job_member : ℕ → List ℕ
+job_member job = codes "\"job\":" ++ decimal job
+
+-- {"fault":n}
+abbrev pub numbered_fault_text : ℕ → List ℕ
+numbered_fault_text number = codes "{\"fault\":" ++ decimal number ++ codes "}"
+
+abbrev pub fault_text : Fault → List ℕ
+fault_text fault = numbered_fault_text (fault_number fault)
+
+-- the budget was spent before there was an answer
+abbrev pub spent_text : List ℕ
+spent_text = codes "{\"state\":\"spent\"}"
+
+-- the text of the answer to what is asked
+abbrev pub asked_text : Asked → List ℕ
+asked_text (Solve question) = answer_text (answer question.board question.solutions)
+asked_text (Table hands) = table_text (results hands)
+
+-- the reply to a line of this meaning
+abbrev pub reply_text : Result Asked Fault → List ℕ
+reply_text (Ok asked) = asked_text asked
+reply_text (Err fault) = fault_text fault
+
+-- The text is the reply to the line: what its meaning is answered with; that memory ran out while it was read; or, with a
+-- budget, that this was spent in a search for the answer, or for one of the twenty results of a table.
+abbrev pub IsReply : Option ℕ → List ℕ → List ℕ → Type 0
+IsReply budget line text =
+    ((meaning : Result Asked Fault) × Means line meaning × (text ≡ reply_text meaning))
+    ⊎ ((0 < length line) × (length line ≤ longest_line) × (text ≡ fault_text OutOfMemory))
+    ⊎ ((asked : Asked) × Means line (Ok asked) × IsSome budget × (text ≡ spent_text))

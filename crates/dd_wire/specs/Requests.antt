@@ -1,0 +1,204 @@
+-- What a request line means: the position and the number of cards that it asks for, or its first fault.
+use Rattle.std.specs.Prelude.{◌≡◌, ℕ, ◌<◌, ◌⊎◌, ◌&&◌, Bool, List, [], ◌∷◌, map, nat_lt, nat_le, length, codes, Option, None, Some, option_and_then, Result, Ok, Err, MatchOption, if◌then◌else◌}
+use Rattle.std.specs.Bool.{MatchBool}
+use Rattle.std.specs.List.{list_any, list_all}
+use Rattle.std.specs.Str.{is_utf8, bytes_eq}
+use Rattle.serde_json.specs.Data.{Data, Members, no_members, member, Items, no_items, item}
+use Rattle.serde_json.specs.Find.{get_member, as_object, as_array, as_str, as_number, as_u64}
+use Rattle.serde_json.specs.Read.{read}
+use Rattle.dd_cards.specs.PlayingCard.{PlayingCard}
+use Rattle.dd_cards.specs.Ranks.{is_rank}
+use Rattle.dd_cards.specs.Suits.{suit_code}
+use Rattle.dd_cards.specs.Seats.{seat_code}
+use Rattle.dd_cards.specs.Strains.{strain_code}
+use Rattle.dd_cards.specs.Hands.{FourHands, AreHands}
+use Rattle.dd_pbn.specs.declared.fault.PbnFault.{PbnFault}
+use Rattle.dd_pbn.specs.declared.fault.PbnFault.TheVariants.{Grammar, Absent, Twice}
+use Rattle.dd_pbn.specs.Reading.{◌>>=◌}
+use Rattle.dd_pbn.specs.Values.{begins_tag}
+use Rattle.dd_pbn.specs.Deals as deals
+use Rattle.dd_play.specs.Board.{Board, NoneTwice, IsEven, tricks_left}
+use Rattle.dd_solve.specs.Questions.{Question}
+use Rattle.dd_solve.specs.Results.{AreEven}
+use Rattle.dd_solve.specs.declared.asked.Asked.{Asked}
+use Rattle.dd_solve.specs.declared.asked.Asked.TheVariants.{Solve, Table}
+use Rattle.dd_wire.specs.declared.fault.Fault.{Fault}
+use Rattle.dd_lines.specs.Line.{longest_line}
+use Rattle.dd_wire.specs.declared.fault.Fault.TheVariants.{LineTooLong, NotAnObject, WrongField, DealText, HandLeftOut, CardTwice, WrongTrump, WrongFirst, WrongPlayed, WrongSolutions, UnevenHands, NoCard}
+
+-- the fields of a request to solve; the cards played as pairs of a suit's code and a rank
+pub record SolveFields : Type 0 where
+  pub deal : List ℕ
+  pub trump : ℕ
+  pub first : ℕ
+  pub played : List (ℕ × ℕ)
+  pub solutions : ℕ
+
+-- ---- JSON
+
+-- the members of the object that the line is as JSON
+abbrev pub object_of : List ℕ → Option Members
+object_of line = (if is_utf8 line then option_and_then as_object (read line) else None)
+
+abbrev pub keys_of : Members → List (List ℕ)
+keys_of no_members = []
+keys_of (member key value rest) = key ∷ keys_of rest
+
+-- the text at this key
+abbrev pub text_at : Members → List ℕ → Option (List ℕ)
+text_at members key = option_and_then as_str (get_member key members)
+
+-- a whole number, written with digits alone and below 2 ^ 64
+abbrev pub whole_number : Data → Option ℕ
+whole_number value = option_and_then as_u64 (as_number value)
+
+abbrev pub whole_number_at : Members → List ℕ → Option ℕ
+whole_number_at members key = option_and_then whole_number (get_member key members)
+
+-- a list of exactly two whole numbers
+abbrev pub pair_of : Items → Option (ℕ × ℕ)
+pair_of no_items = None
+pair_of (item suit no_items) = None
+pair_of (item suit (item rank no_items)) = do
+  suit ← whole_number suit
+  rank ← whole_number rank
+  Some (suit, rank)
+pair_of (item suit (item rank (item other rest))) = None
+
+-- a value that is such a list
+abbrev pub pair_of_value : Data → Option (ℕ × ℕ)
+pair_of_value value = as_array value >>= pair_of
+
+-- a list of such values
+abbrev pub pairs_of : Items → Option (List (ℕ × ℕ))
+pairs_of no_items = Some []
+pairs_of (item value rest) = do
+  pair ← pair_of_value value
+  pairs ← pairs_of rest
+  Some (pair ∷ pairs)
+
+-- the pairs at this key, and none where the key is left out
+abbrev pub pairs_at : Members → List ℕ → Option (List (ℕ × ℕ))
+pairs_at members key = elim (get_member key members) [
+  | None ↦ Some []
+  | Some value ↦ option_and_then pairs_of (as_array value)
+]
+
+-- the names of the fields of a request to solve
+abbrev pub solve_keys : List (List ℕ)
+solve_keys = codes "deal" ∷ codes "do" ∷ codes "first" ∷ codes "played" ∷ codes "solutions" ∷ codes "trump" ∷ []
+
+-- and of a request for a table
+abbrev pub table_keys : List (List ℕ)
+table_keys = codes "deal" ∷ codes "do" ∷ []
+
+-- is each of these keys one of the known?
+abbrev pub are_among : List (List ℕ) → List (List ℕ) → Bool
+are_among known keys = list_all (λ key. list_any (bytes_eq key) known) keys
+
+-- the fields, where all of them are there, each of its kind, and no other is
+abbrev pub solve_fields : Members → Option SolveFields
+solve_fields members = if are_among solve_keys (keys_of members) then (do
+  task ← text_at members (codes "do")
+  if bytes_eq task (codes "solve") then (do
+    deal ← text_at members (codes "deal")
+    trump ← whole_number_at members (codes "trump")
+    first ← whole_number_at members (codes "first")
+    played ← pairs_at members (codes "played")
+    solutions ← whole_number_at members (codes "solutions")
+    Some (record { deal = deal; trump = trump; first = first; played = played; solutions = solutions })) else None) else None
+
+-- the text of the deal whose table is asked for, where it is there and no other field is
+abbrev pub table_deal : Members → Option (List ℕ)
+table_deal members = if are_among table_keys (keys_of members) then (do
+  task ← text_at members (codes "do")
+  if bytes_eq task (codes "table") then text_at members (codes "deal") else None) else None
+
+-- ---- the deal
+
+-- the text of a deal, as a tag where it begins as one, and else as a value
+abbrev pub SpellsDeal : List ℕ → FourHands → Type 0
+SpellsDeal text hands = MatchBool (begins_tag text) (deals.TagText text hands) (deals.DealText text hands)
+
+-- why it spells no deal
+abbrev pub SpellsNone : List ℕ → PbnFault → Type 0
+SpellsNone text fault = MatchBool (begins_tag text) (deals.TagFault text fault) (deals.DealFault text fault)
+
+-- the fault of a request with such a deal
+abbrev pub deal_fault : PbnFault → Fault
+deal_fault Grammar = DealText
+deal_fault Absent = HandLeftOut
+deal_fault Twice = CardTwice
+
+-- ---- the position
+
+-- at most three pairs, each of a suit's code and a rank
+abbrev pub are_cards : List (ℕ × ℕ) → Bool
+are_cards pairs = nat_le (length pairs) 3 && list_all (λ pair. nat_lt pair.0 4 && is_rank pair.1) pairs
+
+-- the pair of a card
+abbrev pub pair_of_card : PlayingCard → ℕ × ℕ
+pair_of_card c = (suit_code c.suit, c.rank)
+
+-- these hands, with the strain, the leader and the trick of these codes
+pub record IsAskedOf (cards : FourHands) (fields : SolveFields) (board : Board) : Type 0 where
+  pub hands : board.hands ≡ cards
+  pub strain : strain_code board.strain ≡ fields.trump
+  pub first : seat_code board.first ≡ fields.first
+  pub trick : map pair_of_card board.trick ≡ fields.played
+
+-- the cards decide: one that stands twice, uneven hands, none to play, or a position
+pub record MeansBoard (board : Board) (solutions : ℕ) (meaning : Result Question Fault) : Type 0 where
+  pub twice : (NoneTwice board → ⊥) → meaning ≡ Err CardTwice
+  pub uneven : NoneTwice board → (IsEven board → ⊥) → meaning ≡ Err UnevenHands
+  pub none : NoneTwice board → IsEven board → tricks_left board ≡ 0 → meaning ≡ Err NoCard
+  pub some : NoneTwice board → IsEven board → 0 < tricks_left board → meaning ≡ Ok (record { board = board; solutions = solutions })
+
+-- the trump, then the leader, then the cards played, then the solutions, then the cards together
+abbrev pub MeansHands : SolveFields → FourHands → Result Question Fault → Type 0
+MeansHands fields hands meaning =
+    MatchBool (nat_lt 4 fields.trump) (meaning ≡ Err WrongTrump)
+    (MatchBool (nat_lt 3 fields.first) (meaning ≡ Err WrongFirst)
+    (MatchBool (are_cards fields.played)
+    (MatchBool (nat_le 1 fields.solutions && nat_le fields.solutions 3)
+    ((board : Board) × IsAskedOf hands fields board × MeansBoard board fields.solutions meaning)
+    (meaning ≡ Err WrongSolutions))
+    (meaning ≡ Err WrongPlayed)))
+
+-- the deal first
+abbrev pub MeansDeal : {A : Type 0} → List ℕ → (FourHands → Result A Fault → Type 0) → Result A Fault → Type 0
+MeansDeal text Of meaning =
+    ((hands : FourHands) × AreHands hands × SpellsDeal text hands × Of hands meaning)
+    ⊎ ((fault : PbnFault) × SpellsNone text fault × (meaning ≡ Err (deal_fault fault)))
+
+abbrev pub MeansFields : SolveFields → Result Question Fault → Type 0
+MeansFields fields = MeansDeal fields.deal (MeansHands fields)
+
+-- ---- the table
+
+-- the numbers of cards decide: uneven hands, none to play, or hands with a table
+pub record MeansTable (hands : FourHands) (meaning : Result FourHands Fault) : Type 0 where
+  pub uneven : (AreEven hands → ⊥) → meaning ≡ Err UnevenHands
+  pub none : AreEven hands → length hands.north ≡ 0 → meaning ≡ Err NoCard
+  pub some : AreEven hands → 0 < length hands.north → meaning ≡ Ok hands
+
+-- ---- the line
+
+-- what is asked in this way, or the fault
+abbrev pub asked_as : {A : Type 0} → (A → Asked) → Result A Fault → Result Asked Fault
+asked_as way (Ok asked) = Ok (way asked)
+asked_as way (Err fault) = Err fault
+
+-- what the members of an object ask: a table, or else the cards of a position
+abbrev pub MeansObject : Members → Result Asked Fault → Type 0
+MeansObject members meaning =
+    MatchOption (table_deal members)
+    (MatchOption (solve_fields members) (meaning ≡ Err WrongField) (λ fields.
+    (asked : Result Question Fault) × MeansFields fields asked × (meaning ≡ asked_as Solve asked)))
+    (λ deal. (asked : Result FourHands Fault) × MeansDeal deal MeansTable asked × (meaning ≡ asked_as Table asked))
+
+-- what a line means: its length is looked at first, then that it is a JSON object, then its members
+abbrev pub Means : List ℕ → Result Asked Fault → Type 0
+Means line meaning =
+    MatchBool (nat_lt longest_line (length line)) (meaning ≡ Err LineTooLong)
+    (MatchOption (object_of line) (meaning ≡ Err NotAnObject) (λ members. MeansObject members meaning))

@@ -1,0 +1,56 @@
+-- What a line of a session means: what it wants of the job book, or its first fault.
+use Rattle.std.specs.Prelude.{◌≡◌, ℕ, ◌&&◌, Bool, List, [], ◌∷◌, nat_lt, length, codes, Option, None, Some, option_map, Result, Ok, Err, MatchOption, if◌then◌else◌}
+use Rattle.std.specs.Bool.{MatchBool}
+use Rattle.std.specs.Str.{bytes_eq}
+use Rattle.serde_json.specs.Data.{Members}
+use Rattle.dd_pbn.specs.Reading.{◌>>=◌}
+use Rattle.dd_solve.specs.declared.asked.Asked.{Asked}
+use Rattle.dd_wire.specs.declared.fault.Fault.{Fault}
+use Rattle.dd_wire.specs.declared.fault.Fault.TheVariants.{LineTooLong, NotAnObject}
+use Rattle.dd_wire.specs.declared.want.Want.{Want}
+use Rattle.dd_wire.specs.declared.want.Want.TheVariants.{Submit, Cancel, Fetch, Stop}
+use Rattle.dd_wire.specs.Requests.{MeansObject, object_of, keys_of, are_among, text_at, whole_number_at}
+use Rattle.dd_lines.specs.Line.{longest_line}
+
+-- the names of the fields of a call that names a job
+abbrev pub job_keys : List (List ℕ)
+job_keys = codes "do" ∷ codes "job" ∷ []
+
+-- and of a call that names nothing
+abbrev pub alone_keys : List (List ℕ)
+alone_keys = codes "do" ∷ []
+
+-- the number of the job that is named, where no other field is there
+abbrev pub named_job : Members → Option ℕ
+named_job members = (if are_among job_keys (keys_of members) then whole_number_at members (codes "job") else None)
+
+-- does `do` stand there alone?
+abbrev pub is_alone : Members → Bool
+is_alone members = are_among alone_keys (keys_of members)
+
+-- the call that only sessions know, where the members stand for one: by `do`, a cancel or a fetch with its job, or with
+-- leave a stop
+abbrev pub session_call : Bool → Members → Option Want
+session_call allow_stop members = do
+  task ← text_at members (codes "do")
+  if bytes_eq task (codes "cancel") then option_map Cancel (named_job members)
+      else if bytes_eq task (codes "fetch") then option_map Fetch (named_job members)
+      else if bytes_eq task (codes "stop") && (allow_stop && is_alone members) then Some Stop else None
+
+-- a request is submitted
+abbrev pub submitted : Result Asked Fault → Result Want Fault
+submitted (Ok asked) = Ok (Submit asked)
+submitted (Err fault) = Err fault
+
+-- what the members of an object want: such a call, or else that the request is submitted which they are
+abbrev pub MeansWanted : Bool → Members → Result Want Fault → Type 0
+MeansWanted allow_stop members meaning =
+    MatchOption (session_call allow_stop members)
+    ((asked : Result Asked Fault) × MeansObject members asked × (meaning ≡ submitted asked))
+    (λ want. meaning ≡ Ok want)
+
+-- what a line of a session means: its length is looked at first, then that it is a JSON object, then its members
+abbrev pub MeansWant : Bool → List ℕ → Result Want Fault → Type 0
+MeansWant allow_stop line meaning =
+    MatchBool (nat_lt longest_line (length line)) (meaning ≡ Err LineTooLong)
+    (MatchOption (object_of line) (meaning ≡ Err NotAnObject) (λ members. MeansWanted allow_stop members meaning))

@@ -1,0 +1,84 @@
+ghost use Rattle.std.specs.Prelude.{◌≡◌, ℕ, Bool, true, false, List, [], Result, Ok, Err, codes};
+ghost use Rattle.dd_cards.specs.declared.seat.Seat.TheVariants.{North, East};
+ghost use Rattle.dd_cards.specs.declared.strain.Strain.TheVariants.{Trump, Notrump};
+ghost use Rattle.dd_cards.specs.declared.suit.Suit.TheVariants.{Spades};
+ghost use Rattle.dd_pbn.specs.Examples.{eight_spades, two_suits};
+ghost use Rattle.dd_play.specs.Board.{board_of};
+ghost use Rattle.dd_wire.specs.Requests.{Means};
+ghost use Rattle.dd_wire.specs.Wants.{MeansWant};
+
+use crate::fault::Fault;
+use crate::want::Want;
+use dd_solve::Asked;
+
+/// A line has a meaning, and only one.
+pub fn one_meaning()
+    ensures some { (line : List ℕ) → (meaning : Result Asked Fault) × Means line meaning }
+    ensures only { (line : List ℕ) (a b : Result Asked Fault) → Means line a → Means line b →
+        a ≡ b }
+{}
+
+/// Lines worked by hand.
+pub fn worked_lines()
+    ensures best_cards { Means (codes "{\"do\":\"solve\",\"deal\":\"N:A.2.. K.A.. Q.K.. J.Q..\",\"trump\":4,\"first\":1,\"solutions\":2}")
+        (Ok (Asked.Solve record { board = board_of two_suits Notrump East []; solutions = 2 })) }
+    ensures every_card { Means (codes "{\"deal\":\"[Deal \\\"e:k4... aq... 65... 32...\\\"]\",\"played\":[],\"trump\":0,\"first\":0,\"solutions\":3,\"do\":\"solve\"}")
+        (Ok (Asked.Solve record { board = board_of eight_spades (Trump Spades) North []; solutions = 3 })) }
+    ensures table { Means (codes "{\"do\":\"table\",\"deal\":\"N:A.2.. K.A.. Q.K.. J.Q..\"}")
+        (Ok (Asked.Table two_suits)) }
+    ensures trump_of_a_table { Means (codes "{\"do\":\"table\",\"deal\":\"N:A.2.. K.A.. Q.K.. J.Q..\",\"trump\":4}")
+        (Err Fault.WrongField) }
+    ensures no_object { Means (codes "[]") (Err Fault.NotAnObject) }
+    ensures three_numbers { Means (codes "{\"do\":\"solve\",\"deal\":\"N:A.2.. K.A.. Q.K.. J.Q..\",\"trump\":4,\"first\":0,\"solutions\":3,\"played\":[[0,14,1]]}")
+        (Err Fault.WrongField) }
+    ensures left_out { Means (codes "{\"do\":\"solve\",\"deal\":\"N:A... - Q... J...\",\"trump\":4,\"first\":0,\"solutions\":3}")
+        (Err Fault.HandLeftOut) }
+    ensures two_aces { Means (codes "{\"do\":\"solve\",\"deal\":\"N:AA... K2... Q3... J4...\",\"trump\":4,\"first\":0,\"solutions\":3}")
+        (Err Fault.CardTwice) }
+    ensures no_trump { Means (codes "{\"do\":\"solve\",\"deal\":\"N:A.2.. K.A.. Q.K.. J.Q..\",\"trump\":5,\"first\":4,\"solutions\":3}")
+        (Err Fault.WrongTrump) }
+    ensures no_seat { Means (codes "{\"do\":\"solve\",\"deal\":\"N:A.2.. K.A.. Q.K.. J.Q..\",\"trump\":4,\"first\":4,\"solutions\":3,\"played\":[[4,14]]}")
+        (Err Fault.WrongFirst) }
+    ensures no_card { Means (codes "{\"do\":\"solve\",\"deal\":\"N:A.2.. K.A.. Q.K.. J.Q..\",\"trump\":4,\"first\":0,\"solutions\":4,\"played\":[[4,14]]}")
+        (Err Fault.WrongPlayed) }
+    ensures no_solutions { Means (codes "{\"do\":\"solve\",\"deal\":\"N:A.2.. K.A.. Q.K.. J.Q..\",\"trump\":4,\"first\":0,\"solutions\":4,\"played\":[[0,14]]}")
+        (Err Fault.WrongSolutions) }
+    ensures ace_led { Means (codes "{\"do\":\"solve\",\"deal\":\"N:A.2.. K.A.. Q.K.. J.Q..\",\"trump\":4,\"first\":0,\"solutions\":3,\"played\":[[0,14]]}")
+        (Err Fault.CardTwice) }
+{}
+
+/// A line of a session has a meaning, and only one, with leave to stop as without.
+pub fn one_want()
+    ensures some { (leave : Bool) (line : List ℕ) → (meaning : Result Want Fault) ×
+        MeansWant leave line meaning }
+    ensures only { (leave : Bool) (line : List ℕ) (a b : Result Want Fault) →
+        MeansWant leave line a → MeansWant leave line b → a ≡ b }
+{}
+
+/// Lines of a session worked by hand.
+pub fn worked_wants()
+    ensures fetch { (leave : Bool) → MeansWant leave (codes "{\"do\":\"fetch\",\"job\":0}")
+        (Ok (Want.Fetch 0)) }
+    ensures cancel { (leave : Bool) →
+        MeansWant leave (codes "{\"job\":18446744073709551615,\"do\":\"cancel\"}")
+        (Ok (Want.Cancel 18446744073709551615)) }
+    ensures stop { MeansWant true (codes "{\"do\":\"stop\"}") (Ok Want.Stop) }
+    ensures no_leave { MeansWant false (codes "{\"do\":\"stop\"}") (Err Fault.WrongField) }
+    ensures stop_of_a_job { MeansWant true (codes "{\"do\":\"stop\",\"job\":1}")
+        (Err Fault.WrongField) }
+    ensures no_job { MeansWant true (codes "{\"do\":\"fetch\"}") (Err Fault.WrongField) }
+    ensures job_and_deal { MeansWant true (codes "{\"do\":\"fetch\",\"job\":1,\"deal\":\"\"}")
+        (Err Fault.WrongField) }
+    ensures job_in_words { MeansWant true (codes "{\"do\":\"cancel\",\"job\":\"1\"}")
+        (Err Fault.WrongField) }
+    ensures past_64_bits { MeansWant true
+        (codes "{\"do\":\"cancel\",\"job\":18446744073709551616}") (Err Fault.WrongField) }
+    ensures no_task { MeansWant true (codes "{\"job\":1}") (Err Fault.WrongField) }
+    ensures no_object { MeansWant true (codes "[1]") (Err Fault.NotAnObject) }
+    ensures solve { (leave : Bool) → MeansWant leave
+        (codes "{\"do\":\"solve\",\"deal\":\"N:A.2.. K.A.. Q.K.. J.Q..\",\"trump\":4,\"first\":1,\"solutions\":2}")
+        (Ok (Want.Submit (Asked.Solve record { board = board_of two_suits Notrump East []; solutions = 2 }))) }
+    ensures table { (leave : Bool) → MeansWant leave
+        (codes "{\"do\":\"table\",\"deal\":\"N:A.2.. K.A.. Q.K.. J.Q..\"}")
+        (Ok (Want.Submit (Asked.Table two_suits))) }
+{}

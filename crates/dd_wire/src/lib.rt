@@ -1,0 +1,21 @@
+//! Requests as lines of JSON, and the replies that tell their answers.
+#![tactic(auto)]
+
+mod fault;
+mod laws;
+mod line_reply;
+mod reply;
+mod request_reader;
+mod want;
+mod want_reader;
+
+pub use fault::Fault;
+pub use laws::{one_meaning, one_want, worked_lines, worked_wants};
+pub use line_reply::reply_to_line;
+pub use reply::{
+    CARDS_ROOM, JOB_ROOM, TABLE_ROOM, push_cards, push_job, push_table, write_answer, write_fault,
+    write_numbered_fault, write_spent, write_table,
+};
+pub use request_reader::read_request;
+pub use want::Want;
+pub use want_reader::read_want;

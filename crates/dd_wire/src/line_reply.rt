@@ -1,0 +1,66 @@
+//! The reply to a line.
+ghost use Rattle.std.specs.Prelude.{◌≡◌, ◌≤◌, ◌⊎◌, IsSome};
+ghost use Rattle.arrayvec.specs.ArrayString.{array_string_len};
+ghost use Rattle.dd_wire.specs.Replies.{IsReply, asked_text, spent_text};
+
+use crate::reply::{write_answer, write_fault, write_spent, write_table};
+use crate::request_reader::read_request;
+use dd_lines::{LONGEST_REPLY, ReplyText};
+use dd_search::{Bounds, Budget, Endless};
+use dd_solve::{Asked, Request, TableRequest, solve, solve_table};
+use std::alloc::Global;
+
+/// The reply to a line of any length, without a line feed at its end.
+///
+/// The budget is the most positions that the search for the answer comes to, and for a table the search for each of its
+/// twenty results; `None` lets it go on to its end. A line whose search spends it is told so in place of an answer.
+pub fn reply_to_line<B: Bounds>(
+    alloc: Global,
+    line: &[u8],
+    table: &mut B,
+    budget: Option<u64>,
+) -> ReplyText
+    ensures text { IsReply budget line.now result.bytes }
+    ensures bound { array_string_len result ≤ LONGEST_REPLY }
+{
+    match (read_request(alloc, line), budget) {
+        (Ok(Asked::Solve(request)), Some(limit)) => reply_within(request, table, limit),
+        (Ok(Asked::Solve(request)), None) => reply_in_the_end(request, table),
+        (Ok(Asked::Table(request)), _) => table_reply(&request, table, budget),
+        (Err(fault), _) => write_fault(fault),
+    }
+}
+
+/// The answer to a request, or that the budget is spent.
+fn reply_within<B: Bounds>(request: Request, table: &mut B, limit: u64) -> ReplyText
+    ensures text { (result.bytes ≡ asked_text (Asked.Solve request)) ⊎ (result.bytes ≡ spent_text) }
+    ensures bound { array_string_len result ≤ LONGEST_REPLY }
+{
+    match solve(request, table, &mut Budget::new(limit)) {
+        Ok(solved) => write_answer(solved.answer()),
+        Err(_) => write_spent(),
+    }
+}
+
+/// The answer to a request, however long it takes.
+fn reply_in_the_end<B: Bounds>(request: Request, table: &mut B) -> ReplyText
+    ensures text { result.bytes ≡ asked_text (Asked.Solve request) }
+    ensures bound { array_string_len result ≤ LONGEST_REPLY }
+{
+    match solve(request, table, &mut Endless) {
+        Ok(solved) => write_answer(solved.answer()),
+        Err(_) => unreachable!(),
+    }
+}
+
+/// The results of a table, or that the search for one of them spent the budget.
+fn table_reply<B: Bounds>(request: &TableRequest, table: &mut B, budget: Option<u64>) -> ReplyText
+    ensures text { (result.bytes ≡ asked_text (Asked.Table request.now)) ⊎
+        (IsSome budget × (result.bytes ≡ spent_text)) }
+    ensures bound { array_string_len result ≤ LONGEST_REPLY }
+{
+    match solve_table(request, table, budget) {
+        Some(results) => write_table(&results),
+        None => write_spent(),
+    }
+}
