@@ -32,7 +32,7 @@ def breaches(edit, crate):
             found = texts[path].count(old)
             if found != 1:
                 yield at, f"the old: text stands {found} times in {crate}/{path}, and not once"
-            texts[path] = texts[path].replace(old, line[len("new:"):].removeprefix(" "))
+            texts[path] = texts[path].replace(old, line[len("new:") + line.startswith("new: "):])
             old, pairs = None, pairs + 1
     if old:
         yield at, "an old: line without its new: line"
