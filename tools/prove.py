@@ -79,7 +79,7 @@ def chains(uses):
     """Returns of each crate the bytes of sources along the longest way from it up to the program."""
     size = {}
     for name in uses:
-        walked = (os.path.join(at, it) for part in PARTS for at, _, names in os.walk(f"{TOP}/crates/{name}/{part}") for it in names)
+        walked = [os.path.join(at, it) for part in PARTS for at, _, names in os.walk(f"{TOP}/crates/{name}/{part}") for it in names]
         size[name] = sum(map(os.path.getsize, walked))
     found = {}
 
@@ -159,7 +159,8 @@ class Crate:
         os.makedirs(f"{self.tree}/crates/{name}/out")
         move_kept(self.own, f"{self.tree}/crates/{name}/out")
         with open(self.log, "wb") as log:
-            self.run = subprocess.Popen(["rt", "lib", "--jobs", str(jobs)], cwd=f"{self.tree}/crates/{name}", **how_started(log, group))
+            words = ["rt", "lib", "--jobs", str(jobs)]
+            self.run = subprocess.Popen(words, cwd=f"{self.tree}/crates/{name}", **how_started(log, group))
 
     def lay(self, name, parts):
         source, target = f"{TOP}/crates/{name}", f"{self.tree}/crates/{name}"
@@ -248,7 +249,10 @@ class Prover:
         with open(log, "wb") as file:
             # With no word the program ends at once, with status 2.
             subprocess.run(["rt", "run", "--cpu", self.form], cwd=os.path.dirname(OUT), **how_started(file, self.guard.pid))
-        if not re.search(r"^logic=proved|since the last proved build", read(log), re.M) or not os.access(built, os.X_OK):
+        said = read(log)
+        # A program of an earlier start may still be there where this one was proved and not linked.
+        is_new = re.search("^logic=proved", said, re.M) and os.path.isfile(built) and os.path.getmtime(built) > self.begin
+        if not is_new and "since the last proved build" not in said:
             self.fail(PROGRAM, log)
         self.done.add(PROGRAM)
         # What is edited from now on, or was while it was built, is newer.
@@ -284,7 +288,8 @@ def main(form):
     prover = Prover(form)
     for it in (signal.SIGINT, signal.SIGTERM, signal.SIGHUP):
         signal.signal(it, prover.interrupt)
-    say(f"proving the program's {len(prover.uses)} crates, {prover.most} at a time at most; an interrupted start goes on at the next")
+    many = f"{len(prover.uses)} crates, at most {prover.most} at a time"
+    say(f"proving the program's {many}; where it is interrupted the next start goes on")
     prover.libraries()
     shutil.rmtree(TREES, ignore_errors=True)
     prover.program()
