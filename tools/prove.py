@@ -264,7 +264,7 @@ class Prover:
     def fail(self, name, log):
         self.stop()
         print(*read(log).splitlines()[-20:], sep="\n", file=sys.stderr)
-        say(f"{name} is not proved, so the program was not built; the whole of its output is in {os.path.relpath(log, TOP)}")
+        say(f"proving and building {name} failed, so there is no new program; its whole output is in {os.path.relpath(log, TOP)}")
         sys.exit(1)
 
     def stop(self):
