@@ -93,13 +93,24 @@ def chains(uses):
     return found
 
 
+def number_in(path, pattern):
+    """Returns the number that the pattern finds in a file, or None."""
+    found = re.search(pattern, read(path), re.M)
+    return int(found[1]) if found else None
+
+
 def side_by_side():
-    """Returns how many may run at once."""
-    free = [1024 * int(it) for it in re.findall(r"^MemAvailable:\s+(\d+)", read("/proc/meminfo"), re.M)]
-    limit, held = read("/sys/fs/cgroup/memory.max"), read("/sys/fs/cgroup/memory.current")
-    if limit.strip().isdigit() and held.strip().isdigit():
-        free.append(int(limit) - int(held))
-    return max(1, min([len(os.sched_getaffinity(0)), *(it // SHARE for it in free)]))
+    """Returns how many may run at once: as many as there are processors, and each with its share of memory."""
+    group = "/sys/fs/cgroup"
+    processors = len(os.sched_getaffinity(0))
+    quota, period = number_in(f"{group}/cpu.max", r"^(\d+)"), number_in(f"{group}/cpu.max", r" (\d+)")
+    if quota and period:
+        processors = min(processors, quota // period)
+    free = 1024 * (number_in("/proc/meminfo", r"^MemAvailable:\s+(\d+)") or 0)
+    limit, held = number_in(f"{group}/memory.max", r"^(\d+)"), number_in(f"{group}/memory.stat", r"^anon (\d+)")
+    if limit and held is not None:
+        free = min(free, limit - held)
+    return max(1, min(processors, free // SHARE))
 
 
 def link(source, target):
