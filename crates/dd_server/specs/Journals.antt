@@ -1,4 +1,4 @@
--- What is left of a run.
+-- To be believed: what is left of a run.
 use Rattle.std.specs.Prelude.{◌≡◌, ℕ, List, length}
 use Rattle.dd_book.specs.Limits.{LimitsOf}
 use Rattle.dd_desk.specs.Events.{AnswersAreOwn, EventOf, IsLegal}
