@@ -1,0 +1,21 @@
+//! Duplicate scores of contracts (Laws of Duplicate Bridge 2017, Law 77) and par: what both sides get at least from an
+//! auction (Laws 17 to 22) in which all twenty double dummy results are seen.
+//!
+//! Codes are those of the DDS library's manual. Nothing here takes memory.
+#![tactic(auto)]
+
+mod bid;
+mod contract_score;
+mod contract_worth;
+mod doubling;
+mod order;
+mod results;
+mod vulnerable;
+
+pub use bid::Bid;
+pub use contract_score::points;
+pub use contract_worth::worth;
+pub use doubling::Doubling;
+pub use order::Order;
+pub use results::Results;
+pub use vulnerable::Vulnerable;
