@@ -6,3 +6,6 @@ pub mod Namers
 pub mod SafeStates
 pub mod SafeCalls
 pub mod Chosen
+pub mod PointOrder
+pub mod ScoreTests
+pub mod ParLemmas

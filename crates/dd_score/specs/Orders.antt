@@ -11,4 +11,4 @@ use Rattle.dd_score.specs.declared.order.Order.TheVariants.{Dealer, First}
 abbrev pub asked : Order → List Seat
 asked (Dealer dealer) = dealer ∷ seat_after dealer 1 ∷ seat_after dealer 2 ∷ seat_after dealer 3 ∷ []
 asked (First NorthSouth) = North ∷ South ∷ East ∷ West ∷ []
-asked (First EastWest) = East ∷ West ∷ North ∷ South ∷ []
+asked (First EastWest) = East ∷ West ∷ South ∷ North ∷ []

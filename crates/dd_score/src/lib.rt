@@ -9,6 +9,7 @@ mod contract_score;
 mod contract_worth;
 mod doubling;
 mod order;
+mod par_score;
 mod results;
 mod vulnerable;
 

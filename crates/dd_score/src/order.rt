@@ -1,4 +1,4 @@
-ghost use Rattle.std.specs.Prelude.{◌≡◌};
+ghost use Rattle.std.specs.Prelude.{◌≡◌, ◌∷◌, []};
 ghost use Rattle.dd_score.specs.Orders.{asked};
 
 use dd_cards::{Seat, Side};
@@ -10,15 +10,50 @@ pub enum Order {
     First(Side),
 }
 
+// The four seats, who is asked first standing first.
+#[derive(Clone, Copy)]
+pub(crate) struct Asked {
+    pub first: Seat,
+    pub second: Seat,
+    pub third: Seat,
+    pub fourth: Seat,
+}
+
 impl Order {
-    // The four seats, who is asked first standing first.
-    pub(crate) fn seats(self) -> [Seat; 4]
-        ensures { result ≡ asked self }
+    // Who is asked before whom.
+    pub(crate) fn asked(self) -> Asked
+        ensures { asked self ≡ result.first ∷ result.second ∷ result.third ∷ result.fourth ∷ [] }
     {
         match self {
-            Order::Dealer(dealer) => [dealer, dealer.after(1), dealer.after(2), dealer.after(3)],
-            Order::First(Side::NorthSouth) => [Seat::North, Seat::South, Seat::East, Seat::West],
-            Order::First(Side::EastWest) => [Seat::East, Seat::West, Seat::North, Seat::South],
+            Order::Dealer(dealer) => in_turn(
+                dealer,
+                dealer.after(1),
+                dealer.after(2),
+                dealer.after(3),
+            ),
+            Order::First(Side::NorthSouth) => in_turn(
+                Seat::North,
+                Seat::South,
+                Seat::East,
+                Seat::West,
+            ),
+            Order::First(Side::EastWest) => in_turn(
+                Seat::East,
+                Seat::West,
+                Seat::South,
+                Seat::North,
+            ),
         }
+    }
+}
+
+fn in_turn(first: Seat, second: Seat, third: Seat, fourth: Seat) -> Asked
+    ensures { result ≡ record { first = first; second = second; third = third; fourth = fourth } }
+{
+    Asked {
+        first,
+        second,
+        third,
+        fourth,
     }
 }
