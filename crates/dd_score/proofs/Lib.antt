@@ -9,3 +9,4 @@ pub mod Chosen
 pub mod PointOrder
 pub mod ScoreTests
 pub mod ParLemmas
+pub mod ListLemmas

@@ -7,3 +7,4 @@ pub mod Orders
 pub mod Auctions
 pub mod Values
 pub mod Stands
+pub mod ParContracts

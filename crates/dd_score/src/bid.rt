@@ -1,5 +1,5 @@
 ghost use Rattle.std.specs.Prelude.{◌≡◌, ◌+◌, ◌-◌, ◌*◌, ◌/◌, ◌%◌, ◌≤◌, ◌↔◌, IsSome, IfSome};
-ghost use Rattle.dd_score.specs.Bids.{level_of, strain_of};
+ghost use Rattle.dd_score.specs.Bids.{level_of, strain_of, bid_of};
 
 use dd_cards::{Strain, Suit};
 use std::marker::Model;
@@ -42,6 +42,23 @@ impl Bid {
         ensures { result ≡ number }
     {
         Bid { number }
+    }
+
+    /// The bid of a level, 1 to 7, in a strain.
+    pub fn new(level: u8, strain: Strain) -> Bid
+        requires { (1 ≤ level) × (level ≤ 7) }
+        ensures { result ≡ bid_of level strain }
+    {
+        let place = match strain {
+            Strain::Trump(Suit::Clubs) => 0,
+            Strain::Trump(Suit::Diamonds) => 1,
+            Strain::Trump(Suit::Hearts) => 2,
+            Strain::Trump(Suit::Spades) => 3,
+            Strain::Notrump => 4,
+        };
+        Bid {
+            number: 5 * (level - 1) + place + 1,
+        }
     }
 
     /// The bid's number, 1 to 35.

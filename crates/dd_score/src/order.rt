@@ -1,5 +1,6 @@
 ghost use Rattle.std.specs.Prelude.{◌≡◌, ◌∷◌, []};
 ghost use Rattle.dd_score.specs.Orders.{asked};
+ghost use Rattle.dd_score.specs.ParContracts.{place_in};
 
 use dd_cards::{Seat, Side};
 
@@ -43,6 +44,16 @@ impl Order {
                 Seat::South,
                 Seat::North,
             ),
+        }
+    }
+
+    // How many are asked before this seat; the seats of one side, where it is asked first, have one place.
+    pub(crate) fn place(self, seat: Seat) -> u8
+        ensures { result ≡ place_in self seat }
+    {
+        match self {
+            Order::Dealer(dealer) => (seat.code() + 4 - dealer.code()) % 4,
+            Order::First(side) => { if seat.side() == side { 0 } else { 1 } }
         }
     }
 }
