@@ -1,4 +1,5 @@
 ghost use Rattle.std.specs.Prelude.{◌≡◌, ◌∷◌, []};
+ghost use Rattle.dd_cards.specs.Seats.{seat_after};
 ghost use Rattle.dd_score.specs.Orders.{asked};
 ghost use Rattle.dd_score.specs.ParContracts.{place_in};
 
@@ -28,22 +29,12 @@ impl Order {
         match self {
             Order::Dealer(dealer) => in_turn(
                 dealer,
-                dealer.after(1),
-                dealer.after(2),
-                dealer.after(3),
+                dealer.left(),
+                dealer.partner(),
+                dealer.right(),
             ),
-            Order::First(Side::NorthSouth) => in_turn(
-                Seat::North,
-                Seat::South,
-                Seat::East,
-                Seat::West,
-            ),
-            Order::First(Side::EastWest) => in_turn(
-                Seat::East,
-                Seat::West,
-                Seat::South,
-                Seat::North,
-            ),
+            Order::First(Side::NorthSouth) => partners_first(Seat::North),
+            Order::First(Side::EastWest) => partners_first(Seat::East),
         }
     }
 
@@ -56,6 +47,13 @@ impl Order {
             Order::First(side) => { if seat.side() == side { 0 } else { 1 } }
         }
     }
+}
+
+// A seat and its partner before the other two.
+fn partners_first(seat: Seat) -> Asked
+    ensures { result ≡ record { first = seat; second = seat_after seat 2; third = seat_after seat 1; fourth = seat_after seat 3 } }
+{
+    in_turn(seat, seat.partner(), seat.left(), seat.right())
 }
 
 fn in_turn(first: Seat, second: Seat, third: Seat, fourth: Seat) -> Asked
