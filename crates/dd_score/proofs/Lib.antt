@@ -1,0 +1,12 @@
+pub mod PointLemmas
+pub mod TableLemmas
+pub mod WorthLemmas
+pub mod Strategies
+pub mod Namers
+pub mod SafeStates
+pub mod SafeCalls
+pub mod Chosen
+pub mod PointOrder
+pub mod ScoreTests
+pub mod ParLemmas
+pub mod ListLemmas

@@ -1,0 +1,10 @@
+pub mod Law77
+pub mod Vulnerability
+pub mod Tables
+pub mod Bids
+pub mod Worths
+pub mod Orders
+pub mod Auctions
+pub mod Values
+pub mod Stands
+pub mod ParContracts
