@@ -1,4 +1,4 @@
--- The auction (Laws of Duplicate Bridge 2017, Laws 17 to 22).
+-- To be believed: the auction (Laws of Duplicate Bridge 2017, Laws 17 to 22).
 use Rattle.std.specs.Prelude.{◌≡◌, ℕ, ◌+◌, ◌<◌, ◌≤◌, ◌==◌, ◌&&◌, nat_le, Bool, if◌then◌else◌}
 use Rattle.dd_cards.specs.declared.seat.Seat.{Seat}
 use Rattle.dd_cards.specs.declared.side.Side.{Side}

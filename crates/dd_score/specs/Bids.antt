@@ -1,4 +1,4 @@
--- Bids by their numbers, 1 to 35: one club, one diamond, one heart, one spade, one notrump, two clubs and so on.
+-- To be believed: bids by their numbers, 1 to 35: one club, one diamond, one heart, one spade, one notrump, two clubs and so on.
 use Rattle.std.specs.Prelude.{ℕ, zero, suc, ◌+◌, ◌-◌, ◌*◌, ◌/◌, ◌%◌}
 use Rattle.dd_cards.specs.declared.suit.Suit.TheVariants.{Spades, Hearts, Diamonds, Clubs}
 use Rattle.dd_cards.specs.declared.strain.Strain.{Strain}

@@ -1,4 +1,4 @@
--- The points of a contract (Laws of Duplicate Bridge 2017, Law 77).
+-- To be believed: the points of a contract (Laws of Duplicate Bridge 2017, Law 77).
 use Rattle.std.specs.Prelude.{ℕ, zero, suc, ◌+◌, ◌-◌, ◌*◌, ◌==◌, nat_le, Bool, true, false, if◌then◌else◌, ℤ, pos, neg_ℤ}
 use Rattle.dd_cards.specs.declared.suit.Suit.{Suit}
 use Rattle.dd_cards.specs.declared.suit.Suit.TheVariants.{Spades, Hearts, Diamonds, Clubs}

@@ -1,4 +1,4 @@
--- Who is asked before whom.
+-- To be believed: who is asked before whom.
 use Rattle.std.specs.Prelude.{List, [], ◌∷◌}
 use Rattle.dd_cards.specs.declared.seat.Seat.{Seat}
 use Rattle.dd_cards.specs.declared.seat.Seat.TheVariants.{North, East, South, West}

@@ -1,4 +1,4 @@
--- The par contracts: those worth par that no bid of the other side betters.
+-- To be believed: the par contracts: those worth par that no bid of the other side betters.
 use Rattle.std.specs.Prelude.{ℕ, zero, suc, ◌+◌, ◌-◌, ◌%◌, ◌==◌, ◌&&◌, ◌||◌, nat_lt, Bool, true, false, if◌then◌else◌, List, [], ◌∷◌, ◌++◌, Option, None, Some, ℤ}
 use Rattle.std.specs.Ordering.{int_eq}
 use mathlib.Core.Bool.{not}

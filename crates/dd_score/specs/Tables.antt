@@ -1,4 +1,4 @@
--- The twenty results of a deal, as five lists of four: strains by code, and in each North, East, South, West.
+-- To be believed: the twenty results of a deal, as five lists of four: strains by code, and in each North, East, South, West.
 use Rattle.std.specs.Prelude.{ℕ, nat_le, IsTrue, List, [], slice_index_or}
 use Rattle.std.specs.List.{list_all}
 use Rattle.dd_cards.specs.declared.seat.Seat.{Seat}

@@ -1,4 +1,4 @@
--- What an auction is worth when both sides see all results: the greatest score that North and South can make sure of.
+-- To be believed: what an auction is worth when both sides see all results: the greatest score that North and South can make sure of.
 use Rattle.std.specs.Prelude.{◌≡◌, ℕ, ◌==◌, Bool, true, false, if◌then◌else◌, List, ℤ, pos, int_le}
 use Rattle.std.specs.Int.{int_max, int_min}
 use Rattle.dd_cards.specs.declared.seat.Seat.{Seat}

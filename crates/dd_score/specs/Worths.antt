@@ -1,4 +1,4 @@
--- The score of a board in North and South's points, which are East and West's with the sign turned.
+-- To be believed: the score of a board in North and South's points, which are East and West's with the sign turned.
 use Rattle.std.specs.Prelude.{ℕ, ◌+◌, nat_le, Bool, if◌then◌else◌, List, ℤ, neg_ℤ}
 use Rattle.dd_cards.specs.declared.seat.Seat.{Seat}
 use Rattle.dd_cards.specs.declared.side.Side.{Side}
