@@ -82,7 +82,7 @@ impl<B: Drop> Cache<B> {
             next: PAGES,
             of_shapes,
             of_outlines,
-            deals: 1,
+            generation: 1,
             deal: Deal {
                 strain: 0,
                 north: 0,
