@@ -1,7 +1,7 @@
 #!/usr/bin/env bash
-# Deals the cards below noted depths anew and solves again (`redeal.rs`). (a) Entries that the search in plain Rust
-# (`bench/search/search.rs`, which follows `dd_search` move for move) notes on small deals, against exhaustive play. (b)
-# Full deals and the same with the cards below the depths of their value dealt anew: the program must give both one best
+# Deals the cards below noted depths anew and solves again (`tools/redeal.rs`). (a) Of the peer, the search in plain Rust
+# (`bench/peer`, which follows `dd_search` move for move): entries that it notes on small deals, against exhaustive play. (b) Of
+# the program: full deals and the same with the cards below the depths of their value dealt anew, to which it must give one best
 # score. Says how many were tried; ends with status 1 at a difference. Words: the number of entries (20000), and of full
 # deals (500).
 set -eu
@@ -11,7 +11,7 @@ deals=${2:-500}
 command -v rustc > /dev/null || { echo 'cases: the command rustc is missing' >&2; exit 1; }
 work=$(mktemp -d)
 trap 'rm -rf "$work"' EXIT
-rustc -C opt-level=3 --edition 2021 -o "$work/redeal" "$here/redeal.rs"
+rustc -C opt-level=3 --edition 2021 -o "$work/redeal" "$here/tools/redeal.rs"
 
 "$work/redeal" small "$entries"
 

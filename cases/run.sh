@@ -2,18 +2,19 @@
 # Runs the built program over recorded positions, and compares its replies with those of DDS 2.9: `written` are deals of up
 # to four cards a hand in the written form, `small` 600 positions of up to five, 0 to 3 cards on the trick, solutions 1 to
 # 3, `full` 40 opening leads of full deals, 8 of each strain, `tables` the twenty results of 20 full deals. Exhaustive play
-# (`play.rs`) answers all but the full deals too.
+# (`tools/play.rs`) answers all but the full deals too.
 set -eu
 here=$(cd -- "$(dirname -- "$0")" && pwd)
+data=$here/data
 for tool in cmp rustc; do
     command -v "$tool" > /dev/null || { echo "cases: the command $tool is missing" >&2; exit 1; }
 done
 work=$(mktemp -d)
 trap 'rm -rf "$work"' EXIT
 for name in written small full tables; do
-    "$here/../ddserve" solve < "$here/$name.jsonl" > "$work/replies"
-    cmp "$work/replies" "$here/$name.expected"
-    echo "$name: $(wc -l < "$here/$name.jsonl") replies agree with DDS"
+    "$here/../ddserve" solve < "$data/$name.jsonl" > "$work/replies"
+    cmp "$work/replies" "$data/$name.expected"
+    echo "$name: $(wc -l < "$data/$name.jsonl") replies agree with DDS"
 done
 # How the built program ends: its status and what it says.
 ends() { # STATUS TEXT COMMAND..
@@ -30,11 +31,11 @@ ends 0 'Usage: ddserve solve' "$ddserve" solve --help
 ends 2 "unrecognized subcommand 'resolve'" "$ddserve" resolve
 ends 2 '' bash -c '"$1" resolve 2>&-' - "$ddserve"
 ends 1 '^ddserve: read failed$' bash -c '"$1" solve < /' - "$ddserve"
-ends 1 '^ddserve: write failed$' bash -c '"$1" solve < "$2" > /dev/full' - "$ddserve" "$here/written.jsonl"
+ends 1 '^ddserve: write failed$' bash -c '"$1" solve < "$2" > /dev/full' - "$ddserve" "$data/written.jsonl"
 echo "endings: six commands end as they should"
-rustc -O --edition 2021 -o "$work/play" "$here/play.rs"
+rustc -O --edition 2021 -o "$work/play" "$here/tools/play.rs"
 for name in written small; do
-    "$work/play" < "$here/$name.jsonl" > "$work/replies"
-    cmp "$work/replies" "$here/$name.expected"
+    "$work/play" < "$data/$name.jsonl" > "$work/replies"
+    cmp "$work/replies" "$data/$name.expected"
     echo "$name: exhaustive play agrees"
 done

@@ -12,11 +12,11 @@ work=$(mktemp -d)
 trap 'rm -rf "$work"' EXIT
 mkdir "$work/copy"
 bash "$top/bench/workers/build.sh" "$work/copy"
-python3 - "$here" "$work" <<'PY'
+python3 - "$here/data" "$work" <<'PY'
 import json
 import sys
 
-here, work = sys.argv[1:]
+data, work = sys.argv[1:]
 
 
 def pairs(stem):
@@ -30,10 +30,10 @@ def cards(line):
     return max(len(hand.replace(".", "")) for hand in hands)
 
 
-small = [pair for pair in pairs(f"{here}/small") if 3 <= cards(pair[0]) <= 5] + pairs(f"{here}/six")
+small = [pair for pair in pairs(f"{data}/small") if 3 <= cards(pair[0]) <= 5] + pairs(f"{data}/six")
 jobs = [small[place % len(small)] for place in range(2_000)]
 # A full deal after each fifty.
-for number, pair in enumerate(pairs(f"{here}/full")):
+for number, pair in enumerate(pairs(f"{data}/full")):
     jobs.insert(51 * number + 50, pair)
 with open(f"{work}/jobs.jsonl", "w") as lines, open(f"{work}/jobs.expected", "w") as replies:
     for line, reply in jobs:

@@ -25,12 +25,12 @@ trap 'rm -rf "$work"' EXIT
 g++ -O2 -o "$work/dds" "$here/dds.cpp" -ldds
 "$top/ddserve" solve < /dev/null
 for cards in 1 4 6; do
-    python3 "$top/bench/deals.py" "$cards" 2000 --seed $((2000 + cards)) --requests > "$work/small$cards.jsonl"
+    python3 "$top/bench/tools/deals.py" "$cards" 2000 --seed $((2000 + cards)) --requests > "$work/small$cards.jsonl"
 done
 for cards in 6 8 9; do
-    python3 "$top/bench/deals.py" "$cards" 40 --seed $((1000 + cards)) --requests > "$work/$cards.jsonl"
+    python3 "$top/bench/tools/deals.py" "$cards" 40 --seed $((1000 + cards)) --requests > "$work/$cards.jsonl"
 done
-python3 "$top/bench/deals.py" 13 "$full" --seed "$seed" --requests > "$work/13.jsonl"
+python3 "$top/bench/tools/deals.py" 13 "$full" --seed "$seed" --requests > "$work/13.jsonl"
 sed 's/"solutions":3/"solutions":1/' "$work/13.jsonl" > "$work/one.jsonl"
 sed 's/"do":"solve"/"do":"table"/; s/,"trump".*}$/}/' "$work/13.jsonl" > "$work/tables.jsonl"
 

@@ -1,6 +1,6 @@
 #!/usr/bin/env bash
-# How many positions the search comes to, beside those on record (`positions.tsv`): 100 full deals from a fixed seed, 20 of
-# each strain, the scores of all leads, by the search in plain Rust (`search.rs`, which follows `dd_search` move for move)
+# How many positions the search comes to, beside those on record (`bench/data/positions.tsv`): 100 full deals from a fixed seed, 20 of
+# each strain, the scores of all leads, by the search in plain Rust (`bench/peer`, which follows `dd_search` move for move)
 # over a table of 16,384 shapes with up to 64 bounds each, nearly what the program's cache keeps, that is empty at each deal.
 # Prints by strain and for all deals the geometric mean and the mean of both, and their ratios. With `--record` it writes
 # the record anew.
@@ -11,10 +11,10 @@ for tool in python3 rustc; do
 done
 work=$(mktemp -d)
 trap 'rm -rf "$work"' EXIT
-rustc --cfg pages --check-cfg "cfg(pages)" -C opt-level=3 -C target-cpu=x86-64-v2 --edition 2021 -o "$work/search" "$here/search.rs"
-python3 "$here/../deals.py" 13 100 --seed 1013 > "$work/deals"
+rustc --cfg pages --check-cfg "cfg(pages)" -C opt-level=3 -C target-cpu=x86-64-v2 --edition 2021 -o "$work/search" "$here/../peer/search.rs"
+python3 "$here/../tools/deals.py" 13 100 --seed 1013 > "$work/deals"
 "$work/search" 16384 < "$work/deals" > "$work/found"
-python3 - "$work" "$here/positions.tsv" "${1:-}" <<'PY'
+python3 - "$work" "$here/../data/positions.tsv" "${1:-}" <<'PY'
 import math
 import sys
 

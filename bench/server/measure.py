@@ -5,7 +5,7 @@ import sys
 import time
 
 CASES = os.path.join(os.path.dirname(os.path.abspath(__file__)), "..", "..", "cases")
-sys.path.insert(0, os.path.join(CASES, "server"))
+sys.path.insert(0, os.path.join(CASES, "server", "clients"))
 from client import CLOSING, PROGRAM, STOP, Frames, Server, check, fetch, more_descriptors  # noqa: E402
 
 WORKERS = 4
@@ -67,7 +67,7 @@ def memory():
 
 
 def deals():
-    lines, expected = text(f"{CASES}/full.jsonl"), text(f"{CASES}/full.expected")
+    lines, expected = text(f"{CASES}/data/full.jsonl"), text(f"{CASES}/data/full.expected")
     count = lines.count("\n")
     least, differing = {}, 0
     for _ in range(runs):

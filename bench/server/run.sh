@@ -1,5 +1,5 @@
 #!/usr/bin/env bash
-# The built program as a server with 4 workers, by clients in Rust (`load.rs`). Requests a second for positions of one card and of
+# The built program as a server with 4 workers, by clients in Rust (`clients/load.rs`). Requests a second for positions of one card and of
 # six cards a hand, no deal twice, by 1, 8 and 64 connections, the greatest rate of several runs, each against a fresh program: a
 # request is a submit and the fetches until its job is done, the first at once, then 0.1 ms apart and each time twice as long, up
 # to 6.4 ms; then submits alone, of which some are refused where a client has 64 jobs open. Memory with 1 and with 1,000
@@ -18,8 +18,8 @@ export DDSERVE=${DDSERVE:-$top/ddserve} PYTHONDONTWRITEBYTECODE=1
 "$DDSERVE" --version > /dev/null
 work=$(mktemp -d)
 trap 'rm -rf "$work"' EXIT
-rustc -O --edition 2021 -o "$work/load" "$here/load.rs"
+rustc -O --edition 2021 -o "$work/load" "$here/clients/load.rs"
 for cards in 1 6; do
-    python3 "$top/bench/deals.py" "$cards" "$requests" --seed $((1700 + cards)) --requests > "$work/$cards.jsonl"
+    python3 "$top/bench/tools/deals.py" "$cards" "$requests" --seed $((1700 + cards)) --requests > "$work/$cards.jsonl"
 done
 python3 "$here/measure.py" "$runs" "$requests" "$work"

@@ -19,7 +19,7 @@ trap 'rm -rf "$work"' EXIT
 mkdir "$work/copy"
 bash "$here/build.sh" "$work/copy"
 g++ -O2 -o "$work/dds" "$here/dds.cpp" -ldds
-python3 "$top/bench/deals.py" 13 "$deals" --seed "$seed" --requests > "$work/deals.jsonl"
+python3 "$top/bench/tools/deals.py" 13 "$deals" --seed "$seed" --requests > "$work/deals.jsonl"
 
 python3 - "$runs" "$work/copy/workers" "$work/dds" "$work/deals.jsonl" <<'PY'
 import os

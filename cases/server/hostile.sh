@@ -14,8 +14,8 @@ need_python
 [ "$(ulimit -Hn)" = unlimited ] || [ "$(ulimit -Hn)" -ge 1300 ] || { echo "cases/server: 1,300 descriptors are needed, and the limit is $(ulimit -Hn)" >&2; exit 1; }
 for kind in "$@"; do
     case $kind in
-        passes | events) "$python" "$here/limits.py" "$kind" ;;
-        *) "$python" "$here/hostile.py" "$kind" ;;
+        passes | events) "$python" "$here/clients/limits.py" "$kind" ;;
+        *) "$python" "$here/clients/hostile.py" "$kind" ;;
     esac
 done
 echo "cases/server: $* withstood"

@@ -15,6 +15,6 @@ for clients in "$@"; do
         page) need_python && need_chromium ;;
         *) need_python ;;
     esac
-    "$python" "$here/$clients.py"
+    "$python" "$here/clients/$clients.py"
 done
 echo "cases/server: $* agree"

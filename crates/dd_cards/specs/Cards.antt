@@ -1,4 +1,4 @@
--- Cards, and a set of cards as their list in one order: suit by suit, and in a suit from the ace down.
+-- To be believed: cards, and a set of cards as their list in one order: suit by suit, and in a suit from the ace down.
 use Rattle.std.specs.Prelude.{ℕ, ◌+◌, ◌*◌, ◌%◌, ◌<◌, ◌==◌, ◌&&◌, ◌||◌, Bool, List, ◌++◌, map, filter}
 use Rattle.std.specs.List.{list_any}
 use mathlib.Core.Bool.{not}

@@ -1,4 +1,4 @@
--- Four hands, each the list of its cards in the order of the deck.
+-- To be believed: four hands, each the list of its cards in the order of the deck.
 use Rattle.std.specs.Prelude.{◌≡◌, ◌||◌, ℕ, Bool, true, List, length, filter}
 use Rattle.dd_cards.specs.declared.seat.Seat.{Seat}
 use Rattle.dd_cards.specs.declared.seat.Seat.TheVariants.{North, East, South, West}

@@ -1,4 +1,4 @@
--- Bit r of a mask stands for the rank r.
+-- To be believed: bit r of a mask stands for the rank r.
 use Rattle.std.specs.Prelude.{◌≡◌, ℕ, ◌+◌, ◌<◌, ◌^◌, ◌%◌, ◌==◌, Bool, List, [], ◌∷◌, filter}
 use Rattle.std.specs.Int.{bit_at}
 use Rattle.dd_cards.specs.Ranks.{all_ranks}

@@ -1,4 +1,4 @@
--- A holding is seen as the list of its ranks, highest first.
+-- To be believed: a holding is seen as the list of its ranks, highest first.
 use Rattle.std.specs.Prelude.{ℕ, zero, suc, ◌+◌, ◌≤◌, Bool, ◌||◌, ◌&&◌, ◌==◌, nat_le, List, [], ◌∷◌, filter}
 use Rattle.std.specs.List.{list_any}
 

@@ -1,3 +1,4 @@
+-- To be believed: the seats, their codes, and who sits where.
 use Rattle.std.specs.Prelude.{ℕ, zero, suc, Bool}
 use Rattle.dd_cards.specs.declared.seat.Seat.{Seat}
 use Rattle.dd_cards.specs.declared.seat.Seat.TheVariants.{North, East, South, West}

@@ -1,4 +1,4 @@
--- Two sides, each of two partners.
+-- To be believed: two sides, each of two partners.
 use Rattle.std.specs.Prelude.{Bool, true, false}
 use Rattle.dd_cards.specs.declared.seat.Seat.{Seat}
 use Rattle.dd_cards.specs.declared.seat.Seat.TheVariants.{North, East, South, West}

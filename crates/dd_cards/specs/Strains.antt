@@ -1,3 +1,4 @@
+-- To be believed: the strains and their codes.
 use Rattle.std.specs.Prelude.{ℕ}
 use Rattle.dd_cards.specs.declared.strain.Strain.{Strain}
 use Rattle.dd_cards.specs.declared.strain.Strain.TheVariants.{Trump, Notrump}

@@ -1,3 +1,4 @@
+-- To be believed: the suits and their codes.
 use Rattle.std.specs.Prelude.{ℕ, ◌-◌, ◌*◌}
 use Rattle.dd_cards.specs.declared.suit.Suit.{Suit}
 use Rattle.dd_cards.specs.declared.suit.Suit.TheVariants.{Spades, Hearts, Diamonds, Clubs}

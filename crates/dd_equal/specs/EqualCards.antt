@@ -1,4 +1,4 @@
--- Equal cards: cards of the hand to play, of one suit, with no card of another hand or the trick between them (DDS manual, futureTricks).
+-- To be believed: equal cards: cards of the hand to play, of one suit, with no card of another hand or the trick between them (DDS manual, futureTricks).
 use Rattle.std.specs.Prelude.{◌≡◌, true, ℕ, ◌&&◌, ◌||◌, Bool, List, ◌++◌, map, filter, nat_lt}
 use Rattle.std.specs.List.{list_any}
 use mathlib.Core.Bool.{not}

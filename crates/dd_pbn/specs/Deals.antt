@@ -1,4 +1,4 @@
--- The deal that a text means (PBN 2.1, tag Deal).
+-- To be believed: the deal that a text means (PBN 2.1, tag Deal).
 use Rattle.std.specs.Prelude.{◌≡◌, ℕ, ◌≤◌, ◌||◌, Bool, true, false, IsTrue, IsFalse, List, [], ◌∷◌, ◌++◌, map, filter, filter_map, codes}
 use Rattle.std.specs.List.{join_with_byte}
 use Rattle.dd_cards.specs.declared.seat.Seat.TheVariants.{North, East, South, West}

@@ -1,4 +1,4 @@
--- The bytes of a deal's text (PBN 2.1, tag Deal), letters in either case.
+-- To be believed: the bytes of a deal's text (PBN 2.1, tag Deal), letters in either case.
 use Rattle.std.specs.Prelude.{ℕ, ◌-◌, ◌==◌, ◌||◌, Bool, List, find, slice_index, codes, Option, IsTrue}
 use Rattle.std.specs.List.{list_all}
 use Rattle.std.specs.Char.{to_ascii_uppercase}

@@ -1,4 +1,4 @@
--- Reading a deal from left to right: what is seen, and the text after it. None where the text has not the form.
+-- To be believed: reading a deal from left to right: what is seen, and the text after it. None where the text has not the form.
 use Rattle.std.specs.Prelude.{◌≡◌, ℕ, ◌==◌, ◌||◌, Bool, true, false, List, [], ◌∷◌, length, find, Option, Some, None, Result, Ok, Err, if◌then◌else◌}
 use Rattle.std.specs.Char.{to_ascii_uppercase}
 use mathlib.Core.Bool.{not}

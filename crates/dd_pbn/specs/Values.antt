@@ -1,4 +1,4 @@
--- The form of the value of a tag Deal, and of the tag (PBN 2.1, tag Deal). A blank is a space or a tab.
+-- To be believed: the form of the value of a tag Deal, and of the tag (PBN 2.1, tag Deal). A blank is a space or a tab.
 use Rattle.std.specs.Prelude.{◌≡◌, ℕ, ◌<◌, ◌==◌, Bool, false, List, [], ◌∷◌, ◌++◌, map, length, codes, is_some, IsTrue, if◌then◌else◌}
 use Rattle.std.specs.List.{list_all}
 use Rattle.std.specs.Char.{to_ascii_uppercase}

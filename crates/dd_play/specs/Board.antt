@@ -1,4 +1,4 @@
--- A position, on plain sets of cards.
+-- To be believed: a position, on plain sets of cards.
 use Rattle.std.specs.Prelude.{◌≡◌, ℕ, ◌+◌, ◌<◌, ◌≤◌, true, List, length, nat_lt, if◌then◌else◌}
 use Rattle.dd_cards.specs.declared.seat.Seat.{Seat}
 use Rattle.dd_cards.specs.declared.seat.Seat.TheVariants.{North, East, South, West}

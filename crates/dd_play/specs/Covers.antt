@@ -1,4 +1,4 @@
--- One relation between games: the top cards of the one stand for those of the other, and the low cards only agree in number.
+-- To be believed: one relation between games: the top cards of the one stand for those of the other, and the low cards only agree in number.
 use Rattle.std.specs.Prelude.{◌≡◌, ◌≢◌, ℕ, ◌<◌, ◌≤◌, Bool, true, false, List, [], ◌∷◌, length, filter, nat_le, slice_index_or}
 use Rattle.dd_cards.specs.declared.seat.Seat.{Seat}
 use Rattle.dd_cards.specs.declared.suit.Suit.{Suit}

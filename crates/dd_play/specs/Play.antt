@@ -1,4 +1,4 @@
--- Which cards may be played (Laws of Duplicate Bridge 2017, 44A, 44C, 44D), and what playing one does (44B, 44G, 45).
+-- To be believed: which cards may be played (Laws of Duplicate Bridge 2017, 44A, 44C, 44D), and what playing one does (44B, 44G, 45).
 use Rattle.std.specs.Prelude.{List, [], ◌∷◌, ◌++◌, filter, length, Bool, ◌==◌, if◌then◌else◌}
 use Rattle.dd_cards.specs.PlayingCard.{PlayingCard}
 use Rattle.dd_cards.specs.Cards.{is_of, without}

@@ -1,4 +1,4 @@
--- A relation between games, each a side and a position, under which the second side does at least as well.
+-- To be believed: a relation between games, each a side and a position, under which the second side does at least as well.
 use Rattle.std.specs.Prelude.{◌≡◌, ◌≤◌, true, false, []}
 use Rattle.dd_cards.specs.PlayingCard.{PlayingCard}
 use Rattle.dd_cards.specs.Cards.{has_card}

@@ -1,4 +1,4 @@
--- Who wins a trick (Laws of Duplicate Bridge 2017, 44E and 44F).
+-- To be believed: who wins a trick (Laws of Duplicate Bridge 2017, 44E and 44F).
 use Rattle.std.specs.Prelude.{ℕ, ◌&&◌, Bool, false, List, [], ◌∷◌, filter, nat_le}
 use Rattle.std.specs.List.{list_all, position_or_len}
 use Rattle.dd_cards.specs.declared.seat.Seat.{Seat}

@@ -1,4 +1,4 @@
--- The tricks that a side takes from here on when both sides play as well as can be, by playing every legal card.
+-- To be believed: the tricks that a side takes from here on when both sides play as well as can be, by playing every legal card.
 use Rattle.std.specs.Prelude.{ℕ, zero, suc, ◌+◌, ◌-◌, List, [], ◌∷◌, map, fold, max, min, ◌&&◌, if◌then◌else◌, Option, None, Some}
 use Rattle.dd_cards.specs.declared.seat.Seat.{Seat}
 use Rattle.dd_cards.specs.PlayingCard.{PlayingCard}

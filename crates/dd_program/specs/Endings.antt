@@ -1,4 +1,4 @@
--- How the program ends, and what it leaves of its streams.
+-- To be believed: how the program ends, and what it leaves of its streams.
 use Rattle.std.specs.Prelude.{◌≡◌, ◌⊎◌, ℕ, List, [], Option, Result, Ok, Err, Vec, String, codes, map, string_bytes, decimal, ◌++◌}
 use Rattle.std.specs.Io.KnownBytes.{Appends}
 use Rattle.clap.specs.Kinds.{IsAmong}

@@ -1,4 +1,4 @@
--- The program's command, as `clap` sees it.
+-- To be believed: the program's command, as `clap` sees it.
 use Rattle.std.specs.Prelude.{◌≡◌, ◌<◌, ◌^◌, ℕ, true, false, pos, List, [], ◌∷◌, Option, Some, IfSome, IsSome, option_map, codes}
 use Rattle.std.specs.Str.Parse.{IsNumeral, digits_value, without_leading_plus}
 use Rattle.dd_shard.specs.declared.shard.TheConstants.{MOST_SHAPES}

@@ -1,4 +1,4 @@
--- What a command line of `serve` asks for.
+-- To be believed: what a command line of `serve` asks for.
 use Rattle.std.specs.Prelude.{◌≡◌, ◌<◌, ◌^◌, ◌⊎◌, ◌&&◌, ℕ, List, [], ◌∷◌, Bool, true, false, Option, Some, None, codes, nat_le, option_map, if◌then◌else◌, unwrap_or, string_bytes}
 use Rattle.std.specs.Str.Parse.{digits_value, without_leading_plus}
 use Rattle.clap.specs.Words.{App, Row, first_of, one_of, subcommand_of}

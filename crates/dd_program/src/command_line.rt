@@ -68,7 +68,9 @@ pub fn given_arguments(rt: &(impl Env + AllocGlobal)) -> Result<Vec<String>, Arg
         Ok(arguments) => arguments
             .collect(rt.alloc())
             .map_err(|_| ArgumentsFault::OutOfMemory),
-        Err(error) if error.kind() == io::ErrorKind::OutOfMemory => Err(ArgumentsFault::OutOfMemory),
+        Err(error) if error.kind() == io::ErrorKind::OutOfMemory => Err(
+            ArgumentsFault::OutOfMemory,
+        ),
         Err(_) => Err(ArgumentsFault::NotText),
     }
 }

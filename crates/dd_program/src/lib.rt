@@ -7,6 +7,8 @@ mod help;
 mod run;
 mod serving;
 
-pub use command_line::{Args, MOST_WORKERS, VERSION, ArgumentsFault, given_arguments, not_text, read_args};
+pub use command_line::{
+    Args, ArgumentsFault, MOST_WORKERS, VERSION, given_arguments, not_text, read_args,
+};
 pub use ending::Ending;
 pub use run::run_program;

@@ -1,4 +1,4 @@
--- Alike positions: one is the other with other ranks, and perhaps with the seats turned.
+-- To be believed: alike positions: one is the other with other ranks, and perhaps with the seats turned.
 use Rattle.std.specs.Prelude.{◌≡◌, ℕ, true, [], nat_le}
 use Rattle.dd_cards.specs.declared.seat.Seat.{Seat}
 use Rattle.dd_cards.specs.PlayingCard.{PlayingCard}

@@ -1,4 +1,4 @@
--- A position that stands with depths for all positions that it covers.
+-- To be believed: a position that stands with depths for all positions that it covers.
 use Rattle.std.specs.Prelude.{◌≡◌}
 use Rattle.dd_play.specs.Board.{Board}
 use Rattle.dd_rank.specs.Depths.{FourDepths, depth_in, Covers}

@@ -1,4 +1,4 @@
--- A position covers another at depths: the same lengths, and the same holders of the highest cards of each suit.
+-- To be believed: a position covers another at depths: the same lengths, and the same holders of the highest cards of each suit.
 use Rattle.std.specs.Prelude.{◌≡◌, ℕ, ◌<◌, ◌≤◌, ◌&&◌, Bool, true, List, [], ◌++◌, length, filter, nat_lt}
 use Rattle.dd_cards.specs.declared.seat.Seat.{Seat}
 use Rattle.dd_cards.specs.declared.seat.Seat.TheVariants.{North, East, South, West}

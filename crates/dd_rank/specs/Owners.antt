@@ -1,4 +1,4 @@
--- Who owns the cards that are left, suit by suit: all that a position's class of alike ones depends on beside strain and leader.
+-- To be believed: who owns the cards that are left, suit by suit: all that a position's class of alike ones depends on beside strain and leader.
 use Rattle.std.specs.Prelude.{List, Option, None, Some, if◌then◌else◌}
 use Rattle.std.specs.List.{filter_map}
 use Rattle.dd_cards.specs.declared.seat.Seat.{Seat}

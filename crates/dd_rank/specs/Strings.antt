@@ -1,4 +1,4 @@
--- The owner strings of a start of a trick: who holds the cards that are left, suit by suit, with the seats counted from the leader.
+-- To be believed: the owner strings of a start of a trick: who holds the cards that are left, suit by suit, with the seats counted from the leader.
 use Rattle.std.proofs.Common.{refl, eqb-true}
 use Rattle.std.specs.Prelude.{◌≡◌, ◌&&◌, true, false, ℕ, ◌+◌, ◌-◌, ◌*◌, ◌/◌, ◌%◌, ◌^◌, bit_xor, bit_and, nat_eq, ◌==◌, Bool, List, [], ◌∷◌, map}
 use Rattle.std.specs.Cmp.{IsEquivalence, IsPartialEquivalence, partial_equiv_from_equiv, and_equiv, on_equiv, nat_eq_equiv}

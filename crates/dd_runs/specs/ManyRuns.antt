@@ -1,4 +1,4 @@
--- Runs that follow one another in one process: each has a book and a journal of its own, and all share one table.
+-- To be believed: runs that follow one another in one process: each has a book and a journal of its own, and all share one table.
 use Rattle.std.specs.Prelude.{◌≡◌, ℕ, false, List, [], ◌∷◌, ◌++◌, nat_eq, Option, if◌then◌else◌}
 use Rattle.dd_book.specs.declared.call.Call.{Call}
 use Rattle.dd_book.specs.declared.call.Reply.{Reply}

@@ -1,4 +1,4 @@
--- Which steps can come: so the law of all runs isn't kept by there being none.
+-- To be believed: which steps can come: so the law of all runs isn't kept by there being none.
 use Rattle.std.specs.Prelude.{◌≡◌, ℕ, ◌≤◌, [], ◌∷◌, slice_get}
 use Rattle.std.specs.declared.option.Option.TheVariants.{None, Some}
 use Rattle.dd_play.specs.Board.{Board}

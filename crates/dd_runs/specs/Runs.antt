@@ -1,4 +1,4 @@
--- Every run of a shared job book and a shared table, and what holds of it.
+-- To be believed: every run of a shared job book and a shared table, and what holds of it.
 use Rattle.std.specs.Prelude.{◌≡◌, ℕ, false, List, [], ◌∷◌, ◌++◌, map, nat_eq, Contains, if◌then◌else◌}
 use Rattle.std.specs.declared.option.Option.{Option}
 use Rattle.std.specs.declared.option.Option.TheVariants.{None, Some}

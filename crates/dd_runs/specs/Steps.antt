@@ -1,4 +1,4 @@
--- What any actor may do in one step, and what becomes of the world.
+-- To be believed: what any actor may do in one step, and what becomes of the world.
 use Rattle.std.specs.Prelude.{◌≡◌, ℕ, ◌≤◌, ◌⊎◌, List, [], ◌∷◌, ◌++◌, length, slice_get}
 use Rattle.std.specs.declared.option.Option.{Option}
 use Rattle.std.specs.declared.option.Option.TheVariants.{Some}

@@ -4,10 +4,10 @@
 mod accepting;
 mod args;
 mod connection;
-mod server_state;
 mod open_streams;
 mod returned;
 mod server;
+mod server_state;
 mod session_stream;
 mod stop;
 mod working;

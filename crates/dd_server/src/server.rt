@@ -6,8 +6,8 @@ ghost use Rattle.dd_server.specs.ServeArgs.{HasTableSize};
 
 use crate::accepting::accept_connections;
 use crate::args::{ServeArgs, ServeFault};
-use crate::server_state::ServerState;
 use crate::returned::Returned;
+use crate::server_state::ServerState;
 use crate::stop::Stop;
 use crate::working::start_workers;
 use dd_book::Limits;

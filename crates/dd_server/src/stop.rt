@@ -2,8 +2,8 @@
 use crate::open_streams::OpenStreams;
 use dd_book::Reply;
 use dd_desk::Fault;
-use dd_wire::Want;
 use dd_session::BookPort;
+use dd_wire::Want;
 use std::alloc::Global;
 use std::io;
 use std::net::{Shutdown, TcpListener, TcpStream};

@@ -1,4 +1,4 @@
--- What a port tells of the book behind it.
+-- To be believed: what a port tells of the book behind it.
 use Rattle.std.specs.Prelude.{◌≡◌, ℕ, List, [], ◌∷◌, ◌++◌, length, drop, Result, Ok, Err}
 use Rattle.dd_book.specs.declared.call.Call.{Call}
 use Rattle.dd_book.specs.declared.call.Reply.{Reply}

@@ -1,4 +1,4 @@
--- What a shard keeps: shapes, last used first, each with covers and bounds of the values of the positions that they cover.
+-- To be believed: what a shard keeps: shapes, last used first, each with covers and bounds of the values of the positions that they cover.
 use Rattle.std.specs.Prelude.{◌≡◌, ◌≢◌, ℕ, ◌≤◌, ◌⊎◌, List, [], ◌∷◌, ◌++◌, length, take, min, max, Contains, Option, None, Some}
 use Rattle.dd_cards.specs.declared.suit.Suit.{Suit}
 use Rattle.dd_play.specs.Board.{Board, IsBoard}

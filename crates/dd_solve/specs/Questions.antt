@@ -1,4 +1,4 @@
--- What a request to solve asks, and what answers it.
+-- To be believed: what a request to solve asks, and what answers it.
 use Rattle.std.specs.Prelude.{ℕ, List}
 use Rattle.dd_play.specs.Board.{Board}
 use Rattle.dd_solve.specs.ScoredClasses.{ScoredClass, answer as answer_of}

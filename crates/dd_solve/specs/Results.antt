@@ -1,4 +1,4 @@
--- The twenty results of a deal: the tricks of each declarer in each strain (DDS manual, CalcDDtable).
+-- To be believed: the twenty results of a deal: the tricks of each declarer in each strain (DDS manual, CalcDDtable).
 use Rattle.std.specs.Prelude.{◌≡◌, ℕ, ◌-◌, List, [], ◌∷◌, length, map, slice_index_or}
 use Rattle.std.specs.List.{flat_map, range_with_len}
 use Rattle.dd_cards.specs.declared.seat.Seat.{Seat}

@@ -1,4 +1,4 @@
--- The answer to a position: every class of equal cards that may be played, with the tricks that its side wins (DDS manual, SolveBoard
+-- To be believed: the answer to a position: every class of equal cards that may be played, with the tricks that its side wins (DDS manual, SolveBoard
 -- with target -1: futureTricks).
 use Rattle.std.specs.Prelude.{ℕ, ◌==◌, List, [], ◌∷◌, map, filter, take, nat_le, if◌then◌else◌}
 use Rattle.std.specs.List.{flat_map, list_all}

@@ -1,4 +1,4 @@
--- What the front of a table keeps: exact values of positions at the start of a trick, one in a cell.
+-- To be believed: what the front of a table keeps: exact values of positions at the start of a trick, one in a cell.
 use Rattle.std.specs.Prelude.{◌≡◌, ℕ, ◌<◌, ◌⊎◌, List, slice_index_or, Option, None, Some}
 use Rattle.dd_play.specs.Board.{Board, IsBoard}
 use Rattle.dd_play.specs.Value.{leaders_tricks}

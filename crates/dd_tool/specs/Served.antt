@@ -1,4 +1,4 @@
--- What the line tool has served of the lines of a stream. The budget is that of each line.
+-- To be believed: what the line tool has served of the lines of a stream. The budget is that of each line.
 use Rattle.std.specs.Prelude.{◌≡◌, ℕ, List, [], ◌∷◌, ◌++◌, Option}
 use Rattle.std.specs.Io.KnownBytes.{Consumes, Appends, IsAtEnd}
 use Rattle.dd_lines.specs.CountedDevices.{bytes_of}

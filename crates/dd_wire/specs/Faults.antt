@@ -1,3 +1,4 @@
+-- To be believed: the numbers of the faults of a line.
 use Rattle.std.specs.Prelude.{ℕ}
 use Rattle.dd_solve.specs.declared.fault_numbers.TheConstants.{CARD_TWICE, DEAL_TEXT, HAND_LEFT_OUT, LINE_TOO_LONG, NOT_AN_OBJECT, NO_CARD, OUT_OF_MEMORY, UNEVEN_HANDS, WRONG_FIELD, WRONG_FIRST, WRONG_PLAYED, WRONG_SOLUTIONS, WRONG_TRUMP}
 use Rattle.dd_wire.specs.declared.fault.Fault.{Fault}

@@ -1,4 +1,4 @@
--- The text of a reply: JSON without spaces, keys in the order of their bytes.
+-- To be believed: the text of a reply: JSON without spaces, keys in the order of their bytes.
 use Rattle.std.specs.Prelude.{◌≡◌, ℕ, ◌+◌, ◌*◌, ◌<◌, ◌≤◌, ◌⊎◌, List, ◌++◌, map, length, codes, decimal, Option, IsSome, Result, Ok, Err}
 use Rattle.std.specs.List.{join_with_byte, range_with_len, slice_range}
 use Rattle.dd_cards.specs.Suits.{suit_code}

@@ -1,4 +1,4 @@
--- What a request line means: the position and the number of cards that it asks for, or its first fault.
+-- To be believed: what a request line means: the position and the number of cards that it asks for, or its first fault.
 use Rattle.std.specs.Prelude.{◌≡◌, ℕ, ◌<◌, ◌⊎◌, ◌&&◌, Bool, List, [], ◌∷◌, map, nat_lt, nat_le, length, codes, Option, None, Some, option_and_then, Result, Ok, Err, MatchOption, if◌then◌else◌}
 use Rattle.std.specs.Bool.{MatchBool}
 use Rattle.std.specs.List.{list_any, list_all}

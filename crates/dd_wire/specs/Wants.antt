@@ -1,4 +1,4 @@
--- What a line of a session means: what it wants of the job book, or its first fault.
+-- To be believed: what a line of a session means: what it wants of the job book, or its first fault.
 use Rattle.std.specs.Prelude.{◌≡◌, ℕ, ◌&&◌, Bool, List, [], ◌∷◌, nat_lt, length, codes, Option, None, Some, option_map, Result, Ok, Err, MatchOption, if◌then◌else◌}
 use Rattle.std.specs.Bool.{MatchBool}
 use Rattle.std.specs.Str.{bytes_eq}

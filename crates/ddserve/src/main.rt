@@ -15,5 +15,13 @@ fn main(rt: HostRuntime) -> ExitCode {
     let mut output = CountedDevice::new(io::writer(&rt));
     let mut errors = CountedDevice::new(rt.stderr());
     let arguments = given_arguments(&rt);
-    run_program(&rt, rt.alloc(), arguments, &mut input, &mut output, &mut errors).exit_code()
+    run_program(
+        &rt,
+        rt.alloc(),
+        arguments,
+        &mut input,
+        &mut output,
+        &mut errors,
+    )
+    .exit_code()
 }

@@ -2,8 +2,8 @@
 use dd_book::{Call, JobState, Outcome, Reply};
 use dd_cards::{Card, Hands, Rank, Seat, Strain, Suit};
 use dd_play::Position;
-use dd_solve::{Asked, Request, Solved, SolvedPart, TableRequest, solve, solve_part};
 use dd_search::{Endless, NoTable};
+use dd_solve::{Asked, Request, Solved, SolvedPart, TableRequest, solve, solve_part};
 use std::alloc::{AllocError, Global};
 
 /// What is asked.

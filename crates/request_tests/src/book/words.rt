@@ -5,8 +5,8 @@ use crate::book::made::hands;
 use dd_book::{Call, JobState, Outcome, Reply};
 use dd_cards::{Card, Hands, Rank, Seat, Strain, Suit};
 use dd_play::Position;
-use dd_solve::{Asked, Request, TableRequest, solve, solve_part};
 use dd_search::{Endless, NoTable};
+use dd_solve::{Asked, Request, TableRequest, solve, solve_part};
 use std::alloc::{AllocError, Global};
 
 // A suit each: North's spades, East's hearts, South's diamonds, West's clubs.

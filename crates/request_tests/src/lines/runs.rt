@@ -1,8 +1,8 @@
 //! A run over devices of memory.
 use crate::devices::{Pieces, Taker};
-use dd_tool::solve_lines;
 use dd_lines::{CountedDevice, LineFault};
 use dd_search::NoTable;
+use dd_tool::solve_lines;
 use std::alloc::Global;
 
 /// How a run over these devices ended, the failed calls of its reader and of its writer, how many bytes were not read,
@@ -35,7 +35,14 @@ pub fn run_within(
         room,
     });
     let mut buffer = [0; 4_096];
-    let result = solve_lines(alloc, &mut reader, &mut writer, &mut NoTable, budget, &mut buffer);
+    let result = solve_lines(
+        alloc,
+        &mut reader,
+        &mut writer,
+        &mut NoTable,
+        budget,
+        &mut buffer,
+    );
     Outcome {
         result,
         failed_reads: reader.failures(),

@@ -5,8 +5,8 @@ use dd_cards::{Card, Rank, Seat, Strain, Suit};
 use dd_pbn::read_deal;
 use dd_play::{Interval, Position, TrickStart};
 use dd_rank::Depths;
-use dd_solve::{Answer, Request, solve};
 use dd_search::{Bounds, Budget, Endless, Halt, NoTable};
+use dd_solve::{Answer, Request, solve};
 
 // Counts the looks and the notes, and keeps the last interval.
 #[derive(Drop)]

@@ -2,9 +2,9 @@
 use dd_cards::{Seat, Strain};
 use dd_pbn::read_deal;
 use dd_play::{Position, TrickStart};
+use dd_search::{Bounds, Endless};
 use dd_solve::{Request, solve};
 use dd_wire::write_answer;
-use dd_search::{Bounds, Endless};
 use std::process::Abort;
 
 /// A king that is caught before ace and queen: North's side takes two tricks, whatever card is led.

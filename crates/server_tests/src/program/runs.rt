@@ -1,5 +1,5 @@
 use crate::program::devices::{Devices, Outcome, SOUND, run_line, run_over};
-use dd_program::{Ending, VERSION, ArgumentsFault, given_arguments};
+use dd_program::{ArgumentsFault, Ending, VERSION, given_arguments};
 use std::alloc::{AllocError, Global};
 use std::env::FillError;
 use std::net::{Net, TcpListener, TcpStream};
@@ -193,7 +193,13 @@ fn a_device_that_fails_is_named_and_the_run_ends_with_1(rt: HostRuntime) -> Resu
 fn words_that_cannot_be_had_are_a_bad_line_or_want_of_memory(rt: HostRuntime) {
     let outcome = run_over(&rt, rt.alloc(), Err(ArgumentsFault::NotText), ace(), SOUND);
     assert!(rt; is_refused(&outcome, "a word of the command line is not UTF-8 text"));
-    let outcome = run_over(&rt, rt.alloc(), Err(ArgumentsFault::OutOfMemory), ace(), SOUND);
+    let outcome = run_over(
+        &rt,
+        rt.alloc(),
+        Err(ArgumentsFault::OutOfMemory),
+        ace(),
+        SOUND,
+    );
     let said = "ddserve: out of memory\n";
     assert!(rt; has_failed(&outcome, Ending::OutOfMemory, "", said));
     assert_eq!(rt; outcome.unread, ace().len());

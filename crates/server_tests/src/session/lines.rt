@@ -1,7 +1,7 @@
 //! What follows a line.
 use crate::session::words::plain;
-use dd_wire::Want;
 use dd_session::{Session, Step};
+use dd_wire::Want;
 use request_tests::rows::{after_bar, before_bar};
 use std::alloc::{AllocError, Global};
 use std::test::Fail;

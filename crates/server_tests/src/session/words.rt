@@ -1,7 +1,7 @@
 //! What follows a line, in words.
+use dd_session::Step;
 use dd_solve::Asked;
 use dd_wire::Want;
-use dd_session::Step;
 use std::alloc::{AllocError, Global};
 
 /// A step in a word: what is wanted, with the job that it names, or the text that is said.

@@ -1,11 +1,11 @@
 //! Deals the cards below noted depths anew. With the word `small` and a number: so many entries that the search of
-//! `bench/search` notes on random deals of three to five cards a hand. Each is an interval with depths of a position; its
+//! `bench/peer` notes on random deals of three to five cards a hand. Each is an interval with depths of a position; its
 //! cards below the depths are dealt anew, lengths kept, all ranks spread and the seats turned, and exhaustive play says
 //! whether the value of what came of it is in the interval. With `full` and a number: request lines for so many random full
 //! deals, each followed by the one with the cards below the depths of its value dealt anew, whose best score is the same.
 //! An entry or a deal of which nothing came but itself is not counted. The seed is fixed.
 #[allow(dead_code)]
-#[path = "../bench/search/search.rs"]
+#[path = "../../bench/peer/search.rs"]
 mod search;
 mod deals;
 

@@ -14,7 +14,7 @@ import subprocess
 import sys
 import time
 
-CASES = os.path.dirname(os.path.dirname(os.path.abspath(__file__)))
+CASES = os.path.dirname(os.path.dirname(os.path.dirname(os.path.abspath(__file__))))
 PROGRAM = os.environ.get("DDSERVE") or os.path.join(os.path.dirname(CASES), "ddserve")
 ONE_CARD = '{"do":"solve","deal":"N:A... K... Q... J...","trump":4,"first":0,"solutions":3}'
 ONE_CARD_REPLY = '{"cards":[{"equals":0,"rank":14,"score":1,"suit":0}]}'
@@ -35,7 +35,7 @@ def check(what, got, wanted):
 
 def recorded(name, count=None):
     """Request lines with the line tool's replies."""
-    with open(os.path.join(CASES, f"{name}.jsonl")) as requests, open(os.path.join(CASES, f"{name}.expected")) as replies:
+    with open(os.path.join(CASES, "data", f"{name}.jsonl")) as requests, open(os.path.join(CASES, "data", f"{name}.expected")) as replies:
         return list(zip(requests.read().splitlines(), replies.read().splitlines(), strict=True))[:count]
 
 

@@ -1,11 +1,11 @@
-//! Each of the quick tricks of `bench/search` alone, with the others left out, so that no fault of one hides behind another. On
+//! Each of the quick tricks of `bench/peer` alone, with the others left out, so that no fault of one hides behind another. On
 //! random deals of two to five cards a hand each question is asked that the rule may answer: at a start of a trick, or after
 //! each lead. Exhaustive play says whether the answer is right; then the cards below those on which it rests are dealt anew, a
 //! few times, and it has to be right of these deals too. A number says how many answers of each rule are tried. With the word
 //! `broken`: each form that is known to be wrong, and each rule with the lowest card of a suit on which it rests left out,
 //! until an answer is wrong. The seed is fixed.
 #[allow(dead_code)]
-#[path = "../bench/search/search.rs"]
+#[path = "../../bench/peer/search.rs"]
 mod search;
 mod deals;
 

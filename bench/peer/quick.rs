@@ -1,4 +1,4 @@
-//! The quick tricks of `dd_quick` in plain Rust. `RULES` says which are counted, so that `cases/rules.rs` can try each alone: a
+//! The quick tricks of `dd_quick` in plain Rust. `RULES` says which are counted, so that `cases/tools/rules.rs` can try each alone: a
 //! search counts `ALL`. What is left out or added is known when it is compiled, and costs nothing.
 use super::{Card, Interval, Position, SEATS, SUITS, Seat, Strain, Suit, above, below, highest, with};
 
@@ -30,7 +30,7 @@ pub const ALL: u32 = RUNS
     | KEPT_WINNERS
     | GUARDED_TRUMP;
 
-// Wrong forms, which `cases/rules.rs` has to find wrong.
+// Wrong forms, which `cases/tools/rules.rs` has to find wrong.
 /// An opponent with trumps follows suit as long as it is led.
 pub const NOBODY_RUFFS: u32 = 16;
 /// An opponent with no more trumps than the leader's run does not ruff, and all joint trumps are left to be counted.
