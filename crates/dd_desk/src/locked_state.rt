@@ -92,12 +92,16 @@ impl<J: Naming> LockedState<J> {
         Ok(CountedLog { log, count, sum })
     }
 
-    /// Must a fetch of this job wait? It must while the job is the caller's and open, nobody shut and the journal has room.
+    /// Must a fetch of this job wait? It must exactly while the job is the caller's and open, nobody shut and the journal has
+    /// room.
     pub(crate) fn keeps_fetch_waiting(&self, caller: u64, job: u64) -> bool
-        ensures { result ≡ false →
-            (is_open_job (own_job self.now.history.book.jobs caller job) ≡ false)
+        ensures { MatchBool result
+            ((is_open_job (own_job self.now.history.book.jobs caller job) ≡ true)
+            × (self.now.history.book.shut ≡ false)
+            × (vec_len self.now.history.journal < self.now.history.limits.events))
+            ((is_open_job (own_job self.now.history.book.jobs caller job) ≡ false)
             ⊎ (self.now.history.book.shut ≡ true)
-            ⊎ (vec_len self.now.history.journal ≡ self.now.history.limits.events) }
+            ⊎ (vec_len self.now.history.journal ≡ self.now.history.limits.events)) }
     {
         !self.history.is_full() && !self.history.is_shut() && self.history.is_open(caller, job)
     }
@@ -120,9 +124,11 @@ impl<J: Naming> LockedState<J> {
         }
     }
 
-    /// Must a claim wait? It must while nothing waits, nobody shut and the journal has room.
+    /// Must a claim wait? It must exactly while nothing waits, nobody shut and the journal has room.
     pub(crate) fn keeps_waiting(&self) -> bool
-        ensures { MatchBool result (IsIdle self.now.history.book)
+        ensures { MatchBool result
+            (IsIdle self.now.history.book
+            × (vec_len self.now.history.journal < self.now.history.limits.events))
             ((IsIdle self.now.history.book → ⊥)
             ⊎ (vec_len self.now.history.journal ≡ self.now.history.limits.events)) }
     {

@@ -2,6 +2,8 @@
 pub mod drawn;
 pub mod made;
 #[cfg(test)]
+mod many;
+#[cfg(test)]
 mod refused;
 pub mod second;
 #[cfg(test)]

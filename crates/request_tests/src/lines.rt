@@ -1,4 +1,5 @@
 //! Lines through `solve_lines`, over devices of memory that give and take little and fail in time.
+mod budgets;
 mod counted_device;
 mod faults;
 mod runs;

@@ -1,5 +1,6 @@
 //! Runs of the server, with a client of the same process.
-mod client;
+pub mod client;
+mod clients;
 mod gate;
 mod rows;
 mod serving;

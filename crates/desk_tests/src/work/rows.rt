@@ -4,6 +4,9 @@ use crate::work::lines::{
 };
 use crate::work::worked::{Script, follow};
 use dd_book::Limits;
+use dd_search::{Budget, NoTable};
+use dd_solve::{Asked, solve};
+use dd_wire::{read_request, write_answer};
 use std::alloc::{AllocError, Global};
 use std::process::Abort;
 
@@ -109,4 +112,46 @@ fn a_worker_that_is_stopped_gives_its_job_back(rt: HostRuntime) -> Result<(), Al
     let mut stopped = script(&rt, 1_000, Some(1_000), rows, ending);
     stopped.stops = true;
     follow(&rt, alloc, &stopped)
+}
+
+// Nine cards a hand, and nobody has led.
+const MANY_CARDS: &str =
+    r#"{"do":"solve","deal":"N:QT6.764.A7.J 95.KJT2.T.87 32.5.Q932.K5 J74.AQ983..4","trump":4,"first":0,"solutions":3}
+{"do":"solve","deal":"N:KJ95.J8.9.76 QT.Q.7.KQJ95 A4.42.T4.AT2 2.AKT.AK63.3","trump":4,"first":0,"solutions":3}
+{"do":"solve","deal":"N:7.QJ4.75.T93 J4.T5.A6.Q52 Q865.73.Q9.7 3.986.KT3.A8","trump":4,"first":0,"solutions":3}
+{"do":"solve","deal":"N:2.A976.K7.A7 64.T.T93.JT6 .QJ2.A54.985 98753.5.82.K","trump":4,"first":0,"solutions":3}"#;
+
+// How many positions the search for the line comes to, over no table, where these are more than 1,000 and no more than 20,000,
+// and its answer.
+fn needed(alloc: Global, line: &str) -> Option<(u64, String)> {
+    let Ok(Asked::Solve(request)) = read_request(alloc, line.as_bytes()) else {
+        return None;
+    };
+    let mut budget = Budget::new(20_000);
+    let solved = solve(request, &mut NoTable, &mut budget).ok()?;
+    let answer = text(alloc, write_answer(solved.answer()).as_str()).ok()?;
+    if budget.ticks() > 1_000 {
+        Some((budget.ticks(), answer))
+    } else {
+        None
+    }
+}
+
+#[test]
+fn a_budget_suffices_or_lacks_one_position(rt: HostRuntime) -> Result<(), AllocError> {
+    let alloc = rt.alloc();
+    for line in MANY_CARDS.lines() {
+        if let Some((count, answer)) = needed(alloc, line) {
+            let most = [(count, answer.as_str()), (count.saturating_sub(1), "spent")];
+            for (budget, shown) in most {
+                let rows = format!(in alloc;
+                    "submits {line} => job 1\nshuts => shut\nworks => 3 receipts\nfetches 1 => {shown}"
+                )?;
+                let ending = text(alloc, "6 events: 3 3")?;
+                follow(&rt, alloc, &script(&rt, 1_000, Some(budget), rows, ending))?;
+            }
+            return Ok(());
+        }
+    }
+    panic!(rt; "none of these needs over 1,000 positions")
 }

@@ -77,6 +77,25 @@ fn a_line_is_answered_with_and_without_its_end(rt: HostRuntime) -> Result<(), Fa
     Ok(())
 }
 
+// The same request with blanks behind it, of each length up to that of the longest line, and then of a byte more.
+#[test]
+fn a_line_of_each_length_up_to_4096_bytes_is_answered(rt: HostRuntime) -> Result<(), Fail> {
+    let mut lines = Vec::new(rt.alloc());
+    let mut replies = Vec::new(rt.alloc());
+    for blanks in 0..=4_096usize.saturating_sub(good().len()) {
+        lines.extend_from_slice(good())?;
+        push_times(&mut lines, b' ', blanks)?;
+        lines.push(b'\n')?;
+        replies.extend_from_slice(reply())?;
+    }
+    lines.extend_from_slice(good())?;
+    push_times(&mut lines, b' ', 4_097usize.saturating_sub(good().len()))?;
+    replies.extend_from_slice(b"{\"fault\":2}\n")?;
+    let run = run(rt.alloc(), Pieces::of(&lines), usize::MAX, usize::MAX);
+    assert!(rt; has_replied(&run, &replies));
+    Ok(())
+}
+
 #[test]
 fn a_stream_without_bytes_has_no_reply(rt: HostRuntime) {
     let run = run(rt.alloc(), Pieces::of(b""), usize::MAX, usize::MAX);

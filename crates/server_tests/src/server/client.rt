@@ -78,20 +78,31 @@ impl<'a> Client<'a> {
     fn ask_by_line(&mut self, request: &str) -> io::Result<String> {
         self.stream.write_all(request.as_bytes())?;
         self.stream.write_all(b"\n")?;
-        let mut reply = String::new(self.alloc);
-        self.reader.read_line(&mut reply)?;
-        Ok(String::from_str(self.alloc, reply.as_str().trim_end())?)
+        self.hear()
     }
 
-    // One frame there, and one back.
+    /// The next line that the server sends.
+    pub fn hear(&mut self) -> io::Result<String> {
+        let mut line = String::new(self.alloc);
+        self.reader.read_line(&mut line)?;
+        Ok(String::from_str(self.alloc, line.as_str().trim_end())?)
+    }
+
+    // One frame there, and one back, whose length has three bytes where it is over 125.
     fn ask_by_message(&mut self, request: &str) -> io::Result<String> {
         let length = (request.len() & 0x7f) as u8;
         self.stream.write_all(&[0x81, 0x80 | length, 0, 0, 0, 0])?;
         self.stream.write_all(request.as_bytes())?;
         let mut head = [0; 2];
         self.reader.read_exact(&mut head)?;
+        let mut length = u64::from(head[1]);
+        if length == 126 {
+            let mut long = [0; 2];
+            self.reader.read_exact(&mut long)?;
+            length = u64::from(u16::from_be_bytes(long));
+        }
         let mut reply = String::new(self.alloc);
-        let mut text = self.reader.by_ref().take(u64::from(head[1]));
+        let mut text = self.reader.by_ref().take(length);
         text.read_to_string(&mut reply)?;
         Ok(reply)
     }

@@ -1,6 +1,6 @@
 //! Two workers, of which one is held until the other has answered.
 use crate::server::client::{Client, Fetched, Way};
-use crate::server::serving::{Run, serve};
+use crate::server::serving::{LINES, Run, serve};
 use dd_work::Gate;
 use std::alloc::Global;
 use std::net::{Net, SocketAddr, TcpListener, TcpStream};
@@ -77,10 +77,9 @@ fn serve_two<R: Threads + Wait + Clock + Eprint + Sync>(
 ) -> Option<u64> {
     let run = Run {
         workers: 2,
-        events: 1_048_576,
-        websocket: false,
+        ..LINES
     };
-    serve(rt, alloc, listener, run, &HoldsFirst { rt, signs })
+    serve(rt, alloc, listener, run, &HoldsFirst { rt, signs })?.ok()
 }
 
 // What the client was told.

@@ -1,19 +1,20 @@
 //! One worker, and a client that asks for one job.
 use crate::server::client::{Client, Fetched, Way};
-use crate::server::serving::{Run, serve};
+use crate::server::serving::{LINES, Run, serve};
+use dd_server::ServeFault;
 use dd_work::NoGate;
 use std::alloc::Global;
 use std::net::{Net, SocketAddr, TcpListener, TcpStream};
 use std::test::Fail;
 use std::{io, thread};
 
-// The position of which the ace of spades wins the last trick.
-const LAST_TRICK: &str =
-    r#"{"do":"solve","deal":"N:A... K... Q... J...","trump":4,"first":0,"solutions":3}"#;
+// Two tricks, and three cards to lead, none like another.
+const THREE_CARDS: &str =
+    r#"{"do":"solve","deal":"N:A2.K.. K3.A.. Q4.Q.. J5.J..","trump":4,"first":0,"solutions":3}"#;
 
-// Its answer, as job 1.
+// Its answer, as job 1: a message of over 125 bytes.
 const ANSWER: &str =
-    r#"{"cards":[{"equals":0,"rank":14,"score":1,"suit":0}],"job":1,"state":"done"}"#;
+    r#"{"cards":[{"equals":0,"rank":13,"score":2,"suit":1},{"equals":0,"rank":14,"score":1,"suit":0},{"equals":0,"rank":2,"score":1,"suit":0}],"job":1,"state":"done"}"#;
 
 // What the client was told.
 #[derive(Drop)]
@@ -33,7 +34,7 @@ fn converse<R: Net<Stream = TcpStream>>(
     let stream = TcpStream::connect(rt, address)?;
     let mut client = Client::new(alloc, way, &stream)?;
     Ok(Talk {
-        submitted: client.ask(LAST_TRICK)?,
+        submitted: client.ask(THREE_CARDS)?,
         fetched: client.fetch(r#"{"do":"fetch","job":1}"#)?,
         stopped: client.ask(r#"{"do":"stop"}"#)?,
     })
@@ -41,14 +42,14 @@ fn converse<R: Net<Stream = TcpStream>>(
 
 // Is each reply what is wanted, and is each call an event: beside the fetches a submit, a claim, a
 // finish, the shut and the last claim?
-fn is_whole(events: Option<u64>, talk: &Option<Talk>) -> bool {
+fn is_whole(ended: Option<Result<u64, ServeFault>>, talk: &Option<Talk>) -> bool {
     let Some(talk) = talk else {
         return false;
     };
     talk.submitted.as_str() == "{\"job\":1}"
         && talk.fetched.reply.as_str() == ANSWER
         && talk.stopped.as_str() == "{\"closing\":true}"
-        && events == u64::from(talk.fetched.fetches).checked_add(5)
+        && ended == Some(Ok(u64::from(talk.fetched.fetches) + 5))
 }
 
 #[test]
@@ -57,17 +58,12 @@ fn each_line_of_a_client_and_each_call_of_a_worker_is_an_event(
 ) -> Result<(), Fail> {
     let listener = TcpListener::bind(&rt, "127.0.0.1:0")?;
     let address = listener.local_addr()?;
-    let run = Run {
-        workers: 1,
-        events: 1_048_576,
-        websocket: false,
-    };
-    let (events, talk) = thread::join(
+    let (ended, talk) = thread::join(
         &rt,
-        || serve(&rt, rt.alloc(), listener, run, &NoGate),
+        || serve(&rt, rt.alloc(), listener, LINES, &NoGate),
         || converse(&rt, rt.alloc(), address, Way::Lines).ok(),
     );
-    assert!(rt; is_whole(events, &talk));
+    assert!(rt; is_whole(ended, &talk));
     Ok(())
 }
 
@@ -78,16 +74,15 @@ fn each_message_of_a_client_and_each_call_of_a_worker_is_an_event(
     let listener = TcpListener::bind(&rt, "127.0.0.1:0")?;
     let address = listener.local_addr()?;
     let run = Run {
-        workers: 1,
-        events: 1_048_576,
         websocket: true,
+        ..LINES
     };
-    let (events, talk) = thread::join(
+    let (ended, talk) = thread::join(
         &rt,
         || serve(&rt, rt.alloc(), listener, run, &NoGate),
         || converse(&rt, rt.alloc(), address, Way::Messages).ok(),
     );
-    assert!(rt; is_whole(events, &talk));
+    assert!(rt; is_whole(ended, &talk));
     Ok(())
 }
 
@@ -97,12 +92,8 @@ fn a_full_journal_refuses_calls_and_a_stop_ends_the_server_all_the_same(
 ) -> Result<(), Fail> {
     let listener = TcpListener::bind(&rt, "127.0.0.1:0")?;
     let address = listener.local_addr()?;
-    let run = Run {
-        workers: 1,
-        events: 1,
-        websocket: false,
-    };
-    let (events, talk) = thread::join(
+    let run = Run { events: 1, ..LINES };
+    let (ended, talk) = thread::join(
         &rt,
         || serve(&rt, rt.alloc(), listener, run, &NoGate),
         || converse(&rt, rt.alloc(), address, Way::Lines).ok(),
@@ -111,6 +102,6 @@ fn a_full_journal_refuses_calls_and_a_stop_ends_the_server_all_the_same(
     assert_eq!(rt; talk.submitted.as_str(), "{\"job\":1}");
     assert_eq!(rt; talk.fetched.reply.as_str(), "{\"fault\":15}");
     assert_eq!(rt; talk.stopped.as_str(), "{\"fault\":15}");
-    assert_eq!(rt; events, Some(1));
+    assert!(rt; ended == Some(Ok(1)));
     Ok(())
 }

@@ -1,6 +1,6 @@
 //! A server in a thread of its own.
 use dd_book::Limits;
-use dd_server::{ServeArgs, run_server};
+use dd_server::{ServeArgs, ServeFault, run_server};
 use dd_work::Gate;
 use std::alloc::Global;
 use std::net::TcpListener;
@@ -13,31 +13,45 @@ use std::time::Clock;
 pub struct Run {
     /// 1 or 2.
     pub workers: u32,
+    /// The most passes, more than there are workers.
+    pub passes: u64,
     /// The most events of the journal, at least 1.
     pub events: u64,
+    pub budget: Option<u64>,
     pub websocket: bool,
+    pub allow_stop: bool,
 }
 
-/// Serves until a client stops the server: the number of events at the end. `None` where the run is
-/// none that a server may be asked for, or ended badly.
+/// One worker, lines, and a stop by any client.
+pub const LINES: Run = Run {
+    workers: 1,
+    passes: 8,
+    events: 1_048_576,
+    budget: None,
+    websocket: false,
+    allow_stop: true,
+};
+
+/// Serves until a client stops the server or no more connections can be accepted: the number of events at the end, or why it
+/// ended badly. `None` where the run is none that a server may be asked for.
 pub fn serve<R: Threads + Wait + Clock + Eprint + Sync, G: Gate + Sync>(
     rt: &R,
     alloc: Global,
     listener: TcpListener,
     run: Run,
     gate: &G,
-) -> Option<u64> {
-    if run.workers > 2 {
+) -> Option<Result<u64, ServeFault>> {
+    if run.workers > 2 || run.passes <= u64::from(run.workers) {
         return None;
     }
-    let limits = Limits::new(4, 4, 8, run.events)?;
+    let limits = Limits::new(4, 4, run.passes, run.events)?;
     let args = ServeArgs {
         workers: run.workers,
         shards: 1,
         entries: 16,
-        budget: None,
+        budget: run.budget,
         websocket: run.websocket,
-        allow_stop: true,
+        allow_stop: run.allow_stop,
     };
-    run_server(rt, alloc, listener, limits, args, gate).ok()
+    Some(run_server(rt, alloc, listener, limits, args, gate))
 }

@@ -111,3 +111,36 @@ fn without_a_handshake_there_is_no_session(rt: HostRuntime) -> Result<(), Fail> 
     );
     Ok(())
 }
+
+// A text message of so many blanks, whose length takes eight bytes.
+fn blanks(alloc: Global, count: u64) -> Result<Vec<u8>, AllocError> {
+    let mut frame = Vec::from_slice(alloc, &[TEXT, 0x80 | 127])?;
+    frame.extend_from_slice(&count.to_be_bytes())?;
+    frame.extend_from_slice(&[0; 4])?;
+    for _ in 0..count {
+        frame.push(b' ')?;
+    }
+    Ok(frame)
+}
+
+#[test]
+fn a_message_is_masked_and_has_at_most_65536_bytes(rt: HostRuntime) -> Result<(), Fail> {
+    let alloc = rt.alloc();
+    let rows: [(Vec<u8>, &[u8]); 3] = [
+        (blanks(alloc, 65_536)?, b"\x81\x0b{\"fault\":2}"),
+        (blanks(alloc, 65_537)?, b"\r\n\r\n"),
+        (
+            Vec::from_slice(alloc, b"\x81\x0d{\"do\":\"stop\"}")?,
+            b"\r\n\r\n",
+        ),
+    ];
+    let mut kept = true;
+    for (frame, wanted) in rows {
+        let mut client = client(alloc, b"")?;
+        client.sent = handshake(alloc, b"")?;
+        client.sent.extend_from_slice(&frame)?;
+        kept = kept && has_ended(&serve(&rt, alloc, &client), wanted, 0);
+    }
+    assert!(rt; kept);
+    Ok(())
+}
