@@ -12,3 +12,5 @@ pub mod ParLemmas
 pub mod ListLemmas
 pub mod OneValue
 pub mod Nonzero
+pub mod SomeContract
+pub mod EmptyList
