@@ -10,3 +10,7 @@ pub mod PointOrder
 pub mod ScoreTests
 pub mod ParLemmas
 pub mod ListLemmas
+pub mod OneValue
+pub mod Nonzero
+pub mod SomeContract
+pub mod EmptyList

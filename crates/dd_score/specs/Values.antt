@@ -52,3 +52,7 @@ abbrev pub IsPar : List (List ℕ) → Vulnerable → Order → ℤ → Type 0
 IsPar table vulnerable (Dealer dealer) v = IsValue table vulnerable (opened_by dealer) v
 IsPar table vulnerable (First NorthSouth) v = IsBetterOf table vulnerable NorthSouth North South v
 IsPar table vulnerable (First EastWest) v = IsBetterOf table vulnerable EastWest East West v
+
+-- an auction has no two values
+abbrev pub HasOneValue : Type 0
+HasOneValue = (table : List (List ℕ)) (vulnerable : Vulnerable) (a : Auction) (x y : ℤ) → IsValue table vulnerable a x → IsValue table vulnerable a y → x ≡ y

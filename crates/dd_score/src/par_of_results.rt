@@ -1,4 +1,4 @@
-ghost use Rattle.std.specs.Prelude.{◌≡◌};
+ghost use Rattle.std.specs.Prelude.{◌≡◌, ◌↔◌, [], pos};
 ghost use Rattle.dd_score.specs.Values.{IsPar};
 ghost use Rattle.dd_score.specs.ParContracts.{par_contracts};
 
@@ -10,8 +10,8 @@ use crate::results::Results;
 use crate::vulnerable::Vulnerable;
 use arrayvec::ArrayVec;
 
-/// Par: its score in North and South's points, less than 0 where East and West score; and the par contracts, at most ten:
-/// strains by code, and in each North and South's before East and West's.
+/// Par: its score in North and South's points, less than 0 where East and West score; and the par contracts, at most ten and
+/// none exactly where the score is 0: strains by code, and in each North and South's before East and West's.
 #[derive(Drop)]
 pub struct ParResult {
     pub score: i16,
@@ -27,6 +27,7 @@ pub fn par(results: &Results, vulnerable: Vulnerable, order: Order) -> ParResult
     ensures score { IsPar results.now vulnerable order result.score }
     ensures contracts { result.contracts.items ≡ par_contracts results.now vulnerable order
         result.score }
+    ensures none { (result.contracts.items ≡ []) ↔ (result.score ≡ pos 0) }
 {
     let score = par_score(results, vulnerable, order);
     let sought = Sought {

@@ -81,7 +81,7 @@ fn expected(level: usize, kind: usize, column: usize, tricks: usize) -> i32
         let place = 6 * kind + column;
         let over = (tricks - (level + 6)) as i32;
         let made = MADE[place];
-        made[level - 1] as i32 + over * OVER[place] as i32
+        (made[level - 1] as i32).saturating_add(over * OVER[place] as i32)
     } else {
         let short = SHORT[column];
         -(short[level + 6 - tricks - 1] as i32)
