@@ -1,14 +1,16 @@
 //! What the threads of a run share.
-ghost use Rattle.std.specs.Prelude.{◌≡◌};
+ghost use Rattle.std.specs.Prelude.{◌≡◌, Err};
 
 use crate::args::ServeArgs;
 use crate::returned::Returned;
 use crate::stop::Stop;
+use dd_book::Reply;
 use dd_desk::{Desk, Fault, Naming, Pass};
 use dd_table::SharedTable;
 use std::alloc::Global;
 use std::sync::atomic::AtomicBool;
 use std::sync::{Mutex, Wait};
+use std::thread;
 
 /// What the threads of a run share.
 #[derive(Drop)]
@@ -43,13 +45,20 @@ impl<J: Naming> ServerState<J> {
 
     /// Shuts the book and stops the run.
     pub(crate) fn shut<R: Wait>(&self, rt: &R, pass: &mut Pass<J>) {
-        for _ in rt.forever() {
-            // Only memory may be there at the next try.
-            if !matches!(self.desk.shut(rt, pass), Err(Fault::Memory)) {
-                break;
-            }
-            std::thread::yield_now();
-        }
+        let _ = self.shut_book(rt, pass);
         self.stop.stop(rt);
+    }
+
+    // Shuts the book, however often memory runs out at it: only that may be otherwise at the next try.
+    fn shut_book<R: Wait>(&self, rt: &R, pass: &mut Pass<J>) -> Result<Reply, Fault>
+        ensures { result ≡ Err Fault.Memory → ⊥ }
+    {
+        for _ in rt.forever() {
+            match self.desk.shut(rt, pass) {
+                Err(Fault::Memory) => thread::yield_now(),
+                told => return told,
+            }
+        }
+        unreachable!()
     }
 }

@@ -1,4 +1,7 @@
 //! A connection's stream, as its session sees it.
+ghost use Rattle.std.specs.Prelude.{◌≡◌, ◌+◌, MatchResult};
+ghost use Rattle.std.specs.Io.{ReadsAtMost};
+
 use crate::stop::Stop;
 use std::io;
 use std::io::{Error, ErrorKind, Read, Write};
@@ -33,11 +36,20 @@ impl Read for SessionStream<'_> {
         if !self.stop.is_stopped() {
             return stream.read(buf);
         }
-        let most = buf.len().min(self.left);
-        let count = stream.read(&mut buf[..most])?;
-        self.left -= count;
-        Ok(count)
+        read_last(&mut stream, buf, &mut self.left)
     }
+}
+
+// A read after a stop: what it takes is taken off what is left.
+fn read_last<S: Read>(stream: &mut S, buf: &mut [u8], left: &mut usize) -> io::Result<usize>
+    ensures bound { ReadsAtMost result buf.new }
+    ensures left { MatchResult result (λ count. left.new + count ≡ left.old)
+        (λ _. left.new ≡ left.old) }
+{
+    let most = buf.len().min(*left);
+    let count = stream.read(&mut buf[..most])?;
+    *left -= count;
+    Ok(count)
 }
 
 impl Write for SessionStream<'_> {

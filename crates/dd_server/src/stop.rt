@@ -1,4 +1,7 @@
 //! How a run is stopped.
+ghost use Rattle.std.specs.Prelude.{◌≡◌, Err, IsTrue, ◌↔◌};
+ghost use Rattle.dd_wire.specs.declared.want.Want.TheVariants.{Stop as StopWant};
+
 use crate::open_streams::OpenStreams;
 use dd_book::Reply;
 use dd_desk::Fault;
@@ -63,12 +66,16 @@ pub(crate) struct StopPort<'a, P, R> {
 }
 
 impl<'a, P, R> StopPort<'a, P, R> {
-    pub(crate) fn new(rt: &'a R, port: P, stop: &'a Stop) -> StopPort<'a, P, R> {
+    pub(crate) fn new(rt: &'a R, port: P, stop: &'a Stop) -> StopPort<'a, P, R>
+        ensures { result.port ≡ port }
+    {
         StopPort { port, rt, stop }
     }
 
     /// The port within.
-    pub(crate) fn into_inner(self) -> P {
+    pub(crate) fn into_inner(self) -> P
+        ensures { result ≡ self.entry.port }
+    {
         let StopPort {
             port,
             rt: _,
@@ -84,12 +91,25 @@ impl<'a, P: BookPort, R: Wait> BookPort for StopPort<'a, P, R> {
     ghost refusals = { λ s. P.refusals s.port };
 
     fn ask(&mut self, want: Want) -> Result<Reply, Fault> {
-        let stops = matches!(&want, Want::Stop);
+        let stops = is_stop(&want);
         let reply = self.port.ask(want);
-        // Where memory ran out the book was not shut.
-        if stops && !matches!(&reply, Err(Fault::Memory)) {
+        if stops && !found_no_memory(&reply) {
             self.stop.stop(self.rt);
         }
         reply
     }
+}
+
+// Is it a stop that is wanted?
+fn is_stop(want: &Want) -> bool
+    ensures { IsTrue result ↔ (want.now ≡ StopWant) }
+{
+    matches!(want, Want::Stop)
+}
+
+// Did the call find no memory? Then the book was not shut.
+fn found_no_memory(said: &Result<Reply, Fault>) -> bool
+    ensures { IsTrue result ↔ (said.now ≡ Err Fault.Memory) }
+{
+    matches!(said, Err(Fault::Memory))
 }

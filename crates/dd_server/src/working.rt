@@ -1,8 +1,11 @@
 //! The workers of a run.
+ghost use Rattle.dd_work.specs.Rounds.{Works};
+
 use crate::args::ServeFault;
 use crate::server_state::ServerState;
 use dd_cache::Cache;
 use dd_desk::{Naming, Pass};
+use dd_search::Bounds;
 use dd_table::View;
 use dd_work::{Gate, worker};
 use std::sync::Wait;
@@ -66,8 +69,21 @@ fn work<J: Naming, R: Wait, G: Gate>(
     pass: Pass<J>,
     gate: &G,
 ) {
+    let pass = rounds(rt, state, &mut cache, pass, gate);
+    state.take_back(rt, pass)
+}
+
+// The same, and the pass with what it gained, within the budget of the run.
+fn rounds<J: Naming, R: Wait, B: Bounds, G: Gate>(
+    rt: &R,
+    state: &ServerState<J>,
+    table: &mut B,
+    pass: Pass<J>,
+    gate: &G,
+) -> Pass<J>
+    ensures { Works state.now.args.budget pass result }
+{
     let budget = state.args.budget;
     let stop = state.stop.flag();
-    let pass = worker(rt, &state.desk, &mut cache, pass, gate, budget, stop);
-    state.take_back(rt, pass)
+    worker(rt, &state.desk, table, pass, gate, budget, stop)
 }
