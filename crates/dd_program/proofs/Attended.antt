@@ -1,11 +1,19 @@
 -- How the serving of clients ends.
-use Rattle.std.proofs.Common.{◌≡◌, ◌⊎◌, ℕ, refl, sym, subst, inl, inr, Bool, List, Option, String, Global}
+use Rattle.std.proofs.Common.{◌≡◌, ◌⊎◌, ℕ, refl, sym, subst, inl, inr, Bool, List, length, Option, String, Global}
 use Rattle.dd_program.specs.declared.command_line.Args.{Args}
 use Rattle.dd_program.specs.declared.command_line.Args.TheVariants.{Serve}
+use Rattle.dd_book.specs.Limits.{LimitsOf}
+use Rattle.dd_desk.specs.Events.{EventOf, IsLegal}
+use Rattle.dd_desk.specs.Receipts.{PassOf}
+use Rattle.dd_server.specs.Histories.{IsHistory}
 use Rattle.dd_server.specs.Journals.{IsLengthOfJournal}
 use Rattle.dd_program.specs.declared.ending.Ending.{Ending}
 use Rattle.dd_program.specs.declared.ending.Ending.TheVariants.{Answered, Shown, Closed, BadLine, ReadFailed, WriteFailed, ListenFailed, OutOfMemory}
 use Rattle.dd_program.specs.Endings.{AnswersUntil, Device, ServesUntil, Streams, TellsEnd, Writes, WritesAll, WritesBeginning, greatest_limits, line_of, listening_text, streams}
+
+-- the length of a history is that of a journal of its limits
+pub length-of : {limits greatest : LimitsOf} {journal : List EventOf} {passes : List PassOf} → limits ≡ greatest → IsHistory limits journal passes → IsLengthOfJournal greatest (length journal)
+length-of {journal = journal} same h = record { journal = journal; legal = subst (λ l. IsLegal l journal) same h.legal; answers = h.answers; count = refl }
 
 -- after the service the number of events is told
 pub told-end : (address : List ℕ) (events : ℕ) (input before output output2 errors errors2 : Device) (ending : Ending) → WritesAll (listening_text address) before output

@@ -1,5 +1,6 @@
 //! The serving of clients.
-ghost use Rattle.std.specs.Prelude.{◌≡◌, ◌≤◌, ℕ, List, IfOk, OnOk, OnErr, string_bytes};
+ghost use Rattle.std.specs.Prelude.{◌≡◌, ◌≤◌, ℕ, List, IfOk, OnOk, OnErr, length, map, string_bytes};
+ghost use Rattle.once_cell.specs.Once.{cell_name};
 ghost use Rattle.dd_program.specs.Endings.{closed_text, greatest_limits, listening_text, state_of, streams, Device, ServesUntil, TellsEnd, WritesAll, WritesBeginning};
 ghost use Rattle.dd_program.specs.declared.command_line.TheConstants.{MOST_WORKERS};
 ghost use Rattle.dd_server.specs.ServeArgs.{HasTableSize};
@@ -8,12 +9,14 @@ use crate::ending::Ending;
 use crate::run::fail;
 use arrayvec::ArrayString;
 use dd_book::{Limits, MOST_EVENTS, MOST_JOBS, MOST_OPEN_JOBS, MOST_PASSES};
+use dd_desk::{Closed, Naming, Row};
 use dd_lines::{CountedDevice, LineFault, write_whole};
 use dd_server::{ServeArgs, ServeFault, run_server};
 use dd_work::NoGate;
 use itoa::Buffer;
 use std::alloc::{AllocError, Global};
 use std::io::Write;
+use std::marker::Brand;
 use std::net::{Net, SocketAddr, TcpListener, TcpStream};
 use std::sync::Wait;
 use std::thread::Threads;
@@ -87,8 +90,40 @@ fn attend<
         (streams input before (state_of E.contents errors.old))
         (streams input (state_of O.contents output.new) (state_of E.contents errors.new)) result }
 {
-    match run_server(rt, alloc, listener, greatest_limits(), args, &NoGate) {
-        Ok(events) => tell_end(events, output, errors),
+    match Row::new(alloc, greatest_limits()) {
+        Ok(row) => attend_at::<Brand, W, O, E>(rt, alloc, row, listener, args, output, errors),
+        Err(_) => fail(errors, Ending::OutOfMemory),
+    }
+}
+
+/// The same at a desk on this row.
+fn attend_at<
+    J: Naming + Send + Sync,
+    W: Threads + Wait + Clock + Eprint + Net<Listener = TcpListener, Stream = TcpStream> + Sync,
+    O: Write,
+    E: Write,
+>(
+    rt: &W,
+    alloc: Global,
+    row: Row,
+    listener: TcpListener,
+    args: ServeArgs,
+    output: &mut CountedDevice<O>,
+    errors: &mut CountedDevice<E>,
+) -> Ending
+    requires cells { (map cell_name row.cells.items ≡ J.cells) × (J.all ≡ J.parts) }
+    requires limits { (row.limits ≡ J.limits) × (J.limits ≡ greatest_limits) }
+    requires count { (row.count.name ≡ J.counts) × (row.count.parts ≡ J.parts) }
+    requires sum { (row.sum.name ≡ J.places) × (row.sum.parts ≡ J.parts) }
+    requires workers { args.workers ≤ MOST_WORKERS }
+    requires table { HasTableSize args }
+    ensures { (input before : Device) (address : List ℕ)
+        → WritesAll (listening_text address) before (state_of O.contents output.old) → ServesUntil
+        (streams input before (state_of E.contents errors.old))
+        (streams input (state_of O.contents output.new) (state_of E.contents errors.new)) result }
+{
+    match run_server::<J, W, NoGate>(rt, alloc, row, listener, args, &NoGate) {
+        Ok(closed) => tell_end(&closed, output, errors),
         Err(ServeFault::Listen) => fail(errors, Ending::ListenFailed),
         Err(ServeFault::Memory) => fail(errors, Ending::OutOfMemory),
     }
@@ -112,15 +147,17 @@ fn listening_line(alloc: Global, address: SocketAddr) -> Result<String, AllocErr
     Ok(line)
 }
 
-/// Tells how many events the journal has.
-fn tell_end<O: Write, E: Write>(
-    events: u64,
+/// Tells how many events the journal of the closed desk has.
+fn tell_end<J: Naming, O: Write, E: Write>(
+    closed: &Closed<J>,
     output: &mut CountedDevice<O>,
     errors: &mut CountedDevice<E>,
 ) -> Ending
-    ensures { TellsEnd events (state_of O.contents output.old) (state_of O.contents output.new)
+    ensures { TellsEnd (length closed.now.history.journal.items)
+        (state_of O.contents output.old) (state_of O.contents output.new)
         (state_of E.contents errors.old) (state_of E.contents errors.new) result }
 {
+    let events = closed.journal().len() as u64;
     match tell(closed_line(events).as_str(), output) {
         Ok(()) => Ending::Closed,
         Err(_) => fail(errors, Ending::WriteFailed),

@@ -1,7 +1,7 @@
 //! The server over a bound listener.
 ghost use Rattle.std.specs.Prelude.{◌≡◌, ◌<◌, map, IfOk};
 ghost use Rattle.once_cell.specs.Once.{cell_name};
-ghost use Rattle.dd_server.specs.Journals.{IsLengthOfJournal};
+ghost use Rattle.dd_server.specs.Histories.{IsHistory};
 ghost use Rattle.dd_server.specs.ServeArgs.{HasTableSize};
 
 use crate::accepting::accept_connections;
@@ -10,12 +10,10 @@ use crate::returned::Returned;
 use crate::server_state::ServerState;
 use crate::stop::Stop;
 use crate::working::start_workers;
-use dd_book::Limits;
-use dd_desk::{Desk, Naming, Pass, Row};
+use dd_desk::{Closed, Desk, Naming, Pass, Row};
 use dd_table::SharedTable;
 use dd_work::Gate;
 use std::alloc::Global;
-use std::marker::Brand;
 use std::net::TcpListener;
 use std::sync::atomic::AtomicBool;
 use std::sync::{Mutex, Wait};
@@ -23,18 +21,28 @@ use std::thread;
 use std::thread::Threads;
 use std::time::Clock;
 
-/// Serves the connections of the listener until a client stops it, and answers the number of events in the journal.
-pub fn run_server<R: Threads + Wait + Clock + Eprint + Sync, G: Gate + Sync>(
+/// Serves the connections of the listener at a desk on this row until a client stops it, and answers the desk when it is
+/// closed, with the passes of the program, of the workers and of the clients.
+pub fn run_server<
+    J: Naming + Send + Sync,
+    R: Threads + Wait + Clock + Eprint + Sync,
+    G: Gate + Sync,
+>(
     rt: &R,
     alloc: Global,
+    row: Row,
     listener: TcpListener,
-    limits: Limits,
     args: ServeArgs,
     gate: &G,
-) -> Result<u64, ServeFault>
-    requires passes { args.workers < limits.passes }
+) -> Result<Closed<J>, ServeFault>
+    requires cells { (map cell_name row.cells.items ≡ J.cells) × (J.all ≡ J.parts) }
+    requires limits { row.limits ≡ J.limits }
+    requires count { (row.count.name ≡ J.counts) × (row.count.parts ≡ J.parts) }
+    requires sum { (row.sum.name ≡ J.places) × (row.sum.parts ≡ J.parts) }
+    requires passes { args.workers < row.limits.passes }
     requires table { HasTableSize args }
-    ensures { IfOk result (IsLengthOfJournal limits) }
+    ensures history { IfOk result (λ closed.
+        IsHistory J.limits closed.history.journal.items closed.passes.items) }
 {
     let Ok(stop) = Stop::new(alloc, &listener) else {
         return Err(ServeFault::Listen);
@@ -42,29 +50,6 @@ pub fn run_server<R: Threads + Wait + Clock + Eprint + Sync, G: Gate + Sync>(
     let Ok(table) = SharedTable::new(alloc, args.shards, args.entries) else {
         return Err(ServeFault::Memory);
     };
-    let Ok(row) = Row::new(alloc, limits) else {
-        return Err(ServeFault::Memory);
-    };
-    serve_row::<Brand, R, G>(rt, alloc, row, listener, table, stop, args, gate)
-}
-
-// A desk is made, used by all threads and closed.
-fn serve_row<J: Naming + Send + Sync, R: Threads + Wait + Clock + Eprint + Sync, G: Gate + Sync>(
-    rt: &R,
-    alloc: Global,
-    row: Row,
-    listener: TcpListener,
-    table: SharedTable,
-    stop: Stop,
-    args: ServeArgs,
-    gate: &G,
-) -> Result<u64, ServeFault>
-    requires cells { (map cell_name row.cells.items ≡ J.cells) × (J.all ≡ J.parts) }
-    requires limits { row.limits ≡ J.limits }
-    requires count { (row.count.name ≡ J.counts) × (row.count.parts ≡ J.parts) }
-    requires sum { (row.sum.name ≡ J.places) × (row.sum.parts ≡ J.parts) }
-    ensures { IfOk result (IsLengthOfJournal J.limits) }
-{
     let state = ServerState {
         alloc,
         args,
@@ -84,20 +69,21 @@ fn serve_row<J: Naming + Send + Sync, R: Threads + Wait + Clock + Eprint + Sync,
         stop: _,
         told_full: _,
     } = state;
-    let events = close(desk, returned.into_inner().into_passes())?;
+    let closed = close(desk, returned.into_inner().into_passes())?;
     ended?;
-    Ok(events)
+    Ok(closed)
 }
 
-// The desk is closed: the number of its events.
-fn close<J: Naming>(desk: Desk<J>, passes: Vec<Pass<J>>) -> Result<u64, ServeFault>
+// The desk is closed, and its passes are compared with its journal.
+fn close<J: Naming>(desk: Desk<J>, passes: Vec<Pass<J>>) -> Result<Closed<J>, ServeFault>
     requires { J.all ≡ J.parts }
-    ensures { IfOk result (IsLengthOfJournal J.limits) }
+    ensures history { IfOk result (λ closed.
+        IsHistory J.limits closed.history.journal.items closed.passes.items) }
 {
-    let Ok(closed) = desk.close(passes) else {
-        return Err(ServeFault::Memory);
-    };
-    Ok(closed.journal().len() as u64)
+    match desk.close(passes) {
+        Ok(closed) => Ok(closed),
+        Err(_) => Err(ServeFault::Memory),
+    }
 }
 
 // Workers and connections, until all have ended.

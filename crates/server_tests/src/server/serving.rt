@@ -1,8 +1,14 @@
 //! A server in a thread of its own.
+ghost use Rattle.std.specs.Prelude.{◌≡◌, ◌<◌, map};
+ghost use Rattle.once_cell.specs.Once.{cell_name};
+ghost use Rattle.dd_server.specs.ServeArgs.{HasTableSize};
+
 use dd_book::Limits;
+use dd_desk::{Naming, Row};
 use dd_server::{ServeArgs, ServeFault, run_server};
 use dd_work::Gate;
 use std::alloc::Global;
+use std::marker::Brand;
 use std::net::TcpListener;
 use std::sync::Wait;
 use std::thread::Threads;
@@ -53,5 +59,30 @@ pub fn serve<R: Threads + Wait + Clock + Eprint + Sync, G: Gate + Sync>(
         websocket: run.websocket,
         allow_stop: run.allow_stop,
     };
-    Some(run_server(rt, alloc, listener, limits, args, gate))
+    let row = Row::new(alloc, limits).ok()?;
+    Some(serve_row::<Brand, R, G>(rt, alloc, row, listener, args, gate))
+}
+
+// The same at a desk on this row.
+fn serve_row<
+    J: Naming + Send + Sync,
+    R: Threads + Wait + Clock + Eprint + Sync,
+    G: Gate + Sync,
+>(
+    rt: &R,
+    alloc: Global,
+    row: Row,
+    listener: TcpListener,
+    args: ServeArgs,
+    gate: &G,
+) -> Result<u64, ServeFault>
+    requires cells { (map cell_name row.cells.items ≡ J.cells) × (J.all ≡ J.parts) }
+    requires limits { row.limits ≡ J.limits }
+    requires count { (row.count.name ≡ J.counts) × (row.count.parts ≡ J.parts) }
+    requires sum { (row.sum.name ≡ J.places) × (row.sum.parts ≡ J.parts) }
+    requires passes { args.workers < row.limits.passes }
+    requires table { HasTableSize args }
+{
+    let closed = run_server::<J, R, G>(rt, alloc, row, listener, args, gate)?;
+    Ok(closed.journal().len() as u64)
 }
