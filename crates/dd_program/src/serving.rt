@@ -123,7 +123,7 @@ fn attend_at<
         (streams input (state_of O.contents output.new) (state_of E.contents errors.new)) result }
 {
     match run_server::<J, W, NoGate>(rt, alloc, row, listener, args, &NoGate) {
-        Ok(closed) => tell_end(&closed, output, errors),
+        Ok(closed) => tell_end(events_of(&closed), output, errors),
         Err(ServeFault::Listen) => fail(errors, Ending::ListenFailed),
         Err(ServeFault::Memory) => fail(errors, Ending::OutOfMemory),
     }
@@ -147,17 +147,22 @@ fn listening_line(alloc: Global, address: SocketAddr) -> Result<String, AllocErr
     Ok(line)
 }
 
-/// Tells how many events the journal of the closed desk has.
-fn tell_end<J: Naming, O: Write, E: Write>(
-    closed: &Closed<J>,
+/// How many events the journal of the closed desk has.
+fn events_of<J: Naming>(closed: &Closed<J>) -> u64
+    ensures { result ≡ length closed.now.history.journal.items }
+{
+    closed.journal().len() as u64
+}
+
+/// Tells how many events the journal has.
+fn tell_end<O: Write, E: Write>(
+    events: u64,
     output: &mut CountedDevice<O>,
     errors: &mut CountedDevice<E>,
 ) -> Ending
-    ensures { TellsEnd (length closed.now.history.journal.items)
-        (state_of O.contents output.old) (state_of O.contents output.new)
+    ensures { TellsEnd events (state_of O.contents output.old) (state_of O.contents output.new)
         (state_of E.contents errors.old) (state_of E.contents errors.new) result }
 {
-    let events = closed.journal().len() as u64;
     match tell(closed_line(events).as_str(), output) {
         Ok(()) => Ending::Closed,
         Err(_) => fail(errors, Ending::WriteFailed),
