@@ -64,11 +64,7 @@ pub fn serve<R: Threads + Wait + Clock + Eprint + Sync, G: Gate + Sync>(
 }
 
 // The same at a desk on this row.
-fn serve_row<
-    J: Naming + Send + Sync,
-    R: Threads + Wait + Clock + Eprint + Sync,
-    G: Gate + Sync,
->(
+fn serve_row<J: Naming + Send + Sync, R: Threads + Wait + Clock + Eprint + Sync, G: Gate + Sync>(
     rt: &R,
     alloc: Global,
     row: Row,
