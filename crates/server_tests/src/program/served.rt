@@ -110,10 +110,10 @@ fn converse<R: Wait + Clock + Net<Stream = TcpStream>>(
 }
 
 // Did the program tell its address and then how many events there are, and nothing else?
-fn has_told(alloc: Global, text: &[u8], talk: &Talk, workers: u64) -> Result<bool, AllocError> {
+fn has_told(alloc: Global, text: &[u8], talk: &Talk, workers: u32) -> Result<bool, AllocError> {
     // Beside the fetches of the job a submit, its claim and its finish, the other client's fetch, the shut, and the last claim
     // of each worker.
-    let events = u64::from(talk.fetches) + 5 + workers;
+    let events = u64::from(talk.fetches) + 5 + u64::from(workers);
     let address = talk.address;
     let told = format!(in alloc; "listening on {address}\nclosed after {events} events\n")?;
     Ok(told.as_str().as_bytes() == text)
@@ -122,7 +122,7 @@ fn has_told(alloc: Global, text: &[u8], talk: &Talk, workers: u64) -> Result<boo
 // A run of this line: what its clients were told, where the program ended well and told what it had to.
 fn serve_line<
     W: Threads + Wait + Clock + Eprint + Net<Listener = TcpListener, Stream = TcpStream> + Sync,
->(rt: &W, alloc: Global, line: &str, way: Way, workers: u64) -> Result<Option<String>, AllocError> {
+>(rt: &W, alloc: Global, line: &str, way: Way, workers: u32) -> Result<Option<String>, AllocError> {
     let text = Mutex::new(Vec::new(alloc));
     let (ending, talk) = thread::join(
         rt,
