@@ -1,6 +1,6 @@
-//! The search of `dd_search` in plain Rust, with the same layout of data, bounds and order of moves, so that it comes to the
+//! The search of `dd_search` in plain Rust, with the same layout of data, bounds and order of moves, so that it visits the
 //! same positions. It takes good input for granted. Lines `trump first deal` of the standard input (codes of DDS, the deal
-//! in its written form) are answered by the positions come to and the score of the highest card of each class, in the order
+//! in its written form) are answered by the positions visited and the score of the highest card of each class, in the order
 //! of the classes. Words: a number, for a table of so many shapes, empty at each line, and `keep`, which keeps it from line
 //! to line; `singly` scores each card for itself, not all from the value down; `legal` tries cards in the order in which
 //! they are listed, without weights; `times` adds the nanoseconds of the line and what the table counted.

@@ -1,5 +1,5 @@
 #!/usr/bin/env bash
-# How many positions the search comes to, beside those on record (`bench/data/positions.tsv`): 100 full deals from a fixed seed, 20 of
+# How many positions the search visits, beside those on record (`bench/data/positions.tsv`): 100 full deals from a fixed seed, 20 of
 # each strain, the scores of all leads, by the search in plain Rust (`bench/peer`, which follows `dd_search` move for move)
 # over a table of 16,384 shapes with up to 64 bounds each, nearly what the program's cache keeps, that is empty at each deal.
 # Prints by strain and for all deals the geometric mean and the mean of both, and their ratios. With `--record` it writes

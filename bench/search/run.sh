@@ -1,8 +1,8 @@
 #!/usr/bin/env bash
-# The search beside the same search in plain Rust at -O3, which comes to the same positions: positions a second, the least
+# The search beside the same search in plain Rust at -O3, which visits the same positions: positions a second, the least
 # time of several runs taken in turns. (a) Over no table, deals of 10 cards a hand. (b) Over a shard of 65,536 shapes, empty
 # for each deal and without the program's cache before it: the scores of all leads of full deals. (c) Over no table, deals of
-# 9 cards a hand, by the Rust peer alone: the positions come to beside those with the cards in the order in which they are
+# 9 cards a hand, by the Rust peer alone: the positions visited beside those with the cards in the order in which they are
 # listed. Deals are from fixed seeds. It takes some minutes: the programs `ticks` (over no table) and `table`, a few lines
 # each, are proved and built in a copy of the crates. Words: the number of runs (5), of full deals (20), the parts (abc).
 set -eu
@@ -107,7 +107,7 @@ if "b" in parts:
     print(f"(b) a shard of 65,536 shapes, {full} full deals, each strain in turn, the time of all of a strain, least of", runs)
     rates(lines(13, full, "--seed", "1013"), "table", "65536", greatest_first=True)
 if "c" in parts:
-    print("(c) no table, 9 cards a hand, positions come to: 20 deals of each strain")
+    print("(c) no table, 9 cards a hand, positions visited: 20 deals of each strain")
     print("strain    in the order listed  by the order of moves  geometric mean of the ratios")
     for strain in (4, 0):
         pairs = [(peer(line, "singly", "legal")[0][0], peer(line, "singly")[0][0]) for line in lines(9, 20, "--strain", str(strain))]

@@ -129,7 +129,7 @@ def bad_starts():
     print(f"bad starts: {len(rows) + 1} end with their status and text")
 
 
-def want_of_memory():
+def out_of_memory():
     """Where the memory of a start is refused, it says so."""
     command = ["bash", "-c", 'ulimit -v 60000; exec "$@"', "-", PROGRAM, "serve", "--listen", "127.0.0.1:0"]
     ended = subprocess.run(command, capture_output=True, text=True, timeout=60)
@@ -158,5 +158,5 @@ received_before()
 last_session()
 without_leave()
 bad_starts()
-want_of_memory()
+out_of_memory()
 budgets()

@@ -190,7 +190,7 @@ fn a_device_that_fails_is_named_and_the_run_ends_with_1(rt: HostRuntime) -> Resu
 }
 
 #[test]
-fn words_that_cannot_be_had_are_a_bad_line_or_want_of_memory(rt: HostRuntime) {
+fn words_that_cannot_be_had_are_a_bad_line_or_out_of_memory(rt: HostRuntime) {
     let outcome = run_over(&rt, rt.alloc(), Err(ArgumentsFault::NotText), ace(), SOUND);
     assert!(rt; is_refused(&outcome, "a word of the command line is not UTF-8 text"));
     let outcome = run_over(
