@@ -3,3 +3,6 @@ pub mod Best
 pub mod ByScore
 pub mod Openings
 pub mod Parts
+pub mod Regular
+pub mod CardByCard
+pub mod CallerLemmas

@@ -2,3 +2,6 @@ pub mod Questions
 pub mod Results
 pub mod ScoredClasses
 pub mod Classes
+pub mod Plays
+pub mod CardFaults
+pub mod SideTricks
