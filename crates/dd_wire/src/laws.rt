@@ -4,28 +4,29 @@ ghost use Rattle.dd_cards.specs.declared.strain.Strain.TheVariants.{Trump, Notru
 ghost use Rattle.dd_cards.specs.declared.suit.Suit.TheVariants.{Spades};
 ghost use Rattle.dd_pbn.specs.Examples.{eight_spades, two_suits};
 ghost use Rattle.dd_play.specs.Board.{board_of};
-ghost use Rattle.dd_wire.specs.Requests.{Means};
+ghost use Rattle.dd_wire.specs.Lines.{Means};
 ghost use Rattle.dd_wire.specs.Wants.{MeansWant};
 
 use crate::fault::Fault;
+use crate::line_asked::LineAsked;
 use crate::want::Want;
 use dd_solve::Asked;
 
 /// A line has a meaning, and only one.
 pub fn one_meaning()
-    ensures some { (line : List ℕ) → (meaning : Result Asked Fault) × Means line meaning }
-    ensures only { (line : List ℕ) (a b : Result Asked Fault) → Means line a → Means line b →
+    ensures some { (line : List ℕ) → (meaning : Result LineAsked Fault) × Means line meaning }
+    ensures only { (line : List ℕ) (a b : Result LineAsked Fault) → Means line a → Means line b →
         a ≡ b }
 {}
 
 /// Lines worked by hand.
 pub fn worked_lines()
     ensures best_cards { Means (codes "{\"do\":\"solve\",\"deal\":\"N:A.2.. K.A.. Q.K.. J.Q..\",\"trump\":4,\"first\":1,\"solutions\":2}")
-        (Ok (Asked.Solve record { board = board_of two_suits Notrump East []; solutions = 2 })) }
+        (Ok (LineAsked.Cards (Asked.Solve record { board = board_of two_suits Notrump East []; solutions = 2 }))) }
     ensures every_card { Means (codes "{\"deal\":\"[Deal \\\"e:k4... aq... 65... 32...\\\"]\",\"played\":[],\"trump\":0,\"first\":0,\"solutions\":3,\"do\":\"solve\"}")
-        (Ok (Asked.Solve record { board = board_of eight_spades (Trump Spades) North []; solutions = 3 })) }
+        (Ok (LineAsked.Cards (Asked.Solve record { board = board_of eight_spades (Trump Spades) North []; solutions = 3 }))) }
     ensures table { Means (codes "{\"do\":\"table\",\"deal\":\"N:A.2.. K.A.. Q.K.. J.Q..\"}")
-        (Ok (Asked.Table two_suits)) }
+        (Ok (LineAsked.Cards (Asked.Table two_suits))) }
     ensures trump_of_a_table { Means (codes "{\"do\":\"table\",\"deal\":\"N:A.2.. K.A.. Q.K.. J.Q..\",\"trump\":4}")
         (Err Fault.WrongField) }
     ensures no_object { Means (codes "[]") (Err Fault.NotAnObject) }

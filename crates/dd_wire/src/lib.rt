@@ -3,7 +3,11 @@
 
 mod fault;
 mod laws;
+mod line_asked;
 mod line_reply;
+mod par_reader;
+mod par_reply;
+mod par_request;
 mod reply;
 mod request_reader;
 mod want;
@@ -11,7 +15,10 @@ mod want_reader;
 
 pub use fault::Fault;
 pub use laws::{one_meaning, one_want, worked_lines, worked_wants};
+pub use line_asked::LineAsked;
 pub use line_reply::reply_to_line;
+pub use par_reply::write_par;
+pub use par_request::{Conditions, ParOfDeal, ParOfResults};
 pub use reply::{
     CARDS_ROOM, JOB_ROOM, TABLE_ROOM, push_cards, push_job, push_table, write_answer, write_fault,
     write_numbered_fault, write_spent, write_table,
