@@ -114,7 +114,7 @@ card_after play count = get_or play.cards count (card_of Spades 2)
 next-legal : (play : Play) (count : ℕ) (q : Board) (k : ℕ) → Stands play count q k → count < length play.cards → IsLegal q (card_after play count)
 next-legal play count q k s within =
     let split : take count play.cards ++ card_after play count ∷ drop (count + 1) play.cards ≡ play.cards =
-        ap (λ rest. take count play.cards ++ rest) (sym (drop_more play.cards count (card_of Spades 2) within)) ∙ take-append-drop count play.cards in
+    ap (λ rest. take count play.cards ++ rest) (sym (drop_more play.cards count (card_of Spades 2) within)) ∙ take-append-drop count play.cards in
     let both = subst (IsRegular play.opening) (sym split) s.regular in
     subst (λ p. IsLegal p (card_after play count)) (sym s.position) (regular-front play.opening (take count play.cards) (card_after play count ∷ drop (count + 1) play.cards) both).1.0
 

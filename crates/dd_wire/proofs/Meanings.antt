@@ -148,7 +148,7 @@ suit-of (suc (suc (suc zero))) h = (Clubs, refl)
 suit-of (suc (suc (suc (suc code)))) h = absurd (omega arith)
 
 -- each code up to 4 is that of a strain
-strain-of : (code : ℕ) → code ≤ 4 → (strain : Strain) × (strain_code strain ≡ code)
+pub strain-of : (code : ℕ) → code ≤ 4 → (strain : Strain) × (strain_code strain ≡ code)
 strain-of zero h = (Trump Spades, refl)
 strain-of (suc zero) h = (Trump Hearts, refl)
 strain-of (suc (suc zero)) h = (Trump Diamonds, refl)
@@ -157,7 +157,7 @@ strain-of (suc (suc (suc (suc zero)))) h = (Notrump, refl)
 strain-of (suc (suc (suc (suc (suc code))))) h = absurd (omega arith)
 
 -- each code up to 3 is that of a seat
-seat-of : (code : ℕ) → code ≤ 3 → (seat : Seat) × (seat_code seat ≡ code)
+pub seat-of : (code : ℕ) → code ≤ 3 → (seat : Seat) × (seat_code seat ≡ code)
 seat-of zero h = (North, refl)
 seat-of (suc zero) h = (East, refl)
 seat-of (suc (suc zero)) h = (South, refl)
@@ -165,7 +165,7 @@ seat-of (suc (suc (suc zero))) h = (West, refl)
 seat-of (suc (suc (suc (suc code)))) h = absurd (omega arith)
 
 -- pairs that are cards' are those of some cards
-cards-of : (pairs : List (ℕ × ℕ)) → list_all is_card pairs ≡ true → (cards : List PlayingCard) × (map pair_of_card cards ≡ pairs)
+pub cards-of : (pairs : List (ℕ × ℕ)) → list_all is_card pairs ≡ true → (cards : List PlayingCard) × (map pair_of_card cards ≡ pairs)
 cards-of [] all = ([], refl)
 cards-of ((suit, rank) ∷ pairs) all =
     elim (cases_Bool (nat_lt suit 4)) [
@@ -271,7 +271,7 @@ board-memory board solutions means =
       | inr some ↦ (let no = means.some once even (let ne = some.1 in omega arith) in cc)
     ]))
 
-by-bool : (b : Bool) (P Q : Type 0) → (P → ⊥) → (Q → ⊥) → MatchBool b P Q → ⊥
+pub by-bool : (b : Bool) (P Q : Type 0) → (P → ⊥) → (Q → ⊥) → MatchBool b P Q → ⊥
 by-bool true P Q p q held = p held
 by-bool false P Q p q held = q held
 

@@ -3,23 +3,28 @@ ghost use Rattle.std.specs.Prelude.{◌≡◌, ◌≤◌, ◌⊎◌, IsSome};
 ghost use Rattle.arrayvec.specs.ArrayString.{array_string_len};
 ghost use Rattle.dd_wire.specs.LineReplies.{IsReply};
 ghost use Rattle.dd_wire.specs.ParReplies.{TellsPar, rows_of};
+ghost use Rattle.dd_wire.specs.PlayReplies.{trace_text};
 ghost use Rattle.dd_wire.specs.Replies.{asked_text, spent_text};
+ghost use Rattle.dd_solve.specs.Plays.{trace};
 ghost use Rattle.dd_solve.specs.Results.{results};
 
 use crate::line_asked::LineAsked;
 use crate::par_reply::{par_reply, score_results, write_par};
 use crate::par_request::ParOfDeal;
+use crate::play_reply::write_trace;
 use crate::reply::{write_answer, write_fault, write_spent, write_table};
 use crate::request_reader::read_request;
 use dd_lines::{LONGEST_REPLY, ReplyText};
 use dd_search::{Bounds, Budget, Endless};
-use dd_solve::{Asked, Request, Results, TableRequest, solve, solve_table};
+use dd_solve::{
+    Asked, PlayRequest, Request, Results, TableRequest, solve, solve_play, solve_table,
+};
 use std::alloc::Global;
 
 /// The reply to a line of any length, without a line feed at its end.
 ///
-/// The budget is the most positions that the search for the answer comes to, and for a table the search for each of its
-/// twenty results; `None` lets it go on to its end. A line whose search spends it is told so in place of an answer.
+/// The budget is the most positions that the search for the answer comes to, for a table the search for each of its
+/// twenty results, and for a play the search for each number; `None` lets it go on to its end. A line whose search spends it is told so in place of an answer.
 pub fn reply_to_line<B: Bounds>(
     alloc: Global,
     line: &[u8],
@@ -33,6 +38,7 @@ pub fn reply_to_line<B: Bounds>(
         Ok(LineAsked::Cards(asked)) => cards_reply(asked, table, budget),
         Ok(LineAsked::Par(asked)) => write_par(&asked),
         Ok(LineAsked::ParOfDeal(asked)) => deal_par_reply(&asked, table, budget),
+        Ok(LineAsked::Play(request)) => play_reply(request, table, budget),
         Err(fault) => write_fault(fault),
     }
 }
@@ -104,5 +110,16 @@ fn write_par_of_deal(asked: &ParOfDeal, found: &Results) -> ReplyText
     match score_results(found) {
         Some(rows) => par_reply(&rows, asked.conditions()),
         None => unreachable!(),
+    }
+}
+
+/// The tricks after each card of a play, or that the search for one of these numbers spent the budget.
+fn play_reply<B: Bounds>(request: PlayRequest, table: &mut B, budget: Option<u64>) -> ReplyText
+    ensures text { (result.bytes ≡ trace_text (trace request)) ⊎ (IsSome budget × (result.bytes ≡ spent_text)) }
+    ensures bound { array_string_len result ≤ LONGEST_REPLY }
+{
+    match solve_play(request, table, budget) {
+        Some(solved) => write_trace(solved.trace()),
+        None => write_spent(),
     }
 }

@@ -13,8 +13,7 @@ ghost use Rattle.dd_wire.specs.Requests.{are_among, keys_of, pairs_of};
 
 use crate::fault::Fault;
 use crate::request_reader::{
-    card_of, hands_of, member_at, pair_of, play_fault, seat_of, strain_of, text_at,
-    whole_number_at,
+    card_of, hands_of, member_at, pair_of, play_fault, seat_of, strain_of, text_at, whole_number_at,
 };
 use arrayvec::ArrayVec;
 use dd_cards::{Card, Hands, Seat, Strain};
