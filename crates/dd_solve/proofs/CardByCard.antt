@@ -1,21 +1,21 @@
 -- the numbers of a trace, card by card
 use Rattle.std.proofs.Common.{◌≡◌, ℕ, zero, suc, ◌+◌, ◌-◌, ◌<◌, ◌≤◌, Bool, true, false, refl, sym, ap, ◌∙◌, subst, arith, List, [], ◌∷◌, ◌++◌, length, take, drop, get_or, Option, Some, None}
-use Rattle.std.specs.Prelude.{◌&&◌, if◌then◌else◌}
+use Rattle.std.specs.Prelude.{◌&&◌, ◌||◌, if◌then◌else◌}
 use Rattle.std.proofs.lemmas.List.{take_more, drop_more, take-append-drop}
 use Rattle.dd_cards.specs.declared.seat.Seat.{Seat}
 use Rattle.dd_cards.specs.PlayingCard.{PlayingCard}
-use Rattle.dd_cards.specs.Cards.{card_of}
+use Rattle.dd_cards.specs.Cards.{card_of, has_card, same_card}
 use Rattle.dd_cards.specs.declared.suit.Suit.TheVariants.{Spades}
 use Rattle.dd_cards.specs.Sides.{side_of, other_side, is_side, same_side}
 use Rattle.dd_cards.specs.declared.side.Side.{Side}
 use Rattle.dd_cards.specs.declared.side.Side.TheVariants.{NorthSouth, EastWest}
-use Rattle.dd_cards.proofs.CallerLemmas.{is-same, is-other, same-self}
+use Rattle.dd_cards.proofs.CallerLemmas.{is-same, is-other, same-self, same-other, same_card-eq}
 use Rattle.dd_play.specs.Board.{Board, IsBoard, mover, tricks_left}
 use Rattle.dd_play.specs.Tricks.{winner_of}
-use Rattle.dd_play.specs.Play.{completes, trick_with, after}
+use Rattle.dd_play.specs.Play.{completes, legal, trick_with, after}
 use Rattle.dd_play.specs.Simulations.{IsLegal}
 use Rattle.dd_play.specs.Won.{won, trick_for}
-use Rattle.dd_play.proofs.CallerLemmas.{all, can, legal-leads, one-trick, won_with}
+use Rattle.dd_play.proofs.CallerLemmas.{all, can, least, legal-leads, one-trick, won_with}
 use Rattle.dd_solve.specs.Plays.{Play, IsRegular, declarers, position_after, tricks_won, tricks_with, tricks_after}
 use Rattle.dd_solve.specs.SideTricks.{side_trick}
 
@@ -188,3 +188,47 @@ number-defenders play count q k value s is turn =
     let same : won (other_side mine) q ≡ won (declarers play.opening) q = ap (λ a. won a q) (is-other mine (declarers play.opening) turn) in
     let here = number-here play count q k s in
     (omega (arith, sum, is), omega (arith, sum, is, same, here))
+
+-- ---- a card without a choice
+
+-- a list of one card that has this one is the list of it
+one-card : (cards : List PlayingCard) (c : PlayingCard) → length cards ≡ 1 → has_card cards c ≡ true → cards ≡ c ∷ []
+one-card [] c one has = absurd (omega (arith, one))
+one-card (d ∷ e ∷ cards) c one has = absurd (omega (arith, one))
+one-card (d ∷ []) c one has = go (same_card d c) refl has
+  where
+    go : (b : Bool) → same_card d c ≡ b → (b || false) ≡ true → d ∷ [] ≡ c ∷ []
+    go true e h = ap (λ x. x ∷ []) (same_card-eq d c e)
+    go false e h = absurd (cc)
+
+-- of one card that is legal
+only-legal : (p : Board) (c d : PlayingCard) → legal p ≡ c ∷ [] → IsLegal p d → d ≡ c
+only-legal p c d one has = go (same_card c d) refl (subst (λ cards. has_card cards d ≡ true) one has)
+  where
+    go : (b : Bool) → same_card c d ≡ b → has_card (c ∷ []) d ≡ true → d ≡ c
+    go true e h = sym (same_card-eq c d e)
+    go false e h = absurd (let no : false ≡ true = rw e at h in cc)
+
+-- a side takes what it takes with the only card that may be played
+forced : (side : Side) (p : Board) (c : PlayingCard) → IsBoard p → IsLegal p c → length (legal p) ≡ 1 → won side p ≡ won_with side p c
+forced side p c valid has one =
+    let mine : Side = side_of (mover p) in
+    let others : Side = other_side mine in
+    let only : legal p ≡ c ∷ [] = one-card (legal p) c one has in
+    let reach = can mine p c valid (same-self mine) has in
+    let rest = least others p (won_with others p c) valid (same-other mine) c has (λ d legal. (let same = ap (λ x. won_with others p x) (only-legal p c d only legal) in omega (arith, same))) in
+    let sum = all mine p valid in
+    let both = shared mine p c valid has in
+    go (same_side mine side) refl (omega (arith, reach, rest, sum, both)) (omega (arith, reach, rest, sum, both))
+  where
+    go : (b : Bool) → same_side (side_of (mover p)) side ≡ b → won (side_of (mover p)) p ≡ won_with (side_of (mover p)) p c
+        → won (other_side (side_of (mover p))) p ≡ won_with (other_side (side_of (mover p))) p c → won side p ≡ won_with side p c
+    go true e own other = subst (λ a. won a p ≡ won_with a p c) (is-same (side_of (mover p)) side e) own
+    go false e own other = subst (λ a. won a p ≡ won_with a p c) (is-other (side_of (mover p)) side e) other
+
+-- so the number is the next one
+pub number-forced : (play : Play) (count : ℕ) (q : Board) (k next : ℕ) → Stands play count q k → count < length play.cards → next ≡ tricks_after play (count + 1) → length (legal q) ≡ 1
+    → next ≡ tricks_after play count
+number-forced play count q k next s within is one =
+    let same = forced (declarers play.opening) q (card_after play count) (stands-valid play count q k s) (next-legal play count q k s within) one in
+    is ∙ next-number play count q k s within ∙ ap (λ n. k + n) (sym same) ∙ sym (number-here play count q k s)

@@ -74,8 +74,9 @@ fn number_within<B: Bounds>(
     }
 }
 
-// The number of the trace after the first `count` cards, where `next` is the number after one card more, if it is known. No
-// card of a side does better for it than the best one, so then one question upwards mostly settles it.
+// The number of the trace after the first `count` cards, where `next` is the number after one card more, if it is known. A
+// card does no better for its side than the best one, so then one question upwards mostly settles it, and where there was
+// no choice none is needed.
 fn number_after<B: Bounds, M: Meter>(
     request: &PlayRequest,
     count: usize,
@@ -97,6 +98,9 @@ fn number_after<B: Bounds, M: Meter>(
     let value = match next {
         None => value(&position, table, meter)?,
         Some(next) => {
+            if position.choices().len() == 1 {
+                return Ok(next);
+            }
             let rest = next - won;
             let least = if declarer_plays { rest } else { left - rest };
             value_at_least(&position, least, table, meter)?
