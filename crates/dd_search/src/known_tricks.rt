@@ -29,8 +29,9 @@ pub fn value_at_least<B: Bounds, M: Meter>(
     let left = position.tricks_left();
     let mut tricks = least;
     'tricks: while tricks < left {
-        if !takes(position, tricks + 1, table, meter)? {
-            break;
+        let more = takes(position, tricks + 1, table, meter)?;
+        if !more {
+            return Ok(tricks);
         }
         tricks += 1;
     }

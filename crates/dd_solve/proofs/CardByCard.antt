@@ -1,6 +1,7 @@
 -- the numbers of a trace, card by card
-use Rattle.std.proofs.Common.{◌≡◌, ℕ, zero, suc, ◌+◌, ◌-◌, ◌<◌, ◌≤◌, Bool, true, false, refl, sym, ap, ◌∙◌, subst, arith, List, [], ◌∷◌, ◌++◌, length, take, drop, get_or, Option, Some, None}
-use Rattle.std.specs.Prelude.{◌&&◌, ◌||◌, if◌then◌else◌}
+use Rattle.std.proofs.Common.{◌≡◌, ℕ, ◌+◌, ◌-◌, ◌<◌, ◌≤◌, Bool, true, false, refl, sym, ap, ◌∙◌, subst, arith, List, [], ◌∷◌, ◌++◌, length, take, drop, get_or, Option, Some, None}
+use Rattle.std.specs.Prelude.{◌&&◌, ◌||◌, map, if◌then◌else◌}
+use Rattle.std.specs.List.{range_with_len}
 use Rattle.std.proofs.lemmas.List.{take_more, drop_more, take-append-drop}
 use Rattle.dd_cards.specs.declared.seat.Seat.{Seat}
 use Rattle.dd_cards.specs.PlayingCard.{PlayingCard}
@@ -15,8 +16,8 @@ use Rattle.dd_play.specs.Tricks.{winner_of}
 use Rattle.dd_play.specs.Play.{completes, legal, trick_with, after}
 use Rattle.dd_play.specs.Simulations.{IsLegal}
 use Rattle.dd_play.specs.Won.{won, trick_for}
-use Rattle.dd_play.proofs.CallerLemmas.{all, can, least, legal-leads, one-trick, won_with}
-use Rattle.dd_solve.specs.Plays.{Play, IsRegular, declarers, position_after, tricks_won, tricks_with, tricks_after}
+use Rattle.dd_play.proofs.CallerLemmas.{all, can, least, left-13, legal-leads, one-trick, won_with}
+use Rattle.dd_solve.specs.Plays.{Play, IsRegular, declarers, position_after, tricks_won, tricks_with, tricks_after, trace}
 use Rattle.dd_solve.specs.SideTricks.{side_trick}
 
 -- ---- some cards, and then some more
@@ -28,7 +29,7 @@ after-append p (c ∷ cs) ds = after-append (after p c) cs ds
 
 -- and both win what each win
 won-append : (side : Side) (p : Board) (cs ds : List PlayingCard) → tricks_won side p (cs ++ ds) ≡ tricks_won side p cs + tricks_won side (position_after p cs) ds
-won-append side p [] ds = refl
+won-append side p [] ds = omega arith
 won-append side p (c ∷ cs) ds = let rest = won-append side (after p c) cs ds in omega (arith, rest)
 
 -- both are regular where each are
@@ -49,6 +50,14 @@ pub record IsOnTheWay (side : Side) (p : Board) (cards : List PlayingCard) (q : 
   pub won : won_so_far + tricks_won side q rest ≡ tricks_won side p cards
   pub regular : IsRegular q rest
   pub bound : won_so_far + tricks_left q ≤ 13
+
+-- the first cards of a regular play are one
+pub regular-take : (p : Board) (n : ℕ) (cards : List PlayingCard) → IsRegular p cards → IsRegular p (take n cards)
+regular-take p n cards h = (regular-front p (take n cards) (drop n cards) (subst (IsRegular p) (sym (take-append-drop n cards)) h)).0
+
+-- at first nothing was played
+pub way-none : (side : Side) (p : Board) (cards : List PlayingCard) → IsBoard p → IsRegular p cards → IsOnTheWay side p cards p 0 cards
+way-none side p cards valid regular = record { position = refl; won = omega arith; regular = regular; bound = (let few = left-13 p valid in omega (arith, few)) }
 
 -- a card wins at most the trick that it completes
 trick-most : (side : Side) (p : Board) (c : PlayingCard) → trick_for side p c ≤ (if completes p then 1 else 0)
@@ -98,8 +107,7 @@ pub record Stands (play : Play) (count : ℕ) (q : Board) (won_so_far : ℕ) : T
 -- that position is a legal state of play
 stands-valid : (play : Play) (count : ℕ) (q : Board) (k : ℕ) → Stands play count q k → IsBoard q
 stands-valid play count q k s =
-    let both : IsRegular play.opening (take count play.cards ++ drop count play.cards) = subst (IsRegular play.opening) (sym (take-append-drop count play.cards)) s.regular in
-    subst IsBoard (sym s.position) (valid-after play.opening (take count play.cards) s.valid (regular-front play.opening (take count play.cards) (drop count play.cards) both).0)
+    subst IsBoard (sym s.position) (valid-after play.opening (take count play.cards) s.valid (regular-take play.opening count play.cards s.regular))
 
 -- the number is what was won by then, with what comes
 pub number-here : (play : Play) (count : ℕ) (q : Board) (k : ℕ) → Stands play count q k → tricks_after play count ≡ k + won (declarers play.opening) q
@@ -189,6 +197,10 @@ number-defenders play count q k value s is turn =
     let here = number-here play count q k s in
     (omega (arith, sum, is), omega (arith, sum, is, same, here))
 
+-- the side to play takes no more tricks than are left
+pub value-within : (p : Board) → IsBoard p → won (side_of (mover p)) p ≤ tricks_left p
+value-within p valid = let sum = all (side_of (mover p)) p valid in omega (arith, sum)
+
 -- ---- a card without a choice
 
 -- a list of one card that has this one is the list of it
@@ -232,3 +244,10 @@ pub number-forced : (play : Play) (count : ℕ) (q : Board) (k next : ℕ) → S
 number-forced play count q k next s within is one =
     let same = forced (declarers play.opening) q (card_after play count) (stands-valid play count q k s) (next-legal play count q k s within) one in
     is ∙ next-number play count q k s within ∙ ap (λ n. k + n) (sym same) ∙ sym (number-here play count q k s)
+
+-- ---- the trace from some card on
+
+-- the whole trace
+pub trace-whole : (play : Play) (count many : ℕ) (numbers : List ℕ) → numbers ≡ map (tricks_after play) (range_with_len count many) → count ≡ 0 → many ≡ length play.cards + 1 → numbers ≡ trace play
+unfolding trace
+trace-whole play count many numbers are none all = rw (← none, ← all) are

@@ -4,10 +4,10 @@ use Rattle.std.proofs.lemmas.Bool.{cases_Bool}
 use Rattle.std.proofs.lemmas.Bool.Decides.{eqb_tells}
 use Rattle.dd_cards.specs.PlayingCard.{PlayingCard}
 use Rattle.dd_cards.specs.Cards.{has_card}
-use Rattle.dd_play.specs.Board.{Board, cards_at, mover, tricks_left}
+use Rattle.dd_play.specs.Board.{Board, IsBoard, cards_at, cards_left, mover, tricks_left}
 use Rattle.dd_play.specs.Play.{legal, after}
 use Rattle.dd_play.specs.Simulations.{IsLegal}
-use Rattle.dd_play.proofs.CallerLemmas.{own-card}
+use Rattle.dd_play.proofs.CallerLemmas.{cards-tricks, cards_left-after, left-13, legal-leads, own-card}
 use Rattle.dd_solve.specs.declared.card_fault.CardFault.{CardFault}
 use Rattle.dd_solve.specs.declared.card_fault.CardFault.TheVariants.{AfterLast, NotInHand, Revoke}
 use Rattle.dd_solve.specs.CardFaults.{IsFaultOf, IsFirstFault}
@@ -82,11 +82,11 @@ fault-checked p cards q c rest fault k here = (
 fault-decided : (p : Board) (c : PlayingCard) → IsLegal p c ⊎ ((fault : CardFault) × IsFaultOf fault p c)
 fault-decided p c =
     elim (cases_Bool (has_card (legal p) c)) [
-      | inl yes ↦ inl yes
-      | inr no ↦ elim (eqb_tells (tricks_left p) 0) [
+      | inl allowed ↦ inl allowed
+      | inr illegal ↦ elim (eqb_tells (tricks_left p) 0) [
         | inl none ↦ inr (AfterLast, none.1)
         | inr some ↦ elim (cases_Bool (has_card (cards_at p (mover p)) c)) [
-          | inl held ↦ inr (Revoke, (held, no))
+          | inl held ↦ inr (Revoke, (held, illegal))
           | inr absent ↦ inr (NotInHand, (let ne = some.1 in omega arith, absent))
         ]
       ]
@@ -117,3 +117,19 @@ one-first-fault f g p (c ∷ cards) (inl a) (inl b) = one-fault f g p c a b
 one-first-fault f g p (c ∷ cards) (inl a) (inr b) = absurd (fault-illegal f p c a b.0)
 one-first-fault f g p (c ∷ cards) (inr a) (inl b) = absurd (fault-illegal g p c b a.0)
 one-first-fault f g p (c ∷ cards) (inr a) (inr b) = one-first-fault f g (after p c) cards a.1 b.1
+
+-- each card of a regular play leaves one card fewer in the hands
+regular-fits : (p : Board) (cards : List PlayingCard) → IsBoard p → IsRegular p cards → length cards ≤ cards_left p
+regular-fits p [] valid h = omega arith
+regular-fits p (c ∷ cards) valid h =
+    let rest = regular-fits (after p c) cards (legal-leads p c valid h.0).valid h.1 in
+    let fewer = cards_left-after p c valid h.0 in
+    omega (arith, rest, fewer)
+
+-- so it has at most 52 cards
+pub regular-52 : (p : Board) (cards : List PlayingCard) → IsBoard p → IsRegular p cards → length cards ≤ 52
+regular-52 p cards valid h =
+    let fits = regular-fits p cards valid h in
+    let tricks = cards-tricks p valid in
+    let few = left-13 p valid in
+    omega (arith, fits, tricks, few)

@@ -64,7 +64,3 @@ pub record PlayNumber : Type 0 where
 
 abbrev pub play_number : Play → ℕ → PlayNumber
 play_number play part = record { play = play; part = part; tricks = tricks_after play part }
-
--- all numbers of a trace, each with its play
-unfoldable pub all_numbers : Play → List PlayNumber
-all_numbers play = map (play_number play) (range_with_len 0 (length play.cards + 1))

@@ -1,6 +1,7 @@
 //! Plays, card by card from the opening lead on.
-ghost use Rattle.std.specs.Prelude.{◌≡◌, ◌+◌, ◌≤◌, ◌↔◌, IsOk, IfOk, IsTrue, Err, [], length, take, MatchOption};
-ghost use Rattle.dd_play.specs.Board.{tricks_left};
+ghost use Rattle.std.specs.Prelude.{◌≡◌, ◌+◌, ◌≤◌, ◌↔◌, IsOk, IfOk, OnOk, Err, [], length, take, MatchOption};
+ghost use Rattle.dd_play.specs.Board.{mover, tricks_left, IsBoard};
+ghost use Rattle.dd_cards.specs.Sides.{is_side};
 ghost use Rattle.dd_play.specs.Positions.{CanPlay};
 ghost use Rattle.dd_play.specs.Simulations.{IsLegal};
 ghost use Rattle.dd_solve.specs.CardFaults.{IsFaultOf, IsFirstFault};
@@ -88,6 +89,8 @@ impl PlayRequest {
         ensures won { result.1 ≡
             tricks_won (declarers self.now.opening) self.now.opening (take count self.now.cards) }
         ensures bound { result.1 + tricks_left result.0 ≤ 13 }
+        ensures board { IsBoard self.now.opening }
+        ensures regular { IsRegular self.now.opening self.now.cards }
     {
         let side = self.declarers();
         let mut position = self.opening.copy();
@@ -99,6 +102,13 @@ impl PlayRequest {
             position = next;
         }
         (position, won)
+    }
+
+    /// Is declarer's side to play in this position?
+    pub(crate) fn declarer_plays(&self, position: &Position) -> bool
+        ensures { result ≡ is_side (declarers self.now.opening) (mover position.now) }
+    {
+        position.mover().side() == self.declarers()
     }
 
     /// The same play. It takes no memory.
@@ -128,6 +138,7 @@ fn check(opening: &Position, cards: &[Card]) -> Result<(), CardFault>
     ensures regular { IsOk result ↔ IsRegular opening.now cards.now }
     ensures faults { (fault : CardFault) →
         (result ≡ Err fault) ↔ IsFirstFault fault opening.now cards.now }
+    ensures most { OnOk result (length cards.now ≤ MOST_CARDS) }
 {
     let mut position = opening.copy();
     for card in cards {

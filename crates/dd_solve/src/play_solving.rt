@@ -94,7 +94,7 @@ fn number_after<B: Bounds, M: Meter>(
 {
     let (position, won) = request.after(count);
     let left = position.tricks_left();
-    let declarer_plays = position.mover().side() == request.declarers();
+    let declarer_plays = request.declarer_plays(&position);
     let value = match next {
         None => value(&position, table, meter)?,
         Some(next) => {

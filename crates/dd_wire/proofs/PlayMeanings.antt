@@ -1,15 +1,21 @@
 -- What the fields of a request for a play ask: something, and one thing.
-use Rattle.std.proofs.Common.{◌≡◌, ℕ, ◌<◌, inl, inr, Bool, true, false, refl, sym, ap, ◌∙◌, subst, arith, List, [], length}
+use Rattle.std.proofs.Common.{◌≡◌, ℕ, ◌<◌, ◌≤◌, inl, inr, Bool, true, false, refl, sym, ap, ◌∙◌, subst, arith, List, [], length}
 use Rattle.std.specs.Prelude.{◌&&◌, Result, Ok, Err, map, nat_lt, nat_le}
 use Rattle.std.specs.List.{list_all}
-use Rattle.std.proofs.lemmas.Bool.{ltb-false}
+use Rattle.std.proofs.lemmas.Bool.{le-ltb, ltb-false}
 use Rattle.std.proofs.lemmas.Bool.Decides.{eqb_tells}
 use Rattle.dd_cards.specs.PlayingCard.{PlayingCard}
 use Rattle.dd_cards.specs.Seats.{seat_code}
 use Rattle.dd_cards.specs.Strains.{strain_code}
-use Rattle.dd_cards.specs.Hands.{FourHands}
+use Rattle.dd_cards.specs.declared.seat.Seat.{Seat}
+use Rattle.dd_cards.specs.declared.strain.Strain.{Strain}
+use Rattle.dd_cards.specs.Hands.{AreHands, FourHands, times}
 use Rattle.dd_cards.proofs.CallerLemmas.{seat_code-injective, strain_code-injective}
 use Rattle.dd_play.specs.Board.{Board, board_of, IsEven, tricks_left}
+use Rattle.dd_play.specs.Positions as positions
+use Rattle.dd_play.specs.declared.play_fault.PlayFault.{PlayFault}
+use Rattle.dd_play.specs.declared.play_fault.PlayFault.TheVariants.{Played, Twice, Uneven, Empty}
+use Rattle.dd_play.proofs.CallerLemmas.{times_in-once}
 use Rattle.dd_solve.specs.declared.card_fault.CardFault.{CardFault}
 use Rattle.dd_solve.specs.declared.card_fault.CardFault.TheVariants as faults
 use Rattle.dd_solve.specs.CardFaults.{IsFirstFault}
@@ -18,6 +24,7 @@ use Rattle.dd_solve.proofs.CallerLemmas.{regular-decided, regular-faultless, one
 use Rattle.dd_wire.specs.declared.fault.Fault.{Fault}
 use Rattle.dd_wire.specs.declared.fault.Fault.TheVariants.{WrongTrump, WrongFirst, WrongPlayed, UnevenHands, NoCard, OutOfMemory}
 use Rattle.dd_wire.specs.PlayLines.{PlayFields, MeansPlay, MeansPlayed, MeansPlayFields, IsPlayOf, are_cards_played, card_fault}
+use Rattle.dd_wire.specs.Reading.{play_fault}
 use Rattle.dd_wire.specs.Requests.{pair_of_card}
 use Rattle.dd_wire.proofs.Pairs.{is_card}
 use Rattle.dd_wire.proofs.Meanings.{SomeMeaning, by-test, by-bool, cards-of, deal-memory, even-decided, seat-of, some-deal, strain-of}
@@ -53,6 +60,22 @@ play-regular play even more regular =
       fault = λ _ _ fault there. absurd (regular-faultless fault play.opening play.cards regular there);
       some = λ _ _ _. refl;
     }
+
+-- hands that are no position before a lead: no card stands twice in hands, and none lies on the trick
+pub opening-fault : (play : Play) (fault : PlayFault) → AreHands play.opening.hands → play.opening.trick ≡ [] → positions.IsFirstFault fault play.opening → MeansPlay play (Err (play_fault fault))
+opening-fault play Played are start is = absurd (let none = ap length start in omega (arith, is, none))
+opening-fault play Twice are start is = absurd (is.1 (λ c. let once = times_in-once play.opening.hands c are in let none = ap (λ cards. times cards c) start in omega (arith, once, none)))
+opening-fault play Uneven are start is = play-uneven play is.2
+opening-fault play Empty are start is = play-empty play is.2 is.3
+
+-- with a strain, a leader and cards in range the cards decide
+pub means-played : (fields : PlayFields) (hands : FourHands) (strain : Strain) (first : Seat) (cards : List PlayingCard) (meaning : Result Play Fault)
+    → strain_code strain ≡ fields.trump → fields.trump ≤ 4 → seat_code first ≡ fields.first → fields.first < 4 → map pair_of_card cards ≡ fields.cards → are_cards_played fields.cards ≡ true
+    → MeansPlay (record { opening = board_of hands strain first []; cards = cards }) meaning → MeansPlayed fields hands meaning
+means-played fields hands strain first cards meaning trump low leader below played are means =
+    let strain-test : nat_lt 4 fields.trump ≡ false = le-ltb 4 fields.trump low in
+    let first-test : nat_lt 3 fields.first ≡ false = le-ltb 3 fields.first (omega arith) in
+    rw (strain-test, first-test, are) (record { opening = board_of hands strain first []; cards = cards }, record { dealt = refl; strain = trump; first = leader; trick = refl; cards = played }, means)
 
 -- ---- every one has a meaning
 some-play : (play : Play) → SomeMeaning (MeansPlay play)
