@@ -1,6 +1,6 @@
 -- Every line has a meaning.
 use Rattle.std.proofs.Common.{◌≡◌, ℕ, zero, suc, ◌+◌, ◌<◌, ◌≤◌, ◌⊎◌, inl, inr, Bool, true, false, refl, sym, ap, subst, ◌∙◌, arith, [], ◌∷◌, List, length}
-use Rattle.std.specs.Prelude.{◌&&◌, Option, None, Some, Result, Ok, Err, MatchOption, map, nat_lt, nat_le, if◌then◌else◌}
+use Rattle.std.specs.Prelude.{◌&&◌, Option, None, Some, Result, Ok, Err, MatchOption, IsSome, map, nat_lt, nat_le, if◌then◌else◌}
 use Rattle.std.specs.Bool.{MatchBool}
 use Rattle.std.specs.List.{list_all}
 use Rattle.std.specs.Result.{IfOk, IfErr}
@@ -32,7 +32,7 @@ use Rattle.dd_pbn.specs.Values.{begins_tag}
 use Rattle.dd_wire.specs.declared.fault.Fault.{Fault}
 use Rattle.dd_wire.specs.declared.fault.Fault.TheVariants.{LineTooLong, NotAnObject, WrongField, CardTwice, WrongTrump, WrongFirst, WrongPlayed, WrongSolutions, UnevenHands, NoCard, OutOfMemory}
 use Rattle.dd_solve.specs.Questions.{Question}
-use Rattle.dd_wire.specs.Requests.{SolveFields, Means, MeansObject, MeansDeal, MeansTable, MeansFields, MeansHands, MeansBoard, IsAskedOf, SpellsDeal, SpellsNone, asked_as, deal_fault, are_cards, pair_of_card, object_of, solve_fields, table_deal}
+use Rattle.dd_wire.specs.Requests.{SolveFields, Means, MeansObject, MeansDeal, MeansTable, MeansFields, MeansHands, MeansBoard, IsAskedOf, SpellsDeal, SpellsNone, asked_as, deal_fault, are_cards, pair_of_card, object_of, solve_fields, table_deal, wait_at}
 use Rattle.dd_lines.specs.Line.{longest_line}
 use Rattle.dd_solve.specs.declared.asked.Asked.{Asked}
 use Rattle.dd_solve.specs.declared.asked.Asked.TheVariants.{Solve, Table}
@@ -43,10 +43,14 @@ use Rattle.dd_wire.proofs.Starts.{means-twice, means-uneven, means-empty, means-
 -- ---- from the fields to the line
 -- a line that is not too long means what the members of its object mean
 pub means-object : (line : List ℕ) (object : Members) (meaning : Result Asked Fault)
-    → length line ≤ longest_line → object_of line ≡ Some object → MeansObject object meaning → Means line meaning
-means-object line object meaning short is means =
+    → length line ≤ longest_line → object_of line ≡ Some object → IsSome (wait_at object) → MeansObject object meaning → Means line meaning
+means-object line object meaning short is waits means =
     let test : nat_lt longest_line (length line) ≡ false = le-ltb longest_line (length line) short in
-    rw (test, is) means
+    rw (test, is) (waited (wait_at object) _ _ waits means)
+  where
+    waited : (wait : Option ℕ) (P Q : Type 0) → IsSome wait → Q → MatchOption wait P (λ _. Q)
+    waited (Some w) P Q some q = q
+    waited None P Q some q = absurd (cc)
 
 -- with a strain, a leader, cards played and solutions in range the cards together decide
 pub means-cards : (fields : SolveFields) (hands : FourHands) (strain : Strain) (first : Seat) (trick : List PlayingCard) (meaning : Result Question Fault)
@@ -272,7 +276,8 @@ some-object members =
 pub some-meaning : (line : List ℕ) → (meaning : Result Asked Fault) × Means line meaning
 some-meaning line =
     by-test (nat_lt longest_line (length line)) _ _ (λ _. (Err LineTooLong, refl)) (λ _.
-    by-option (object_of line) _ _ (Err NotAnObject, refl) (λ members _. some-object members))
+    by-option (object_of line) _ _ (Err NotAnObject, refl) (λ members _.
+    by-option (wait_at members) _ _ (Err WrongField, refl) (λ wait _. some-object members)))
 
 -- ---- no meaning is that memory ran out
 board-memory : (board : Board) (solutions : ℕ) → MeansBoard board solutions (Err OutOfMemory) → ⊥

@@ -22,7 +22,7 @@ use Rattle.dd_wire.specs.declared.fault.Fault.{Fault}
 use Rattle.serde_json.specs.Data.{Members}
 use Rattle.dd_solve.specs.declared.asked.Asked.{Asked}
 use Rattle.dd_solve.specs.declared.asked.Asked.TheVariants.{Solve, Table}
-use Rattle.dd_wire.specs.Requests.{SolveFields, Means, MeansObject, MeansDeal, MeansTable, MeansFields, MeansHands, MeansBoard, IsAskedOf, asked_as, table_deal, deal_fault, are_cards, pair_of_card, object_of, solve_fields}
+use Rattle.dd_wire.specs.Requests.{SolveFields, Means, MeansObject, MeansDeal, MeansTable, MeansFields, MeansHands, MeansBoard, IsAskedOf, asked_as, table_deal, deal_fault, are_cards, pair_of_card, object_of, solve_fields, wait_at}
 use Rattle.dd_lines.specs.Line.{longest_line}
 use Rattle.dd_wire.proofs.Meanings.{none-twice-decided, even-decided, hands-decided}
 
@@ -165,4 +165,5 @@ one-object members =
 pub one-meaning : (line : List ℕ) (a b : Result Asked Fault) → Means line a → Means line b → a ≡ b
 one-meaning line =
     one-by-test (nat_lt longest_line (length line)) _ _ (both _)
-    (one-by-option (object_of line) _ _ (both _) one-object)
+    (one-by-option (object_of line) _ _ (both _) (λ members.
+    one-by-option (wait_at members) _ _ (both _) (λ wait. one-object members)))

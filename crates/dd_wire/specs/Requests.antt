@@ -1,5 +1,5 @@
 -- To be believed: what a request line means: the position and the number of cards that it asks for, or its first fault.
-use Rattle.std.specs.Prelude.{◌≡◌, ℕ, ◌<◌, ◌⊎◌, ◌&&◌, Bool, List, [], ◌∷◌, map, nat_lt, nat_le, length, codes, Option, None, Some, option_and_then, Result, Ok, Err, MatchOption, if◌then◌else◌}
+use Rattle.std.specs.Prelude.{◌≡◌, ℕ, ◌<◌, ◌⊎◌, ◌&&◌, min, Bool, List, [], ◌∷◌, map, nat_lt, nat_le, length, codes, Option, None, Some, option_and_then, option_map, Result, Ok, Err, MatchOption, if◌then◌else◌}
 use Rattle.std.specs.Bool.{MatchBool}
 use Rattle.std.specs.List.{list_any, list_all}
 use Rattle.std.specs.Str.{is_utf8, bytes_eq}
@@ -24,6 +24,7 @@ use Rattle.dd_solve.specs.declared.asked.Asked.{Asked}
 use Rattle.dd_solve.specs.declared.asked.Asked.TheVariants.{Solve, Table}
 use Rattle.dd_wire.specs.declared.fault.Fault.{Fault}
 use Rattle.dd_lines.specs.Line.{longest_line}
+use Rattle.dd_wire.specs.declared.wish.TheConstants.{LONGEST_WAIT}
 use Rattle.dd_wire.specs.declared.fault.Fault.TheVariants.{LineTooLong, NotAnObject, WrongField, DealText, HandLeftOut, CardTwice, WrongTrump, WrongFirst, WrongPlayed, WrongSolutions, UnevenHands, NoCard}
 
 -- the fields of a request to solve; the cards played as pairs of a suit's code and a rank
@@ -54,6 +55,14 @@ whole_number value = option_and_then as_u64 (as_number value)
 
 abbrev pub whole_number_at : Members → List ℕ → Option ℕ
 whole_number_at members key = option_and_then whole_number (get_member key members)
+
+-- how many milliseconds the reply may wait: none where that is left out, and never more than the most; nothing where it is no
+-- whole number
+abbrev pub wait_at : Members → Option ℕ
+wait_at members = elim (get_member (codes "wait") members) [
+  | None ↦ Some 0
+  | Some value ↦ option_map (λ count. min count LONGEST_WAIT) (whole_number value)
+]
 
 -- a list of exactly two whole numbers
 abbrev pub pair_of : Items → Option (ℕ × ℕ)
@@ -86,11 +95,11 @@ pairs_at members key = elim (get_member key members) [
 
 -- the names of the fields of a request to solve
 abbrev pub solve_keys : List (List ℕ)
-solve_keys = codes "deal" ∷ codes "do" ∷ codes "first" ∷ codes "played" ∷ codes "solutions" ∷ codes "trump" ∷ []
+solve_keys = codes "deal" ∷ codes "do" ∷ codes "first" ∷ codes "played" ∷ codes "solutions" ∷ codes "trump" ∷ codes "wait" ∷ []
 
 -- and of a request for a table
 abbrev pub table_keys : List (List ℕ)
-table_keys = codes "deal" ∷ codes "do" ∷ []
+table_keys = codes "deal" ∷ codes "do" ∷ codes "wait" ∷ []
 
 -- is each of these keys one of the known?
 abbrev pub are_among : List (List ℕ) → List (List ℕ) → Bool
@@ -197,8 +206,10 @@ MeansObject members meaning =
     (asked : Result Question Fault) × MeansFields fields asked × (meaning ≡ asked_as Solve asked)))
     (λ deal. (asked : Result FourHands Fault) × MeansDeal deal MeansTable asked × (meaning ≡ asked_as Table asked))
 
--- what a line means: its length is looked at first, then that it is a JSON object, then its members
+-- what a line means: its length is looked at first, then that it is a JSON object, then its wait, which asks for nothing here,
+-- then the other members
 abbrev pub Means : List ℕ → Result Asked Fault → Type 0
 Means line meaning =
     MatchBool (nat_lt longest_line (length line)) (meaning ≡ Err LineTooLong)
-    (MatchOption (object_of line) (meaning ≡ Err NotAnObject) (λ members. MeansObject members meaning))
+    (MatchOption (object_of line) (meaning ≡ Err NotAnObject) (λ members.
+    MatchOption (wait_at members) (meaning ≡ Err WrongField) (λ _. MeansObject members meaning)))

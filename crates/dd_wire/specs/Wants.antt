@@ -6,23 +6,28 @@ use Rattle.serde_json.specs.Data.{Members}
 use Rattle.dd_pbn.specs.Reading.{◌>>=◌}
 use Rattle.dd_solve.specs.declared.asked.Asked.{Asked}
 use Rattle.dd_wire.specs.declared.fault.Fault.{Fault}
-use Rattle.dd_wire.specs.declared.fault.Fault.TheVariants.{LineTooLong, NotAnObject}
+use Rattle.dd_wire.specs.declared.fault.Fault.TheVariants.{LineTooLong, NotAnObject, WrongField}
 use Rattle.dd_wire.specs.declared.want.Want.{Want}
 use Rattle.dd_wire.specs.declared.want.Want.TheVariants.{Submit, Cancel, Fetch, Stop}
-use Rattle.dd_wire.specs.Requests.{MeansObject, object_of, keys_of, are_among, text_at, whole_number_at}
+use Rattle.dd_wire.specs.declared.wish.Wish.{Wish}
+use Rattle.dd_wire.specs.Requests.{MeansObject, object_of, keys_of, are_among, text_at, wait_at, whole_number_at}
 use Rattle.dd_lines.specs.Line.{longest_line}
 
 -- the names of the fields of a call that names a job
 abbrev pub job_keys : List (List ℕ)
 job_keys = codes "do" ∷ codes "job" ∷ []
 
+-- and of one that may wait for the job's end
+abbrev pub fetch_keys : List (List ℕ)
+fetch_keys = codes "do" ∷ codes "job" ∷ codes "wait" ∷ []
+
 -- and of a call that names nothing
 abbrev pub alone_keys : List (List ℕ)
 alone_keys = codes "do" ∷ []
 
--- the number of the job that is named, where no other field is there
-abbrev pub named_job : Members → Option ℕ
-named_job members = (if are_among job_keys (keys_of members) then whole_number_at members (codes "job") else None)
+-- the number of the job that is named, where no field but these is there
+abbrev pub named_job : List (List ℕ) → Members → Option ℕ
+named_job known members = (if are_among known (keys_of members) then whole_number_at members (codes "job") else None)
 
 -- does `do` stand there alone?
 abbrev pub is_alone : Members → Bool
@@ -33,8 +38,8 @@ is_alone members = are_among alone_keys (keys_of members)
 abbrev pub session_call : Bool → Members → Option Want
 session_call allow_stop members = do
   task ← text_at members (codes "do")
-  if bytes_eq task (codes "cancel") then option_map Cancel (named_job members)
-      else if bytes_eq task (codes "fetch") then option_map Fetch (named_job members)
+  if bytes_eq task (codes "cancel") then option_map Cancel (named_job job_keys members)
+      else if bytes_eq task (codes "fetch") then option_map Fetch (named_job fetch_keys members)
       else if bytes_eq task (codes "stop") && (allow_stop && is_alone members) then Some Stop else None
 
 -- a request is submitted
@@ -49,8 +54,16 @@ MeansWanted allow_stop members meaning =
     ((asked : Result Asked Fault) × MeansObject members asked × (meaning ≡ submitted asked))
     (λ want. meaning ≡ Ok want)
 
--- what a line of a session means: its length is looked at first, then that it is a JSON object, then its members
-abbrev pub MeansWant : Bool → List ℕ → Result Want Fault → Type 0
-MeansWant allow_stop line meaning =
+-- what is wanted, with so long a wait
+abbrev pub wished : ℕ → Result Want Fault → Result Wish Fault
+wished wait (Ok want) = Ok (record { want = want; wait = wait })
+wished wait (Err fault) = Err fault
+
+-- what a line of a session means: its length is looked at first, then that it is a JSON object, then its wait, then the other
+-- members
+abbrev pub MeansWish : Bool → List ℕ → Result Wish Fault → Type 0
+MeansWish allow_stop line meaning =
     MatchBool (nat_lt longest_line (length line)) (meaning ≡ Err LineTooLong)
-    (MatchOption (object_of line) (meaning ≡ Err NotAnObject) (λ members. MeansWanted allow_stop members meaning))
+    (MatchOption (object_of line) (meaning ≡ Err NotAnObject) (λ members.
+    MatchOption (wait_at members) (meaning ≡ Err WrongField) (λ wait.
+    (want : Result Want Fault) × MeansWanted allow_stop members want × (meaning ≡ wished wait want))))

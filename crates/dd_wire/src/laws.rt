@@ -5,10 +5,11 @@ ghost use Rattle.dd_cards.specs.declared.suit.Suit.TheVariants.{Spades};
 ghost use Rattle.dd_pbn.specs.Examples.{eight_spades, two_suits};
 ghost use Rattle.dd_play.specs.Board.{board_of};
 ghost use Rattle.dd_wire.specs.Requests.{Means};
-ghost use Rattle.dd_wire.specs.Wants.{MeansWant};
+ghost use Rattle.dd_wire.specs.Wants.{MeansWish};
 
 use crate::fault::Fault;
 use crate::want::Want;
+use crate::wish::Wish;
 use dd_solve::Asked;
 
 /// A line has a meaning, and only one.
@@ -43,42 +44,66 @@ pub fn worked_lines()
         (Err Fault.WrongPlayed) }
     ensures no_solutions { Means (codes "{\"do\":\"solve\",\"deal\":\"N:A.2.. K.A.. Q.K.. J.Q..\",\"trump\":4,\"first\":0,\"solutions\":4,\"played\":[[0,14]]}")
         (Err Fault.WrongSolutions) }
+    ensures wait { Means (codes "{\"do\":\"table\",\"deal\":\"N:A.2.. K.A.. Q.K.. J.Q..\",\"wait\":9}")
+        (Ok (Asked.Table two_suits)) }
+    ensures wait_below_zero { Means (codes "{\"do\":\"solve\",\"deal\":\"N:A... - Q... J...\",\"trump\":4,\"first\":0,\"solutions\":3,\"wait\":-1}")
+        (Err Fault.WrongField) }
     ensures ace_led { Means (codes "{\"do\":\"solve\",\"deal\":\"N:A.2.. K.A.. Q.K.. J.Q..\",\"trump\":4,\"first\":0,\"solutions\":3,\"played\":[[0,14]]}")
         (Err Fault.CardTwice) }
 {}
 
 /// A line of a session has a meaning, and only one, with leave to stop as without.
 pub fn one_want()
-    ensures some { (leave : Bool) (line : List ℕ) → (meaning : Result Want Fault) ×
-        MeansWant leave line meaning }
-    ensures only { (leave : Bool) (line : List ℕ) (a b : Result Want Fault) →
-        MeansWant leave line a → MeansWant leave line b → a ≡ b }
+    ensures some { (leave : Bool) (line : List ℕ) → (meaning : Result Wish Fault) ×
+        MeansWish leave line meaning }
+    ensures only { (leave : Bool) (line : List ℕ) (a b : Result Wish Fault) →
+        MeansWish leave line a → MeansWish leave line b → a ≡ b }
 {}
 
 /// Lines of a session worked by hand.
 pub fn worked_wants()
-    ensures fetch { (leave : Bool) → MeansWant leave (codes "{\"do\":\"fetch\",\"job\":0}")
-        (Ok (Want.Fetch 0)) }
+    ensures fetch { (leave : Bool) → MeansWish leave (codes "{\"do\":\"fetch\",\"job\":0}")
+        (Ok record { want = Want.Fetch 0; wait = 0 }) }
     ensures cancel { (leave : Bool) →
-        MeansWant leave (codes "{\"job\":18446744073709551615,\"do\":\"cancel\"}")
-        (Ok (Want.Cancel 18446744073709551615)) }
-    ensures stop { MeansWant true (codes "{\"do\":\"stop\"}") (Ok Want.Stop) }
-    ensures no_leave { MeansWant false (codes "{\"do\":\"stop\"}") (Err Fault.WrongField) }
-    ensures stop_of_a_job { MeansWant true (codes "{\"do\":\"stop\",\"job\":1}")
+        MeansWish leave (codes "{\"job\":18446744073709551615,\"do\":\"cancel\"}")
+        (Ok record { want = Want.Cancel 18446744073709551615; wait = 0 }) }
+    ensures stop { MeansWish true (codes "{\"do\":\"stop\"}") (Ok record { want = Want.Stop; wait = 0 }) }
+    ensures no_leave { MeansWish false (codes "{\"do\":\"stop\"}") (Err Fault.WrongField) }
+    ensures stop_of_a_job { MeansWish true (codes "{\"do\":\"stop\",\"job\":1}")
         (Err Fault.WrongField) }
-    ensures no_job { MeansWant true (codes "{\"do\":\"fetch\"}") (Err Fault.WrongField) }
-    ensures job_and_deal { MeansWant true (codes "{\"do\":\"fetch\",\"job\":1,\"deal\":\"\"}")
+    ensures no_job { MeansWish true (codes "{\"do\":\"fetch\"}") (Err Fault.WrongField) }
+    ensures job_and_deal { MeansWish true (codes "{\"do\":\"fetch\",\"job\":1,\"deal\":\"\"}")
         (Err Fault.WrongField) }
-    ensures job_in_words { MeansWant true (codes "{\"do\":\"cancel\",\"job\":\"1\"}")
+    ensures job_in_words { MeansWish true (codes "{\"do\":\"cancel\",\"job\":\"1\"}")
         (Err Fault.WrongField) }
-    ensures past_64_bits { MeansWant true
+    ensures past_64_bits { MeansWish true
         (codes "{\"do\":\"cancel\",\"job\":18446744073709551616}") (Err Fault.WrongField) }
-    ensures no_task { MeansWant true (codes "{\"job\":1}") (Err Fault.WrongField) }
-    ensures no_object { MeansWant true (codes "[1]") (Err Fault.NotAnObject) }
-    ensures solve { (leave : Bool) → MeansWant leave
+    ensures no_task { MeansWish true (codes "{\"job\":1}") (Err Fault.WrongField) }
+    ensures no_object { MeansWish true (codes "[1]") (Err Fault.NotAnObject) }
+    ensures solve { (leave : Bool) → MeansWish leave
         (codes "{\"do\":\"solve\",\"deal\":\"N:A.2.. K.A.. Q.K.. J.Q..\",\"trump\":4,\"first\":1,\"solutions\":2}")
-        (Ok (Want.Submit (Asked.Solve record { board = board_of two_suits Notrump East []; solutions = 2 }))) }
-    ensures table { (leave : Bool) → MeansWant leave
+        (Ok record { want = Want.Submit (Asked.Solve record { board = board_of two_suits Notrump East []; solutions = 2 }); wait = 0 }) }
+    ensures table { (leave : Bool) → MeansWish leave
         (codes "{\"do\":\"table\",\"deal\":\"N:A.2.. K.A.. Q.K.. J.Q..\"}")
-        (Ok (Want.Submit (Asked.Table two_suits))) }
+        (Ok record { want = Want.Submit (Asked.Table two_suits); wait = 0 }) }
+    ensures waits { (leave : Bool) →
+        MeansWish leave (codes "{\"do\":\"fetch\",\"job\":7,\"wait\":30000}")
+        (Ok record { want = Want.Fetch 7; wait = 30000 }) }
+    ensures no_longer { (leave : Bool) →
+        MeansWish leave (codes "{\"wait\":18446744073709551615,\"do\":\"fetch\",\"job\":7}")
+        (Ok record { want = Want.Fetch 7; wait = 60000 }) }
+    ensures waits_in_words { MeansWish true
+        (codes "{\"do\":\"fetch\",\"job\":7,\"wait\":\"1\"}") (Err Fault.WrongField) }
+    ensures waits_in_part { MeansWish true
+        (codes "{\"do\":\"table\",\"deal\":\"\",\"wait\":1.5}") (Err Fault.WrongField) }
+    ensures cancel_that_waits { MeansWish true
+        (codes "{\"do\":\"cancel\",\"job\":7,\"wait\":1}") (Err Fault.WrongField) }
+    ensures stop_that_waits { MeansWish true (codes "{\"do\":\"stop\",\"wait\":1}")
+        (Err Fault.WrongField) }
+    ensures solve_that_waits { (leave : Bool) → MeansWish leave
+        (codes "{\"do\":\"solve\",\"deal\":\"N:A.2.. K.A.. Q.K.. J.Q..\",\"trump\":4,\"first\":1,\"solutions\":2,\"wait\":500}")
+        (Ok record { want = Want.Submit (Asked.Solve record { board = board_of two_suits Notrump East []; solutions = 2 }); wait = 500 }) }
+    ensures table_that_waits { (leave : Bool) → MeansWish leave
+        (codes "{\"do\":\"table\",\"deal\":\"N:A.2.. K.A.. Q.K.. J.Q..\",\"wait\":60001}")
+        (Ok record { want = Want.Submit (Asked.Table two_suits); wait = 60000 }) }
 {}

@@ -8,6 +8,7 @@ mod reply;
 mod request_reader;
 mod want;
 mod want_reader;
+mod wish;
 
 pub use fault::Fault;
 pub use laws::{one_meaning, one_want, worked_lines, worked_wants};
@@ -18,4 +19,5 @@ pub use reply::{
 };
 pub use request_reader::read_request;
 pub use want::Want;
-pub use want_reader::read_want;
+pub use want_reader::read_wish;
+pub use wish::{LONGEST_WAIT, Wish};

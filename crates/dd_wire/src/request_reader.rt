@@ -11,11 +11,12 @@ ghost use Rattle.dd_cards.specs.Hands.{AreHands, FourHands};
 ghost use Rattle.dd_pbn.specs.declared.fault.PbnFault.{PbnFault};
 ghost use Rattle.dd_play.specs.Board.{board_of};
 ghost use Rattle.dd_solve.specs.Questions.{Question};
-ghost use Rattle.dd_wire.specs.Requests.{Means, MeansObject, MeansDeal, MeansTable, MeansFields, MeansHands, MeansBoard, SpellsDeal, SpellsNone, asked_as, deal_fault, pair_of_card, object_of, solve_keys, table_keys, are_among, keys_of, solve_fields, table_deal, text_at, whole_number_at, pairs_at, pairs_of};
+ghost use Rattle.dd_wire.specs.Requests.{Means, MeansObject, MeansDeal, MeansTable, MeansFields, MeansHands, MeansBoard, SpellsDeal, SpellsNone, asked_as, deal_fault, pair_of_card, object_of, solve_keys, table_keys, are_among, keys_of, solve_fields, table_deal, text_at, wait_at, whole_number_at, pairs_at, pairs_of};
 ghost use Rattle.dd_lines.specs.Line.{longest_line};
 ghost use Rattle.dd_wire.specs.Reading.{IsUnread, ArePlayed, ReadsPlayed, ReadsFields, pair_in, cards_in, played_in, fields_of, play_fault};
 
 use crate::fault::Fault;
+use crate::wish::LONGEST_WAIT;
 use arrayvec::ArrayVec;
 use dd_cards::{Card, Hands, Rank, Seat, Strain, Suit};
 use dd_lines::LONGEST_LINE;
@@ -40,6 +41,7 @@ pub fn read_request(alloc: Global, line: &[u8]) -> Result<Asked, Fault>
         return Err(Fault::LineTooLong);
     }
     let object = read_object(alloc, line)?;
+    wait_at(&object).ok_or(Fault::WrongField)?;
     asked_by(&object)
 }
 
@@ -122,7 +124,7 @@ fn has_table_keys_alone(object: &Map<String, Value>) -> bool
 fn is_table_key(key: &str) -> bool
     ensures { result ≡ list_any (bytes_eq key.now) table_keys }
 {
-    matches!(key, "deal" | "do")
+    matches!(key, "deal" | "do" | "wait")
 }
 
 // The fields, where all of them are there, each of its kind, and no other is.
@@ -154,7 +156,7 @@ fn is_solve_key(key: &str) -> bool
 {
     matches!(
         key,
-        "deal" | "do" | "first" | "played" | "solutions" | "trump"
+        "deal" | "do" | "first" | "played" | "solutions" | "trump" | "wait"
     )
 }
 
@@ -170,6 +172,16 @@ pub(crate) fn whole_number_at(object: &Map<String, Value>, key: &str) -> Option<
     ensures { result ≡ whole_number_at (members_view object.now.entries) key.now }
 {
     member_at(object, key)?.as_u64()
+}
+
+// How many milliseconds the reply may wait, which may be left out: None where it is no whole number.
+pub(crate) fn wait_at(object: &Map<String, Value>) -> Option<u64>
+    ensures { result ≡ wait_at (members_view object.now.entries) }
+{
+    match member_at(object, "wait") {
+        None => Some(0),
+        Some(value) => Some(value.as_u64()?.min(LONGEST_WAIT)),
+    }
 }
 
 // The cards played, which may be left out: None where they are no list of pairs.

@@ -3,6 +3,7 @@ use crate::session::served::{Client, End, Served, Way, serve};
 use std::alloc::{AllocError, Global};
 use std::sync::Wait;
 use std::test::Fail;
+use std::time::Clock;
 
 /// A client with these lines, over a connection that bears all.
 pub fn client(alloc: Global, lines: &[u8]) -> Result<Client, AllocError> {
@@ -29,7 +30,7 @@ fn has_served(served: &Option<Served>, written: &[u8], events: usize) -> bool {
     }
 }
 
-fn serves<R: Wait>(
+fn serves<R: Wait + Clock>(
     rt: &R,
     alloc: Global,
     lines: &[u8],

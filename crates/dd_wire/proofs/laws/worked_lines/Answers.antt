@@ -64,3 +64,11 @@ returns-clause-no_solutions c = (_, inl (two_suits, spades-and-hearts.0, spades-
 pub returns-clause-ace_led : goal.returns-clause-ace_led
 unfolding is_utf8 chars serde_json_on_literals
 returns-clause-ace_led c = (_, inl (two_suits, spades-and-hearts.0, spades-and-hearts.1, (board_of two_suits Notrump North (card_of Spades 14 ∷ []), record { hands = refl; strain = refl; first = refl; trick = refl }, ace-led)), refl)
+
+pub returns-clause-wait : goal.returns-clause-wait
+unfolding is_utf8 chars serde_json_on_literals
+returns-clause-wait c = (_, inl (two_suits, spades-and-hearts.0, spades-and-hearts.1, means-table two_suits (refl, refl, refl) (omega arith)), refl)
+
+pub returns-clause-wait_below_zero : goal.returns-clause-wait_below_zero
+unfolding is_utf8 chars serde_json_on_literals
+returns-clause-wait_below_zero c = refl

@@ -1,0 +1,82 @@
+-- What a port says to a wish, as the calls that are told for it and how many are refused.
+use Rattle.std.proofs.Common.{◌≡◌, ℕ, zero, suc, ◌<◌, List, [], ◌∷◌, ◌++◌, Ok, Err, inl, inr, refl, sym, ap, ◌∙◌, subst, arith, append_assoc, append-nil}
+use Rattle.std.specs.Prelude.{Option, None, Some, Result}
+use Rattle.dd_lines.specs.CountedDevices.{one_more}
+use Rattle.dd_book.specs.declared.call.Reply.{Reply}
+use Rattle.dd_desk.specs.declared.fault.Fault.{Fault as DeskFault}
+use Rattle.dd_solve.specs.declared.asked.Asked.{Asked}
+use Rattle.dd_wire.specs.declared.want.Want.{Want}
+use Rattle.dd_wire.specs.declared.want.Want.TheVariants.{Submit, Cancel, Fetch, Stop}
+use Rattle.dd_wire.specs.declared.wish.Wish.{Wish}
+use Rattle.dd_session.specs.Ports.{Told, PortOf, port_of, Tells, Gains}
+use Rattle.dd_session.specs.Serving.{Answers, SaysOne, awaited, new_job}
+
+-- a want with a wait
+abbrev pub wish_of : Want → ℕ → Wish
+wish_of want wait = record { want = want; wait = wait }
+
+-- one call
+says-one : (before after : PortOf) (want : Want) (said : Result Reply DeskFault) → Tells before want said after
+    → (news : List Told) × (refused : ℕ) × SaysOne want said news refused × Gains before news refused after
+says-one before after want (Ok reply) tells = ((want, reply) ∷ [], 0, (refl, refl), tells)
+says-one before after want (Err fault) (of_call, tells) =
+    ([], 1, (of_call, refl, refl), tells ∙ ap (λ (l : List Told). port_of l (one_more before.refusals)) (sym (append-nil before.told)))
+
+-- a wish whose reply waits for no job of its own is one call
+pub answers-one : (before after : PortOf) (want : Want) (wait : ℕ) (said : Result Reply DeskFault) → awaited wait want ≡ None
+    → Tells before want said after → Answers before (wish_of want wait) said after
+answers-one before after want wait said none tells =
+    let one = says-one before after want said tells in
+    (one.0, one.1, rw none one.2, one.3)
+
+-- such are a fetch, a cancel and a stop
+pub awaited-fetch : (wait job : ℕ) → awaited wait (Fetch job) ≡ None
+awaited-fetch zero job = refl
+awaited-fetch (suc wait) job = refl
+
+pub awaited-cancel : (wait job : ℕ) → awaited wait (Cancel job) ≡ None
+awaited-cancel zero job = refl
+awaited-cancel (suc wait) job = refl
+
+pub awaited-stop : (wait : ℕ) → awaited wait Stop ≡ None
+awaited-stop zero = refl
+awaited-stop (suc wait) = refl
+
+-- a submit that may wait, and is refused
+pub answers-refused : (before after : PortOf) (asked : Asked) (wait : ℕ) (fault : DeskFault) → 0 < wait
+    → Tells before (Submit asked) (Err fault) after → Answers before (wish_of (Submit asked) wait) (Err fault) after
+answers-refused before after asked zero fault some tells = absurd (omega arith)
+answers-refused before after asked (suc wait) fault some tells =
+    let one = says-one before after (Submit asked) (Err fault) tells in
+    (one.0, one.1, (Err fault, refl, one.2), one.3)
+
+-- or makes no job
+pub answers-no_job : (before after : PortOf) (asked : Asked) (wait : ℕ) (made : Reply) → 0 < wait → new_job made ≡ None
+    → Tells before (Submit asked) (Ok made) after → Answers before (wish_of (Submit asked) wait) (Ok made) after
+answers-no_job before after asked zero made some none tells = absurd (omega arith)
+answers-no_job before after asked (suc wait) made some none tells =
+    let one = says-one before after (Submit asked) (Ok made) tells in
+    (one.0, one.1, (Ok made, rw none (refl, one.2)), one.3)
+
+-- or makes a job whose state is fetched
+pub answers-state : (before between after : PortOf) (asked : Asked) (wait job : ℕ) (made state : Reply) → 0 < wait → new_job made ≡ Some job
+    → Tells before (Submit asked) (Ok made) between → Tells between (Fetch job) (Ok state) after → Answers before (wish_of (Submit asked) wait) (Ok state) after
+answers-state before between after asked zero job made state some new submits fetches = absurd (omega arith)
+answers-state before between after asked (suc wait) job made state some new submits fetches = (
+  (Submit asked, made) ∷ (Fetch job, state) ∷ [],
+  0,
+  (Ok made, rw new (inl (state, refl, refl, refl))),
+  subst (λ (p : PortOf). after ≡ port_of (p.told ++ (Fetch job, state) ∷ []) p.refusals) submits fetches
+      ∙ ap (λ (l : List Told). port_of l before.refusals) (append_assoc before.told ((Submit asked, made) ∷ []) ((Fetch job, state) ∷ [])),
+)
+
+-- or is refused
+pub answers-made : (before between after : PortOf) (asked : Asked) (wait job : ℕ) (made : Reply) (fault : DeskFault) → 0 < wait → new_job made ≡ Some job
+    → Tells before (Submit asked) (Ok made) between → Tells between (Fetch job) (Err fault) after → Answers before (wish_of (Submit asked) wait) (Ok made) after
+answers-made before between after asked zero job made fault some new submits refuses = absurd (omega arith)
+answers-made before between after asked (suc wait) job made fault some new submits (of_call, refuses) = (
+  (Submit asked, made) ∷ [],
+  1,
+  (Ok made, rw new (inr (fault, of_call, refl, refl, refl))),
+  subst (λ (p : PortOf). after ≡ port_of p.told (one_more p.refusals)) submits refuses,
+)
