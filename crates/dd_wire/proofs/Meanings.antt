@@ -1,9 +1,8 @@
 -- Every line has a meaning.
 use Rattle.std.proofs.Common.{◌≡◌, ℕ, zero, suc, ◌+◌, ◌<◌, ◌≤◌, ◌⊎◌, inl, inr, Bool, true, false, refl, sym, ap, subst, ◌∙◌, arith, [], ◌∷◌, List, length}
-use Rattle.std.specs.Prelude.{◌&&◌, Option, None, Some, Result, Ok, Err, MatchOption, IsSome, map, nat_lt, nat_le, if◌then◌else◌}
+use Rattle.std.specs.Prelude.{◌&&◌, Option, None, Some, Result, Ok, Err, MatchOption, map, nat_lt, nat_le, if◌then◌else◌}
 use Rattle.std.specs.Bool.{MatchBool}
 use Rattle.std.specs.List.{list_all}
-use Rattle.std.specs.Result.{IfOk, IfErr}
 use Rattle.std.proofs.lemmas.Bool.{ltb-false, le-ltb, le-leb, ltb-true, cases_Bool}
 use Rattle.std.proofs.lemmas.Bool.Decides.{eqb_tells, leb_tells}
 use Rattle.serde_json.specs.Data.{Members}
@@ -40,18 +39,7 @@ use Rattle.dd_solve.specs.Results.{AreEven}
 use Rattle.dd_wire.proofs.Pairs.{is_card}
 use Rattle.dd_wire.proofs.Starts.{means-twice, means-uneven, means-empty, means-some}
 
--- ---- from the fields to the line
--- a line that is not too long means what the members of its object mean
-pub means-object : (line : List ℕ) (object : Members) (meaning : Result Asked Fault)
-    → length line ≤ longest_line → object_of line ≡ Some object → IsSome (wait_at object) → MeansObject object meaning → Means line meaning
-means-object line object meaning short is waits means =
-    let test : nat_lt longest_line (length line) ≡ false = le-ltb longest_line (length line) short in
-    rw (test, is) (waited (wait_at object) _ _ waits means)
-  where
-    waited : (wait : Option ℕ) (P Q : Type 0) → IsSome wait → Q → MatchOption wait P (λ _. Q)
-    waited (Some w) P Q some q = q
-    waited None P Q some q = absurd (cc)
-
+-- ---- from the fields to the position
 -- with a strain, a leader, cards played and solutions in range the cards together decide
 pub means-cards : (fields : SolveFields) (hands : FourHands) (strain : Strain) (first : Seat) (trick : List PlayingCard) (meaning : Result Question Fault)
     → strain_code strain ≡ fields.trump → fields.trump ≤ 4 → seat_code first ≡ fields.first → fields.first < 4 → map pair_of_card trick ≡ fields.played → are_cards fields.played ≡ true
@@ -62,16 +50,6 @@ means-cards fields hands strain first trick meaning trump low leader below playe
     let least-test : nat_le 1 fields.solutions ≡ true = le-leb 1 fields.solutions least in
     let most-test : nat_le fields.solutions 3 ≡ true = le-leb fields.solutions 3 most in
     rw (strain-test, first-test, cards, least-test, most-test) (board_of hands strain first trick, record { hands = refl; strain = trump; first = leader; trick = played }, means)
-
--- what holds of a result at hand holds of its value
-pub at-ok : {A E : Type 0} (result : Result A E) (P : Result A E → Type 0) → P result → IfOk result (λ x. P (Ok x))
-at-ok (Ok x) P holds = holds
-at-ok (Err e) P holds = tt
-
--- and of its error
-pub at-err : {A E : Type 0} (result : Result A E) (P : Result A E → Type 0) → P result → IfErr result (λ e. P (Err e))
-at-err (Ok x) P holds = tt
-at-err (Err e) P holds = holds
 
 -- ---- every line has a meaning
 -- some meaning is such
@@ -336,3 +314,10 @@ object-memory members =
     by-fields (table_deal members) _ _
     (by-fields (solve_fields members) _ _ (λ no. cc) (λ fields means. way-memory Solve (MeansFields fields) (deal-memory fields.deal (MeansHands fields) (hands-memory fields)) means.0 means.1 means.2))
     (λ deal means. way-memory Table (MeansDeal deal MeansTable) (deal-memory deal MeansTable table-memory) means.0 means.1 means.2)
+
+-- so no fault that is handed on is it
+pub never-memory : {A B : Type 0} (Is : Result A Fault → Type 0) (told : Result A Fault) (back : Result B Fault) (fault given : Fault) → (Is (Err OutOfMemory) → ⊥)
+    → Is told → told ≡ Err fault → back ≡ Err given → given ≡ fault → back ≡ Err OutOfMemory → ⊥
+never-memory Is told back fault given never is at hands from out =
+    let same : fault ≡ OutOfMemory = cc in
+    never (subst (λ (f : Fault). Is (Err f)) same (subst Is at is))

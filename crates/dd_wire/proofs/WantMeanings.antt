@@ -1,7 +1,6 @@
 -- What a line of a session means: something, and one thing.
-use Rattle.std.proofs.Common.{◌≡◌, ℕ, ◌≤◌, Bool, false, refl, sym, ap, ◌∙◌, subst, List, length}
-use Rattle.std.specs.Prelude.{Some, Result, Ok, Err, nat_lt}
-use Rattle.std.proofs.lemmas.Bool.{le-ltb}
+use Rattle.std.proofs.Common.{◌≡◌, ℕ, Bool, refl, sym, ap, ◌∙◌, subst, List, length}
+use Rattle.std.specs.Prelude.{Result, Ok, Err, nat_lt}
 use Rattle.serde_json.specs.Data.{Members}
 use Rattle.dd_solve.specs.declared.asked.Asked.{Asked}
 use Rattle.dd_wire.specs.declared.fault.Fault.{Fault}
@@ -13,13 +12,6 @@ use Rattle.dd_lines.specs.Line.{longest_line}
 use Rattle.dd_wire.specs.Wants.{MeansWish, MeansWanted, session_call, submitted, wished}
 use Rattle.dd_wire.proofs.Meanings.{SomeMeaning, by-test, by-option, by-fields, some-object, object-memory}
 use Rattle.dd_wire.proofs.OneMeaning.{AtMostOne, both, one-by-test, one-by-option, one-object}
-
--- a line that is not too long means what the members of its object want, with their wait
-pub means-wanted : (leave : Bool) (line : List ℕ) (object : Members) (wait : ℕ) (want : Result Want Fault)
-    → length line ≤ longest_line → object_of line ≡ Some object → wait_at object ≡ Some wait → MeansWanted leave object want → MeansWish leave line (wished wait want)
-means-wanted leave line object wait want short is waits means =
-    let test : nat_lt longest_line (length line) ≡ false = le-ltb longest_line (length line) short in
-    rw (test, is, waits) (want, means, refl)
 
 -- ---- every line has a meaning
 some-wanted : (leave : Bool) (members : Members) → SomeMeaning (MeansWanted leave members)

@@ -42,7 +42,8 @@ pub fn read_request(alloc: Global, line: &[u8]) -> Result<Asked, Fault>
     }
     let object = read_object(alloc, line)?;
     wait_at(&object).ok_or(Fault::WrongField)?;
-    asked_by(&object)
+    let asked = asked_by(&object)?;
+    Ok(asked)
 }
 
 // What the members of an object ask, or their first fault.

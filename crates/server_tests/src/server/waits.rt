@@ -110,7 +110,10 @@ fn who_waits_is_told_when_the_job_is_done_by_one_event(rt: HostRuntime) -> Resul
         || wait_for_a_job(&rt, rt.alloc(), address, &released).ok(),
     );
     let (told, stopped) = told.expect(&rt, "the client has its replies");
-    assert_eq!(rt; (told.as_str(), stopped.as_str()), (DONE, "{\"closing\":true}"));
+    assert_eq!(rt;
+        (told.as_str(), stopped.as_str()),
+        (DONE, "{\"closing\":true}")
+    );
     assert!(rt; ended == Some(Ok(6)));
     Ok(())
 }
@@ -207,7 +210,10 @@ fn the_last_event_of_the_journal_wakes_who_waits(rt: HostRuntime) -> Result<(), 
         || fill_and_release(&rt, rt.alloc(), address, &released),
     );
     let (told, last) = told.expect(&rt, "the clients have their replies");
-    assert_eq!(rt; (told.as_str(), last.as_str()), ("{\"job\":1}", "{\"fault\":16}"));
+    assert_eq!(rt;
+        (told.as_str(), last.as_str()),
+        ("{\"job\":1}", "{\"fault\":16}")
+    );
     assert!(rt; ended == Some(Ok(3)));
     Ok(())
 }

@@ -80,7 +80,12 @@ fn serve_port<P: BookPort>(alloc: Global, client: &Client, port: &mut P) -> (End
 }
 
 // A session at the desk of this row, which is closed when it has ended.
-fn serve_row<J: Naming, R: Wait + Clock>(rt: &R, alloc: Global, row: Row, client: &Client) -> Option<Served>
+fn serve_row<J: Naming, R: Wait + Clock>(
+    rt: &R,
+    alloc: Global,
+    row: Row,
+    client: &Client,
+) -> Option<Served>
     requires cells { (map cell_name row.cells.items ≡ J.cells) × (J.all ≡ J.parts) }
     requires limits { row.limits ≡ J.limits }
     requires count { (row.count.name ≡ J.counts) × (row.count.parts ≡ J.parts) }

@@ -1,9 +1,12 @@
-use Rattle.std.proofs.Common.{arith}
-use Rattle.std.specs.Prelude.{Err}
-use Rattle.std.proofs.lemmas.Result.{IfErr-weaker}
+use Rattle.std.proofs.lemmas.Result.{err_from_is_err_and}
 use Rattle.serde_json.specs.View.{members_view}
-use Rattle.dd_wire.specs.declared.fault.Fault.TheVariants.{OutOfMemory}
-use Rattle.dd_wire.specs.Wants.{MeansWish, MeansWanted}
-use Rattle.dd_wire.proofs.Meanings.{at-ok, at-err}
-use Rattle.dd_wire.proofs.WantMeanings.{means-wanted, wanted-memory}
+use Rattle.dd_wire.specs.Wants.{MeansWanted}
+use Rattle.dd_wire.proofs.Meanings.{never-memory}
+use Rattle.dd_wire.proofs.WantMeanings.{wanted-memory}
 use Rattle.dd_wire.proofs.want_reader.read_wish.Goals as goal
+
+pub returns-in_err-want-clause-memory : goal.returns-in_err-want-clause-memory
+returns-in_err-want-clause-memory c = λ out.
+    let members = members_view c.in_ok-object.object.entries in
+    let p = err_from_is_err_and c.from_residual-in_err-want.result c.from_residual-in_err-want.ensures.1 in
+    absurd (never-memory (MeansWanted c.args.allow_stop members) c.wanted_by.result c.from_residual-in_err-want.result _ p.0 (wanted-memory c.args.allow_stop members) c.wanted_by.ensures c.in_err-want.was p.1 p.2 out)
