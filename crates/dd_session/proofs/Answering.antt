@@ -16,53 +16,68 @@ abbrev pub wish_of : Want → ℕ → Wish
 wish_of want wait = record { want = want; wait = wait }
 
 -- one call
-says-one : (before after : PortOf) (want : Want) (said : Result Reply DeskFault) → Tells before want said after
+says_one : (before after : PortOf) (want : Want) (said : Result Reply DeskFault) → Tells before want said after
     → (news : List Told) × (refused : ℕ) × SaysOne want said news refused × Gains before news refused after
-says-one before after want (Ok reply) tells = ((want, reply) ∷ [], 0, (refl, refl), tells)
-says-one before after want (Err fault) (of_call, tells) =
+says_one before after want (Ok reply) tells = ((want, reply) ∷ [], 0, (refl, refl), tells)
+says_one before after want (Err fault) (of_call, tells) =
     ([], 1, (of_call, refl, refl), tells ∙ ap (λ (l : List Told). port_of l (one_more before.refusals)) (sym (append-nil before.told)))
 
 -- a wish whose reply waits for no job of its own is one call
-pub answers-one : (before after : PortOf) (want : Want) (wait : ℕ) (said : Result Reply DeskFault) → awaited wait want ≡ None
-    → Tells before want said after → Answers before (wish_of want wait) said after
-answers-one before after want wait said none tells =
-    let one = says-one before after want said tells in
+answers_one : (before after : PortOf) (wish : Wish) (said : Result Reply DeskFault) → awaited wish.wait wish.want ≡ None
+    → Tells before wish.want said after → Answers before wish said after
+answers_one before after wish said none tells =
+    let one = says_one before after wish.want said tells in
     (one.0, one.1, rw none one.2, one.3)
 
--- such are a fetch, a cancel and a stop
-pub awaited-fetch : (wait job : ℕ) → awaited wait (Fetch job) ≡ None
-awaited-fetch zero job = refl
-awaited-fetch (suc wait) job = refl
+-- such is one without a wait
+pub answers_at_once : (before after : PortOf) (wish : Wish) (said : Result Reply DeskFault) → wish.wait ≡ 0 → Tells before wish.want said after → Answers before wish said after
+answers_at_once before after wish said none tells = answers_one before after wish said (ap (λ (n : ℕ). awaited n wish.want) none) tells
 
-pub awaited-cancel : (wait job : ℕ) → awaited wait (Cancel job) ≡ None
-awaited-cancel zero job = refl
-awaited-cancel (suc wait) job = refl
+-- a fetch
+awaited_fetch : (wait job : ℕ) → awaited wait (Fetch job) ≡ None
+awaited_fetch zero job = refl
+awaited_fetch (suc wait) job = refl
 
-pub awaited-stop : (wait : ℕ) → awaited wait Stop ≡ None
-awaited-stop zero = refl
-awaited-stop (suc wait) = refl
+pub answers_fetch : (before after : PortOf) (wait job : ℕ) (said : Result Reply DeskFault) → Tells before (Fetch job) said after → Answers before (wish_of (Fetch job) wait) said after
+answers_fetch before after wait job said tells = answers_one before after (wish_of (Fetch job) wait) said (awaited_fetch wait job) tells
+
+-- a cancel
+awaited_cancel : (wait job : ℕ) → awaited wait (Cancel job) ≡ None
+awaited_cancel zero job = refl
+awaited_cancel (suc wait) job = refl
+
+pub answers_cancel : (before after : PortOf) (wait job : ℕ) (said : Result Reply DeskFault) → Tells before (Cancel job) said after → Answers before (wish_of (Cancel job) wait) said after
+answers_cancel before after wait job said tells = answers_one before after (wish_of (Cancel job) wait) said (awaited_cancel wait job) tells
+
+-- and a stop
+awaited_stop : (wait : ℕ) → awaited wait Stop ≡ None
+awaited_stop zero = refl
+awaited_stop (suc wait) = refl
+
+pub answers_stop : (before after : PortOf) (wait : ℕ) (said : Result Reply DeskFault) → Tells before Stop said after → Answers before (wish_of Stop wait) said after
+answers_stop before after wait said tells = answers_one before after (wish_of Stop wait) said (awaited_stop wait) tells
 
 -- a submit that may wait, and is refused
-pub answers-refused : (before after : PortOf) (asked : Asked) (wait : ℕ) (fault : DeskFault) → 0 < wait
+pub answers_refused : (before after : PortOf) (asked : Asked) (wait : ℕ) (fault : DeskFault) → 0 < wait
     → Tells before (Submit asked) (Err fault) after → Answers before (wish_of (Submit asked) wait) (Err fault) after
-answers-refused before after asked zero fault some tells = absurd (omega arith)
-answers-refused before after asked (suc wait) fault some tells =
-    let one = says-one before after (Submit asked) (Err fault) tells in
+answers_refused before after asked zero fault some tells = absurd (omega arith)
+answers_refused before after asked (suc wait) fault some tells =
+    let one = says_one before after (Submit asked) (Err fault) tells in
     (one.0, one.1, (Err fault, refl, one.2), one.3)
 
 -- or makes no job
-pub answers-no_job : (before after : PortOf) (asked : Asked) (wait : ℕ) (made : Reply) → 0 < wait → new_job made ≡ None
+pub answers_no_job : (before after : PortOf) (asked : Asked) (wait : ℕ) (made : Reply) → 0 < wait → new_job made ≡ None
     → Tells before (Submit asked) (Ok made) after → Answers before (wish_of (Submit asked) wait) (Ok made) after
-answers-no_job before after asked zero made some none tells = absurd (omega arith)
-answers-no_job before after asked (suc wait) made some none tells =
-    let one = says-one before after (Submit asked) (Ok made) tells in
+answers_no_job before after asked zero made some none tells = absurd (omega arith)
+answers_no_job before after asked (suc wait) made some none tells =
+    let one = says_one before after (Submit asked) (Ok made) tells in
     (one.0, one.1, (Ok made, rw none (refl, one.2)), one.3)
 
 -- or makes a job whose state is fetched
-pub answers-state : (before between after : PortOf) (asked : Asked) (wait job : ℕ) (made state : Reply) → 0 < wait → new_job made ≡ Some job
+pub answers_state : (before between after : PortOf) (asked : Asked) (wait job : ℕ) (made state : Reply) → 0 < wait → new_job made ≡ Some job
     → Tells before (Submit asked) (Ok made) between → Tells between (Fetch job) (Ok state) after → Answers before (wish_of (Submit asked) wait) (Ok state) after
-answers-state before between after asked zero job made state some new submits fetches = absurd (omega arith)
-answers-state before between after asked (suc wait) job made state some new submits fetches = (
+answers_state before between after asked zero job made state some new submits fetches = absurd (omega arith)
+answers_state before between after asked (suc wait) job made state some new submits fetches = (
   (Submit asked, made) ∷ (Fetch job, state) ∷ [],
   0,
   (Ok made, rw new (inl (state, refl, refl, refl))),
@@ -71,10 +86,10 @@ answers-state before between after asked (suc wait) job made state some new subm
 )
 
 -- or is refused
-pub answers-made : (before between after : PortOf) (asked : Asked) (wait job : ℕ) (made : Reply) (fault : DeskFault) → 0 < wait → new_job made ≡ Some job
+pub answers_made : (before between after : PortOf) (asked : Asked) (wait job : ℕ) (made : Reply) (fault : DeskFault) → 0 < wait → new_job made ≡ Some job
     → Tells before (Submit asked) (Ok made) between → Tells between (Fetch job) (Err fault) after → Answers before (wish_of (Submit asked) wait) (Ok made) after
-answers-made before between after asked zero job made fault some new submits refuses = absurd (omega arith)
-answers-made before between after asked (suc wait) job made fault some new submits (of_call, refuses) = (
+answers_made before between after asked zero job made fault some new submits refuses = absurd (omega arith)
+answers_made before between after asked (suc wait) job made fault some new submits (of_call, refuses) = (
   (Submit asked, made) ∷ [],
   1,
   (Ok made, rw new (inr (fault, of_call, refl, refl, refl))),
