@@ -9,6 +9,7 @@ pub mod Pairs
 pub mod ParCodes
 pub mod ParMeanings
 pub mod ParResults
+pub mod ParRows
 pub mod RequestExamples
 pub mod Starts
 pub mod Texts

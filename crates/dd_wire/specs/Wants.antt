@@ -1,4 +1,4 @@
--- To be believed: what a line of a session means: what it wants of the job book, or its first fault.
+-- To be believed: what a line of a session means: what it wants of the job book, par of given results, or its first fault.
 use Rattle.std.specs.Prelude.{◌≡◌, ℕ, ◌&&◌, Bool, List, [], ◌∷◌, nat_lt, length, codes, Option, None, Some, option_map, Result, Ok, Err, MatchOption, if◌then◌else◌}
 use Rattle.std.specs.Bool.{MatchBool}
 use Rattle.std.specs.Str.{bytes_eq}
@@ -9,7 +9,10 @@ use Rattle.dd_wire.specs.declared.fault.Fault.{Fault}
 use Rattle.dd_wire.specs.declared.fault.Fault.TheVariants.{LineTooLong, NotAnObject}
 use Rattle.dd_wire.specs.declared.want.Want.{Want}
 use Rattle.dd_wire.specs.declared.want.Want.TheVariants.{Submit, Cancel, Fetch, Stop}
-use Rattle.dd_wire.specs.Requests.{MeansObject, object_of, keys_of, are_among, text_at, whole_number_at}
+use Rattle.dd_wire.specs.declared.session_asked.SessionAsked.{SessionAsked}
+use Rattle.dd_wire.specs.declared.session_asked.SessionAsked.TheVariants.{Book, Par}
+use Rattle.dd_wire.specs.ParLines.{par_fields, table_par_of}
+use Rattle.dd_wire.specs.Requests.{MeansObject, asked_as, object_of, keys_of, are_among, text_at, whole_number_at}
 use Rattle.dd_lines.specs.Line.{longest_line}
 
 -- the names of the fields of a call that names a job
@@ -38,19 +41,23 @@ session_call allow_stop members = do
       else if bytes_eq task (codes "stop") && (allow_stop && is_alone members) then Some Stop else None
 
 -- a request is submitted
-abbrev pub submitted : Result Asked Fault → Result Want Fault
-submitted (Ok asked) = Ok (Submit asked)
-submitted (Err fault) = Err fault
+abbrev pub submitted : Asked → SessionAsked
+submitted asked = Book (Submit asked)
 
--- what the members of an object want: such a call, or else that the request is submitted which they are
-abbrev pub MeansWanted : Bool → Members → Result Want Fault → Type 0
+-- what members ask that are no such call: par of given results, or else that the request is submitted which they are
+abbrev pub MeansOther : Members → Result SessionAsked Fault → Type 0
+MeansOther members meaning =
+    MatchOption (par_fields members)
+    ((asked : Result Asked Fault) × MeansObject members asked × (meaning ≡ asked_as submitted asked))
+    (λ fields. meaning ≡ asked_as Par (table_par_of fields.given fields))
+
+-- what the members of an object ask: such a call, or else one of these
+abbrev pub MeansWanted : Bool → Members → Result SessionAsked Fault → Type 0
 MeansWanted allow_stop members meaning =
-    MatchOption (session_call allow_stop members)
-    ((asked : Result Asked Fault) × MeansObject members asked × (meaning ≡ submitted asked))
-    (λ want. meaning ≡ Ok want)
+    MatchOption (session_call allow_stop members) (MeansOther members meaning) (λ want. meaning ≡ Ok (Book want))
 
 -- what a line of a session means: its length is looked at first, then that it is a JSON object, then its members
-abbrev pub MeansWant : Bool → List ℕ → Result Want Fault → Type 0
+abbrev pub MeansWant : Bool → List ℕ → Result SessionAsked Fault → Type 0
 MeansWant allow_stop line meaning =
     MatchBool (nat_lt longest_line (length line)) (meaning ≡ Err LineTooLong)
     (MatchOption (object_of line) (meaning ≡ Err NotAnObject) (λ members. MeansWanted allow_stop members meaning))

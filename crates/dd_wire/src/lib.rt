@@ -10,6 +10,7 @@ mod par_reply;
 mod par_request;
 mod reply;
 mod request_reader;
+mod session_asked;
 mod want;
 mod want_reader;
 
@@ -24,5 +25,6 @@ pub use reply::{
     write_numbered_fault, write_spent, write_table,
 };
 pub use request_reader::read_request;
+pub use session_asked::SessionAsked;
 pub use want::Want;
 pub use want_reader::read_want;

@@ -5,19 +5,21 @@ ghost use Rattle.std.specs.Str.{bytes_eq};
 ghost use Rattle.serde_json.specs.View.{members_view};
 ghost use Rattle.dd_wire.specs.Requests.{are_among, keys_of};
 ghost use Rattle.dd_lines.specs.Line.{longest_line};
-ghost use Rattle.dd_wire.specs.Wants.{MeansWant, MeansWanted, session_call, named_job, is_alone, job_keys, alone_keys};
+ghost use Rattle.dd_wire.specs.Wants.{MeansWant, MeansWanted, MeansOther, session_call, named_job, is_alone, job_keys, alone_keys};
 
 use crate::fault::Fault;
+use crate::par_reader::{par_fields, table_par_asked};
 use crate::request_reader::{asked_by, read_object, text_at, whole_number_at};
+use crate::session_asked::SessionAsked;
 use crate::want::Want;
 use dd_lines::LONGEST_LINE;
 use serde_json::{Map, Value};
 use std::alloc::Global;
 
-/// What a line of a session wants, or the line's first fault; `OutOfMemory` where memory ran out while the line was read
+/// What a line of a session asks, or the line's first fault; `OutOfMemory` where memory ran out while the line was read
 /// as JSON. The line comes without its line end. Without `allow_stop` a stop is no more known than any other word.
-pub fn read_want(alloc: Global, line: &[u8], allow_stop: bool) -> Result<Want, Fault>
-    ensures ok { IfOk result (λ want. MeansWant allow_stop line.now (Ok want)) }
+pub fn read_want(alloc: Global, line: &[u8], allow_stop: bool) -> Result<SessionAsked, Fault>
+    ensures ok { IfOk result (λ asked. MeansWant allow_stop line.now (Ok asked)) }
     ensures err { IfErr result (λ fault. (fault ≢ Fault.OutOfMemory →
         MeansWant allow_stop line.now (Err fault))) }
     ensures memory { result ≡ Err Fault.OutOfMemory →
@@ -30,13 +32,23 @@ pub fn read_want(alloc: Global, line: &[u8], allow_stop: bool) -> Result<Want, F
     wanted_by(&object, allow_stop)
 }
 
-// What the members of an object want, or their first fault.
-fn wanted_by(object: &Map<String, Value>, allow_stop: bool) -> Result<Want, Fault>
+// What the members of an object ask, or their first fault.
+fn wanted_by(object: &Map<String, Value>, allow_stop: bool) -> Result<SessionAsked, Fault>
     ensures { MeansWanted allow_stop (members_view object.now.entries) result }
 {
     match session_call(object, allow_stop) {
-        Some(want) => Ok(want),
-        None => Ok(Want::Submit(asked_by(object)?)),
+        Some(want) => Ok(SessionAsked::Book(want)),
+        None => other_asked(object),
+    }
+}
+
+// What members ask that are no call of a session alone, or their first fault: par, or else what is submitted.
+fn other_asked(object: &Map<String, Value>) -> Result<SessionAsked, Fault>
+    ensures { MeansOther (members_view object.now.entries) result }
+{
+    match par_fields(object) {
+        Some(fields) => Ok(SessionAsked::Par(table_par_asked(fields)?)),
+        None => Ok(SessionAsked::Book(Want::Submit(asked_by(object)?))),
     }
 }
 
