@@ -43,6 +43,23 @@ each of the twenty:
 
   {\"table\":[[7,6,7,6],[6,7,6,7],[10,3,10,3],[7,6,7,6],[9,3,9,3]]}
 
+And for par, the score that both sides can make sure of in an auction in which all results are seen:
+
+  {\"do\":\"par\",\"table\":[[7,6,7,6],[6,7,6,7],[10,3,10,3],[7,6,7,6],[9,3,9,3]],\"dealer\":0,\"vulnerable\":0}
+
+  do         \"par\"
+  table      the twenty results as above; or in its place
+  deal       a deal of thirteen cards a hand, whose results are found first
+  dealer     the hand that calls first, 0 to 3; or in its place
+  side       the side that is asked first, either hand: 0 North and South, 1 East and West
+  vulnerable 0 neither side, 1 both, 2 North and South, 3 East and West
+
+Its reply has the par contracts and North and South's score, less than 0 where East and West score.
+A contract is doubled where its tricks are fewer than its level and six; the list is empty where the
+score is 0:
+
+  {\"contracts\":[{\"declarers\":[0,2],\"level\":3,\"tricks\":9,\"trump\":4}],\"score\":400}
+
 A line whose budget was spent has the reply {\"state\":\"spent\"}. A line that can't be answered has
 the reply {\"fault\":F}:
 
@@ -59,9 +76,13 @@ the reply {\"fault\":F}:
   11  played has more than three cards, or one that is no card
   12  solutions is not 1 to 3
   19  memory ran out while the line was read
+  20  dealer is not 0 to 3, or side not 0 or 1
+  21  vulnerable is not 0 to 3
+  22  a result is over 13
+  23  the hands are not of thirteen cards
 
-Of several the first in this order is told: 2, 1, 3, 4, 5, 6 (in the deal), 9, 10, 11, 12, 6 (with
-the trick), 7, 8.
+Of several the first in this order is told: 2, 1, 3, 4, 5, 6 (in the deal), 9, 10, 11, 12, 20, 21,
+22, 6 (with the trick), 7, 8, 23.
 
 A position is a state of play that the search comes to; some six to eight million take a second. A
 budget of a million was enough for nine of ten full deals, ten million for each of 80.

@@ -1,3 +1,4 @@
+pub mod CallerLemmas
 pub mod PointLemmas
 pub mod TableLemmas
 pub mod WorthLemmas

@@ -286,3 +286,7 @@ more-stands table vulnerable order (suc n) k seats score r some same all before 
     e ∙ ap (λ j. offered table vulnerable j seats score) same ∙ ap (λ l. offered table vulnerable (suc n) l score) (sym all)
     ∙ ap (offered table vulnerable (suc n) (asked order)) (before ∙ ap (stands table vulnerable order) last)
     ∙ sym (ap (stands table vulnerable order) next)
+
+-- all results have a par
+pub some-par : (table : List (List ℕ)) (vulnerable : Vulnerable) (order : Order) → (v : ℤ) × IsPar table vulnerable order v
+some-par table vulnerable order = (stands table vulnerable order 35, par-stands table vulnerable order (stands table vulnerable order 35) refl)

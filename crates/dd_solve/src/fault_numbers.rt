@@ -56,3 +56,15 @@ pub const SHUTTING_DOWN: u8 = 18;
 
 /// Memory ran out.
 pub const OUT_OF_MEMORY: u8 = 19;
+
+/// The dealer is not 0 to 3, or the side that is asked first not 0 or 1.
+pub const WRONG_ORDER: u8 = 20;
+
+/// The vulnerability is not 0 to 3.
+pub const WRONG_VULNERABLE: u8 = 21;
+
+/// One of the results is over 13.
+pub const WRONG_RESULT: u8 = 22;
+
+/// The hands are not of thirteen cards.
+pub const NOT_THIRTEEN: u8 = 23;

@@ -4,7 +4,7 @@ use Rattle.std.specs.Io.KnownBytes.{Consumes, Appends, IsAtEnd}
 use Rattle.dd_lines.specs.CountedDevices.{bytes_of}
 use Rattle.dd_lines.specs.declared.counted_device.CountedDevice.{CountedDevice}
 use Rattle.dd_lines.specs.Lines.{line_feed, lines}
-use Rattle.dd_wire.specs.Replies.{IsReply}
+use Rattle.dd_wire.specs.LineReplies.{IsReply}
 
 -- the bytes are the replies of the line tool to these lines, one for each, in order, each ended by a line feed
 abbrev pub AreSolved : Option ℕ → List (List ℕ) → List ℕ → Type 0

@@ -1,5 +1,7 @@
 -- What the crates above may cite of these proofs: they import nothing else of them.
 
--- ---- Every line has a meaning.
+-- ---- Every line has a meaning, and each meaning a reply.
 -- every line has a meaning
-pub use Rattle.dd_wire.proofs.Meanings.{some-meaning}
+pub use Rattle.dd_wire.proofs.LineMeanings.{some-meaning}
+-- each meaning has a reply
+pub use Rattle.dd_wire.proofs.LineMeanings.{some-answer}

@@ -1,6 +1,6 @@
 -- The definitions at work: answers of small positions, and texts of replies.
 use Rattle.std.proofs.Common.{◌≡◌, ℕ, refl, List, [], ◌∷◌}
-use Rattle.std.specs.Prelude.{codes, Ok, Err}
+use Rattle.std.specs.Prelude.{codes}
 use Rattle.std.specs.Fmt.{digits}
 use Rattle.dd_cards.specs.declared.suit.Suit.TheVariants.{Spades, Hearts}
 use Rattle.dd_cards.specs.declared.seat.Seat.{Seat}
@@ -16,7 +16,7 @@ use Rattle.dd_solve.specs.declared.asked.Asked.TheVariants.{Solve, Table}
 use Rattle.dd_wire.specs.declared.fault.Fault.TheVariants.{NoCard}
 use Rattle.dd_solve.specs.ScoredClasses.{ScoredClass, answer, all_scores}
 use Rattle.dd_solve.specs.Results.{results, contracts, tricks_of}
-use Rattle.dd_wire.specs.Replies.{class_text, reply_text}
+use Rattle.dd_wire.specs.Replies.{class_text, asked_text, fault_text}
 
 -- four hands, from North clockwise, the strain, the seat that leads, and the trick
 abbrev board : List PlayingCard → List PlayingCard → List PlayingCard → List PlayingCard → Strain → Seat → List PlayingCard → Board
@@ -88,17 +88,17 @@ unfolding digits
 class-spelled = refl
 
 -- the text of a fault
-fault-spelled : reply_text (Err NoCard) ≡ codes "{\"fault\":8}"
+fault-spelled : fault_text NoCard ≡ codes "{\"fault\":8}"
 unfolding digits
 fault-spelled = refl
 
 -- the text of an answer
-answer-spelled : reply_text (Ok (Solve record { board = board (spade 14 ∷ []) (spade 13 ∷ []) (spade 12 ∷ []) (spade 11 ∷ []) Notrump North []; solutions = 3 })) ≡ codes "{\"cards\":[{\"equals\":0,\"rank\":14,\"score\":1,\"suit\":0}]}"
+answer-spelled : asked_text (Solve record { board = board (spade 14 ∷ []) (spade 13 ∷ []) (spade 12 ∷ []) (spade 11 ∷ []) Notrump North []; solutions = 3 }) ≡ codes "{\"cards\":[{\"equals\":0,\"rank\":14,\"score\":1,\"suit\":0}]}"
 unfolding ns_within all_scores digits
 answer-spelled = refl
 
 -- the twenty results: North and South have the ace, whatever is trump
-table-spelled : reply_text (Ok (Table (dealt (spade 14 ∷ []) (spade 13 ∷ []) (spade 12 ∷ []) (spade 11 ∷ [])))) ≡ codes "{\"table\":[[1,0,1,0],[1,0,1,0],[1,0,1,0],[1,0,1,0],[1,0,1,0]]}"
+table-spelled : asked_text (Table (dealt (spade 14 ∷ []) (spade 13 ∷ []) (spade 12 ∷ []) (spade 11 ∷ []))) ≡ codes "{\"table\":[[1,0,1,0],[1,0,1,0],[1,0,1,0],[1,0,1,0],[1,0,1,0]]}"
 unfolding ns_within digits results contracts tricks_of
 table-spelled = refl
 

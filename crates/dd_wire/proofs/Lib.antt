@@ -1,10 +1,15 @@
 pub mod CallerLemmas
 pub mod Examples
 pub mod Keys
+pub mod LineMeanings
 pub mod Meanings
 pub mod Objects
 pub mod OneMeaning
 pub mod Pairs
+pub mod ParCodes
+pub mod ParMeanings
+pub mod ParResults
+pub mod ParRows
 pub mod RequestExamples
 pub mod Starts
 pub mod Texts

@@ -1,4 +1,4 @@
--- Every line has a meaning.
+-- Members of an object have a meaning.
 use Rattle.std.proofs.Common.{◌≡◌, ℕ, zero, suc, ◌+◌, ◌<◌, ◌≤◌, ◌⊎◌, inl, inr, Bool, true, false, refl, sym, ap, subst, ◌∙◌, arith, [], ◌∷◌, List, length}
 use Rattle.std.specs.Prelude.{◌&&◌, Option, None, Some, Result, Ok, Err, MatchOption, map, nat_lt, nat_le, if◌then◌else◌}
 use Rattle.std.specs.Bool.{MatchBool}
@@ -29,17 +29,16 @@ use Rattle.dd_play.specs.Board.{Board, board_of, times_in, NoneTwice, IsEven, tr
 use Rattle.dd_play.proofs.CallerLemmas.{times_in-once}
 use Rattle.dd_pbn.specs.Values.{begins_tag}
 use Rattle.dd_wire.specs.declared.fault.Fault.{Fault}
-use Rattle.dd_wire.specs.declared.fault.Fault.TheVariants.{LineTooLong, NotAnObject, WrongField, CardTwice, WrongTrump, WrongFirst, WrongPlayed, WrongSolutions, UnevenHands, NoCard, OutOfMemory}
+use Rattle.dd_wire.specs.declared.fault.Fault.TheVariants.{WrongField, CardTwice, WrongTrump, WrongFirst, WrongPlayed, WrongSolutions, UnevenHands, NoCard, OutOfMemory}
 use Rattle.dd_solve.specs.Questions.{Question}
-use Rattle.dd_wire.specs.Requests.{SolveFields, Means, MeansObject, MeansDeal, MeansTable, MeansFields, MeansHands, MeansBoard, IsAskedOf, SpellsDeal, SpellsNone, asked_as, deal_fault, are_cards, pair_of_card, object_of, solve_fields, table_deal, wait_at}
-use Rattle.dd_lines.specs.Line.{longest_line}
+use Rattle.dd_wire.specs.Requests.{SolveFields, MeansObject, MeansDeal, MeansTable, MeansFields, MeansHands, MeansBoard, IsAskedOf, SpellsDeal, SpellsNone, asked_as, deal_fault, are_cards, pair_of_card, solve_fields, table_deal}
 use Rattle.dd_solve.specs.declared.asked.Asked.{Asked}
 use Rattle.dd_solve.specs.declared.asked.Asked.TheVariants.{Solve, Table}
 use Rattle.dd_solve.specs.Results.{AreEven}
 use Rattle.dd_wire.proofs.Pairs.{is_card}
 use Rattle.dd_wire.proofs.Starts.{means-twice, means-uneven, means-empty, means-some}
 
--- ---- from the fields to the position
+-- ---- from the fields to the cards
 -- with a strain, a leader, cards played and solutions in range the cards together decide
 pub means-cards : (fields : SolveFields) (hands : FourHands) (strain : Strain) (first : Seat) (trick : List PlayingCard) (meaning : Result Question Fault)
     → strain_code strain ≡ fields.trump → fields.trump ≤ 4 → seat_code first ≡ fields.first → fields.first < 4 → map pair_of_card trick ≡ fields.played → are_cards fields.played ≡ true
@@ -200,7 +199,7 @@ spelled-decided text = go (begins_tag text)
     go false = deal-decided text
 
 -- what is asked of a deal, where it is known of all hands
-some-deal : {A : Type 0} (text : List ℕ) (Of : FourHands → Result A Fault → Type 0) → ((hands : FourHands) → AreHands hands → SomeMeaning (Of hands)) → SomeMeaning (MeansDeal text Of)
+pub some-deal : {A : Type 0} (text : List ℕ) (Of : FourHands → Result A Fault → Type 0) → ((hands : FourHands) → AreHands hands → SomeMeaning (Of hands)) → SomeMeaning (MeansDeal text Of)
 some-deal text Of of =
     elim (spelled-decided text) [
       | inl deal ↦ let means = of deal.0 deal.1 in (means.0, inl (deal.0, deal.1, deal.2, means.1))
@@ -230,7 +229,7 @@ means-no-cards hands even empty = record { uneven = λ odd. absurd (odd even); n
 pub means-odd : (hands : FourHands) → (AreEven hands → ⊥) → MeansTable hands (Err UnevenHands)
 means-odd hands odd = record { uneven = λ _. refl; none = λ even _. absurd (odd even); some = λ even _. absurd (odd even) }
 
-some-table : (hands : FourHands) → SomeMeaning (MeansTable hands)
+pub some-table : (hands : FourHands) → SomeMeaning (MeansTable hands)
 some-table hands = elim (hands-decided hands) [
   | inr odd ↦ (Err UnevenHands, means-odd hands odd)
   | inl even ↦ elim (eqb_tells (length hands.north) 0) [
@@ -240,7 +239,7 @@ some-table hands = elim (hands-decided hands) [
 ]
 
 -- what is asked in some way
-some-way : {A : Type 0} (way : A → Asked) (Is : Result A Fault → Type 0) → SomeMeaning Is → SomeMeaning (λ m. (asked : Result A Fault) × Is asked × (m ≡ asked_as way asked))
+pub some-way : {A B : Type 0} (way : A → B) (Is : Result A Fault → Type 0) → SomeMeaning Is → SomeMeaning (λ m. (asked : Result A Fault) × Is asked × (m ≡ asked_as way asked))
 some-way way Is asked = (asked_as way asked.0, (asked.0, asked.1, refl))
 
 -- the members of an object ask something, or have a fault
@@ -249,13 +248,6 @@ some-object members =
     by-option (table_deal members) _ _
     (by-option (solve_fields members) _ _ (Err WrongField, refl) (λ fields _. some-way Solve (MeansFields fields) (some-deal fields.deal (MeansHands fields) (some-hands fields))))
     (λ deal _. some-way Table (MeansDeal deal MeansTable) (some-deal deal MeansTable (λ hands _. some-table hands)))
-
--- every line has a meaning
-pub some-meaning : (line : List ℕ) → (meaning : Result Asked Fault) × Means line meaning
-some-meaning line =
-    by-test (nat_lt longest_line (length line)) _ _ (λ _. (Err LineTooLong, refl)) (λ _.
-    by-option (object_of line) _ _ (Err NotAnObject, refl) (λ members _.
-    by-option (wait_at members) _ _ (Err WrongField, refl) (λ wait _. some-object members)))
 
 -- ---- no meaning is that memory ran out
 board-memory : (board : Board) (solutions : ℕ) → MeansBoard board solutions (Err OutOfMemory) → ⊥
@@ -285,14 +277,14 @@ fault-memory Grammar meaning is e = cc
 fault-memory Absent meaning is e = cc
 fault-memory Twice meaning is e = cc
 
-deal-memory : {A : Type 0} (text : List ℕ) (Of : FourHands → Result A Fault → Type 0) → ((hands : FourHands) → Of hands (Err OutOfMemory) → ⊥) → MeansDeal text Of (Err OutOfMemory) → ⊥
+pub deal-memory : {A : Type 0} (text : List ℕ) (Of : FourHands → Result A Fault → Type 0) → ((hands : FourHands) → Of hands (Err OutOfMemory) → ⊥) → MeansDeal text Of (Err OutOfMemory) → ⊥
 deal-memory text Of none means =
     elim means [
       | inl spelled ↦ none spelled.0 spelled.3
       | inr fault ↦ fault-memory fault.0 _ refl fault.2
     ]
 
-table-memory : (hands : FourHands) → MeansTable hands (Err OutOfMemory) → ⊥
+pub table-memory : (hands : FourHands) → MeansTable hands (Err OutOfMemory) → ⊥
 table-memory hands means = elim (hands-decided hands) [
   | inr odd ↦ (let no = means.uneven odd in cc)
   | inl even ↦ elim (eqb_tells (length hands.north) 0) [
@@ -305,7 +297,7 @@ pub by-fields : {A : Type 0} (o : Option A) (P : Type 0) (Q : A → Type 0) → 
 by-fields None P Q p q held = p held
 by-fields (Some x) P Q p q held = q x held
 
-way-memory : {A : Type 0} (way : A → Asked) (Is : Result A Fault → Type 0) → (Is (Err OutOfMemory) → ⊥) → (asked : Result A Fault) → Is asked → Err OutOfMemory ≡ asked_as way asked → ⊥
+pub way-memory : {A B : Type 0} (way : A → B) (Is : Result A Fault → Type 0) → (Is (Err OutOfMemory) → ⊥) → (asked : Result A Fault) → Is asked → Err OutOfMemory ≡ asked_as way asked → ⊥
 way-memory way Is none (Ok x) is e = cc
 way-memory way Is none (Err fault) is e = none (subst (λ (f : Fault). Is (Err f)) (let same : fault ≡ OutOfMemory = cc in same) is)
 

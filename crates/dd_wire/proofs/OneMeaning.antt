@@ -1,4 +1,4 @@
--- No line has two meanings.
+-- No members of an object have two meanings.
 use Rattle.std.proofs.Common.{◌≡◌, ℕ, ◌<◌, inl, inr, Bool, true, false, refl, sym, ap, ◌∙◌, subst, arith, List, [], ◌∷◌, Option, None, Some}
 use Rattle.std.specs.Prelude.{◌&&◌, Result, Ok, Err, MatchOption, map, length, nat_lt, nat_le}
 use Rattle.std.specs.Bool.{MatchBool}
@@ -22,8 +22,7 @@ use Rattle.dd_wire.specs.declared.fault.Fault.{Fault}
 use Rattle.serde_json.specs.Data.{Members}
 use Rattle.dd_solve.specs.declared.asked.Asked.{Asked}
 use Rattle.dd_solve.specs.declared.asked.Asked.TheVariants.{Solve, Table}
-use Rattle.dd_wire.specs.Requests.{SolveFields, Means, MeansObject, MeansDeal, MeansTable, MeansFields, MeansHands, MeansBoard, IsAskedOf, asked_as, table_deal, deal_fault, are_cards, pair_of_card, object_of, solve_fields, wait_at}
-use Rattle.dd_lines.specs.Line.{longest_line}
+use Rattle.dd_wire.specs.Requests.{SolveFields, MeansObject, MeansDeal, MeansTable, MeansFields, MeansHands, MeansBoard, IsAskedOf, asked_as, table_deal, deal_fault, are_cards, pair_of_card, solve_fields}
 use Rattle.dd_wire.proofs.Meanings.{none-twice-decided, even-decided, hands-decided}
 
 -- two meanings that are one value are one
@@ -124,7 +123,7 @@ err-same result x y is_x is_y = cc
 ok-or-err : {A E : Type 0} (result : Result A E) (x : A) (y : E) → result ≡ Ok x → result ≡ Err y → ⊥
 ok-or-err result x y is_x is_y = cc
 
-one-deal : {A : Type 0} (text : List ℕ) (Of : FourHands → Result A Fault → Type 0) → ((hands : FourHands) → AreHands hands → AtMostOne (Of hands)) → AtMostOne (MeansDeal text Of)
+pub one-deal : {A : Type 0} (text : List ℕ) (Of : FourHands → Result A Fault → Type 0) → ((hands : FourHands) → AreHands hands → AtMostOne (Of hands)) → AtMostOne (MeansDeal text Of)
 one-deal text Of one a b (inl (h, are_h, spelled_h, means_h)) (inl (k, are_k, spelled_k, means_k)) =
     let tag = begins_tag text in
     let same : k ≡ h = ok-same (reading_of tag text) k h (spelled-told tag text k are_k spelled_k) (spelled-told tag text h are_h spelled_h) in
@@ -141,7 +140,7 @@ one-deal text Of one a b (inr (f, none_f, is_f)) (inr (g, none_g, is_g)) =
     is_f ∙ ap (λ fault. Err (deal_fault fault)) same ∙ sym is_g
 
 -- ---- the table
-one-table : (hands : FourHands) → AtMostOne (MeansTable hands)
+pub one-table : (hands : FourHands) → AtMostOne (MeansTable hands)
 one-table hands a b means_a means_b =
     elim (hands-decided hands) [
       | inr odd ↦ both _ a b (means_a.uneven odd) (means_b.uneven odd)
@@ -151,9 +150,9 @@ one-table hands a b means_a means_b =
       ]
     ]
 
--- ---- the line
+-- ---- the members
 -- what is asked in one way
-one-way : {A : Type 0} (way : A → Asked) (Is : Result A Fault → Type 0) → AtMostOne Is → AtMostOne (λ m. (asked : Result A Fault) × Is asked × (m ≡ asked_as way asked))
+pub one-way : {A B : Type 0} (way : A → B) (Is : Result A Fault → Type 0) → AtMostOne Is → AtMostOne (λ m. (asked : Result A Fault) × Is asked × (m ≡ asked_as way asked))
 one-way way Is one a b (x, is_x, e) (y, is_y, f) = e ∙ ap (asked_as way) (one x y is_x is_y) ∙ sym f
 
 pub one-object : (members : Members) → AtMostOne (MeansObject members)
@@ -161,9 +160,3 @@ one-object members =
     one-by-option (table_deal members) _ _
     (one-by-option (solve_fields members) _ _ (both _) (λ fields. one-way Solve (MeansFields fields) (one-deal fields.deal (MeansHands fields) (one-hands fields))))
     (λ deal. one-way Table (MeansDeal deal MeansTable) (one-deal deal MeansTable (λ hands _. one-table hands)))
-
-pub one-meaning : (line : List ℕ) (a b : Result Asked Fault) → Means line a → Means line b → a ≡ b
-one-meaning line =
-    one-by-test (nat_lt longest_line (length line)) _ _ (both _)
-    (one-by-option (object_of line) _ _ (both _) (λ members.
-    one-by-option (wait_at members) _ _ (both _) (λ wait. one-object members)))

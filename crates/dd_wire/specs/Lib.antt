@@ -1,5 +1,10 @@
 pub mod Faults
 pub mod Requests
+pub mod ParLines
+pub mod Lines
 pub mod Wants
 pub mod Reading
+pub mod ReadingPar
 pub mod Replies
+pub mod ParReplies
+pub mod LineReplies

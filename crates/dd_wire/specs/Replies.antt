@@ -1,15 +1,12 @@
 -- To be believed: the text of a reply: JSON without spaces, keys in the order of their bytes.
-use Rattle.std.specs.Prelude.{◌≡◌, ℕ, ◌+◌, ◌*◌, ◌<◌, ◌≤◌, ◌⊎◌, List, ◌++◌, map, length, codes, decimal, Option, IsSome, Result, Ok, Err}
+use Rattle.std.specs.Prelude.{ℕ, ◌+◌, ◌*◌, List, ◌++◌, map, codes, decimal}
 use Rattle.std.specs.List.{join_with_byte, range_with_len, slice_range}
 use Rattle.dd_cards.specs.Suits.{suit_code}
 use Rattle.dd_wire.specs.declared.fault.Fault.{Fault}
-use Rattle.dd_wire.specs.declared.fault.Fault.TheVariants.{OutOfMemory}
 use Rattle.dd_wire.specs.Faults.{fault_number}
 use Rattle.dd_solve.specs.Results.{results}
 use Rattle.dd_solve.specs.declared.asked.Asked.{Asked}
 use Rattle.dd_solve.specs.declared.asked.Asked.TheVariants.{Solve, Table}
-use Rattle.dd_wire.specs.Requests.{Means}
-use Rattle.dd_lines.specs.Line.{longest_line}
 use Rattle.dd_solve.specs.ScoredClasses.{ScoredClass, answer}
 
 -- {"equals":e,"rank":r,"score":n,"suit":s}
@@ -61,16 +58,3 @@ spent_text = codes "{\"state\":\"spent\"}"
 abbrev pub asked_text : Asked → List ℕ
 asked_text (Solve question) = answer_text (answer question.board question.solutions)
 asked_text (Table hands) = table_text (results hands)
-
--- the reply to a line of this meaning
-abbrev pub reply_text : Result Asked Fault → List ℕ
-reply_text (Ok asked) = asked_text asked
-reply_text (Err fault) = fault_text fault
-
--- The text is the reply to the line: what its meaning is answered with; that memory ran out while it was read; or, with a
--- budget, that this was spent in a search for the answer, or for one of the twenty results of a table.
-abbrev pub IsReply : Option ℕ → List ℕ → List ℕ → Type 0
-IsReply budget line text =
-    ((meaning : Result Asked Fault) × Means line meaning × (text ≡ reply_text meaning))
-    ⊎ ((0 < length line) × (length line ≤ longest_line) × (text ≡ fault_text OutOfMemory))
-    ⊎ ((asked : Asked) × Means line (Ok asked) × IsSome budget × (text ≡ spent_text))

@@ -22,10 +22,9 @@ use Rattle.dd_solve.specs.Questions.{Question}
 use Rattle.dd_solve.specs.Results.{AreEven}
 use Rattle.dd_solve.specs.declared.asked.Asked.{Asked}
 use Rattle.dd_solve.specs.declared.asked.Asked.TheVariants.{Solve, Table}
-use Rattle.dd_wire.specs.declared.fault.Fault.{Fault}
-use Rattle.dd_lines.specs.Line.{longest_line}
 use Rattle.dd_wire.specs.declared.wish.TheConstants.{LONGEST_WAIT}
-use Rattle.dd_wire.specs.declared.fault.Fault.TheVariants.{LineTooLong, NotAnObject, WrongField, DealText, HandLeftOut, CardTwice, WrongTrump, WrongFirst, WrongPlayed, WrongSolutions, UnevenHands, NoCard}
+use Rattle.dd_wire.specs.declared.fault.Fault.{Fault}
+use Rattle.dd_wire.specs.declared.fault.Fault.TheVariants.{WrongField, DealText, HandLeftOut, CardTwice, WrongTrump, WrongFirst, WrongPlayed, WrongSolutions, UnevenHands, NoCard}
 
 -- the fields of a request to solve; the cards played as pairs of a suit's code and a rank
 pub record SolveFields : Type 0 where
@@ -191,10 +190,10 @@ pub record MeansTable (hands : FourHands) (meaning : Result FourHands Fault) : T
   pub none : AreEven hands → length hands.north ≡ 0 → meaning ≡ Err NoCard
   pub some : AreEven hands → 0 < length hands.north → meaning ≡ Ok hands
 
--- ---- the line
+-- ---- the members
 
 -- what is asked in this way, or the fault
-abbrev pub asked_as : {A : Type 0} → (A → Asked) → Result A Fault → Result Asked Fault
+abbrev pub asked_as : {A B : Type 0} → (A → B) → Result A Fault → Result B Fault
 asked_as way (Ok asked) = Ok (way asked)
 asked_as way (Err fault) = Err fault
 
@@ -205,11 +204,3 @@ MeansObject members meaning =
     (MatchOption (solve_fields members) (meaning ≡ Err WrongField) (λ fields.
     (asked : Result Question Fault) × MeansFields fields asked × (meaning ≡ asked_as Solve asked)))
     (λ deal. (asked : Result FourHands Fault) × MeansDeal deal MeansTable asked × (meaning ≡ asked_as Table asked))
-
--- what a line means: its length is looked at first, then that it is a JSON object, then its wait, which asks for nothing here,
--- then the other members
-abbrev pub Means : List ℕ → Result Asked Fault → Type 0
-Means line meaning =
-    MatchBool (nat_lt longest_line (length line)) (meaning ≡ Err LineTooLong)
-    (MatchOption (object_of line) (meaning ≡ Err NotAnObject) (λ members.
-    MatchOption (wait_at members) (meaning ≡ Err WrongField) (λ _. MeansObject members meaning)))

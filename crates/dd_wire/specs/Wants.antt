@@ -1,4 +1,4 @@
--- To be believed: what a line of a session means: what it wants of the job book, or its first fault.
+-- To be believed: what a line of a session means: what it wants of the job book, par of given results, or its first fault.
 use Rattle.std.specs.Prelude.{◌≡◌, ℕ, ◌&&◌, Bool, List, [], ◌∷◌, nat_lt, length, codes, Option, None, Some, option_map, Result, Ok, Err, MatchOption, if◌then◌else◌}
 use Rattle.std.specs.Bool.{MatchBool}
 use Rattle.std.specs.Str.{bytes_eq}
@@ -9,8 +9,10 @@ use Rattle.dd_wire.specs.declared.fault.Fault.{Fault}
 use Rattle.dd_wire.specs.declared.fault.Fault.TheVariants.{LineTooLong, NotAnObject, WrongField}
 use Rattle.dd_wire.specs.declared.want.Want.{Want}
 use Rattle.dd_wire.specs.declared.want.Want.TheVariants.{Submit, Cancel, Fetch, Stop}
-use Rattle.dd_wire.specs.declared.wish.Wish.{Wish}
-use Rattle.dd_wire.specs.Requests.{MeansObject, object_of, keys_of, are_among, text_at, wait_at, whole_number_at}
+use Rattle.dd_wire.specs.declared.session_asked.SessionAsked.{SessionAsked}
+use Rattle.dd_wire.specs.declared.session_asked.SessionAsked.TheVariants.{Book, Par}
+use Rattle.dd_wire.specs.ParLines.{par_fields, table_par_of}
+use Rattle.dd_wire.specs.Requests.{MeansObject, asked_as, object_of, keys_of, are_among, text_at, wait_at, whole_number_at}
 use Rattle.dd_lines.specs.Line.{longest_line}
 
 -- the names of the fields of a call that names a job
@@ -42,28 +44,30 @@ session_call allow_stop members = do
       else if bytes_eq task (codes "fetch") then option_map Fetch (named_job fetch_keys members)
       else if bytes_eq task (codes "stop") && (allow_stop && is_alone members) then Some Stop else None
 
+-- a call of the book, whose reply may so long wait
+abbrev pub called : ℕ → Want → SessionAsked
+called wait want = Book (record { want = want; wait = wait })
+
 -- a request is submitted
-abbrev pub submitted : Result Asked Fault → Result Want Fault
-submitted (Ok asked) = Ok (Submit asked)
-submitted (Err fault) = Err fault
+abbrev pub submitted : ℕ → Asked → SessionAsked
+submitted wait asked = called wait (Submit asked)
 
--- what the members of an object want: such a call, or else that the request is submitted which they are
-abbrev pub MeansWanted : Bool → Members → Result Want Fault → Type 0
-MeansWanted allow_stop members meaning =
-    MatchOption (session_call allow_stop members)
-    ((asked : Result Asked Fault) × MeansObject members asked × (meaning ≡ submitted asked))
-    (λ want. meaning ≡ Ok want)
+-- what members ask that are no such call: par of given results, or else that the request is submitted which they are
+abbrev pub MeansOther : ℕ → Members → Result SessionAsked Fault → Type 0
+MeansOther wait members meaning =
+    MatchOption (par_fields members)
+    ((asked : Result Asked Fault) × MeansObject members asked × (meaning ≡ asked_as (submitted wait) asked))
+    (λ fields. meaning ≡ asked_as Par (table_par_of fields.given fields))
 
--- what is wanted, with so long a wait
-abbrev pub wished : ℕ → Result Want Fault → Result Wish Fault
-wished wait (Ok want) = Ok (record { want = want; wait = wait })
-wished wait (Err fault) = Err fault
+-- what the members of an object ask: such a call, or else one of these
+abbrev pub MeansWanted : Bool → ℕ → Members → Result SessionAsked Fault → Type 0
+MeansWanted allow_stop wait members meaning =
+    MatchOption (session_call allow_stop members) (MeansOther wait members meaning) (λ want. meaning ≡ Ok (called wait want))
 
 -- what a line of a session means: its length is looked at first, then that it is a JSON object, then its wait, then the other
 -- members
-abbrev pub MeansWish : Bool → List ℕ → Result Wish Fault → Type 0
-MeansWish allow_stop line meaning =
+abbrev pub MeansWant : Bool → List ℕ → Result SessionAsked Fault → Type 0
+MeansWant allow_stop line meaning =
     MatchBool (nat_lt longest_line (length line)) (meaning ≡ Err LineTooLong)
     (MatchOption (object_of line) (meaning ≡ Err NotAnObject) (λ members.
-    MatchOption (wait_at members) (meaning ≡ Err WrongField) (λ wait.
-    (want : Result Want Fault) × MeansWanted allow_stop members want × (meaning ≡ wished wait want))))
+    MatchOption (wait_at members) (meaning ≡ Err WrongField) (λ wait. MeansWanted allow_stop wait members meaning)))

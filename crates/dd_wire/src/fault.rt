@@ -39,12 +39,24 @@ pub enum Fault {
     /// 12: the solutions are not 1 to 3.
     #[error("the solutions are not 1 to 3")]
     WrongSolutions,
+    /// 20: the dealer is not 0 to 3, or the side that is asked first not 0 or 1.
+    #[error("the dealer is not 0 to 3, or the side not 0 or 1")]
+    WrongOrder,
+    /// 21: the vulnerability is not 0 to 3.
+    #[error("the vulnerability is not 0 to 3")]
+    WrongVulnerable,
+    /// 22: one of the results is over 13.
+    #[error("a result is over 13")]
+    WrongResult,
     /// 7: the hands have not the cards that they have at one point of play.
     #[error("the counts of cards are uneven")]
     UnevenHands,
     /// 8: the mover has no card.
     #[error("there is no card to play")]
     NoCard,
+    /// 23: the hands are not of thirteen cards.
+    #[error("the hands are not of thirteen cards")]
+    NotThirteen,
     /// 19: memory ran out while the line was read as JSON.
     #[error("out of memory")]
     OutOfMemory,
@@ -54,7 +66,7 @@ impl Fault {
     /// The number of the fault in a reply.
     pub fn number(self) -> u8
         ensures value { result ≡ fault_number self }
-        ensures bound { result ≤ 19 }
+        ensures bound { result ≤ 23 }
     {
         match self {
             Fault::NotAnObject => fault_numbers::NOT_AN_OBJECT,
@@ -70,6 +82,10 @@ impl Fault {
             Fault::WrongPlayed => fault_numbers::WRONG_PLAYED,
             Fault::WrongSolutions => fault_numbers::WRONG_SOLUTIONS,
             Fault::OutOfMemory => fault_numbers::OUT_OF_MEMORY,
+            Fault::WrongOrder => fault_numbers::WRONG_ORDER,
+            Fault::WrongVulnerable => fault_numbers::WRONG_VULNERABLE,
+            Fault::WrongResult => fault_numbers::WRONG_RESULT,
+            Fault::NotThirteen => fault_numbers::NOT_THIRTEEN,
         }
     }
 }

@@ -3,21 +3,30 @@
 
 mod fault;
 mod laws;
+mod line_asked;
 mod line_reply;
+mod par_reader;
+mod par_reply;
+mod par_request;
 mod reply;
 mod request_reader;
+mod session_asked;
 mod want;
 mod want_reader;
 mod wish;
 
 pub use fault::Fault;
 pub use laws::{one_meaning, one_want, worked_lines, worked_wants};
+pub use line_asked::LineAsked;
 pub use line_reply::reply_to_line;
+pub use par_reply::write_par;
+pub use par_request::{Conditions, ParOfDeal, ParOfResults};
 pub use reply::{
     CARDS_ROOM, JOB_ROOM, TABLE_ROOM, push_cards, push_job, push_table, write_answer, write_fault,
     write_numbered_fault, write_spent, write_table,
 };
 pub use request_reader::read_request;
+pub use session_asked::SessionAsked;
 pub use want::Want;
-pub use want_reader::read_wish;
+pub use want_reader::read_want;
 pub use wish::{LONGEST_WAIT, Wish};

@@ -1,13 +1,19 @@
 //! The reply to a line.
 ghost use Rattle.std.specs.Prelude.{◌≡◌, ◌≤◌, ◌⊎◌, IsSome};
 ghost use Rattle.arrayvec.specs.ArrayString.{array_string_len};
-ghost use Rattle.dd_wire.specs.Replies.{IsReply, asked_text, spent_text};
+ghost use Rattle.dd_wire.specs.LineReplies.{IsReply};
+ghost use Rattle.dd_wire.specs.ParReplies.{TellsPar, rows_of};
+ghost use Rattle.dd_wire.specs.Replies.{asked_text, spent_text};
+ghost use Rattle.dd_solve.specs.Results.{results};
 
+use crate::line_asked::LineAsked;
+use crate::par_reply::{par_reply, score_results, write_par};
+use crate::par_request::ParOfDeal;
 use crate::reply::{write_answer, write_fault, write_spent, write_table};
 use crate::request_reader::read_request;
 use dd_lines::{LONGEST_REPLY, ReplyText};
 use dd_search::{Bounds, Budget, Endless};
-use dd_solve::{Asked, Request, TableRequest, solve, solve_table};
+use dd_solve::{Asked, Request, Results, TableRequest, solve, solve_table};
 use std::alloc::Global;
 
 /// The reply to a line of any length, without a line feed at its end.
@@ -23,11 +29,23 @@ pub fn reply_to_line<B: Bounds>(
     ensures text { IsReply budget line.now result.bytes }
     ensures bound { array_string_len result ≤ LONGEST_REPLY }
 {
-    match (read_request(alloc, line), budget) {
-        (Ok(Asked::Solve(request)), Some(limit)) => reply_within(request, table, limit),
-        (Ok(Asked::Solve(request)), None) => reply_in_the_end(request, table),
-        (Ok(Asked::Table(request)), _) => table_reply(&request, table, budget),
-        (Err(fault), _) => write_fault(fault),
+    match read_request(alloc, line) {
+        Ok(LineAsked::Cards(asked)) => cards_reply(asked, table, budget),
+        Ok(LineAsked::Par(asked)) => write_par(&asked),
+        Ok(LineAsked::ParOfDeal(asked)) => deal_par_reply(&asked, table, budget),
+        Err(fault) => write_fault(fault),
+    }
+}
+
+/// The answer to a question of cards, or that the budget is spent.
+fn cards_reply<B: Bounds>(asked: Asked, table: &mut B, budget: Option<u64>) -> ReplyText
+    ensures text { (result.bytes ≡ asked_text asked) ⊎ (IsSome budget × (result.bytes ≡ spent_text)) }
+    ensures bound { array_string_len result ≤ LONGEST_REPLY }
+{
+    match (asked, budget) {
+        (Asked::Solve(request), Some(limit)) => reply_within(request, table, limit),
+        (Asked::Solve(request), None) => reply_in_the_end(request, table),
+        (Asked::Table(request), _) => table_reply(&request, table, budget),
     }
 }
 
@@ -62,5 +80,29 @@ fn table_reply<B: Bounds>(request: &TableRequest, table: &mut B, budget: Option<
     match solve_table(request, table, budget) {
         Some(results) => write_table(&results),
         None => write_spent(),
+    }
+}
+
+/// Par of the results of a deal, or that the search for one of them spent the budget.
+fn deal_par_reply<B: Bounds>(asked: &ParOfDeal, table: &mut B, budget: Option<u64>) -> ReplyText
+    ensures text { TellsPar (rows_of (results asked.now.hands)) asked.now.conditions result.bytes ⊎
+        (IsSome budget × (result.bytes ≡ spent_text)) }
+    ensures bound { array_string_len result ≤ LONGEST_REPLY }
+{
+    match solve_table(asked.request(), table, budget) {
+        Some(found) => write_par_of_deal(asked, &found),
+        None => write_spent(),
+    }
+}
+
+/// The text of par of the results of a deal.
+fn write_par_of_deal(asked: &ParOfDeal, found: &Results) -> ReplyText
+    requires { found.now ≡ results asked.now.hands }
+    ensures text { TellsPar (rows_of (results asked.now.hands)) asked.now.conditions result.bytes }
+    ensures bound { array_string_len result ≤ LONGEST_REPLY }
+{
+    match score_results(found) {
+        Some(rows) => par_reply(&rows, asked.conditions()),
+        None => unreachable!(),
     }
 }

@@ -158,7 +158,7 @@ fn push_class(text: &mut ReplyText, scored: &Scored)
 }
 
 // Appends a number in decimal.
-fn push_number(text: &mut ReplyText, number: u16)
+pub(crate) fn push_number(text: &mut ReplyText, number: u16)
     requires { array_string_len text.old + 5 ≤ LONGEST_REPLY }
     ensures bytes { text.new.bytes ≡ text.old.bytes ++ decimal number }
     ensures bound { array_string_len text.new ≤ array_string_len text.old + 5 }

@@ -11,11 +11,14 @@ ghost use Rattle.dd_cards.specs.Hands.{AreHands, FourHands};
 ghost use Rattle.dd_pbn.specs.declared.fault.PbnFault.{PbnFault};
 ghost use Rattle.dd_play.specs.Board.{board_of};
 ghost use Rattle.dd_solve.specs.Questions.{Question};
-ghost use Rattle.dd_wire.specs.Requests.{Means, MeansObject, MeansDeal, MeansTable, MeansFields, MeansHands, MeansBoard, SpellsDeal, SpellsNone, asked_as, deal_fault, pair_of_card, object_of, solve_keys, table_keys, are_among, keys_of, solve_fields, table_deal, text_at, wait_at, whole_number_at, pairs_at, pairs_of};
+ghost use Rattle.dd_wire.specs.Lines.{Means, MeansMembers};
+ghost use Rattle.dd_wire.specs.Requests.{MeansObject, MeansDeal, MeansTable, MeansFields, MeansHands, MeansBoard, SpellsDeal, SpellsNone, asked_as, deal_fault, pair_of_card, object_of, solve_keys, table_keys, are_among, keys_of, solve_fields, table_deal, text_at, wait_at, whole_number_at, pairs_at, pairs_of};
 ghost use Rattle.dd_lines.specs.Line.{longest_line};
 ghost use Rattle.dd_wire.specs.Reading.{IsUnread, ArePlayed, ReadsPlayed, ReadsFields, pair_in, cards_in, played_in, fields_of, play_fault};
 
 use crate::fault::Fault;
+use crate::line_asked::LineAsked;
+use crate::par_reader::{par_asked, par_fields};
 use crate::wish::LONGEST_WAIT;
 use arrayvec::ArrayVec;
 use dd_cards::{Card, Hands, Rank, Seat, Strain, Suit};
@@ -31,7 +34,7 @@ const MOST_PLAYED: usize = 3;
 
 /// What a request line asks, or the line's first fault; `OutOfMemory` where memory ran out while the line was read as
 /// JSON. The line comes without its line end.
-pub fn read_request(alloc: Global, line: &[u8]) -> Result<Asked, Fault>
+pub fn read_request(alloc: Global, line: &[u8]) -> Result<LineAsked, Fault>
     ensures ok { IfOk result (λ asked. Means line.now (Ok asked)) }
     ensures err { IfErr result (λ fault. (fault ≢ Fault.OutOfMemory → Means line.now (Err fault))) }
     ensures memory { result ≡ Err Fault.OutOfMemory →
@@ -42,11 +45,21 @@ pub fn read_request(alloc: Global, line: &[u8]) -> Result<Asked, Fault>
     }
     let object = read_object(alloc, line)?;
     wait_at(&object).ok_or(Fault::WrongField)?;
-    let asked = asked_by(&object)?;
+    let asked = line_asked_by(&object)?;
     Ok(asked)
 }
 
-// What the members of an object ask, or their first fault.
+// What the members of an object ask, or their first fault: par, or else a question of cards.
+fn line_asked_by(object: &Map<String, Value>) -> Result<LineAsked, Fault>
+    ensures { MeansMembers (members_view object.now.entries) result }
+{
+    match par_fields(object) {
+        Some(fields) => par_asked(fields),
+        None => Ok(LineAsked::Cards(asked_by(object)?)),
+    }
+}
+
+// What the members of an object ask of cards, or their first fault.
 pub(crate) fn asked_by(object: &Map<String, Value>) -> Result<Asked, Fault>
     ensures { MeansObject (members_view object.now.entries) result }
 {
@@ -233,7 +246,7 @@ fn pair_of(value: &Value) -> Option<(u64, u64)>
     }
 }
 
-fn member_at<'a>(object: &'a Map<String, Value>, key: &str) -> Option<&'a Value>
+pub(crate) fn member_at<'a>(object: &'a Map<String, Value>, key: &str) -> Option<&'a Value>
     ensures { option_map (λ value. view value.now) result ≡
         get_member key.now (members_view object.now.entries) }
 {
@@ -253,7 +266,7 @@ fn table_asked(deal: &str) -> Result<Asked, Fault>
 }
 
 // What is asked of these hands, whose table is asked for, or their fault.
-fn table_request(hands: Hands) -> Result<TableRequest, Fault>
+pub(crate) fn table_request(hands: Hands) -> Result<TableRequest, Fault>
     ensures { MeansTable hands result }
 {
     TableRequest::new(hands).map_err(play_fault)
@@ -293,7 +306,7 @@ fn request_for(hands: Hands, fields: &SolveFields<'_>) -> Result<Request, Fault>
 }
 
 // The hands of a deal's text, which is a tag where it begins as one, and else a value.
-fn hands_of(text: &[u8]) -> Result<Hands, Fault>
+pub(crate) fn hands_of(text: &[u8]) -> Result<Hands, Fault>
     ensures ok { IfOk result (λ hands. AreHands hands × SpellsDeal text.now hands) }
     ensures err { IfErr result (λ fault. (why : PbnFault) × SpellsNone text.now why ×
         (fault ≡ deal_fault why)) }
@@ -330,7 +343,7 @@ fn strain_of(code: u64) -> Option<Strain>
     Strain::from_code(u8::try_from(code).ok()?)
 }
 
-fn seat_of(code: u64) -> Option<Seat>
+pub(crate) fn seat_of(code: u64) -> Option<Seat>
     ensures valid { IsSome result ↔ (code < 4) }
     ensures value { IfSome result (λ seat. seat_code seat ≡ code) }
 {

@@ -5,23 +5,25 @@ ghost use Rattle.std.specs.Str.{bytes_eq};
 ghost use Rattle.serde_json.specs.View.{members_view};
 ghost use Rattle.dd_wire.specs.Requests.{are_among, keys_of};
 ghost use Rattle.dd_lines.specs.Line.{longest_line};
-ghost use Rattle.dd_wire.specs.Wants.{MeansWish, MeansWanted, session_call, named_job, is_alone, job_keys, fetch_keys, alone_keys};
+ghost use Rattle.dd_wire.specs.Wants.{MeansWant, MeansWanted, MeansOther, session_call, named_job, is_alone, job_keys, fetch_keys, alone_keys};
 
 use crate::fault::Fault;
+use crate::par_reader::{par_fields, table_par_asked};
 use crate::request_reader::{asked_by, read_object, text_at, wait_at, whole_number_at};
+use crate::session_asked::SessionAsked;
 use crate::want::Want;
 use crate::wish::Wish;
 use dd_lines::LONGEST_LINE;
 use serde_json::{Map, Value};
 use std::alloc::Global;
 
-/// What a line of a session wants, and how long its reply may wait, or the line's first fault; `OutOfMemory` where memory
+/// What a line of a session asks, and how long its reply may wait, or the line's first fault; `OutOfMemory` where memory
 /// ran out while the line was read as JSON. The line comes without its line end. Without `allow_stop` a stop is no more
 /// known than any other word.
-pub fn read_wish(alloc: Global, line: &[u8], allow_stop: bool) -> Result<Wish, Fault>
-    ensures ok { IfOk result (λ wish. MeansWish allow_stop line.now (Ok wish)) }
+pub fn read_want(alloc: Global, line: &[u8], allow_stop: bool) -> Result<SessionAsked, Fault>
+    ensures ok { IfOk result (λ asked. MeansWant allow_stop line.now (Ok asked)) }
     ensures err { IfErr result (λ fault. (fault ≢ Fault.OutOfMemory →
-        MeansWish allow_stop line.now (Err fault))) }
+        MeansWant allow_stop line.now (Err fault))) }
     ensures memory { result ≡ Err Fault.OutOfMemory →
         (0 < length line.now) × (length line.now ≤ longest_line) }
 {
@@ -30,17 +32,34 @@ pub fn read_wish(alloc: Global, line: &[u8], allow_stop: bool) -> Result<Wish, F
     }
     let object = read_object(alloc, line)?;
     let wait = wait_at(&object).ok_or(Fault::WrongField)?;
-    let want = wanted_by(&object, allow_stop)?;
-    Ok(Wish { want, wait })
+    let asked = wanted_by(&object, allow_stop, wait)?;
+    Ok(asked)
 }
 
-// What the members of an object want, or their first fault.
-fn wanted_by(object: &Map<String, Value>, allow_stop: bool) -> Result<Want, Fault>
-    ensures { MeansWanted allow_stop (members_view object.now.entries) result }
+// What the members of an object ask, with this wait, or their first fault.
+fn wanted_by(
+    object: &Map<String, Value>,
+    allow_stop: bool,
+    wait: u64,
+) -> Result<SessionAsked, Fault>
+    ensures { MeansWanted allow_stop wait (members_view object.now.entries) result }
 {
     match session_call(object, allow_stop) {
-        Some(want) => Ok(want),
-        None => Ok(Want::Submit(asked_by(object)?)),
+        Some(want) => Ok(SessionAsked::Book(Wish { want, wait })),
+        None => other_asked(object, wait),
+    }
+}
+
+// What members ask that are no call of a session alone, or their first fault: par, or else what is submitted.
+fn other_asked(object: &Map<String, Value>, wait: u64) -> Result<SessionAsked, Fault>
+    ensures { MeansOther wait (members_view object.now.entries) result }
+{
+    match par_fields(object) {
+        Some(fields) => Ok(SessionAsked::Par(table_par_asked(fields)?)),
+        None => {
+            let want = Want::Submit(asked_by(object)?);
+            Ok(SessionAsked::Book(Wish { want, wait }))
+        }
     }
 }
 

@@ -1,6 +1,6 @@
 //! Calls as lines of words, and replies as texts.
 use dd_book::{Call, JobState, Reply};
-use dd_wire::{read_request, write_answer, write_table};
+use dd_wire::{LineAsked, read_request, write_answer, write_table};
 use std::alloc::{AllocError, Global};
 
 /// One card each, and North's takes the trick.
@@ -45,7 +45,9 @@ pub(crate) fn call(alloc: Global, caller: u64, words: &str) -> Option<Call> {
     }
     let (verb, rest) = words.split_once(' ')?;
     if verb == "submits" {
-        let asked = read_request(alloc, rest.as_bytes()).ok()?;
+        let LineAsked::Cards(asked) = read_request(alloc, rest.as_bytes()).ok()? else {
+            return None;
+        };
         return Some(Call::Submit { caller, asked });
     }
     let job: u64 = rest.parse().ok()?;

@@ -6,7 +6,7 @@ use crate::work::worked::{Script, follow};
 use dd_book::Limits;
 use dd_search::{Budget, NoTable};
 use dd_solve::{Asked, solve};
-use dd_wire::{read_request, write_answer};
+use dd_wire::{LineAsked, read_request, write_answer};
 use std::alloc::{AllocError, Global};
 use std::process::Abort;
 
@@ -124,7 +124,7 @@ const MANY_CARDS: &str =
 // How many positions the search for the line comes to, over no table, where these are more than 1,000 and no more than 20,000,
 // and its answer.
 fn needed(alloc: Global, line: &str) -> Option<(u64, String)> {
-    let Ok(Asked::Solve(request)) = read_request(alloc, line.as_bytes()) else {
+    let Ok(LineAsked::Cards(Asked::Solve(request))) = read_request(alloc, line.as_bytes()) else {
         return None;
     };
     let mut budget = Budget::new(20_000);

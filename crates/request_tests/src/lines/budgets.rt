@@ -3,7 +3,7 @@ use super::runs::run_within;
 use crate::devices::Pieces;
 use dd_search::{Budget, NoTable};
 use dd_solve::{Asked, solve};
-use dd_wire::read_request;
+use dd_wire::{LineAsked, read_request};
 use std::alloc::Global;
 
 // Nine cards a hand, and nobody has led.
@@ -20,7 +20,7 @@ const TABLE: &[u8] =
 // How many positions the search for the line comes to, over no table, where these are more than 1,000 and no more than
 // 20,000.
 fn positions(alloc: Global, line: &str) -> Option<u64> {
-    let Ok(Asked::Solve(request)) = read_request(alloc, line.as_bytes()) else {
+    let Ok(LineAsked::Cards(Asked::Solve(request))) = read_request(alloc, line.as_bytes()) else {
         return None;
     };
     let mut budget = Budget::new(20_000);

@@ -1,7 +1,7 @@
 use crate::rows::{after_bar, before_bar};
 use dd_cards::{Card, Rank, Seat, Suit};
 use dd_solve::{Asked, Request};
-use dd_wire::read_request;
+use dd_wire::{LineAsked, read_request};
 use std::alloc::{AllocError, Global};
 use std::test::Fail;
 
@@ -9,11 +9,24 @@ use std::test::Fail;
 // of what it asks, the cards of North where it asks for a table, or the number of its fault.
 fn meaning(alloc: Global, line: &[u8]) -> Result<String, AllocError> {
     match read_request(alloc, line) {
-        Ok(Asked::Table(request)) => {
+        Ok(LineAsked::Cards(asked)) => meaning_of_cards(alloc, &asked),
+        Ok(LineAsked::Par(_)) => format!(in alloc; "par"),
+        Ok(LineAsked::ParOfDeal(_)) => format!(in alloc; "par of a deal"),
+        Err(fault) => {
+            let number = fault.number();
+            format!(in alloc; "{number}")
+        }
+    }
+}
+
+// The same of a question of cards.
+fn meaning_of_cards(alloc: Global, asked: &Asked) -> Result<String, AllocError> {
+    match asked {
+        Asked::Table(request) => {
             let cards = request.hands().len(Seat::North);
             format!(in alloc; "table {cards}")
         }
-        Ok(Asked::Solve(request)) => {
+        Asked::Solve(request) => {
             let position = request.position();
             let strain = position.strain().code();
             let first = position.first().code();
@@ -22,17 +35,13 @@ fn meaning(alloc: Global, line: &[u8]) -> Result<String, AllocError> {
             let solutions = request.solutions();
             format!(in alloc; "{strain} {first} {left} {played} {solutions}")
         }
-        Err(fault) => {
-            let number = fault.number();
-            format!(in alloc; "{number}")
-        }
     }
 }
 
 // The position to solve that a line asks about.
 fn solve_request(alloc: Global, line: &[u8]) -> Option<Request> {
     match read_request(alloc, line) {
-        Ok(Asked::Solve(request)) => Some(request),
+        Ok(LineAsked::Cards(Asked::Solve(request))) => Some(request),
         _ => None,
     }
 }

@@ -1,5 +1,4 @@
-use Rattle.dd_wire.proofs.Meanings.{some-meaning}
-use Rattle.dd_wire.proofs.OneMeaning.{one-meaning}
+use Rattle.dd_wire.proofs.LineMeanings.{some-meaning, one-meaning}
 use Rattle.dd_wire.proofs.laws.one_meaning.Goals as goal
 
 pub returns-clause-some : goal.returns-clause-some

@@ -14,43 +14,43 @@ use Rattle.dd_wire.proofs.laws.worked_wants.Goals as goal
 
 pub returns-clause-fetch : goal.returns-clause-fetch
 unfolding is_utf8 chars serde_json_on_literals
-returns-clause-fetch c = λ leave. (_, refl, refl)
+returns-clause-fetch c = λ leave. refl
 
 pub returns-clause-cancel : goal.returns-clause-cancel
 unfolding is_utf8 chars serde_json_on_literals
-returns-clause-cancel c = λ leave. (_, refl, refl)
+returns-clause-cancel c = λ leave. refl
 
 pub returns-clause-stop : goal.returns-clause-stop
 unfolding is_utf8 chars serde_json_on_literals
-returns-clause-stop c = (_, refl, refl)
+returns-clause-stop c = refl
 
 pub returns-clause-no_leave : goal.returns-clause-no_leave
 unfolding is_utf8 chars serde_json_on_literals
-returns-clause-no_leave c = (Err WrongField, (Err WrongField, refl, refl), refl)
+returns-clause-no_leave c = (Err WrongField, refl, refl)
 
 pub returns-clause-stop_of_a_job : goal.returns-clause-stop_of_a_job
 unfolding is_utf8 chars serde_json_on_literals
-returns-clause-stop_of_a_job c = (Err WrongField, (Err WrongField, refl, refl), refl)
+returns-clause-stop_of_a_job c = (Err WrongField, refl, refl)
 
 pub returns-clause-no_job : goal.returns-clause-no_job
 unfolding is_utf8 chars serde_json_on_literals
-returns-clause-no_job c = (Err WrongField, (Err WrongField, refl, refl), refl)
+returns-clause-no_job c = (Err WrongField, refl, refl)
 
 pub returns-clause-job_and_deal : goal.returns-clause-job_and_deal
 unfolding is_utf8 chars serde_json_on_literals
-returns-clause-job_and_deal c = (Err WrongField, (Err WrongField, refl, refl), refl)
+returns-clause-job_and_deal c = (Err WrongField, refl, refl)
 
 pub returns-clause-job_in_words : goal.returns-clause-job_in_words
 unfolding is_utf8 chars serde_json_on_literals
-returns-clause-job_in_words c = (Err WrongField, (Err WrongField, refl, refl), refl)
+returns-clause-job_in_words c = (Err WrongField, refl, refl)
 
 pub returns-clause-past_64_bits : goal.returns-clause-past_64_bits
 unfolding is_utf8 chars serde_json_on_literals
-returns-clause-past_64_bits c = (Err WrongField, (Err WrongField, refl, refl), refl)
+returns-clause-past_64_bits c = (Err WrongField, refl, refl)
 
 pub returns-clause-no_task : goal.returns-clause-no_task
 unfolding is_utf8 chars serde_json_on_literals
-returns-clause-no_task c = (Err WrongField, (Err WrongField, refl, refl), refl)
+returns-clause-no_task c = (Err WrongField, refl, refl)
 
 pub returns-clause-no_object : goal.returns-clause-no_object
 unfolding is_utf8 chars serde_json_on_literals
@@ -58,19 +58,27 @@ returns-clause-no_object c = refl
 
 pub returns-clause-solve : goal.returns-clause-solve
 unfolding is_utf8 chars serde_json_on_literals
-returns-clause-solve c = λ leave. (_, (_, (_, inl (two_suits, spades-and-hearts.0, spades-and-hearts.1, (board_of two_suits Notrump East [], record { hands = refl; strain = refl; first = refl; trick = refl }, asks-best)), refl), refl), refl)
+returns-clause-solve c = λ leave. (_, (_, inl (two_suits, spades-and-hearts.0, spades-and-hearts.1, (board_of two_suits Notrump East [], record { hands = refl; strain = refl; first = refl; trick = refl }, asks-best)), refl), refl)
 
 pub returns-clause-table : goal.returns-clause-table
 unfolding is_utf8 chars serde_json_on_literals
-returns-clause-table c = λ leave. (_, (_, (_, inl (two_suits, spades-and-hearts.0, spades-and-hearts.1, means-table two_suits (refl, refl, refl) (omega arith)), refl), refl), refl)
+returns-clause-table c = λ leave. (_, (_, inl (two_suits, spades-and-hearts.0, spades-and-hearts.1, means-table two_suits (refl, refl, refl) (omega arith)), refl), refl)
+
+pub returns-clause-par : goal.returns-clause-par
+unfolding is_utf8 chars serde_json_on_literals
+returns-clause-par c = λ leave. refl
+
+pub returns-clause-par_of_a_deal : goal.returns-clause-par_of_a_deal
+unfolding is_utf8 chars serde_json_on_literals
+returns-clause-par_of_a_deal c = λ leave. refl
 
 pub returns-clause-waits : goal.returns-clause-waits
 unfolding is_utf8 chars serde_json_on_literals
-returns-clause-waits c = λ leave. (_, refl, refl)
+returns-clause-waits c = λ leave. refl
 
 pub returns-clause-no_longer : goal.returns-clause-no_longer
 unfolding is_utf8 chars serde_json_on_literals
-returns-clause-no_longer c = λ leave. (_, refl, refl)
+returns-clause-no_longer c = λ leave. refl
 
 pub returns-clause-waits_in_words : goal.returns-clause-waits_in_words
 unfolding is_utf8 chars serde_json_on_literals
@@ -82,16 +90,16 @@ returns-clause-waits_in_part c = refl
 
 pub returns-clause-cancel_that_waits : goal.returns-clause-cancel_that_waits
 unfolding is_utf8 chars serde_json_on_literals
-returns-clause-cancel_that_waits c = (Err WrongField, (Err WrongField, refl, refl), refl)
+returns-clause-cancel_that_waits c = (Err WrongField, refl, refl)
 
 pub returns-clause-stop_that_waits : goal.returns-clause-stop_that_waits
 unfolding is_utf8 chars serde_json_on_literals
-returns-clause-stop_that_waits c = (Err WrongField, (Err WrongField, refl, refl), refl)
+returns-clause-stop_that_waits c = (Err WrongField, refl, refl)
 
 pub returns-clause-solve_that_waits : goal.returns-clause-solve_that_waits
 unfolding is_utf8 chars serde_json_on_literals
-returns-clause-solve_that_waits c = λ leave. (_, (_, (_, inl (two_suits, spades-and-hearts.0, spades-and-hearts.1, (board_of two_suits Notrump East [], record { hands = refl; strain = refl; first = refl; trick = refl }, asks-best)), refl), refl), refl)
+returns-clause-solve_that_waits c = λ leave. (_, (_, inl (two_suits, spades-and-hearts.0, spades-and-hearts.1, (board_of two_suits Notrump East [], record { hands = refl; strain = refl; first = refl; trick = refl }, asks-best)), refl), refl)
 
 pub returns-clause-table_that_waits : goal.returns-clause-table_that_waits
 unfolding is_utf8 chars serde_json_on_literals
-returns-clause-table_that_waits c = λ leave. (_, (_, (_, inl (two_suits, spades-and-hearts.0, spades-and-hearts.1, means-table two_suits (refl, refl, refl) (omega arith)), refl), refl), refl)
+returns-clause-table_that_waits c = λ leave. (_, (_, inl (two_suits, spades-and-hearts.0, spades-and-hearts.1, means-table two_suits (refl, refl, refl) (omega arith)), refl), refl)

@@ -1,11 +1,12 @@
 use Rattle.std.proofs.lemmas.Result.{err_from_is_err_and}
 use Rattle.serde_json.specs.View.{members_view}
-use Rattle.dd_wire.specs.Requests.{MeansObject}
-use Rattle.dd_wire.proofs.Meanings.{never-memory, object-memory}
+use Rattle.dd_wire.specs.Lines.{MeansMembers}
+use Rattle.dd_wire.proofs.LineMeanings.{members-memory}
+use Rattle.dd_wire.proofs.Meanings.{never-memory}
 use Rattle.dd_wire.proofs.request_reader.read_request.Goals as goal
 
 pub returns-in_err-asked-clause-memory : goal.returns-in_err-asked-clause-memory
 returns-in_err-asked-clause-memory c = λ out.
     let members = members_view c.in_ok-object.object.entries in
     let p = err_from_is_err_and c.from_residual-in_err-asked.result c.from_residual-in_err-asked.ensures.1 in
-    absurd (never-memory (MeansObject members) c.asked_by.result c.from_residual-in_err-asked.result _ p.0 (object-memory members) c.asked_by.ensures c.in_err-asked.was p.1 p.2 out)
+    absurd (never-memory (MeansMembers members) c.line_asked_by.result c.from_residual-in_err-asked.result _ p.0 (members-memory members) c.line_asked_by.ensures c.in_err-asked.was p.1 p.2 out)

@@ -1,0 +1,12 @@
+use Rattle.std.proofs.lemmas.Result.{err_from_is_err_and}
+use Rattle.serde_json.specs.View.{members_view}
+use Rattle.dd_wire.specs.Wants.{MeansWanted}
+use Rattle.dd_wire.proofs.Meanings.{never-memory}
+use Rattle.dd_wire.proofs.WantMeanings.{wanted-memory}
+use Rattle.dd_wire.proofs.want_reader.read_want.Goals as goal
+
+pub returns-in_err-asked-clause-memory : goal.returns-in_err-asked-clause-memory
+returns-in_err-asked-clause-memory c = λ out.
+    let members = members_view c.in_ok-object.object.entries in
+    let p = err_from_is_err_and c.from_residual-in_err-asked.result c.from_residual-in_err-asked.ensures.1 in
+    absurd (never-memory (MeansWanted c.args.allow_stop c.in_ok-wait.wait members) c.wanted_by.result c.from_residual-in_err-asked.result _ p.0 (wanted-memory c.args.allow_stop c.in_ok-wait.wait members) c.wanted_by.ensures c.in_err-asked.was p.1 p.2 out)

@@ -1,0 +1,36 @@
+-- To be believed: the reply of the line tool to a line.
+use Rattle.std.specs.Prelude.{◌≡◌, ℕ, ◌<◌, ◌≤◌, ◌⊎◌, List, length, Option, IsSome, Result, Ok, Err}
+use Rattle.dd_lines.specs.Line.{longest_line}
+use Rattle.dd_solve.specs.Results.{results}
+use Rattle.dd_wire.specs.declared.fault.Fault.{Fault}
+use Rattle.dd_wire.specs.declared.fault.Fault.TheVariants.{OutOfMemory}
+use Rattle.dd_wire.specs.declared.line_asked.LineAsked.{LineAsked}
+use Rattle.dd_wire.specs.declared.line_asked.LineAsked.TheVariants.{Cards, Par, ParOfDeal}
+use Rattle.dd_wire.specs.Lines.{Means}
+use Rattle.dd_wire.specs.ParReplies.{TellsPar, rows_of}
+use Rattle.dd_wire.specs.Replies.{asked_text, fault_text, spent_text}
+
+-- the text answers what is asked
+abbrev pub Answers : LineAsked → List ℕ → Type 0
+Answers (Cards asked) text = text ≡ asked_text asked
+Answers (Par par) text = TellsPar par.results par.conditions text
+Answers (ParOfDeal par) text = TellsPar (rows_of (results par.hands)) par.conditions text
+
+-- the text replies to a line of this meaning
+abbrev pub Replies : Result LineAsked Fault → List ℕ → Type 0
+Replies (Ok asked) text = Answers asked text
+Replies (Err fault) text = text ≡ fault_text fault
+
+-- is the answer found by a search, which has a budget?
+abbrev pub IsSearched : LineAsked → Type 0
+IsSearched (Cards asked) = Unit {0}
+IsSearched (Par par) = ⊥
+IsSearched (ParOfDeal par) = Unit {0}
+
+-- The text is the reply to the line: what its meaning is answered with; that memory ran out while it was read; or, with a
+-- budget, that this was spent in a search for the answer, or for one of the twenty results of a table.
+abbrev pub IsReply : Option ℕ → List ℕ → List ℕ → Type 0
+IsReply budget line text =
+    ((meaning : Result LineAsked Fault) × Means line meaning × Replies meaning text)
+    ⊎ ((0 < length line) × (length line ≤ longest_line) × (text ≡ fault_text OutOfMemory))
+    ⊎ ((asked : LineAsked) × Means line (Ok asked) × IsSearched asked × IsSome budget × (text ≡ spent_text))
