@@ -56,3 +56,6 @@ pub const SHUTTING_DOWN: u8 = 18;
 
 /// Memory ran out.
 pub const OUT_OF_MEMORY: u8 = 19;
+
+/// The target is over 13.
+pub const WRONG_TARGET: u8 = 27;

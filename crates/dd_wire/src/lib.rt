@@ -6,6 +6,7 @@ mod laws;
 mod line_reply;
 mod reply;
 mod request_reader;
+mod target_reader;
 mod want;
 mod want_reader;
 
