@@ -1,6 +1,6 @@
 -- the classes that reach a target, class by class
 use Rattle.std.proofs.Common.{◌≡◌, ℕ, ◌+◌, ◌<◌, ◌≤◌, Bool, true, false, cond, refl, sym, ap, ◌∙◌, arith, List, [], ◌∷◌, ◌++◌, length, take, drop, get_or}
-use Rattle.std.specs.Prelude.{map, filter, nat_le}
+use Rattle.std.specs.Prelude.{map, filter, nat_le, nat_eq}
 use Rattle.std.proofs.lemmas.Bool.{lt-leb}
 use Rattle.std.proofs.lemmas.List.{take_more, take-append-drop, take_all, map-append, length-map}
 use Rattle.std.proofs.Math.Seq.{take-append_seam}
@@ -16,7 +16,7 @@ use Rattle.dd_play.proofs.CallerLemmas.{all}
 use Rattle.dd_equal.specs.EqualCards.{EqualCards, tops, class_of, classes_of}
 use Rattle.dd_search.proofs.CallerLemmas.{score-most, few-classes}
 use Rattle.dd_solve.specs.ScoredClasses.{ScoredClass}
-use Rattle.dd_solve.specs.Targets.{target_class, all_reaching}
+use Rattle.dd_solve.specs.Targets.{target_class, all_reaching, reaching}
 
 -- does a class reach the target?
 abbrev pub does_reach : Board → ℕ → EqualCards → Bool
@@ -61,9 +61,9 @@ reached-next p target classes place class within here =
 -- a class that reaches the target comes last of them
 pub reached-more : (p : Board) (target : ℕ) (classes : List EqualCards) (place : ℕ) (class : EqualCards) → place < length classes → class ≡ get_or classes place class
     → does_reach p target class ≡ true → reached p target (take (place + 1) classes) ≡ reached p target (take place classes) ++ as_target target class ∷ []
-reached-more p target classes place class within here yes =
+reached-more p target classes place class within here more =
     reached-next p target classes place class within here
-    ∙ ap (λ b. reached p target (take place classes) ++ map (as_target target) (cond b (class ∷ []) [])) yes
+    ∙ ap (λ b. reached p target (take place classes) ++ map (as_target target) (cond b (class ∷ []) [])) more
 
 -- and one that does not is not among them
 pub reached-past : (p : Board) (target : ℕ) (classes : List EqualCards) (place : ℕ) (class : EqualCards) → place < length classes → class ≡ get_or classes place class
@@ -103,3 +103,17 @@ none-reaches p target c valid has over =
     let most = score-most p c valid has in
     let both = all (side_of (mover p)) p valid in
     sym (lt-leb target (score p c) (omega (arith, over, most, both)))
+
+-- as many of them as are asked for
+pub reaching-asked : (p q : Board) (target same solutions which most : ℕ) → IsBoard q → p ≡ q → target ≡ same → solutions ≡ which → most ≡ cond (nat_eq solutions 2) 13 1
+    → take most (all_reaching p target) ≡ reaching q same which
+reaching-asked p q target same solutions which most valid board number asked is =
+    ap (λ n. take n (all_reaching p target)) is
+    ∙ ap (λ k. take (cond (nat_eq k 2) 13 1) (all_reaching p target)) asked
+    ∙ ap (λ (b : Board). take (cond (nat_eq which 2) 13 1) (all_reaching b target)) board
+    ∙ ap (λ t. take (cond (nat_eq which 2) 13 1) (all_reaching q t)) number
+    ∙ go (nat_eq which 2)
+  where
+    go : (b : Bool) → take (cond b 13 1) (all_reaching q same) ≡ cond b (all_reaching q same) (take 1 (all_reaching q same))
+    go true = take_all 13 (all_reaching q same) (reaching-13 q same valid)
+    go false = refl

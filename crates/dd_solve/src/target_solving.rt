@@ -1,10 +1,10 @@
 //! Requests with a target, and their answers.
-ghost use Rattle.std.specs.Prelude.{◌≡◌, ◌<◌, ◌⊎◌, true, IfOk, IsOk, nat_le, take};
+ghost use Rattle.std.specs.Prelude.{◌≡◌, ◌<◌, ◌⊎◌, true, IfOk, IsOk, nat_le, take, ◌==◌, if◌then◌else◌};
 ghost use Rattle.dd_cards.specs.Cards.{has_card};
 ghost use Rattle.dd_play.specs.Board.{IsBoard, tricks_left};
 ghost use Rattle.dd_play.specs.Play.{legal};
-ghost use Rattle.dd_play.specs.Positions.{CanPlay};
 ghost use Rattle.dd_play.specs.Value.{score};
+ghost use Rattle.dd_equal.specs.EqualCards.{classes_of};
 ghost use Rattle.dd_search.specs.Budgets.{EndsAs, IsEndless};
 ghost use Rattle.dd_solve.specs.Targets.{all_reaching, solved_target};
 
@@ -12,7 +12,7 @@ use crate::answer::{Answer, MOST_CLASSES, Scored, ScoredList};
 use crate::target_request::TargetRequest;
 use arrayvec::ArrayVec;
 use dd_cards::Card;
-use dd_equal::classes;
+use dd_equal::{Class, classes};
 use dd_play::Position;
 use dd_search::{Bounds, Halt, Meter, reaches};
 use std::marker::Model;
@@ -82,20 +82,28 @@ pub fn solve_target<B: Bounds, M: Meter>(
     ensures unsearched { (request.target ≡ 0) ⊎ (tricks_left request.board < request.target) →
         IsOk result }
 {
-    let most = if request.solutions() == 2 {
-        MOST_CLASSES
-    } else {
-        1
-    };
-    let answer = first_reaching(request.position(), request.target(), most, table, meter)?;
+    let answer = classes_reaching(
+        request.position(),
+        request.target(),
+        most_asked(request.solutions()),
+        table,
+        meter,
+    )?;
     Ok(SolvedTarget {
         request,
         answer: Answer::of(answer),
     })
 }
 
+// How many of the classes that reach the target are asked for, at most.
+fn most_asked(solutions: u8) -> usize
+    ensures { result ≡ (if solutions == 2 then MOST_CLASSES else 1) }
+{
+    if solutions == 2 { MOST_CLASSES } else { 1 }
+}
+
 // The first `most` of the classes that reach the target.
-fn first_reaching<B: Bounds, M: Meter>(
+fn classes_reaching<B: Bounds, M: Meter>(
     position: &Position,
     target: u8,
     most: usize,
@@ -108,7 +116,24 @@ fn first_reaching<B: Bounds, M: Meter>(
     ensures unsearched { (target ≡ 0) ⊎ (tricks_left position.now < target) → IsOk result }
 {
     let classes = classes(position);
-    let classes = classes.as_slice();
+    first_reaching(position, classes.as_slice(), target, most, table, meter)
+}
+
+// The same, of these classes, by a question of each until there are so many.
+fn first_reaching<B: Bounds, M: Meter>(
+    position: &Position,
+    classes: &[Class],
+    target: u8,
+    most: usize,
+    table: &mut B,
+    meter: &mut M,
+) -> Result<ScoredList, Halt>
+    requires board { IsBoard position.now }
+    requires classes { classes.now ≡ classes_of position.now }
+    ensures found { IfOk result (λ found. found.items ≡ take most (all_reaching position.now target)) }
+    ensures ends { EndsAs (M.says meter.new) result }
+    ensures unsearched { (target ≡ 0) ⊎ (tricks_left position.now < target) → IsOk result }
+{
     let mut answer = ArrayVec::new();
     for class in classes {
         if answer.len() == most {
