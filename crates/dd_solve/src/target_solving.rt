@@ -3,6 +3,7 @@ ghost use Rattle.std.specs.Prelude.{◌≡◌, ◌<◌, ◌⊎◌, true, IfOk, I
 ghost use Rattle.dd_cards.specs.Cards.{has_card};
 ghost use Rattle.dd_play.specs.Board.{IsBoard, tricks_left};
 ghost use Rattle.dd_play.specs.Play.{legal};
+ghost use Rattle.dd_play.specs.Positions.{CanPlay};
 ghost use Rattle.dd_play.specs.Value.{score};
 ghost use Rattle.dd_equal.specs.EqualCards.{classes_of};
 ghost use Rattle.dd_search.specs.Budgets.{EndsAs, IsEndless};
