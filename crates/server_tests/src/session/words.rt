@@ -10,6 +10,7 @@ pub fn plain(alloc: Global, step: &Step) -> Result<String, AllocError> {
         Step::Say(text) => String::from_str(alloc, text.as_str()),
         Step::Ask(Want::Submit(Asked::Solve(_))) => String::from_str(alloc, "solve"),
         Step::Ask(Want::Submit(Asked::Table(_))) => String::from_str(alloc, "table"),
+        Step::Ask(Want::Submit(Asked::Target(_))) => String::from_str(alloc, "target"),
         Step::Ask(Want::Cancel(job)) => format!(in alloc; "cancel {job}"),
         Step::Ask(Want::Fetch(job)) => format!(in alloc; "fetch {job}"),
         Step::Ask(Want::Stop) => String::from_str(alloc, "stop"),
