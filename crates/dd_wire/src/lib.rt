@@ -11,6 +11,7 @@ mod par_request;
 mod reply;
 mod request_reader;
 mod session_asked;
+mod target_reader;
 mod want;
 mod want_reader;
 mod wish;
