@@ -68,6 +68,7 @@ fn new_job(reply: &Reply) -> Option<u64>
     match reply {
         Reply::Submitted(job) => Some(*job),
         Reply::Claimed { .. }
+        | Reply::ClaimedTarget { .. }
         | Reply::ClaimedPart { .. }
         | Reply::NothingWaits
         | Reply::Closing
