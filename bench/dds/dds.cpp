@@ -1,6 +1,7 @@
 // The same lines by DDS: reads request lines in the written form, with no card played, and prints the reply lines of
-// `ddserve solve`, each at once. SolveBoard with target -1, mode 1, CalcDDtable for a table, or AnalysePlayBin for a play, one
-// thread. It takes good input for granted.
+// `ddserve solve`, each at once. SolveBoard with the line's target or else -1, mode 1, CalcDDtable for a table, or AnalysePlayBin
+// for a play, one thread; DealerParBin or SidesParBin for par of a table, of which the score alone is printed. It takes good input
+// for granted.
 #include <dds/dll.h>
 
 #include <algorithm>
@@ -51,6 +52,30 @@ static void answer_table(const std::string &line) {
     std::printf("]}\n");
 }
 
+static void answer_par(const std::string &line) {
+    ddTableResults results;
+    size_t from = line.find("[[");
+    for (int place = 0; place < DDS_STRAINS * DDS_HANDS; place++) {
+        from = line.find_first_of("0123456789", from);
+        results.resTable[place / DDS_HANDS][place % DDS_HANDS] = atoi(line.c_str() + from);
+        from = line.find_first_not_of("0123456789", from);
+    }
+    int vulnerable = atoi(field(line, "vulnerable").c_str());
+    parResultsMaster found[2] = {};
+    int side = 0, status;
+    if (line.find("\"dealer\":") != std::string::npos) {
+        status = DealerParBin(&results, found, atoi(field(line, "dealer").c_str()), vulnerable);
+    } else {
+        side = atoi(field(line, "side").c_str());
+        status = SidesParBin(&results, found, vulnerable);
+    }
+    if (status != RETURN_NO_FAULT)
+        std::printf("DDS: %d\n", status);
+    else
+        // Of East and West's side the score is theirs, whatever the header says.
+        std::printf("{\"score\":%d}\n", side ? -found[side].score : found[side].score);
+}
+
 struct Scored {
     int equals, rank, score, suit;
 };
@@ -61,7 +86,8 @@ static void answer_solve(const std::string &line) {
     d.first = atoi(field(line, "first").c_str());
     cards_of(line, d.remainCards);
     futureTricks found;
-    int status = SolveBoard(d, -1, atoi(field(line, "solutions").c_str()), 1, &found, 0);
+    int target = line.find("\"target\":") == std::string::npos ? -1 : atoi(field(line, "target").c_str());
+    int status = SolveBoard(d, target, atoi(field(line, "solutions").c_str()), 1, &found, 0);
     if (status != RETURN_NO_FAULT) {
         std::printf("DDS: %d\n", status);
         return;
@@ -109,9 +135,12 @@ int main() {
     SetMaxThreads(1);
     std::string line;
     while (std::getline(std::cin, line)) {
-        if (field(line, "do") == "table")
+        std::string task = field(line, "do");
+        if (task == "table")
             answer_table(line);
-        else if (field(line, "do") == "play")
+        else if (task == "par")
+            answer_par(line);
+        else if (task == "play")
             answer_play(line);
         else
             answer_solve(line);

@@ -20,12 +20,13 @@ ONE_CARD = '{"do":"solve","deal":"N:A... K... Q... J...","trump":4,"first":0,"so
 ONE_CARD_REPLY = '{"cards":[{"equals":0,"rank":14,"score":1,"suit":0}]}'
 STOP = '{"do":"stop"}'
 CLOSING = '{"closing":true}'
-# The replies to lines that made no call of the book, and to calls that left no event.
-NO_EVENT = {f'{{"fault":{number}}}' for number in (*range(1, 13), 15, 19)}
+# The faults of lines that made no call of the book, and of calls that left no event.
+NO_EVENT = {f'{{"fault":{number}}}' for number in (*range(1, 13), 15, *range(19, 24))}
 
 
 def is_event(reply):
-    return reply not in NO_EVENT
+    """Not par, either: it is told without a call."""
+    return reply not in NO_EVENT and not reply.startswith('{"contracts"')
 
 
 def check(what, got, wanted):

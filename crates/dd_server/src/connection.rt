@@ -8,14 +8,14 @@ use dd_session::{DeskPort, serve_lines, serve_socket, write_refusal};
 use std::net::TcpStream;
 use std::sync::Wait;
 use std::sync::atomic::Ordering;
-use std::time::Duration;
+use std::time::{Clock, Duration};
 
 // For how many seconds a client may take no byte of a reply.
 const WRITE_LIMIT: u64 = 60;
 
 /// Serves a connection to its end, by a pass of its own. Where none can be had the client is told why, unless it is to shake
 /// hands first.
-pub(crate) fn serve_connection<J: Naming, R: Wait + Eprint>(
+pub(crate) fn serve_connection<J: Naming, R: Wait + Clock + Eprint>(
     rt: &R,
     state: &ServerState<J>,
     stream: &TcpStream,
@@ -33,7 +33,7 @@ pub(crate) fn serve_connection<J: Naming, R: Wait + Eprint>(
 }
 
 // The session of a pass, which comes back.
-fn serve_session<J: Naming, R: Wait>(
+fn serve_session<J: Naming, R: Wait + Clock>(
     rt: &R,
     state: &ServerState<J>,
     stream: &TcpStream,

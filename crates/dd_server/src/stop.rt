@@ -98,6 +98,10 @@ impl<'a, P: BookPort, R: Wait> BookPort for StopPort<'a, P, R> {
         }
         reply
     }
+
+    fn fetch_within(&mut self, job: u64, wait: u64) -> Result<Reply, Fault> {
+        self.port.fetch_within(job, wait)
+    }
 }
 
 // Is it a stop that is wanted?

@@ -6,3 +6,4 @@ pub mod Parts
 pub mod Regular
 pub mod CardByCard
 pub mod CallerLemmas
+pub mod Reaching

@@ -1,6 +1,7 @@
 pub mod Questions
 pub mod Results
 pub mod ScoredClasses
+pub mod Targets
 pub mod Classes
 pub mod Plays
 pub mod CardFaults

@@ -77,3 +77,6 @@ pub const REVOKE: u8 = 25;
 
 /// A play has a card after the last.
 pub const AFTER_LAST: u8 = 26;
+
+/// The target is over 13.
+pub const WRONG_TARGET: u8 = 27;

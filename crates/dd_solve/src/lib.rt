@@ -1,5 +1,5 @@
-//! What may be asked of a position, of hands or of a play, and the answers: the classes of cards with their scores, the
-//! twenty results, and the tricks after each card.
+//! What may be asked of a position, of hands or of a play, and the answers: the classes of cards with their scores, those
+//! that reach a target, the twenty results, and the tricks after each card.
 #![tactic(auto)]
 
 mod answer;
@@ -15,6 +15,8 @@ mod solving;
 mod table_part;
 mod table_request;
 mod table_solving;
+mod target_request;
+mod target_solving;
 
 pub use answer::{Answer, Scored};
 pub use asked::Asked;
@@ -28,3 +30,5 @@ pub use solving::{Solved, solve};
 pub use table_part::{SolvedPart, solve_part};
 pub use table_request::{PARTS, TableRequest};
 pub use table_solving::solve_table;
+pub use target_request::{GREATEST_TARGET, TargetRequest};
+pub use target_solving::{SolvedTarget, solve_target};

@@ -11,6 +11,7 @@ pub mod ParMeanings
 pub mod PlayCards
 pub mod PlayMeanings
 pub mod ParResults
+pub mod ParRows
 pub mod RequestExamples
 pub mod Starts
 pub mod Texts

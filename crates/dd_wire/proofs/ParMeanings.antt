@@ -13,7 +13,7 @@ use Rattle.dd_wire.specs.declared.par_reader.FirstCode.{FirstCode}
 use Rattle.dd_wire.specs.declared.par_request.Conditions.{Conditions}
 use Rattle.dd_wire.specs.declared.par_request.ParOfResults.{ParOfResults}
 use Rattle.dd_wire.specs.Lines.{MeansGiven}
-use Rattle.dd_wire.specs.ParLines.{DealPar, Given, results, deal, ParFields, order_coded, vulnerable_coded, conditions_of, par_of_results, of_thirteen, MeansDealt, MeansParOfDeal}
+use Rattle.dd_wire.specs.ParLines.{DealPar, Given, results, deal, ParFields, order_coded, vulnerable_coded, conditions_of, par_of_results, table_par_of, of_thirteen, MeansDealt, MeansParOfDeal}
 use Rattle.dd_wire.specs.Requests.{MeansTable, asked_as}
 use Rattle.dd_wire.proofs.Meanings.{SomeMeaning, some-deal, some-table, some-way, deal-memory, table-memory, way-memory}
 use Rattle.dd_wire.proofs.OneMeaning.{AtMostOne, both, one-deal, one-table, one-way}
@@ -72,19 +72,31 @@ dealt-memory : (hands : FourHands) (conditions : Result Conditions Fault) → (c
 dealt-memory hands (Ok c) none (asked, means, is) = thirteen-memory c asked (λ out. table-memory hands (let told : MeansTable hands (Err OutOfMemory) = rw out at means in told)) (sym is)
 dealt-memory hands (Err fault) none is = none (let same : fault ≡ OutOfMemory = cc in ap Err same)
 
+-- what is asked in a way has the fault of what is asked
+pub way-fault : {A B : Type 0} (way : A → B) (asked : Result A Fault) (fault : Fault) → Err fault ≡ asked_as way asked → asked ≡ Err fault
+way-fault way (Ok x) fault is = absurd (cc)
+way-fault way (Err f) fault is = let same : f ≡ fault = cc in ap Err same
+
 results-memory : (conditions : Result Conditions Fault) (b : Bool) (rows : List (List ℕ)) → (conditions ≡ Err OutOfMemory → ⊥)
-    → Err OutOfMemory ≡ asked_as Par (elim conditions as (λ _. Result ParOfResults Fault) [
+    → elim conditions as (λ _. Result ParOfResults Fault) [
       | Err fault ↦ Err fault
       | Ok c ↦ cond b (Ok (record { results = rows; conditions = c })) (Err WrongResult)
-    ]) → ⊥
+    ] ≡ Err OutOfMemory → ⊥
 results-memory (Err fault) b rows none is = none (let same : fault ≡ OutOfMemory = cc in ap Err same)
 results-memory (Ok c) true rows none is = cc
 results-memory (Ok c) false rows none is = cc
 
+par_of_results-memory : (rows : List (List ℕ)) (first : FirstCode) (vulnerable : ℕ) → par_of_results first vulnerable rows ≡ Err OutOfMemory → ⊥
+par_of_results-memory rows first vulnerable =
+    results-memory (conditions_of first vulnerable) (list_all (list_all (λ tricks. nat_le tricks 13)) rows) rows (conditions-memory first vulnerable)
+
+pub table_par-memory : (given : Given) (fields : ParFields) → table_par_of given fields ≡ Err OutOfMemory → ⊥
+table_par-memory (results rows) fields is = par_of_results-memory rows fields.first fields.vulnerable is
+table_par-memory (deal text) fields is = cc
+
 pub given-memory : (given : Given) (fields : ParFields) → MeansGiven given fields (Err OutOfMemory) → ⊥
-given-memory (results rows) fields =
-    results-memory (conditions_of fields.first fields.vulnerable) (list_all (list_all (λ tricks. nat_le tricks 13)) rows) rows
-    (conditions-memory fields.first fields.vulnerable)
+given-memory (results rows) fields is =
+    par_of_results-memory rows fields.first fields.vulnerable (way-fault Par (par_of_results fields.first fields.vulnerable rows) OutOfMemory is)
 given-memory (deal text) fields means =
     way-memory ParOfDeal (MeansParOfDeal fields.first fields.vulnerable text)
     (deal-memory text (MeansDealt fields.first fields.vulnerable)

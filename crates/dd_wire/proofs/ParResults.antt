@@ -1,23 +1,14 @@
 -- The results of a deal as they are scored.
-use Rattle.std.proofs.Common.{◌≡◌, ℕ, suc, ◌+◌, ◌-◌, ◌<◌, ◌≤◌, refl, sym, arith, List, [], ◌∷◌, length, take, drop, get_or, true}
-use Rattle.std.specs.Prelude.{nat_le, IsTrue, map}
-use Rattle.std.specs.List.{slice_range, list_all}
+use Rattle.std.proofs.Common.{◌≡◌, ℕ, ◌≤◌, arith, length, true}
+use Rattle.std.specs.Prelude.{nat_le}
 use Rattle.std.proofs.lemmas.Bool.{le-leb}
-use Rattle.std.proofs.Math.Seq.{drop-cons}
 use Rattle.dd_cards.specs.declared.seat.Seat.{Seat}
 use Rattle.dd_cards.specs.declared.seat.Seat.TheVariants.{North, East, South, West}
 use Rattle.dd_cards.specs.Seats.{next_seat}
 use Rattle.dd_cards.specs.Hands.{FourHands, hand_of}
-use Rattle.dd_play.specs.Board.{tricks_left}
-use Rattle.dd_play.specs.Value.{leaders_tricks}
 use Rattle.dd_score.specs.Tables.{IsTable}
-use Rattle.dd_solve.specs.Results.{AreEven, Contract, contracts, opening, tricks_of, results}
+use Rattle.dd_solve.specs.Results.{AreEven, Contract, contracts, tricks_of, results}
 use Rattle.dd_wire.specs.ParReplies.{rows_of}
-
--- four elements of a list that stand together
-pub four-elements : (xs : List ℕ) (k : ℕ) → k + 4 ≤ length xs
-    → get_or xs k 0 ∷ get_or xs (k + 1) 0 ∷ get_or xs (k + 2) 0 ∷ get_or xs (k + 3) 0 ∷ [] ≡ take 4 (drop k xs)
-four-elements xs k within = ?
 
 -- each hand has thirteen cards
 hand-thirteen : (hands : FourHands) (seat : Seat) → AreEven hands → length hands.north ≡ 13 → length (hand_of hands seat) ≡ 13

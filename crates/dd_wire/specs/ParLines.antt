@@ -16,9 +16,9 @@ use Rattle.dd_score.specs.declared.order.Order.TheVariants as orders
 use Rattle.dd_score.specs.declared.vulnerable.Vulnerable.{Vulnerable}
 use Rattle.dd_score.specs.declared.vulnerable.Vulnerable.TheVariants.{Neither, Both, NorthSouth, EastWest}
 use Rattle.dd_wire.specs.declared.fault.Fault.{Fault}
-use Rattle.dd_wire.specs.declared.fault.Fault.TheVariants.{WrongOrder, WrongVulnerable, WrongResult, NotThirteen}
+use Rattle.dd_wire.specs.declared.fault.Fault.TheVariants.{WrongField, WrongOrder, WrongVulnerable, WrongResult, NotThirteen}
 use Rattle.dd_wire.specs.declared.par_reader.FirstCode.{FirstCode}
-use Rattle.dd_wire.specs.declared.par_reader.FirstCode.TheVariants.{Dealer, Side}
+use Rattle.dd_wire.specs.declared.par_reader.FirstCode.TheVariants as firsts
 use Rattle.dd_wire.specs.declared.par_request.Conditions.{Conditions}
 use Rattle.dd_wire.specs.declared.par_request.ParOfResults.{ParOfResults}
 use Rattle.dd_wire.specs.Requests.{MeansDeal, MeansTable, are_among, keys_of, text_at, whole_number, whole_number_at}
@@ -89,9 +89,9 @@ given_in members = elim (get_member (codes "table") members) [
 -- who calls first, where just one of the two stands there
 abbrev pub first_in : Members → Option FirstCode
 first_in members = elim (get_member (codes "dealer") members) [
-  | None ↦ option_map Side (whole_number_at members (codes "side"))
+  | None ↦ option_map firsts.Side (whole_number_at members (codes "side"))
   | Some dealer ↦ elim (get_member (codes "side") members) [
-    | None ↦ option_map Dealer (whole_number dealer)
+    | None ↦ option_map firsts.Dealer (whole_number dealer)
     | Some both ↦ None
   ]
 ]
@@ -122,8 +122,8 @@ side_coded (suc zero) = Some sides.EastWest
 side_coded (suc (suc more)) = None
 
 abbrev pub order_coded : FirstCode → Option Order
-order_coded (Dealer code) = option_map orders.Dealer (seat_coded code)
-order_coded (Side code) = option_map orders.First (side_coded code)
+order_coded (firsts.Dealer code) = option_map orders.Dealer (seat_coded code)
+order_coded (firsts.Side code) = option_map orders.First (side_coded code)
 
 -- DDS: 0 neither side, 1 both, 2 North and South, 3 East and West
 abbrev pub vulnerable_coded : ℕ → Option Vulnerable
@@ -151,6 +151,11 @@ par_of_results first vulnerable rows = elim (conditions_of first vulnerable) [
   | Err fault ↦ Err fault
   | Ok conditions ↦ if list_all (list_all (λ tricks. nat_le tricks 13)) rows then Ok (record { results = rows; conditions = conditions }) else Err WrongResult
 ]
+
+-- the same where the results are given; a deal isn't known
+abbrev pub table_par_of : Given → ParFields → Result ParOfResults Fault
+table_par_of (results rows) fields = par_of_results fields.first fields.vulnerable rows
+table_par_of (deal text) fields = Err WrongField
 
 -- par of the results of a deal
 pub record DealPar : Type 0 where

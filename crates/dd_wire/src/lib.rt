@@ -12,8 +12,11 @@ mod play_reader;
 mod play_reply;
 mod reply;
 mod request_reader;
+mod session_asked;
+mod target_reader;
 mod want;
 mod want_reader;
+mod wish;
 
 pub use fault::Fault;
 pub use laws::{one_meaning, one_want, worked_lines, worked_wants};
@@ -27,5 +30,7 @@ pub use reply::{
     write_numbered_fault, write_spent, write_table,
 };
 pub use request_reader::read_request;
+pub use session_asked::SessionAsked;
 pub use want::Want;
 pub use want_reader::read_want;
+pub use wish::{LONGEST_WAIT, Wish};

@@ -17,14 +17,16 @@ use crate::request_reader::read_request;
 use dd_lines::{LONGEST_REPLY, ReplyText};
 use dd_search::{Bounds, Budget, Endless};
 use dd_solve::{
-    Asked, PlayRequest, Request, Results, TableRequest, solve, solve_play, solve_table,
+    Asked, PlayRequest, Request, Results, TableRequest, TargetRequest, solve, solve_play,
+    solve_table, solve_target,
 };
 use std::alloc::Global;
 
 /// The reply to a line of any length, without a line feed at its end.
 ///
 /// The budget is the most positions that the search for the answer comes to, for a table the search for each of its
-/// twenty results, and for a play the search for each number; `None` lets it go on to its end. A line whose search spends it is told so in place of an answer.
+/// twenty results, and for a play the search for each number; `None` lets it go on to its end. A line whose search spends
+/// it is told so in place of an answer.
 pub fn reply_to_line<B: Bounds>(
     alloc: Global,
     line: &[u8],
@@ -52,6 +54,8 @@ fn cards_reply<B: Bounds>(asked: Asked, table: &mut B, budget: Option<u64>) -> R
         (Asked::Solve(request), Some(limit)) => reply_within(request, table, limit),
         (Asked::Solve(request), None) => reply_in_the_end(request, table),
         (Asked::Table(request), _) => table_reply(&request, table, budget),
+        (Asked::Target(request), Some(limit)) => target_reply_within(request, table, limit),
+        (Asked::Target(request), None) => target_reply_in_the_end(request, table),
     }
 }
 
@@ -121,5 +125,27 @@ fn play_reply<B: Bounds>(request: PlayRequest, table: &mut B, budget: Option<u64
     match solve_play(request, table, budget) {
         Some(solved) => write_trace(solved.trace()),
         None => write_spent(),
+    }
+}
+
+/// The cards that reach a target, or that the budget is spent.
+fn target_reply_within<B: Bounds>(request: TargetRequest, table: &mut B, limit: u64) -> ReplyText
+    ensures text { (result.bytes ≡ asked_text (Asked.Target request)) ⊎ (result.bytes ≡ spent_text) }
+    ensures bound { array_string_len result ≤ LONGEST_REPLY }
+{
+    match solve_target(request, table, &mut Budget::new(limit)) {
+        Ok(solved) => write_answer(solved.answer()),
+        Err(_) => write_spent(),
+    }
+}
+
+/// The cards that reach a target, however long it takes to find them.
+fn target_reply_in_the_end<B: Bounds>(request: TargetRequest, table: &mut B) -> ReplyText
+    ensures text { result.bytes ≡ asked_text (Asked.Target request) }
+    ensures bound { array_string_len result ≤ LONGEST_REPLY }
+{
+    match solve_target(request, table, &mut Endless) {
+        Ok(solved) => write_answer(solved.answer()),
+        Err(_) => unreachable!(),
     }
 }

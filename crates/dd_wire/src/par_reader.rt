@@ -5,7 +5,7 @@ ghost use Rattle.std.specs.Str.{bytes_eq};
 ghost use Rattle.serde_json.specs.View.{view, members_view};
 ghost use Rattle.dd_cards.specs.Hands.{AreHands};
 ghost use Rattle.dd_wire.specs.Lines.{MeansGiven};
-ghost use Rattle.dd_wire.specs.ParLines.{par_fields, par_keys, given_in, first_in, rows_of_value, row_of_value, order_coded, side_coded, vulnerable_coded, conditions_of, par_of_results, MeansParOfDeal, MeansDealt};
+ghost use Rattle.dd_wire.specs.ParLines.{par_fields, par_keys, given_in, first_in, rows_of_value, row_of_value, order_coded, side_coded, vulnerable_coded, conditions_of, par_of_results, table_par_of, MeansParOfDeal, MeansDealt};
 ghost use Rattle.dd_wire.specs.ReadingPar.{fields_of, given_of};
 ghost use Rattle.dd_wire.specs.Requests.{are_among, keys_of};
 
@@ -147,6 +147,16 @@ pub(crate) fn par_asked(fields: ParFields<'_>) -> Result<LineAsked, Fault>
             fields.first,
             fields.vulnerable,
         )?)),
+    }
+}
+
+// What the fields ask where par of a deal is not known, or their first fault.
+pub(crate) fn table_par_asked(fields: ParFields<'_>) -> Result<ParOfResults, Fault>
+    ensures { result ≡ table_par_of (given_of fields.given) (fields_of fields) }
+{
+    match fields.given {
+        Given::Results(rows) => par_of_results(&rows, fields.first, fields.vulnerable),
+        Given::Deal(_) => Err(Fault::WrongField),
     }
 }
 

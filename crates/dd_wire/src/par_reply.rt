@@ -1,5 +1,5 @@
 //! The text of par: JSON without spaces, keys in the order of their bytes.
-ghost use Rattle.std.specs.Prelude.{◌≡◌, ◌+◌, ◌<◌, ◌≤◌, ◌↔◌, ◌++◌, ◌∷◌, [], length, map, IsSome, IfSome};
+ghost use Rattle.std.specs.Prelude.{◌≡◌, ◌+◌, ◌<◌, ◌≤◌, ◌*◌, ◌↔◌, ◌++◌, ◌∷◌, [], length, map, IsSome, IfSome};
 ghost use Rattle.std.specs.List.{join_with_byte};
 ghost use Rattle.arrayvec.specs.ArrayString.{array_string_len};
 ghost use Rattle.dd_cards.specs.Seats.{seat_code};
@@ -124,11 +124,16 @@ fn of_strain(tricks: &[u8], strain: usize) -> [u8; 4]
     requires below { strain < 5 }
     ensures { result ≡ of_strain tricks.now strain }
 {
-    let first = 4 * strain;
-    [
-        tricks[first],
-        tricks[first + 1],
-        tricks[first + 2],
-        tricks[first + 3],
-    ]
+    four(&tricks[4 * strain..4 * strain + 4])
+}
+
+// Four numbers as an array.
+fn four(row: &[u8]) -> [u8; 4]
+    requires { length row.now ≡ 4 }
+    ensures { result ≡ row.now }
+{
+    match row {
+        [north, east, south, west] => [*north, *east, *south, *west],
+        _ => unreachable!(),
+    }
 }

@@ -5,7 +5,7 @@ use dd_score::{Declarers, Order, ParContract, Results, Vulnerable, par};
 
 // A row a line: twenty results as hexadecimal digits, spades, hearts, diamonds, clubs, notrump and in each North, East,
 // South, West; the dealer's code, or 4 and 5 for North and South and for East and West asked first; the code of vulnerable;
-// the score; and for each contract the strain's code, level, tricks and declarers' code. The first twenty-five were worked by
+// the score; and for each contract the strain's code, level, tricks and declarers' code. The first twenty-six were worked by
 // hand; the others are recorded ones, for which all calls of the auction were played out.
 const ROWS: &[u8] = br"58586666575775756666 0 0 -0110 0285
 66666666666666666666 0 0 +0000
@@ -25,6 +25,7 @@ const ROWS: &[u8] = br"58586666575775756666 0 0 -0110 0285
 84796666666666666666 0 0 -0100 0380
 88876666666666666666 3 0 +0100 0273
 88886666666666666666 4 0 +0100 0385
+d0d00d0dd0d00d0d0000 0 0 +1510 07d4
 3a3a3a3a949494844949 2 3 -0300 2594 3590
 c1c1c1c1a3a33a3ac1c1 0 2 +0500 37a5
 8585676794948585a393 2 1 +0630 43a0

@@ -4,3 +4,4 @@ mod clients;
 mod gate;
 mod rows;
 mod serving;
+mod waits;

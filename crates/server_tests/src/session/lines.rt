@@ -39,7 +39,12 @@ stop|{"do":"stop"}
 {"fault":3}|{"do":"stop","job":1}
 {"fault":3}|{"do":"stopped"}
 {"fault":3}|{"do":"claim"}
-{"fault":3}|{"do":"shut"}"#;
+{"fault":3}|{"do":"shut"}
+{"contracts":[{"declarers":[1,3],"level":2,"tricks":8,"trump":0}],"score":-110}|{"do":"par","table":[[5,8,5,8],[6,6,6,6],[5,7,5,7],[7,5,7,5],[6,6,6,6]],"dealer":0,"vulnerable":0}
+{"fault":20}|{"do":"par","table":[[5,8,5,8],[6,6,6,6],[5,7,5,7],[7,5,7,5],[6,6,6,14]],"dealer":4,"vulnerable":4}
+{"fault":22}|{"do":"par","table":[[5,8,5,8],[6,6,6,6],[5,7,5,7],[7,5,7,5],[6,6,6,14]],"side":0,"vulnerable":0}
+{"fault":3}|{"do":"par","table":[[5,8,5,8],[6,6,6,6],[5,7,5,7],[7,5,7,5],[6,6,6,6]],"dealer":0,"vulnerable":0,"job":1}
+{"fault":3}|{"do":"par","deal":"N:A... K... Q... J...","dealer":4,"vulnerable":0}"#;
 
 #[test]
 fn each_line_asks_or_has_its_fault(rt: HostRuntime) -> Result<(), Fail> {
@@ -123,7 +128,7 @@ fn a_line_cut_short_is_no_object(rt: HostRuntime) -> Result<(), Fail> {
 // Does the line ask, and is it told that memory ran out?
 fn asks_or_is_refused(session: &Session, line: &[u8]) -> (bool, bool) {
     match session.on_line(line) {
-        Step::Ask(want) => (matches!(want, Want::Submit(_)), false),
+        Step::Ask(wish) => (matches!(wish.want, Want::Submit(_)), false),
         Step::Say(text) => (false, text.as_str() == r#"{"fault":19}"#),
     }
 }

@@ -66,3 +66,43 @@ returns-clause-no_solutions c = (_, (_, inl (two_suits, spades-and-hearts.0, spa
 pub returns-clause-ace_led : goal.returns-clause-ace_led
 unfolding is_utf8 chars serde_json_on_literals
 returns-clause-ace_led c = (_, (_, inl (two_suits, spades-and-hearts.0, spades-and-hearts.1, (board_of two_suits Notrump North (card_of Spades 14 ∷ []), record { hands = refl; strain = refl; first = refl; trick = refl }, ace-led)), refl), refl)
+
+pub returns-clause-par_by_dealer : goal.returns-clause-par_by_dealer
+unfolding is_utf8 chars serde_json_on_literals
+returns-clause-par_by_dealer c = refl
+
+pub returns-clause-par_by_side : goal.returns-clause-par_by_side
+unfolding is_utf8 chars serde_json_on_literals
+returns-clause-par_by_side c = refl
+
+pub returns-clause-no_dealer : goal.returns-clause-no_dealer
+unfolding is_utf8 chars serde_json_on_literals
+returns-clause-no_dealer c = refl
+
+pub returns-clause-no_vulnerability : goal.returns-clause-no_vulnerability
+unfolding is_utf8 chars serde_json_on_literals
+returns-clause-no_vulnerability c = refl
+
+pub returns-clause-no_result : goal.returns-clause-no_result
+unfolding is_utf8 chars serde_json_on_literals
+returns-clause-no_result c = refl
+
+pub returns-clause-dealer_and_side : goal.returns-clause-dealer_and_side
+unfolding is_utf8 chars serde_json_on_literals
+returns-clause-dealer_and_side c = (Err WrongField, refl, refl)
+
+pub returns-clause-table_and_deal : goal.returns-clause-table_and_deal
+unfolding is_utf8 chars serde_json_on_literals
+returns-clause-table_and_deal c = (Err WrongField, refl, refl)
+
+pub returns-clause-nineteen_results : goal.returns-clause-nineteen_results
+unfolding is_utf8 chars serde_json_on_literals
+returns-clause-nineteen_results c = (Err WrongField, refl, refl)
+
+pub returns-clause-wait : goal.returns-clause-wait
+unfolding is_utf8 chars serde_json_on_literals
+returns-clause-wait c = (_, (_, inl (two_suits, spades-and-hearts.0, spades-and-hearts.1, means-table two_suits (refl, refl, refl) (omega arith)), refl), refl)
+
+pub returns-clause-wait_below_zero : goal.returns-clause-wait_below_zero
+unfolding is_utf8 chars serde_json_on_literals
+returns-clause-wait_below_zero c = refl
