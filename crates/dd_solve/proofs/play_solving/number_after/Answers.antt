@@ -46,12 +46,12 @@ value_at_least-requires g c =
     let known : (c.args.count < length c.args.request.now.cards) × (c.in-Some.next ≡ tricks_after c.args.request.now (c.args.count + 1)) = rw c.in-Some.is at c.requires.next in
     elim c.if-declarer_plays.branch [
       | then-declarer_plays w ↦ (
-          let turn : is_side (declarers c.args.request.now.opening) (mover c.after-position.result.0) ≡ true = sym c.declarer_plays.ensures ∙ w.if-declarer_plays.true in
+          let turn : is_side (declarers c.args.request.now.opening) (mover c.after-position.result.0) ≡ true = sym c.declarer_plays-declarer_plays.ensures ∙ w.if-declarer_plays.true in
           let least = least-declarers c.args.request.now c.args.count c.after-position.result.0 c.after-position.result.1 c.in-Some.next s known.0 known.1 turn in
           let is = w.least-is in
           omega (arith, least, is))
       | else-declarer_plays w ↦ (
-          let turn : is_side (declarers c.args.request.now.opening) (mover c.after-position.result.0) ≡ false = sym c.declarer_plays.ensures ∙ w.if-declarer_plays.false in
+          let turn : is_side (declarers c.args.request.now.opening) (mover c.after-position.result.0) ≡ false = sym c.declarer_plays-declarer_plays.ensures ∙ w.if-declarer_plays.false in
           let least = least-defenders c.args.request.now c.args.count c.after-position.result.0 c.after-position.result.1 c.in-Some.next s known.0 known.1 turn in
           let is = w.least-is in
           let left = c.tricks_left-left.ensures.tricks in
@@ -65,7 +65,7 @@ overflow_sub-to_come g c =
       | in-None+in_ok-value-in-None w ↦ w.value-is ∙ w.in_ok-value-in-None.ensures.value
       | in-Some+else-len-eq1+in_ok-value-in-Some w ↦ w.value-is ∙ w.in_ok-value-in-Some.ensures.value
     ] in
-    let turn : is_side (declarers c.args.request.now.opening) (mover c.after-position.result.0) ≡ false = sym c.declarer_plays.ensures ∙ c.if-declarer_plays-2.false in
+    let turn : is_side (declarers c.args.request.now.opening) (mover c.after-position.result.0) ≡ false = sym c.declarer_plays-declarer_plays.ensures ∙ c.if-declarer_plays-2.false in
     let most = (number-defenders c.args.request.now c.args.count c.after-position.result.0 c.after-position.result.1 c.match-next.value s value turn).0 in
     let left = c.tricks_left-left.ensures.tricks in
     omega (arith, most, left)
@@ -79,10 +79,10 @@ returns-clause-number g c =
     ] in
     elim c.if-declarer_plays-2.branch [
       | then-declarer_plays-2 w ↦ (
-          let turn : is_side (declarers c.args.request.now.opening) (mover c.after-position.result.0) ≡ true = sym c.declarer_plays.ensures ∙ w.if-declarer_plays-2.true in
+          let turn : is_side (declarers c.args.request.now.opening) (mover c.after-position.result.0) ≡ true = sym c.declarer_plays-declarer_plays.ensures ∙ w.if-declarer_plays-2.true in
           ap (λ n. c.after-position.result.1 + n) w.to_come-is ∙ number-declarers c.args.request.now c.args.count c.after-position.result.0 c.after-position.result.1 c.match-next.value s value turn)
       | else-declarer_plays-2 w ↦ (
-          let turn : is_side (declarers c.args.request.now.opening) (mover c.after-position.result.0) ≡ false = sym c.declarer_plays.ensures ∙ w.if-declarer_plays-2.false in
+          let turn : is_side (declarers c.args.request.now.opening) (mover c.after-position.result.0) ≡ false = sym c.declarer_plays-declarer_plays.ensures ∙ w.if-declarer_plays-2.false in
           ap (λ n. c.after-position.result.1 + n) w.to_come-is ∙ ap (λ n. c.after-position.result.1 + (n - c.match-next.value)) c.tricks_left-left.ensures.tricks
           ∙ (number-defenders c.args.request.now c.args.count c.after-position.result.0 c.after-position.result.1 c.match-next.value s value turn).1)
     ]
