@@ -26,6 +26,19 @@ abbrev pub Tells : PortOf → Want → Result Reply Fault → PortOf → Type 0
 Tells before want (Ok reply) after = after ≡ port_of (before.told ++ (want, reply) ∷ []) before.refusals
 Tells before want (Err fault) after = IsOfCall fault × (after ≡ port_of before.told (one_more before.refusals))
 
+-- ---- without leave
+
+-- none of these calls wants a stop
+abbrev pub AreNoStops : List Told → Type 0
+AreNoStops [] = Unit {0}
+AreNoStops (told ∷ rest) = (told.0 ≡ Want.Stop → ⊥) × AreNoStops rest
+
+-- what was told before, and then no call that wants a stop
+pub record AsksNoStop (before after : List Told) : Type 0 where
+  pub gained : List Told
+  pub told : after ≡ before ++ gained
+  pub no_stops : AreNoStops gained
+
 -- ---- over a desk
 
 -- the call that makes a want known to the book, by this caller
