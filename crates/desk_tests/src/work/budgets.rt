@@ -1,4 +1,4 @@
-//! Budgets of a worker over 30,000 positions: one just suffices, and one fewer does not.
+//! Budgets of a worker: one just suffices, and one fewer does not.
 ghost use Rattle.std.specs.Prelude.{◌≡◌, map};
 ghost use Rattle.once_cell.specs.Once.{cell_name};
 
@@ -19,9 +19,8 @@ use std::sync::atomic::AtomicBool;
 const LEADS: &str =
     r#"{"do":"solve","deal":"N:T74.JT.8.AKQ AK2.7.T74.T9 QJ63..653.83 98.Q96.AK.J7","trump":0,"first":1,"solutions":3}"#;
 
-// The table of the same hands.
-const TABLE: &str =
-    r#"{"do":"table","deal":"N:T74.JT.8.AKQ AK2.7.T74.T9 QJ63..653.83 98.Q96.AK.J7"}"#;
+// The table of eight cards a hand.
+const TABLE: &str = r#"{"do":"table","deal":"N:8.73.Q.AT97 954.A.974.8 AK.62.3.J32 T7.94.T85.Q"}"#;
 
 // The most positions that one search is given here.
 const MOST: u64 = 5_000_000;
@@ -44,13 +43,13 @@ fn positions_of_table(request: &TableRequest) -> Option<u64> {
     Some(most)
 }
 
-// The least budget within which a worker answers the line, where that is over 30,000.
-fn least_budget(alloc: Global, line: &str) -> Option<u64> {
+// The least budget within which a worker answers the line, where that is over `least`.
+fn least_budget(alloc: Global, line: &str, least: u64) -> Option<u64> {
     let count = match read_request(alloc, line.as_bytes()).ok()? {
         Asked::Solve(request) => positions_of_leads(request)?,
         Asked::Table(request) => positions_of_table(&request)?,
     };
-    Some(count).filter(|count| *count > 30_000)
+    Some(count).filter(|count| *count > least)
 }
 
 // The state of the line's job once a worker with this budget has left.
@@ -91,10 +90,12 @@ fn is_spent<R: Wait + Abort>(
 }
 
 #[test]
-fn a_large_budget_suffices_or_lacks_one_position(rt: HostRuntime) -> Result<(), AllocError> {
+fn a_large_budget_and_one_of_a_table_suffice_or_lack_one_position(
+    rt: HostRuntime,
+) -> Result<(), AllocError> {
     let alloc = rt.alloc();
-    for line in [LEADS, TABLE] {
-        let count = least_budget(alloc, line).expect(&rt, "over 30,000 positions");
+    for (line, least) in [(LEADS, 30_000), (TABLE, 1_000)] {
+        let count = least_budget(alloc, line, least).expect(&rt, "so many positions");
         let suffices = !is_spent(&rt, alloc, line, count)?;
         let lacks_one = is_spent(&rt, alloc, line, count.saturating_sub(1))?;
         assert!(rt; suffices && lacks_one, "{line}");

@@ -21,12 +21,13 @@ fn push_line(lines: &mut Vec<u8>, line: &[u8]) -> Result<(), AllocError> {
 
 #[test]
 fn a_line_cut_at_any_byte_is_no_object_and_the_next_is_right(rt: HostRuntime) -> Result<(), Fail> {
+    let line = whole();
     let mut lines = Vec::new(rt.alloc());
     let mut replies = Vec::new(rt.alloc());
-    for end in 0..whole().len() {
-        push_line(&mut lines, &whole()[..end])?;
+    for end in 0..line.len() {
+        push_line(&mut lines, &line[..end])?;
         replies.extend_from_slice(b"{\"fault\":1}\n")?;
-        push_line(&mut lines, whole())?;
+        push_line(&mut lines, line)?;
         replies.extend_from_slice(reply())?;
     }
     let run = run(rt.alloc(), Pieces::of(&lines), usize::MAX, usize::MAX);
