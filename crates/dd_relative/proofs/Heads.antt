@@ -33,7 +33,7 @@ turned zero (suc (suc e)) lb le = absurd (omega (arith, le))
 turned (suc zero) (suc (suc e)) lb le = absurd (omega (arith, le))
 
 -- the bit above a card's
-above-bit : (m : ℕ) (c : PlayingCard) → IsHandMask m → IsRank c.rank → (bit_at m (place_of c + 1) == 1) ≡ has_card (cards_of m) (next_above c)
+pub above-bit : (m : ℕ) (c : PlayingCard) → IsHandMask m → IsRank c.rank → (bit_at m (place_of c + 1) == 1) ≡ has_card (cards_of m) (next_above c)
 above-bit m c valid real = elim (cases_lt c.rank 14) [
   | inl low ↦ (
       let b = real.0 in

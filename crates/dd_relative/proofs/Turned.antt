@@ -113,7 +113,7 @@ pub alike-turned : (p q : Board) → p.trick ≡ [] → IsAlike (from_leader p) 
 alike-turned p q start a = (places_to_north p.first, a.0, a.1, alike-then (places_to_north p.first) (λ c. c) (λ d. d) a.0 a.1 p (from_leader p) q (turned-alike p start) a.2)
 
 -- all hands have the same cards
-turned-all : (p : Board) (c : PlayingCard) → has_card (all_cards (from_leader p)) c ≡ has_card (all_cards p) c
+pub turned-all : (p : Board) (c : PlayingCard) → has_card (all_cards (from_leader p)) c ≡ has_card (all_cards p) c
 turned-all p c = both-ways _ _
     (λ h. let x = holder-of (from_leader p) c h in one-of-all p (seat_after p.first (seat_code x.0)) c (ap (λ cards. has_card cards c) (sym (from-at p.hands p.first x.0)) ∙ x.1))
     (λ h. let x = holder-of p c h in one-of-all (from_leader p) (seat_after x.0 (places_to_north p.first)) c (ap (λ cards. has_card cards c) (turned-hand p.hands p.first x.0) ∙ x.1))
