@@ -7,7 +7,7 @@ use dd_book::Limits;
 use dd_desk::{Desk, Naming, Row};
 use dd_search::{Budget, NoTable};
 use dd_solve::{Asked, PARTS, Request, TableRequest, solve, solve_part};
-use dd_wire::read_request;
+use dd_wire::{LineAsked, read_request};
 use dd_work::{NoGate, worker};
 use std::alloc::{AllocError, Global};
 use std::marker::Brand;
@@ -46,8 +46,9 @@ fn positions_of_table(request: &TableRequest) -> Option<u64> {
 // The least budget within which a worker answers the line, where that is over `least`.
 fn least_budget(alloc: Global, line: &str, least: u64) -> Option<u64> {
     let count = match read_request(alloc, line.as_bytes()).ok()? {
-        Asked::Solve(request) => positions_of_leads(request)?,
-        Asked::Table(request) => positions_of_table(&request)?,
+        LineAsked::Cards(Asked::Solve(request)) => positions_of_leads(request)?,
+        LineAsked::Cards(Asked::Table(request)) => positions_of_table(&request)?,
+        _ => return None,
     };
     Some(count).filter(|count| *count > least)
 }

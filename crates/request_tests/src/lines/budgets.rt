@@ -107,7 +107,7 @@ fn positions_of_strain(request: &TableRequest, strain: u8) -> Option<u64> {
 
 // And the longest of all twenty, where that is over 1,000.
 fn positions_of_table(alloc: Global, line: &[u8]) -> Option<u64> {
-    let Ok(Asked::Table(request)) = read_request(alloc, line) else {
+    let Ok(LineAsked::Cards(Asked::Table(request))) = read_request(alloc, line) else {
         return None;
     };
     let mut most = 0u64;

@@ -6,7 +6,7 @@ use dd_cache::Cache;
 use dd_search::Budget;
 use dd_solve::{Asked, solve};
 use dd_table::SharedTable;
-use dd_wire::read_request;
+use dd_wire::{LineAsked, read_request};
 use std::alloc::{AllocError, Global};
 use std::net::{Net, TcpListener, TcpStream};
 use std::sync::Wait;
@@ -24,7 +24,7 @@ const ANSWER: &str =
 
 // How many positions the search for the lead visits over a table that is empty before, where these are over 30,000.
 fn positions<R: Wait>(rt: &R, alloc: Global) -> Option<u64> {
-    let Ok(Asked::Solve(request)) = read_request(alloc, LEAD.as_bytes()) else {
+    let Ok(LineAsked::Cards(Asked::Solve(request))) = read_request(alloc, LEAD.as_bytes()) else {
         return None;
     };
     let table = SharedTable::new(alloc, 1, 4_096).ok()?;
