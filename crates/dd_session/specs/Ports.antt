@@ -35,6 +35,19 @@ count_more count (suc more) = count_more (one_more count) more
 abbrev pub Gains : PortOf → List Told → ℕ → PortOf → Type 0
 Gains before news refused after = after ≡ port_of (before.told ++ news) (count_more before.refusals refused)
 
+-- ---- without leave
+
+-- none of these calls wants a stop
+abbrev pub AreNoStops : List Told → Type 0
+AreNoStops [] = Unit {0}
+AreNoStops (told ∷ rest) = (told.0 ≡ Want.Stop → ⊥) × AreNoStops rest
+
+-- what was told before, and then no call that wants a stop
+pub record AsksNoStop (before after : List Told) : Type 0 where
+  pub gained : List Told
+  pub told : after ≡ before ++ gained
+  pub no_stops : AreNoStops gained
+
 -- ---- over a desk
 
 -- the call that makes a want known to the book, by this caller

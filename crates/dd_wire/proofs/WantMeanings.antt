@@ -1,6 +1,7 @@
 -- What a line of a session means: something, and one thing.
 use Rattle.std.proofs.Common.{◌≡◌, ℕ, ◌≤◌, Bool, false, refl, sym, ap, ◌∙◌, subst, List, length}
 use Rattle.std.specs.Prelude.{Some, Result, Ok, Err, nat_lt}
+use Rattle.std.proofs.lemmas.Bool.{le-ltb}
 use Rattle.serde_json.specs.Data.{Members}
 use Rattle.dd_wire.specs.declared.fault.Fault.{Fault}
 use Rattle.dd_wire.specs.declared.fault.Fault.TheVariants.{LineTooLong, NotAnObject, WrongField, OutOfMemory}
@@ -13,6 +14,13 @@ use Rattle.dd_wire.specs.Wants.{MeansWant, MeansWanted, MeansOther, called, sess
 use Rattle.dd_wire.proofs.Meanings.{SomeMeaning, by-test, by-option, by-fields, some-object, some-way, object-memory, way-memory}
 use Rattle.dd_wire.proofs.OneMeaning.{AtMostOne, both, one-by-test, one-by-option, one-object, one-way}
 use Rattle.dd_wire.proofs.ParMeanings.{table_par-memory, way-fault}
+
+-- a line that is not too long means what the members of its object ask, with their wait
+pub means-wanted : (leave : Bool) (line : List ℕ) (object : Members) (wait : ℕ) (meaning : Result SessionAsked Fault)
+    → length line ≤ longest_line → object_of line ≡ Some object → wait_at object ≡ Some wait → MeansWanted leave wait object meaning → MeansWant leave line meaning
+means-wanted leave line object wait meaning short is waits means =
+    let test : nat_lt longest_line (length line) ≡ false = le-ltb longest_line (length line) short in
+    rw (test, is, waits) means
 
 -- ---- every line has a meaning
 some-other : (wait : ℕ) (members : Members) → SomeMeaning (MeansOther wait members)

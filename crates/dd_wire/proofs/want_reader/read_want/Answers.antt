@@ -1,9 +1,19 @@
+use Rattle.std.proofs.Common.{◌≡◌, ◌∙◌, Some, arith, subst, sym}
 use Rattle.std.proofs.lemmas.Result.{err_from_is_err_and}
 use Rattle.serde_json.specs.View.{members_view}
+use Rattle.dd_wire.specs.Requests.{wait_at}
 use Rattle.dd_wire.specs.Wants.{MeansWanted}
 use Rattle.dd_wire.proofs.Meanings.{never-memory}
-use Rattle.dd_wire.proofs.WantMeanings.{wanted-memory}
+use Rattle.dd_wire.proofs.WantMeanings.{means-wanted, wanted-memory}
 use Rattle.dd_wire.proofs.want_reader.read_want.Goals as goal
+
+pub returns-in_err-asked-clause-err : goal.returns-in_err-asked-clause-err
+returns-in_err-asked-clause-err c =
+    let members = members_view c.in_ok-object.object.entries in
+    let p = err_from_is_err_and c.from_residual-in_err-asked.result c.from_residual-in_err-asked.ensures.1 in
+    let waits : wait_at members ≡ Some c.in_ok-wait.wait = sym c.wait_at.ensures ∙ c.in_ok-wait.ensures.ok_part in
+    rw (p.1, p.2) (λ _. means-wanted c.args.allow_stop c.args.line.now members c.in_ok-wait.wait _ (omega arith) c.in_ok-object.ensures.ok waits
+    (subst (MeansWanted c.args.allow_stop c.in_ok-wait.wait members) c.in_err-asked.was c.wanted_by.ensures))
 
 pub returns-in_err-asked-clause-memory : goal.returns-in_err-asked-clause-memory
 returns-in_err-asked-clause-memory c = λ out.
