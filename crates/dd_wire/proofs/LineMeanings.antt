@@ -12,7 +12,7 @@ use Rattle.dd_wire.specs.declared.line_asked.LineAsked.{LineAsked}
 use Rattle.dd_wire.specs.declared.line_asked.LineAsked.TheVariants.{Cards, Par, ParOfDeal, Play}
 use Rattle.dd_wire.specs.declared.par_request.Conditions.{Conditions}
 use Rattle.dd_wire.specs.LineReplies.{Answers, Replies}
-use Rattle.dd_wire.specs.Lines.{Means, MeansCards, MeansMembers}
+use Rattle.dd_wire.specs.Lines.{Means, MeansOfCards, MeansMembers}
 use Rattle.dd_wire.specs.PlayLines.{MeansPlayFields, play_fields}
 use Rattle.dd_wire.specs.PlayReplies.{trace_text}
 use Rattle.dd_solve.specs.Plays.{trace}
@@ -26,7 +26,7 @@ use Rattle.dd_wire.proofs.OneMeaning.{AtMostOne, both, one-by-test, one-by-optio
 use Rattle.dd_wire.proofs.ParMeanings.{some-given, one-given, given-memory}
 
 -- ---- every line has a meaning
-some-cards : (members : Members) → SomeMeaning (MeansCards members)
+some-cards : (members : Members) → SomeMeaning (MeansOfCards members)
 some-cards members =
     by-option (play_fields members) _ _ (some-way Cards (MeansObject members) (some-object members)) (λ fields _. some-way Play (MeansPlayFields fields) (some-play-fields fields))
 
@@ -41,7 +41,7 @@ some-meaning line =
     by-option (wait_at members) _ _ (Err WrongField, refl) (λ wait _. some-members members)))
 
 -- ---- and one
-one-cards : (members : Members) → AtMostOne (MeansCards members)
+one-cards : (members : Members) → AtMostOne (MeansOfCards members)
 one-cards members =
     one-by-option (play_fields members) _ _ (one-way Cards (MeansObject members) (one-object members)) (λ fields. one-way Play (MeansPlayFields fields) (one-play-fields fields))
 
@@ -56,7 +56,7 @@ one-meaning line =
     one-by-option (wait_at members) _ _ (both _) (λ wait. one-members members)))
 
 -- ---- no meaning is that memory ran out
-cards-memory : (members : Members) → MeansCards members (Err OutOfMemory) → ⊥
+cards-memory : (members : Members) → MeansOfCards members (Err OutOfMemory) → ⊥
 cards-memory members =
     by-fields (play_fields members) _ _
     (λ means. way-memory Cards (MeansObject members) (object-memory members) means.0 means.1 means.2)

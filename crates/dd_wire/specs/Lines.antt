@@ -20,8 +20,8 @@ MeansGiven (deal text) fields meaning =
     (asked : Result DealPar Fault) × MeansParOfDeal fields.first fields.vulnerable text asked × (meaning ≡ asked_as ParOfDeal asked)
 
 -- what members ask that do not ask for par: a play, or else a question of cards
-abbrev pub MeansCards : Members → Result LineAsked Fault → Type 0
-MeansCards members meaning =
+abbrev pub MeansOfCards : Members → Result LineAsked Fault → Type 0
+MeansOfCards members meaning =
     MatchOption (play_fields members)
     ((asked : Result Asked Fault) × MeansObject members asked × (meaning ≡ asked_as Cards asked))
     (λ fields. (asked : Result plays.Play Fault) × MeansPlayFields fields asked × (meaning ≡ asked_as Play asked))
@@ -30,7 +30,7 @@ MeansCards members meaning =
 abbrev pub MeansMembers : Members → Result LineAsked Fault → Type 0
 MeansMembers members meaning =
     MatchOption (par_fields members)
-    (MeansCards members meaning)
+    (MeansOfCards members meaning)
     (λ fields. MeansGiven fields.given fields meaning)
 
 -- what a line means: its length is looked at first, then that it is a JSON object, then its wait, which asks for nothing here,

@@ -11,7 +11,7 @@ ghost use Rattle.dd_cards.specs.Hands.{AreHands, FourHands};
 ghost use Rattle.dd_pbn.specs.declared.fault.PbnFault.{PbnFault};
 ghost use Rattle.dd_play.specs.Board.{board_of};
 ghost use Rattle.dd_solve.specs.Questions.{Question};
-ghost use Rattle.dd_wire.specs.Lines.{Means, MeansCards, MeansMembers};
+ghost use Rattle.dd_wire.specs.Lines.{Means, MeansOfCards, MeansMembers};
 ghost use Rattle.dd_wire.specs.Requests.{MeansObject, MeansDeal, MeansTable, MeansFields, MeansHands, MeansBoard, MeansSolve, MeansPosition, question, known_fields, SpellsDeal, SpellsNone, asked_as, deal_fault, pair_of_card, object_of, solve_keys, table_keys, are_among, keys_of, solve_fields, table_deal, text_at, wait_at, whole_number_at, pairs_at, pairs_of};
 ghost use Rattle.dd_lines.specs.Line.{longest_line};
 ghost use Rattle.dd_wire.specs.Reading.{IsUnread, ArePlayed, ReadsPlayed, ReadsFields, pair_in, cards_in, played_in, fields_of, play_fault};
@@ -63,7 +63,7 @@ fn line_asked_by(object: &Map<String, Value>) -> Result<LineAsked, Fault>
 
 // What they ask that don't ask for par: a play, or else a question of cards.
 fn cards_asked_by(object: &Map<String, Value>) -> Result<LineAsked, Fault>
-    ensures { MeansCards (members_view object.now.entries) result }
+    ensures { MeansOfCards (members_view object.now.entries) result }
 {
     match play_fields(object) {
         Some(fields) => Ok(LineAsked::Play(play_asked(&fields)?)),
