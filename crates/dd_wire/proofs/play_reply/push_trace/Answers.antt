@@ -8,10 +8,12 @@ use Rattle.dd_wire.proofs.play_reply.push_trace.Goals.{then-place-gt0, else-plac
 pub loop-place-preserved : goal.loop-place-preserved
 loop-place-preserved c =
     let items : List ℕ = c.args.trace.now in
+    let slice : List ℕ = c.as_slice-tricks-items.result.now in
+    let same : slice ≡ items = c.as_slice-tricks-items.ensures.tricks in
     let place : ℕ = c.loop-place.place in
     let head : List ℕ = c.args.text.now.bytes ++ codes "\"tricks\":[" in
     let before : List ℕ = c.loop-place.text.bytes in
-    let within : place < length items = c.loop-place-test.true in
+    let within : place < length items = (let k = c.loop-place-test.true in let e = ap length same in omega arith) in
     let pushed = c.push_number.ensures.bytes in
     let bound = c.push_number.ensures.bound in
     let short = c.loop-place.invariant.short in
@@ -21,7 +23,7 @@ loop-place-preserved c =
           let longer = w.push_str-then-place-gt0.ensures.len in
           let size = ap (λ (t : ArrayString). length t.bytes) w.text-is in
           record {
-            written = pushed ∙ ap (λ t. t ++ decimal (get_or items place 0)) text ∙ join-next 44 decimal items place 0 head before w.if-place-gt0.true within c.loop-place.invariant.written;
+            written = pushed ∙ ap (λ t. t ++ decimal (get_or slice place 0)) text ∙ ap (λ xs. (before ++ 44 ∷ []) ++ decimal (get_or xs place 0)) same ∙ join-next 44 decimal items place 0 head before w.if-place-gt0.true within c.loop-place.invariant.written;
             short = omega arith;
           })
       | else-place-gt0 w ↦ (
@@ -29,7 +31,7 @@ loop-place-preserved c =
           let size = ap (λ (t : ArrayString). length t.bytes) w.text-is in
           let none : place ≡ 0 = (let k = w.if-place-gt0.false in omega arith) in
           record {
-            written = pushed ∙ ap (λ t. t ++ decimal (get_or items place 0)) text ∙ join-first 44 decimal items place 0 head before none within c.loop-place.invariant.written;
+            written = pushed ∙ ap (λ t. t ++ decimal (get_or slice place 0)) text ∙ ap (λ xs. before ++ decimal (get_or xs place 0)) same ∙ join-first 44 decimal items place 0 head before none within c.loop-place.invariant.written;
             short = omega arith;
           })
     ]
