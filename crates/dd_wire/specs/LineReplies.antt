@@ -11,15 +11,15 @@ use Rattle.dd_wire.specs.ParReplies.{TellsPar, rows_of}
 use Rattle.dd_wire.specs.Replies.{asked_text, fault_text, spent_text}
 
 -- the text answers what is asked
-abbrev pub Answers : LineAsked → List ℕ → Type 0
-Answers (Cards asked) text = text ≡ asked_text asked
-Answers (Par par) text = TellsPar par.results par.conditions text
-Answers (ParOfDeal par) text = TellsPar (rows_of (results par.hands)) par.conditions text
+abbrev pub IsAnswer : LineAsked → List ℕ → Type 0
+IsAnswer (Cards asked) text = text ≡ asked_text asked
+IsAnswer (Par par) text = TellsPar par.results par.conditions text
+IsAnswer (ParOfDeal par) text = TellsPar (rows_of (results par.hands)) par.conditions text
 
 -- the text replies to a line of this meaning
-abbrev pub Replies : Result LineAsked Fault → List ℕ → Type 0
-Replies (Ok asked) text = Answers asked text
-Replies (Err fault) text = text ≡ fault_text fault
+abbrev pub IsReplyTo : Result LineAsked Fault → List ℕ → Type 0
+IsReplyTo (Ok asked) text = IsAnswer asked text
+IsReplyTo (Err fault) text = text ≡ fault_text fault
 
 -- is the answer found by a search, which has a budget?
 abbrev pub IsSearched : LineAsked → Type 0
@@ -31,6 +31,6 @@ IsSearched (ParOfDeal par) = Unit {0}
 -- budget, that this was spent in a search for the answer, or for one of the twenty results of a table.
 abbrev pub IsReply : Option ℕ → List ℕ → List ℕ → Type 0
 IsReply budget line text =
-    ((meaning : Result LineAsked Fault) × Means line meaning × Replies meaning text)
+    ((meaning : Result LineAsked Fault) × Means line meaning × IsReplyTo meaning text)
     ⊎ ((0 < length line) × (length line ≤ longest_line) × (text ≡ fault_text OutOfMemory))
     ⊎ ((asked : LineAsked) × Means line (Ok asked) × IsSearched asked × IsSome budget × (text ≡ spent_text))

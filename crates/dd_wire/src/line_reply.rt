@@ -13,7 +13,7 @@ use crate::reply::{write_answer, write_fault, write_spent, write_table};
 use crate::request_reader::read_request;
 use dd_lines::{LONGEST_REPLY, ReplyText};
 use dd_search::{Bounds, Budget, Endless};
-use dd_solve::{Asked, Request, Results, TableRequest, solve, solve_table};
+use dd_solve::{Asked, Request, TableRequest, solve, solve_table};
 use std::alloc::Global;
 
 /// The reply to a line of any length, without a line feed at its end.
@@ -90,19 +90,7 @@ fn deal_par_reply<B: Bounds>(asked: &ParOfDeal, table: &mut B, budget: Option<u6
     ensures bound { array_string_len result ≤ LONGEST_REPLY }
 {
     match solve_table(asked.request(), table, budget) {
-        Some(found) => write_par_of_deal(asked, &found),
+        Some(found) => table_par_reply(&found, asked.conditions()),
         None => write_spent(),
-    }
-}
-
-/// The text of par of the results of a deal.
-fn write_par_of_deal(asked: &ParOfDeal, found: &Results) -> ReplyText
-    requires { found.now ≡ results asked.now.hands }
-    ensures text { TellsPar (rows_of (results asked.now.hands)) asked.now.conditions result.bytes }
-    ensures bound { array_string_len result ≤ LONGEST_REPLY }
-{
-    match score_results(found) {
-        Some(rows) => par_reply(&rows, asked.conditions()),
-        None => unreachable!(),
     }
 }
