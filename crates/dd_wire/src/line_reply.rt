@@ -7,7 +7,7 @@ ghost use Rattle.dd_wire.specs.Replies.{asked_text, spent_text};
 ghost use Rattle.dd_solve.specs.Results.{results};
 
 use crate::line_asked::LineAsked;
-use crate::par_reply::{par_reply, score_results, write_par};
+use crate::par_reply::{table_par_reply, write_par};
 use crate::par_request::ParOfDeal;
 use crate::reply::{write_answer, write_fault, write_spent, write_table};
 use crate::request_reader::read_request;

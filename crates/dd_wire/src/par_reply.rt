@@ -4,7 +4,7 @@ ghost use Rattle.std.specs.List.{join_with_byte};
 ghost use Rattle.arrayvec.specs.ArrayString.{array_string_len};
 ghost use Rattle.dd_cards.specs.Seats.{seat_code};
 ghost use Rattle.dd_score.specs.Tables.{IsTable};
-ghost use Rattle.dd_wire.specs.ParReplies.{TellsPar, par_text, contract_text, declarer_codes, rows_of};
+ghost use Rattle.dd_wire.specs.ParReplies.{TellsPar, par_text, contract_text, declarers_text, rows_of};
 ghost use Rattle.dd_wire.specs.Replies.{list_text, of_strain};
 
 use crate::par_request::{Conditions, ParOfResults};
@@ -80,9 +80,10 @@ fn push_contract(text: &mut ReplyText, contract: &ParContract)
 }
 
 // Appends the list of the seats that declare, rising.
+#[tactic(auto, unfolding(crate::specs::ParReplies::declarers_text))]
 fn push_declarers(text: &mut ReplyText, declarers: Declarers)
     requires { array_string_len text.old + 7 ≤ LONGEST_REPLY }
-    ensures bytes { text.new.bytes ≡ text.old.bytes ++ list_text (declarer_codes declarers) }
+    ensures bytes { text.new.bytes ≡ text.old.bytes ++ declarers_text declarers }
     ensures bound { array_string_len text.new ≤ array_string_len text.old + 7 }
 {
     match declarers {
