@@ -1,6 +1,6 @@
 // The same lines by DDS: reads request lines in the written form, with no card played, and prints the reply lines of
-// `ddserve solve`, each at once. SolveBoard with target -1, mode 1, or CalcDDtable for a table, one thread; DealerParBin or
-// SidesParBin for par of a table, of which the score alone is printed. It takes good input for granted.
+// `ddserve solve`, each at once. SolveBoard with the line's target or else -1, mode 1, or CalcDDtable for a table, one thread;
+// DealerParBin or SidesParBin for par of a table, of which the score alone is printed. It takes good input for granted.
 #include <dds/dll.h>
 
 #include <algorithm>
@@ -85,7 +85,8 @@ static void answer_solve(const std::string &line) {
     d.first = atoi(field(line, "first").c_str());
     cards_of(line, d.remainCards);
     futureTricks found;
-    int status = SolveBoard(d, -1, atoi(field(line, "solutions").c_str()), 1, &found, 0);
+    int target = line.find("\"target\":") == std::string::npos ? -1 : atoi(field(line, "target").c_str());
+    int status = SolveBoard(d, target, atoi(field(line, "solutions").c_str()), 1, &found, 0);
     if (status != RETURN_NO_FAULT) {
         std::printf("DDS: %d\n", status);
         return;

@@ -5,15 +5,17 @@
 # with the program's start and without, the most of several runs. Then full deals, as many of each strain, line by line
 # through a pipe to each program in one run, over a table of 65,536 entries: the least time of each reply in as many such runs,
 # of these the mean, the geometric mean and the slowest, and the most memory that each program had. Then in the same way one
-# best lead of each deal, where the replies agree that have one score, and in three runs at most the twenty results, beside
-# DDS's CalcDDtable. Deals are from fixed seeds; it says whether the replies agree, and ends with status 1 where some don't.
-# Words: the number of runs (5), of full deals (40), and the seed of the full deals (1013).
+# best lead of each deal, where the replies agree that have one score; one lead that reaches a target, the best score and then
+# one more, which none reaches; and in three runs at most the twenty results, beside DDS's CalcDDtable. Deals are from fixed seeds; it says whether the replies agree, and ends with status 1 where some don't.
+# Words: the number of runs (5), of full deals (40), the seed of the full deals (1013), and the parts, with commas between them
+# (small,leads,best,targets,tables).
 set -eu
 here=$(cd -- "$(dirname -- "$0")" && pwd)
 top=$(cd -- "$here/../.." && pwd)
 runs=${1:-5}
 full=${2:-40}
 seed=${3:-1013}
+parts=${4:-small,leads,best,targets,tables}
 
 for tool in python3 g++; do
     command -v "$tool" > /dev/null || { echo "bench/dds: the command $tool is missing" >&2; exit 1; }
@@ -34,14 +36,14 @@ python3 "$top/bench/tools/deals.py" 13 "$full" --seed "$seed" --requests > "$wor
 sed 's/"solutions":3/"solutions":1/' "$work/13.jsonl" > "$work/one.jsonl"
 sed 's/"do":"solve"/"do":"table"/; s/,"trump".*}$/}/' "$work/13.jsonl" > "$work/tables.jsonl"
 
-python3 - "$runs" "$top/crates/ddserve/out/ddserve" "$work" <<'PY'
+python3 - "$runs" "$top/crates/ddserve/out/ddserve" "$work" "$parts" <<'PY'
 import json
 import math
 import subprocess
 import sys
 import time
 
-runs, ours, work = int(sys.argv[1]), sys.argv[2], sys.argv[3]
+runs, ours, work, parts = int(sys.argv[1]), sys.argv[2], sys.argv[3], sys.argv[4].split(",")
 commands = {"ddserve": [ours, "solve", "--entries", "65536"], "DDS": [f"{work}/dds"]}
 differing = 0
 
@@ -53,9 +55,10 @@ def both(replies, seen=str):
     return "agree" if same else "DIFFER"
 
 
-print(f"all lines at once, least of {runs} runs")
-print("cards a hand  lines  ddserve s    DDS s  ratio  replies")
-for cards in (6, 8, 9):
+if "small" in parts:
+    print(f"all lines at once, least of {runs} runs")
+    print("cards a hand  lines  ddserve s    DDS s  ratio  replies")
+for cards in (6, 8, 9) if "small" in parts else ():
     with open(f"{work}/{cards}.jsonl") as file:
         lines = file.read()
     least, replies = dict.fromkeys(commands, math.inf), {}
@@ -163,12 +166,34 @@ def one_by_one(title, lines, strains, tries, seen=str):
     print(f"the most memory: ddserve {memory['ddserve']:.0f} MB, DDS {memory['DDS']:.0f} MB")
 
 
-small_lines()
-with open(f"{work}/13.jsonl") as file:
-    one_by_one("all leads", file.readlines(), "SHDCN", runs)
-with open(f"{work}/one.jsonl") as file:
-    one_by_one("one best lead", file.readlines(), "SHDCN", runs, lambda reply: [card["score"] for card in json.loads(reply)["cards"]])
-with open(f"{work}/tables.jsonl") as file:
-    one_by_one("twenty results", file.readlines(), ["all"], min(runs, 3))
+def scores(reply):
+    return [card["score"] for card in json.loads(reply)["cards"]]
+
+
+# The lines with their best score as the target, and with one more, where the tricks allow that.
+def with_targets(lines):
+    done = subprocess.run(commands["ddserve"], input="".join(lines), capture_output=True, text=True, check=True)
+    best = [scores(reply)[0] for reply in done.stdout.splitlines()]
+    rows = list(zip(lines, best))
+    return [[line.replace("}", f',"target":{score + more}' + "}") for line, score in rows if score + more <= 13] for more in (0, 1)]
+
+
+def lines_of(name):
+    with open(f"{work}/{name}.jsonl") as file:
+        return file.readlines()
+
+
+if "small" in parts:
+    small_lines()
+if "leads" in parts:
+    one_by_one("all leads", lines_of("13"), "SHDCN", runs)
+if "best" in parts:
+    one_by_one("one best lead", lines_of("one"), "SHDCN", runs, scores)
+if "targets" in parts:
+    reached, missed = with_targets(lines_of("one"))
+    one_by_one("one lead that reaches the best score", reached, "SHDCN", runs, scores)
+    one_by_one("one lead that reaches a trick more", missed, "SHDCN", runs, scores)
+if "tables" in parts:
+    one_by_one("twenty results", lines_of("tables"), ["all"], min(runs, 3))
 sys.exit(1 if differing else 0)
 PY

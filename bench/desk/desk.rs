@@ -1,6 +1,8 @@
 // A job book behind one lock, as plain Rust has it: a map of jobs, the numbers that wait, open jobs by owner, and the journal
 // as a list; each caller keeps a list of its receipts. An event is kept once, and both lists share it. For the words
-// `threads rounds` it writes the nanoseconds that the calls took, how many events there were, and 0.
+// `threads rounds` it writes the nanoseconds that the calls took, how many events there were, and 0. For `0 rounds jobs` it is the
+// book alone, without lock and journal: filled with so many jobs, and then it writes the nanoseconds of so many rounds, how many calls
+// they were, and how many jobs were done.
 #![allow(dead_code)]
 
 use std::collections::{BTreeSet, HashMap};
@@ -150,12 +152,37 @@ fn rounds(book: &Mutex<Book>, solved: &Solved, caller: u64, count: u64) -> usize
     count
 }
 
+// Rounds of the book alone: how many of their jobs were done.
+fn rounds_of_book(book: &mut Book, solved: &Solved, count: u64) -> u64 {
+    let caller = 1;
+    let mut done = 0;
+    for _ in 0..count {
+        let request = solved.request.clone();
+        let Reply::Submitted(mine) = book.apply(Call::Submit { caller, request }) else { break };
+        let Reply::Claimed { job, claim, .. } = book.apply(Call::Claim { worker: caller }) else { break };
+        let solved = solved.clone();
+        book.apply(Call::Finish { worker: caller, job, claim, solved });
+        if let Reply::State(_, State::Done(_)) = book.apply(Call::Fetch { caller, job: mine }) {
+            done += 1;
+        }
+    }
+    done
+}
+
 fn main() {
     let words: Vec<u64> = std::env::args().skip(1).map(|word| word.parse().unwrap()).collect();
     let (threads, count) = (words[0], words[1]);
     let hands = [1 << 62, 1 << 61, 1 << 60, 1 << 59];
     let request = Request { hands, trick: [0; 6], strain: 4, first: 0, solutions: 3 };
     let solved = Solved { request, answer: [[14, 0, 1]; 13] };
+    if threads == 0 {
+        let mut book = Book::default();
+        rounds_of_book(&mut book, &solved, words[2]);
+        let start = Instant::now();
+        let done = rounds_of_book(&mut book, &solved, count);
+        println!("{} {} {done}", start.elapsed().as_nanos(), 4 * count);
+        return;
+    }
     let book = Mutex::new(Book::default());
     let start = Instant::now();
     std::thread::scope(|scope| {

@@ -34,19 +34,21 @@ def text(path):
 
 def rates():
     print(f"{requests} requests, greatest rate of {runs} runs, {WORKERS} workers, {os.cpu_count()} processors, load {os.getloadavg()[0]:.1f}")
-    print("cards  connections  done/s  fetches each  median ms  slowest ms  submits/s  refused")
+    print("cards  connections  polled/s  fetches each  median ms  slowest ms  waited/s  times  median ms  slowest ms  submits/s  refused")
     for cards in (1, 6):
         lines = text(f"{work}/{cards}.jsonl")
         for clients in (1, 8, 64):
             best = {}
             for _ in range(runs):
-                for kind in ("done", "submit"):
+                for kind in ("done", "wait", "submit"):
                     server = Server("--allow-stop", workers=WORKERS)
                     _, told = load(server, kind, clients, requests, lines)
                     stop(server)
                     best[kind] = min(best.get(kind, told), told)
-            a, b = best["done"], best["submit"]
-            print(f"{cards:5}  {clients:11}  {1e9 * a[1] / a[0]:6.0f}  {a[2] / a[1]:12.1f}  {a[4] / 1e6:9.2f}  {a[5] / 1e6:10.1f}  {1e9 * b[1] / b[0]:9.0f}  {100 * b[3] / b[1]:6.1f}%", flush=True)
+            a, w, b = best["done"], best["wait"], best["submit"]
+            polled = f"{1e9 * a[1] / a[0]:8.0f}  {a[2] / a[1]:12.1f}  {a[4] / 1e6:9.2f}  {a[5] / 1e6:10.1f}"
+            waited = f"{1e9 * w[1] / w[0]:8.0f}  {a[0] / w[0]:5.1f}  {w[4] / 1e6:9.2f}  {w[5] / 1e6:10.1f}"
+            print(f"{cards:5}  {clients:11}  {polled}  {waited}  {1e9 * b[1] / b[0]:9.0f}  {100 * b[3] / b[1]:6.1f}%", flush=True)
 
 
 def memory():

@@ -2,7 +2,8 @@
 # The built program as a server with 4 workers, by clients in Rust (`clients/load.rs`). Requests a second for positions of one card and of
 # six cards a hand, no deal twice, by 1, 8 and 64 connections, the greatest rate of several runs, each against a fresh program: a
 # request is a submit and the fetches until its job is done, the first at once, then 0.1 ms apart and each time twice as long, up
-# to 6.4 ms; then submits alone, of which some are refused where a client has 64 jobs open. Memory with 1 and with 1,000
+# to 6.4 ms; then the same requests with a `wait`, each one line and its answer; then submits alone, of which some are refused
+# where a client has 64 jobs open. Memory with 1 and with 1,000
 # connections. Then 40 full deals by 1 and 4 workers beside the line tool on the same lines, in turns in one run, the least time
 # of each: where a reply isn't the recorded one it ends with status 1. Words: the number of runs (3), the requests of one (10,000).
 set -eu

@@ -1,8 +1,9 @@
 //! Clients of `ddserve serve`, each on a thread of its own: PORT KIND CLIENTS REQUESTS, and request lines on the standard input.
 //!
-//! KIND `done`: each client sends one request, fetches its job until it is done, and goes on with the next. `submit`: it sends
-//! submits alone, each after the reply to the last. `deals`: the clients take the lines in turn, submit theirs at once, up to 64,
-//! and fetch each until it is done; the answers go to the standard output, as the line tool writes them, in the lines' order.
+//! KIND `done`: each client sends one request, fetches its job until it is done, and goes on with the next. `wait`: the same in one
+//! line, whose reply waits for the job's end. `submit`: it sends submits alone, each after the reply to the last. `deals`: the
+//! clients take the lines in turn, submit theirs at once, up to 64, and fetch each until it is done; the answers go to the standard
+//! output, as the line tool writes them, in the lines' order.
 //! REQUESTS is the number of all clients together. On the standard error: nanoseconds, requests, fetches, refused submits, and the
 //! median and the greatest nanoseconds of one request.
 use std::io::{BufRead, BufReader, Read, Write};
@@ -39,6 +40,13 @@ impl Client {
     fn ask(&mut self, line: &str) -> &str {
         self.stream.write_all(line.as_bytes()).expect("nothing is taken");
         self.read()
+    }
+
+    /// One request, whose reply is its answer.
+    fn wait(&mut self, line: &str) {
+        let line = format!("{},\"wait\":60000}}\n", line.trim_end().strip_suffix('}').unwrap());
+        let reply = self.ask(&line);
+        assert!(reply.contains("\"state\":\"done\""), "{reply}");
     }
 
     fn job(reply: &str) -> Option<u64> {
@@ -90,6 +98,11 @@ fn main() {
                     } else {
                         for number in own {
                             let since = Instant::now();
+                            if kind == "wait" {
+                                client.wait(&lines[number % lines.len()]);
+                                taken.push(since.elapsed().as_nanos() as u64);
+                                continue;
+                            }
                             match Client::job(client.ask(&lines[number % lines.len()])) {
                                 Some(job) if kind == "done" => drop(client.until_done(job, PAUSE)),
                                 Some(_) => {}

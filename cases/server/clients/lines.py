@@ -25,7 +25,8 @@ BAD_LINES = [
     (9, [deal(ACE, trump="5")]),
     (10, [deal(ACE, first="4")]),
     (11, [deal(ACE, played="[[4,2]]"), deal(ACE, played="[[0,15]]"), deal(ACE, played="[[0,2],[0,3],[0,4],[0,5]]")]),
-    (12, [deal(ACE, solutions="4"), deal(ACE, solutions="0")]),
+    (12, [deal(ACE, solutions="4"), deal(ACE, solutions="0"), deal(ACE, target="1"), deal(ACE, target="14")]),
+    (27, [deal(ACE, solutions="1", target="14"), deal("N:A2... K... Q... J...", solutions="2", target="14")]),
     (16, [fetch(0), cancel(0), fetch(1), cancel(18_446_744_073_709_551_615)]),
 ]
 
@@ -175,3 +176,4 @@ line_ends()
 recorded_jobs("small", recorded("small"), 1, 1)
 recorded_jobs("small and full", recorded("small") + recorded("full", 8), 4, 4)
 recorded_jobs("tables", recorded("tables", 4), 2, 4)
+recorded_jobs("targets", recorded("targets"), 4, 4)

@@ -30,6 +30,20 @@ here on, the current one included:
 
   {\"cards\":[{\"equals\":4,\"rank\":3,\"score\":2,\"suit\":0}]}
 
+With a target, 0 to 13, each class gets a yes-or-no question, and solutions 1 needs no more than
+the first yes:
+
+  {\"do\":\"solve\",\"deal\":\"N:32... 65... AQ... K4...\",\"trump\":4,\"first\":0,\"solutions\":2,\"target\":1}
+
+  target     so many tricks are to be won
+  solutions  2 every class that wins at least so many, suit rising, then rank falling, 1 the first
+             of these
+
+Its reply has the target for each score, which then means `at least so many`. The list is empty
+where no card wins so many:
+
+  {\"cards\":[{\"equals\":4,\"rank\":3,\"score\":1,\"suit\":0}]}
+
 A request may also ask for the twenty results of a deal, the tricks of each declarer in each strain:
 
   {\"do\":\"table\",\"deal\":\"N:J6.72.AQ7643.AJ7 Q9842.Q854.T.K42 AT75.AT9.KJ8.T83 K3.KJ63.952.Q965\"}
@@ -74,15 +88,16 @@ the reply {\"fault\":F}:
    9  trump is not 0 to 4
   10  first is not 0 to 3
   11  played has more than three cards, or one that is no card
-  12  solutions is not 1 to 3
+  12  solutions is not 1 to 3, or not 1 or 2 beside a target
   19  memory ran out while the line was read
   20  dealer is not 0 to 3, or side not 0 or 1
   21  vulnerable is not 0 to 3
   22  a result is over 13
   23  the hands are not of thirteen cards
+  27  target is over 13
 
-Of several the first in this order is told: 2, 1, 3, 4, 5, 6 (in the deal), 9, 10, 11, 12, 20, 21,
-22, 6 (with the trick), 7, 8, 23.
+Of several the first in this order is told: 2, 1, 3, 4, 5, 6 (in the deal), 9, 10, 11, 12, 27, 20,
+21, 22, 6 (with the trick), 7, 8, 23.
 
 A position is a state of play that the search comes to; some six to eight million take a second. A
 budget of a million was enough for nine of ten full deals, ten million for each of 80.

@@ -14,7 +14,7 @@ use Rattle.dd_book.specs.declared.call.JobState.TheVariants as shown
 use Rattle.dd_book.specs.declared.call.Reply.{Reply}
 use Rattle.dd_book.specs.declared.call.Reply.TheVariants.{Submitted, State}
 use Rattle.dd_book.specs.declared.job.Stage.{Stage}
-use Rattle.dd_book.specs.declared.job.Stage.TheVariants.{Open, Done, TableDone, Cancelled, Spent}
+use Rattle.dd_book.specs.declared.job.Stage.TheVariants.{Open, Done, TableDone, TargetDone, Cancelled, Spent}
 use Rattle.dd_book.specs.Limits.{LimitsOf}
 use Rattle.dd_book.specs.Parts.{is_waiting}
 use Rattle.dd_book.specs.Jobs.{JobOf, is_open, job_at, shown_stage}
@@ -34,6 +34,7 @@ IsFinal shown.Waiting = ⊥
 IsFinal shown.Running = ⊥
 IsFinal (shown.Done solved) = Unit {0}
 IsFinal (shown.TableDone table) = Unit {0}
+IsFinal (shown.TargetDone solved) = Unit {0}
 IsFinal shown.Cancelled = Unit {0}
 IsFinal shown.Spent = Unit {0}
 
@@ -72,6 +73,7 @@ final-stage : (owner : ℕ) (asked : Asked) (stage : Stage) → IsFinal (shown_s
 final-stage owner asked (Open parts) h = absurd (open-unfinal (list_all is_waiting parts) h)
 final-stage owner asked (Done solved) h = refl
 final-stage owner asked (TableDone table) h = refl
+final-stage owner asked (TargetDone solved) h = refl
 final-stage owner asked Cancelled h = refl
 final-stage owner asked Spent h = refl
 

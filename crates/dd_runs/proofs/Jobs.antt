@@ -9,24 +9,25 @@ use Rattle.std.proofs.lemmas.Option.{cond_some, same_Some}
 use Rattle.dd_cards.specs.Hands.{FourHands}
 use Rattle.dd_solve.specs.Questions.{solved_question}
 use Rattle.dd_solve.specs.Results.{hands_results}
+use Rattle.dd_solve.specs.Targets.{solved_target}
 use Rattle.dd_solve.specs.declared.asked.Asked.{Asked}
-use Rattle.dd_solve.specs.declared.asked.Asked.TheVariants.{Solve, Table}
+use Rattle.dd_solve.specs.declared.asked.Asked.TheVariants.{Solve, Table, Target}
 use Rattle.dd_book.specs.declared.call.Call.{Call}
 use Rattle.dd_book.specs.declared.call.Call.TheVariants.{Submit, Claim, Finish, Cancel, Fetch, Shut}
 use Rattle.dd_book.specs.declared.call.Outcome.{Outcome}
-use Rattle.dd_book.specs.declared.call.Outcome.TheVariants.{Solved as SolvedOutcome, Part as PartOutcome, Spent as SpentOutcome, Stopped}
+use Rattle.dd_book.specs.declared.call.Outcome.TheVariants.{Solved as SolvedOutcome, Part as PartOutcome, Target as TargetOutcome, Spent as SpentOutcome, Stopped}
 use Rattle.dd_book.specs.declared.call.Refusal.TheVariants.{UnknownJob, JobEnded}
 use Rattle.dd_book.specs.declared.call.Reply.{Reply}
-use Rattle.dd_book.specs.declared.call.Reply.TheVariants.{Submitted, Claimed, ClaimedPart, NothingWaits, Closing, Recorded, Stale, Cancelled, State, Shut as ShutReply, Fault}
+use Rattle.dd_book.specs.declared.call.Reply.TheVariants.{Submitted, Claimed, ClaimedTarget, ClaimedPart, NothingWaits, Closing, Recorded, Stale, Cancelled, State, Shut as ShutReply, Fault}
 use Rattle.dd_book.specs.declared.job.Stage.{Stage}
-use Rattle.dd_book.specs.declared.job.Stage.TheVariants.{Open, Done, TableDone, Cancelled as CancelledStage, Spent}
+use Rattle.dd_book.specs.declared.job.Stage.TheVariants.{Open, Done, TableDone, TargetDone, Cancelled as CancelledStage, Spent}
 use Rattle.dd_book.specs.declared.parts.Part.{Part}
 use Rattle.dd_book.specs.declared.parts.Part.TheVariants.{Waiting, Running, Ended}
 use Rattle.dd_book.specs.Parts.{is_waiting, is_ended, runs_by}
-use Rattle.dd_book.specs.Same.{same_question, same_hands}
+use Rattle.dd_book.specs.Same.{same_question, same_target, same_hands}
 use Rattle.dd_book.specs.Jobs.{JobOf, Turn, has_waiting, if_owned, is_open, job_after, job_at, job_with, new_job, next_turn, own_job, parts_of, shown_stage, stage_after, table_stage, turn, turn_at, turn_of, with_job, with_part, with_stage}
 use Rattle.dd_book.specs.Calls.{BookOf, after, book_claimed, cancel_told, claim_told, claimed, fetch_told, jobs_after_finish, jobs_cancelled, reply_of, with_jobs}
-use Rattle.dd_book.proofs.CallerLemmas.{job_at-place, refused, same_question-is}
+use Rattle.dd_book.proofs.CallerLemmas.{job_at-place, refused, same_question-is, same_target-is}
 use Rattle.dd_runs.specs.Steps.{CarriesRight, IsRight}
 use Rattle.dd_runs.proofs.Lists.{set-from, set-or, slice_get-left, slice_get-push, slice_get-push-or}
 
@@ -35,6 +36,7 @@ abbrev pub EndsRight : Asked → Stage → Type 0
 EndsRight asked (Open parts) = Unit {0}
 EndsRight asked (Done solved) = (asked ≡ Solve solved.asked) × (solved ≡ solved_question solved.asked)
 EndsRight asked (TableDone table) = (asked ≡ Table table.hands) × (table ≡ hands_results table.hands)
+EndsRight asked (TargetDone solved) = (asked ≡ Target solved.asked) × (solved ≡ solved_target solved.asked)
 EndsRight asked CancelledStage = Unit {0}
 EndsRight asked Spent = Unit {0}
 
@@ -49,6 +51,7 @@ pub record Goes (x y : JobOf) : Type 0 where
 abbrev pub TellsJob : List JobOf → Call → Reply → Type 0
 TellsJob jobs c (Submitted number) = (job : JobOf) × (job_at jobs number ≡ Some job) × (c ≡ Submit job.owner job.asked)
 TellsJob jobs c (Claimed number claim question) = Unit {0}
+TellsJob jobs c (ClaimedTarget number claim question) = Unit {0}
 TellsJob jobs c (ClaimedPart number part claim position) = Unit {0}
 TellsJob jobs c NothingWaits = Unit {0}
 TellsJob jobs c Closing = Unit {0}
@@ -82,6 +85,7 @@ open-stage : (test : Part → Bool) (owner : ℕ) (asked : Asked) (stage : Stage
 open-stage test owner asked (Open parts) part h = refl
 open-stage test owner asked (Done solved) part h = absurd (cc)
 open-stage test owner asked (TableDone table) part h = absurd (cc)
+open-stage test owner asked (TargetDone solved) part h = absurd (cc)
 open-stage test owner asked CancelledStage part h = absurd (cc)
 open-stage test owner asked Spent part h = absurd (cc)
 
@@ -198,6 +202,7 @@ idle-tells jobs c false = tt
 
 claimed-tells : (c : Call) (number part claim : ℕ) (asked : Asked) (jobs : List JobOf) → TellsJob jobs c (claimed number part claim asked)
 claimed-tells c number part claim (Solve question) jobs = tt
+claimed-tells c number part claim (Target question) jobs = tt
 claimed-tells c number part claim (Table hands) jobs = tt
 
 claim-changes : (book : BookOf) (worker : ℕ) → Changes book.jobs (after book (Claim worker)).jobs (Claim worker) (reply_of book (Claim worker))
@@ -221,6 +226,13 @@ stage-right (Solve question) parts place (SolvedOutcome solved) stage right is =
     let done = cond_some (same_question question solved.asked) (Done solved) stage is in
     subst (EndsRight (Solve question)) done.1 (ap Solve (same_question-is question solved.asked done.0), right)
 stage-right (Table hands) parts place (SolvedOutcome solved) stage right is = absurd (cc)
+stage-right (Target question) parts place (SolvedOutcome solved) stage right is = absurd (cc)
+stage-right (Solve question) parts place (TargetOutcome solved) stage right is = absurd (cc)
+stage-right (Table hands) parts place (TargetOutcome solved) stage right is = absurd (cc)
+stage-right (Target question) parts place (TargetOutcome solved) stage right is =
+    let done = cond_some (same_target question solved.asked) (TargetDone solved) stage is in
+    subst (EndsRight (Target question)) done.1 (ap Target (same_target-is question solved.asked done.0), right)
+stage-right (Target question) parts place (PartOutcome solved) stage right is = absurd (cc)
 stage-right (Solve question) parts place (PartOutcome solved) stage right is = absurd (cc)
 stage-right (Table hands) parts place (PartOutcome solved) stage right is =
     let set = slice_set parts place (Ended solved) in

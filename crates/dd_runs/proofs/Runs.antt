@@ -5,9 +5,10 @@ use Rattle.std.proofs.lemmas.Option.{same_Some}
 use Rattle.dd_play.specs.Board.{Board}
 use Rattle.dd_play.specs.Value.{leaders_tricks}
 use Rattle.dd_solve.specs.declared.asked.Asked.{Asked}
-use Rattle.dd_solve.specs.declared.asked.Asked.TheVariants.{Solve, Table}
+use Rattle.dd_solve.specs.declared.asked.Asked.TheVariants.{Solve, Table, Target}
 use Rattle.dd_solve.specs.Questions.{SolvedQuestion, solved_question}
 use Rattle.dd_solve.specs.Results.{HandsResults, hands_results}
+use Rattle.dd_solve.specs.Targets.{SolvedTargetQuestion, solved_target}
 use Rattle.dd_shard.specs.Entries.{Told}
 use Rattle.dd_book.specs.declared.call.Call.{Call}
 use Rattle.dd_book.specs.declared.call.Call.TheVariants.{Submit}
@@ -16,7 +17,7 @@ use Rattle.dd_book.specs.declared.call.JobState.{JobState}
 use Rattle.dd_book.specs.declared.call.Reply.{Reply}
 use Rattle.dd_book.specs.declared.call.Reply.TheVariants.{Submitted, State}
 use Rattle.dd_book.specs.declared.job.Stage.{Stage}
-use Rattle.dd_book.specs.declared.job.Stage.TheVariants.{Open, Done, TableDone, Cancelled, Spent}
+use Rattle.dd_book.specs.declared.job.Stage.TheVariants.{Open, Done, TableDone, TargetDone, Cancelled, Spent}
 use Rattle.dd_book.specs.Limits.{LimitsOf}
 use Rattle.dd_book.specs.Parts.{is_waiting}
 use Rattle.dd_book.specs.Jobs.{JobOf, job_at, shown_stage}
@@ -157,6 +158,7 @@ shown-answer : (asked : Asked) (stage : Stage) (solved : SolvedQuestion) → sho
 shown-answer asked (Open parts) solved e right = absurd (open-other (list_all is_waiting parts) shown.Waiting (λ (s : JobState). shown.Done solved ≡ s) (λ h. cc) (λ h. cc) e)
 shown-answer asked (Done done) solved e right = let same : done ≡ solved = cc in subst (λ (s : SolvedQuestion). (asked ≡ Solve s.asked) × (s ≡ solved_question s.asked)) same right
 shown-answer asked (TableDone table) solved e right = absurd (cc)
+shown-answer asked (TargetDone done) solved e right = absurd (cc)
 shown-answer asked Cancelled solved e right = absurd (cc)
 shown-answer asked Spent solved e right = absurd (cc)
 
@@ -165,8 +167,18 @@ shown-table : (asked : Asked) (stage : Stage) (table : HandsResults) → shown.T
 shown-table asked (Open parts) table e right = absurd (open-other (list_all is_waiting parts) shown.Waiting (λ (s : JobState). shown.TableDone table ≡ s) (λ h. cc) (λ h. cc) e)
 shown-table asked (Done done) table e right = absurd (cc)
 shown-table asked (TableDone done) table e right = let same : done ≡ table = cc in subst (λ (t : HandsResults). (asked ≡ Table t.hands) × (t ≡ hands_results t.hands)) same right
+shown-table asked (TargetDone done) table e right = absurd (cc)
 shown-table asked Cancelled table e right = absurd (cc)
 shown-table asked Spent table e right = absurd (cc)
+
+-- .. and one that shows the cards that reach a target with those
+shown-target : (asked : Asked) (stage : Stage) (solved : SolvedTargetQuestion) → shown.TargetDone solved ≡ shown_stage stage → EndsRight asked stage → (asked ≡ Target solved.asked) × (solved ≡ solved_target solved.asked)
+shown-target asked (Open parts) solved e right = absurd (open-other (list_all is_waiting parts) shown.Waiting (λ (s : JobState). shown.TargetDone solved ≡ s) (λ h. cc) (λ h. cc) e)
+shown-target asked (Done done) solved e right = absurd (cc)
+shown-target asked (TableDone table) solved e right = absurd (cc)
+shown-target asked (TargetDone done) solved e right = let same : done ≡ solved = cc in subst (λ (s : SolvedTargetQuestion). (asked ≡ Target s.asked) × (s ≡ solved_target s.asked)) same right
+shown-target asked Cancelled solved e right = absurd (cc)
+shown-target asked Spent solved e right = absurd (cc)
 
 -- the submit of a job, by its number
 submit-of : (w : World) (number : ℕ) (job : JobOf) → IsGood w → job_at w.book.jobs number ≡ Some job → Contains w.journal (event job.owner (Submit job.owner job.asked) (Submitted number)) × EndsRight job.asked job.stage
@@ -188,6 +200,14 @@ table-of w k number c table g h =
     let f = g.of_fetch k number c (shown.TableDone table) h tt in
     let from = submit-of w number f.0 g f.1 in
     let right = shown-table f.0.asked f.0.stage table f.3 from.1 in
+    (subst (Contains w.journal) (λ i. event (f.2 i) (Submit (f.2 i) (right.0 i)) (Submitted number)) from.0, right.1)
+
+target-of : (w : World) (k number : ℕ) (c : Call) (solved : SolvedTargetQuestion) → IsGood w → Contains w.journal (event k c (State number (shown.TargetDone solved)))
+    → Contains w.journal (event k (Submit k (Target solved.asked)) (Submitted number)) × (solved ≡ solved_target solved.asked)
+target-of w k number c solved g h =
+    let f = g.of_fetch k number c (shown.TargetDone solved) h tt in
+    let from = submit-of w number f.0 g f.1 in
+    let right = shown-target f.0.asked f.0.stage solved f.3 from.1 in
     (subst (Contains w.journal) (λ i. event (f.2 i) (Submit (f.2 i) (right.0 i)) (Submitted number)) from.0, right.1)
 
 -- a number was given to one submit
@@ -218,6 +238,7 @@ headline alike limits at ss start w e l =
       gets = r.gets;
       answers = λ k job c solved h. answer-of w k job c solved r.good h;
       tables = λ k job c table h. table-of w k job c table r.good h;
+      targets = λ k job c solved h. target-of w k job c solved r.good h;
       numbers = λ k l job a b first second. one-number w k l job a b r.good first second;
       told = own-answers limits w.journal legal;
     }

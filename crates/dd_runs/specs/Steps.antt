@@ -9,12 +9,13 @@ use Rattle.dd_play.specs.Value.{leaders_tricks}
 use Rattle.dd_rank.specs.Depths.{Covers, all_cards, depth_in}
 use Rattle.dd_solve.specs.Questions.{solved_question}
 use Rattle.dd_solve.specs.Results.{part_result}
+use Rattle.dd_solve.specs.Targets.{solved_target}
 use Rattle.dd_shard.specs.Entries.{Entries, Looks, Notes, Told}
 use Rattle.dd_table.specs.Front.{Exact, Gets, Sets}
 use Rattle.dd_book.specs.declared.call.Call.{Call}
 use Rattle.dd_book.specs.declared.call.Call.TheVariants.{Submit, Claim, Finish, Cancel, Fetch, Shut}
 use Rattle.dd_book.specs.declared.call.Outcome.{Outcome}
-use Rattle.dd_book.specs.declared.call.Outcome.TheVariants.{Solved, Part, Spent, Stopped}
+use Rattle.dd_book.specs.declared.call.Outcome.TheVariants.{Solved, Part, Target, Spent, Stopped}
 use Rattle.dd_book.specs.declared.call.Reply.{Reply}
 use Rattle.dd_book.specs.Calls.{after, reply_of}
 use Rattle.dd_desk.specs.Events.{IsBy, event}
@@ -52,6 +53,7 @@ HasDepths p told = (u : Suit) → depth_in told.depths u ≤ count_of u (all_car
 abbrev pub IsRight : Outcome → Type 0
 IsRight (Solved solved) = solved ≡ solved_question solved.asked
 IsRight (Part solved) = solved ≡ part_result solved.hands solved.part
+IsRight (Target solved) = solved ≡ solved_target solved.asked
 IsRight Spent = Unit {0}
 IsRight Stopped = Unit {0}
 

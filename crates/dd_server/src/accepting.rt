@@ -55,7 +55,7 @@ fn passes(error: &Error) -> bool {
     }
 }
 
-// One connection, on a thread of its own. Where memory or a thread can't be had it is closed.
+// One connection, on a thread of its own. Where memory or a thread can't be had, or a stop came before it, it is closed.
 fn start_connection<'s, E, J, R>(
     rt: &'s R,
     scope: &Scope<'s, E>,
@@ -72,7 +72,7 @@ where
     let Ok(kept) = Arc::try_clone(&stream) else {
         return;
     };
-    let Ok(key) = state.stop.streams().lock(rt).insert(kept) else {
+    let Some(key) = state.stop.streams().lock(rt).insert(kept) else {
         return;
     };
     let serve = move || {

@@ -1,21 +1,26 @@
 //! One connection.
+ghost use Rattle.std.specs.Prelude.{◌≡◌, false};
+ghost use Rattle.dd_session.specs.Ports.{AsksNoStop};
+
+use crate::args::ServeArgs;
 use crate::server_state::ServerState;
 use crate::session_stream::SessionStream;
-use crate::stop::StopPort;
+use crate::stop::{Stop, StopPort};
 use dd_desk::{Fault, Naming, Pass};
 use dd_lines::{CountedDevice, write_whole};
-use dd_session::{DeskPort, serve_lines, serve_socket, write_refusal};
+use dd_session::{BookPort, DeskPort, serve_lines, serve_socket, write_refusal};
+use std::alloc::Global;
 use std::net::TcpStream;
 use std::sync::Wait;
 use std::sync::atomic::Ordering;
-use std::time::Duration;
+use std::time::{Clock, Duration};
 
 // For how many seconds a client may take no byte of a reply.
 const WRITE_LIMIT: u64 = 60;
 
 /// Serves a connection to its end, by a pass of its own. Where none can be had the client is told why, unless it is to shake
 /// hands first.
-pub(crate) fn serve_connection<J: Naming, R: Wait + Eprint>(
+pub(crate) fn serve_connection<J: Naming, R: Wait + Clock + Eprint>(
     rt: &R,
     state: &ServerState<J>,
     stream: &TcpStream,
@@ -33,7 +38,7 @@ pub(crate) fn serve_connection<J: Naming, R: Wait + Eprint>(
 }
 
 // The session of a pass, which comes back.
-fn serve_session<J: Naming, R: Wait>(
+fn serve_session<J: Naming, R: Wait + Clock>(
     rt: &R,
     state: &ServerState<J>,
     stream: &TcpStream,
@@ -41,16 +46,28 @@ fn serve_session<J: Naming, R: Wait>(
 ) -> Pass<J> {
     let port = DeskPort::new(rt, &state.desk, pass);
     let mut port = StopPort::new(rt, port, &state.stop);
-    let allow_stop = state.args.allow_stop;
-    if state.args.websocket {
-        let stream = SessionStream::new(stream, &state.stop);
-        let _ = serve_socket(state.alloc, stream, &mut port, allow_stop);
-    } else {
-        let mut reader = CountedDevice::new(SessionStream::new(stream, &state.stop));
-        let mut writer = CountedDevice::new(stream);
-        let _ = serve_lines(state.alloc, &mut reader, &mut writer, &mut port, allow_stop);
-    }
+    serve_port(state.alloc, state.args, stream, &state.stop, &mut port);
     port.into_inner().into_pass()
+}
+
+// The session over a port, as the run was asked for: by lines or by messages, with leave to stop or without.
+fn serve_port<P: BookPort>(
+    alloc: Global,
+    args: ServeArgs,
+    stream: &TcpStream,
+    stop: &Stop,
+    port: &mut P,
+)
+    ensures leave { args.allow_stop ≡ false → AsksNoStop (P.told port.old) (P.told port.new) }
+{
+    let reads = SessionStream::new(stream, stop);
+    if args.websocket {
+        let _ = serve_socket(alloc, reads, port, args.allow_stop);
+    } else {
+        let mut reader = CountedDevice::new(reads);
+        let mut writer = CountedDevice::new(stream);
+        let _ = serve_lines(alloc, &mut reader, &mut writer, port, args.allow_stop);
+    }
 }
 
 // The one line of a connection that gets no pass.

@@ -10,6 +10,7 @@ mod server;
 mod server_state;
 mod session_stream;
 mod stop;
+mod stop_flag;
 mod working;
 
 pub use args::{ServeArgs, ServeFault};

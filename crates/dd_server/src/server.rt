@@ -44,21 +44,7 @@ pub fn run_server<
     ensures history { IfOk result (λ closed.
         IsHistory J.limits closed.history.journal.items closed.passes.items) }
 {
-    let Ok(stop) = Stop::new(alloc, &listener) else {
-        return Err(ServeFault::Listen);
-    };
-    let Ok(table) = SharedTable::new(alloc, args.shards, args.entries) else {
-        return Err(ServeFault::Memory);
-    };
-    let state = ServerState {
-        alloc,
-        args,
-        desk: Desk::<J>::new(row),
-        table,
-        returned: Mutex::new(Returned::new(alloc)),
-        stop,
-        told_full: AtomicBool::new(false),
-    };
+    let state = new_state::<J>(alloc, row, &listener, args)?;
     let ended = keep_open(rt, &state, listener, gate);
     let ServerState {
         alloc: _,
@@ -72,6 +58,37 @@ pub fn run_server<
     let closed = close(desk, returned.into_inner().into_passes())?;
     ended?;
     Ok(closed)
+}
+
+// What the threads of a run are to share, which works as it is asked to.
+fn new_state<J: Naming>(
+    alloc: Global,
+    row: Row,
+    listener: &TcpListener,
+    args: ServeArgs,
+) -> Result<ServerState<J>, ServeFault>
+    requires cells { (map cell_name row.cells.items ≡ J.cells) × (J.all ≡ J.parts) }
+    requires limits { row.limits ≡ J.limits }
+    requires count { (row.count.name ≡ J.counts) × (row.count.parts ≡ J.parts) }
+    requires sum { (row.sum.name ≡ J.places) × (row.sum.parts ≡ J.parts) }
+    requires table { HasTableSize args }
+    ensures args { IfOk result (λ state. state.args ≡ args) }
+{
+    let Ok(stop) = Stop::new(alloc, listener) else {
+        return Err(ServeFault::Listen);
+    };
+    let Ok(table) = SharedTable::new(alloc, args.shards, args.entries) else {
+        return Err(ServeFault::Memory);
+    };
+    Ok(ServerState {
+        alloc,
+        args,
+        desk: Desk::<J>::new(row),
+        table,
+        returned: Mutex::new(Returned::new(alloc)),
+        stop,
+        told_full: AtomicBool::new(false),
+    })
 }
 
 // The desk is closed, and its passes are compared with its journal.

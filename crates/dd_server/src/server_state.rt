@@ -45,8 +45,8 @@ impl<J: Naming> ServerState<J> {
 
     /// Shuts the book and stops the run.
     pub(crate) fn shut<R: Wait>(&self, rt: &R, pass: &mut Pass<J>) {
-        let _ = self.shut_book(rt, pass);
-        self.stop.stop(rt);
+        let said = self.shut_book(rt, pass);
+        self.stop.stop(rt, &said);
     }
 
     // Shuts the book, however often memory runs out at it: only that may be otherwise at the next try.

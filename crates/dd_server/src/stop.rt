@@ -3,6 +3,7 @@ ghost use Rattle.std.specs.Prelude.{◌≡◌, Err, IsTrue, ◌↔◌};
 ghost use Rattle.dd_wire.specs.declared.want.Want.TheVariants.{Stop as StopWant};
 
 use crate::open_streams::OpenStreams;
+use crate::stop_flag::{FlagIsSet, StopFlag};
 use dd_book::Reply;
 use dd_desk::Fault;
 use dd_session::BookPort;
@@ -11,14 +12,14 @@ use std::alloc::Global;
 use std::io;
 use std::net::{Shutdown, TcpListener, TcpStream};
 use std::os::fd::OwnedFd;
-use std::sync::atomic::{AtomicBool, Ordering};
+use std::sync::atomic::AtomicBool;
 use std::sync::{Mutex, Wait};
 
 /// Ends what a run waits for: a search by the flag, the accept by shutting the listener, each session's read by shutting its
 /// stream. None of it needs a descriptor, which may all be in use.
 #[derive(Drop)]
 pub(crate) struct Stop {
-    flag: AtomicBool,
+    flag: StopFlag,
     // A second handle of the listener, as a stream, which alone can be shut.
     listener: TcpStream,
     streams: Mutex<OpenStreams>,
@@ -28,28 +29,35 @@ impl Stop {
     /// Nothing is stopped yet.
     pub(crate) fn new(alloc: Global, listener: &TcpListener) -> io::Result<Stop> {
         Ok(Stop {
-            flag: AtomicBool::new(false),
+            flag: StopFlag::new(),
             listener: TcpStream::from(OwnedFd::from(listener.try_clone()?)),
             streams: Mutex::new(OpenStreams::new(alloc)),
         })
     }
 
-    /// Stops the run.
-    pub(crate) fn stop<R: Wait>(&self, rt: &R) {
-        self.flag.store(true, Ordering::SeqCst);
+    /// Stops the run, once the book was asked to shut: it said this, and not that it found no memory.
+    pub(crate) fn stop<R: Wait>(&self, rt: &R, _said: &Result<Reply, Fault>)
+        requires { _said.now ≡ Err Fault.Memory → ⊥ }
+    {
+        let is_set = self.flag.set();
+        self.shut_listener(is_set);
+        self.streams.lock(rt).stop(is_set);
+    }
+
+    // Wakes the accept.
+    fn shut_listener(&self, _is_set: FlagIsSet) {
         // A listener that is shut already stays so.
         let _ = self.listener.shutdown(Shutdown::Both);
-        self.streams.lock(rt).stop();
     }
 
     /// Whether the run is stopped.
     pub(crate) fn is_stopped(&self) -> bool {
-        self.flag.load(Ordering::SeqCst)
+        self.flag.is_set()
     }
 
     /// The flag that ends a search.
     pub(crate) fn flag(&self) -> &AtomicBool {
-        &self.flag
+        self.flag.flag()
     }
 
     /// The streams of the connections that are served.
@@ -94,9 +102,13 @@ impl<'a, P: BookPort, R: Wait> BookPort for StopPort<'a, P, R> {
         let stops = is_stop(&want);
         let reply = self.port.ask(want);
         if stops && !found_no_memory(&reply) {
-            self.stop.stop(self.rt);
+            self.stop.stop(self.rt, &reply);
         }
         reply
+    }
+
+    fn fetch_within(&mut self, job: u64, wait: u64) -> Result<Reply, Fault> {
+        self.port.fetch_within(job, wait)
     }
 }
 

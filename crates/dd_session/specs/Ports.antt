@@ -1,5 +1,5 @@
 -- To be believed: what a port tells of the book behind it.
-use Rattle.std.specs.Prelude.{◌≡◌, ℕ, List, [], ◌∷◌, ◌++◌, length, drop, Result, Ok, Err}
+use Rattle.std.specs.Prelude.{◌≡◌, ℕ, zero, suc, List, [], ◌∷◌, ◌++◌, length, drop, Result, Ok, Err}
 use Rattle.dd_book.specs.declared.call.Call.{Call}
 use Rattle.dd_book.specs.declared.call.Reply.{Reply}
 use Rattle.dd_desk.specs.declared.fault.Fault.{Fault}
@@ -25,6 +25,28 @@ port_of told refusals = record { told = told; refusals = refusals }
 abbrev pub Tells : PortOf → Want → Result Reply Fault → PortOf → Type 0
 Tells before want (Ok reply) after = after ≡ port_of (before.told ++ (want, reply) ∷ []) before.refusals
 Tells before want (Err fault) after = IsOfCall fault × (after ≡ port_of before.told (one_more before.refusals))
+
+-- the count of so many more; at its greatest value it stays
+abbrev pub count_more : ℕ → ℕ → ℕ
+count_more count zero = count
+count_more count (suc more) = count_more (one_more count) more
+
+-- the port before and after these calls were told, in order, and so many were refused
+abbrev pub Gains : PortOf → List Told → ℕ → PortOf → Type 0
+Gains before news refused after = after ≡ port_of (before.told ++ news) (count_more before.refusals refused)
+
+-- ---- without leave
+
+-- none of these calls wants a stop
+abbrev pub AreNoStops : List Told → Type 0
+AreNoStops [] = Unit {0}
+AreNoStops (told ∷ rest) = (told.0 ≡ Want.Stop → ⊥) × AreNoStops rest
+
+-- what was told before, and then no call that wants a stop
+pub record AsksNoStop (before after : List Told) : Type 0 where
+  pub gained : List Told
+  pub told : after ≡ before ++ gained
+  pub no_stops : AreNoStops gained
 
 -- ---- over a desk
 

@@ -1,6 +1,8 @@
 //! The job book as one session sees it.
 ghost use Rattle.std.specs.Prelude.{◌≡◌};
+ghost use Rattle.dd_book.specs.declared.call.Call.TheVariants.{Fetch};
 ghost use Rattle.dd_desk.specs.Replies.{IsTold};
+ghost use Rattle.dd_lines.specs.CountedDevices.{one_more};
 ghost use Rattle.dd_session.specs.Ports.{call_by, new_port};
 
 use dd_book::Reply;
@@ -8,11 +10,13 @@ use dd_desk::{Desk, Fault, Naming, Pass};
 use dd_wire::Want;
 use std::marker::Model;
 use std::sync::Wait;
+use std::time::{Clock, Duration};
 
 /// The job book as one caller sees it, or what stands for it.
 pub trait BookPort {
     ghost use Rattle.std.specs.Prelude.{ℕ, List};
     ghost use Rattle.dd_session.specs.Ports.{Told, Tells, port_of};
+    ghost use Rattle.dd_wire.specs.declared.want.Want.TheVariants.{Fetch};
 
     /// the calls that were made, each with its reply, in order
     ghost told: { Self → List Told };
@@ -23,12 +27,17 @@ pub trait BookPort {
     fn ask(&mut self, want: Want) -> Result<Reply, Fault>
         ensures { Tells (port_of (told self.old) (refusals self.old)) want result
             (port_of (told self.new) (refusals self.new)) };
+
+    /// The same for a fetch that waits until the job has ended, so many milliseconds at the most.
+    fn fetch_within(&mut self, job: u64, wait: u64) -> Result<Reply, Fault>
+        ensures { Tells (port_of (told self.old) (refusals self.old)) (Fetch job) result
+            (port_of (told self.new) (refusals self.new)) };
 }
 
 /// The port over a desk and a pass: each call that is made leaves a receipt in the pass, and the desk's faults are its
 /// refusals.
 #[derive(Drop)]
-pub struct DeskPort<'a, J: Naming, R: Wait> {
+pub struct DeskPort<'a, J: Naming, R: Wait + Clock> {
     rt: &'a R,
     desk: &'a Desk<J>,
     pass: Pass<J>,
@@ -37,7 +46,7 @@ pub struct DeskPort<'a, J: Naming, R: Wait> {
     refusals: u64,
 }
 
-impl<'a, J: Naming, R: Wait> Model for DeskPort<'a, J, R> {
+impl<'a, J: Naming, R: Wait + Clock> Model for DeskPort<'a, J, R> {
     ghost use Rattle.std.specs.Prelude.{◌≤◌, length};
     ghost use Rattle.dd_session.specs.Ports.{DeskPortOf};
 
@@ -48,7 +57,7 @@ impl<'a, J: Naming, R: Wait> Model for DeskPort<'a, J, R> {
     ghost invariant = { λ p. p.before ≤ length p.pass.receipts };
 }
 
-impl<'a, J: Naming, R: Wait> DeskPort<'a, J, R> {
+impl<'a, J: Naming, R: Wait + Clock> DeskPort<'a, J, R> {
     /// A port that has told nothing and refused nothing. It takes no memory.
     pub fn new(rt: &'a R, desk: &'a Desk<J>, pass: Pass<J>) -> DeskPort<'a, J, R>
         ensures { result ≡ new_port pass }
@@ -78,7 +87,7 @@ impl<'a, J: Naming, R: Wait> DeskPort<'a, J, R> {
     }
 }
 
-impl<'a, J: Naming, R: Wait> BookPort for DeskPort<'a, J, R> {
+impl<'a, J: Naming, R: Wait + Clock> BookPort for DeskPort<'a, J, R> {
     ghost use Rattle.dd_session.specs.Ports.{told_at};
 
     ghost told = { λ p. told_at p };
@@ -89,7 +98,17 @@ impl<'a, J: Naming, R: Wait> BookPort for DeskPort<'a, J, R> {
         match call(self.rt, self.desk, &mut self.pass, want) {
             Ok(reply) => Ok(reply),
             Err(fault) => {
-                self.refusals = self.refusals.saturating_add(1);
+                self.refusals = one_more(self.refusals);
+                Err(fault)
+            }
+        }
+    }
+
+    fn fetch_within(&mut self, job: u64, wait: u64) -> Result<Reply, Fault> {
+        match fetch_within(self.rt, self.desk, &mut self.pass, job, wait) {
+            Ok(reply) => Ok(reply),
+            Err(fault) => {
+                self.refusals = one_more(self.refusals);
                 Err(fault)
             }
         }
@@ -111,4 +130,25 @@ fn call<J: Naming, R: Wait>(
         Want::Fetch(job) => desk.fetch(rt, pass, job),
         Want::Stop => desk.shut(rt, pass),
     }
+}
+
+/// The fetch at the desk that waits.
+fn fetch_within<J: Naming, R: Wait + Clock>(
+    rt: &R,
+    desk: &Desk<J>,
+    pass: &mut Pass<J>,
+    job: u64,
+    wait: u64,
+) -> Result<Reply, Fault>
+    ensures { IsTold pass.old (Fetch pass.old.number job) result pass.new }
+{
+    let (told, _) = desk.fetch_within(rt, pass, job, Duration::from_millis(wait));
+    told
+}
+
+/// The count of one refusal more.
+fn one_more(refusals: u64) -> u64
+    ensures { result ≡ one_more refusals }
+{
+    refusals.saturating_add(1)
 }

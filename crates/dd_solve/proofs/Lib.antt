@@ -3,3 +3,4 @@ pub mod Best
 pub mod ByScore
 pub mod Openings
 pub mod Parts
+pub mod Reaching

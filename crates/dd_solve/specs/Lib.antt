@@ -1,4 +1,5 @@
 pub mod Questions
 pub mod Results
 pub mod ScoredClasses
+pub mod Targets
 pub mod Classes

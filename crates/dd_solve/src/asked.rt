@@ -2,6 +2,7 @@ ghost use Rattle.std.specs.Prelude.{◌≡◌};
 
 use crate::request::Request;
 use crate::table_request::TableRequest;
+use crate::target_request::TargetRequest;
 
 /// What a line asks for.
 #[derive(Drop)]
@@ -10,6 +11,8 @@ pub enum Asked {
     Solve(Request),
     /// The twenty results of a deal.
     Table(TableRequest),
+    /// The cards of a position that reach a target.
+    Target(TargetRequest),
 }
 
 impl Asked {
@@ -20,6 +23,7 @@ impl Asked {
         match self {
             Asked::Solve(request) => Asked::Solve(request.copy()),
             Asked::Table(request) => Asked::Table(request.copy()),
+            Asked::Target(request) => Asked::Target(request.copy()),
         }
     }
 }

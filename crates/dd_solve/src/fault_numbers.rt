@@ -68,3 +68,6 @@ pub const WRONG_RESULT: u8 = 22;
 
 /// The hands are not of thirteen cards.
 pub const NOT_THIRTEEN: u8 = 23;
+
+/// The target is over 13.
+pub const WRONG_TARGET: u8 = 27;

@@ -1,4 +1,5 @@
-//! What may be asked of a position or of hands, and the answers: the classes of cards with their scores, and the twenty results.
+//! What may be asked of a position or of hands, and the answers: the classes of cards with their scores, those that reach a
+//! target, and the twenty results.
 #![tactic(auto)]
 
 mod answer;
@@ -10,6 +11,8 @@ mod solving;
 mod table_part;
 mod table_request;
 mod table_solving;
+mod target_request;
+mod target_solving;
 
 pub use answer::{Answer, Scored};
 pub use asked::Asked;
@@ -19,3 +22,5 @@ pub use solving::{Solved, solve};
 pub use table_part::{SolvedPart, solve_part};
 pub use table_request::{PARTS, TableRequest};
 pub use table_solving::solve_table;
+pub use target_request::{GREATEST_TARGET, TargetRequest};
+pub use target_solving::{SolvedTarget, solve_target};

@@ -1,14 +1,13 @@
 -- What a line of the line tool means: something, and one thing; and each meaning has a reply.
-use Rattle.std.proofs.Common.{◌≡◌, ℕ, ◌≤◌, Bool, false, refl, sym, ap, ◌∙◌, List, length}
-use Rattle.std.specs.Prelude.{Result, Ok, Err, nat_lt, Some}
-use Rattle.std.proofs.lemmas.Bool.{le-ltb}
+use Rattle.std.proofs.Common.{◌≡◌, ℕ, refl, sym, ap, ◌∙◌, List, length}
+use Rattle.std.specs.Prelude.{Result, Ok, Err, nat_lt}
 use Rattle.serde_json.specs.Data.{Members}
 use Rattle.dd_lines.specs.Line.{longest_line}
 use Rattle.dd_solve.specs.Results.{results}
 use Rattle.dd_score.specs.ParContracts.{par_contracts}
 use Rattle.dd_score.proofs.CallerLemmas.{some-par}
 use Rattle.dd_wire.specs.declared.fault.Fault.{Fault}
-use Rattle.dd_wire.specs.declared.fault.Fault.TheVariants.{LineTooLong, NotAnObject, OutOfMemory}
+use Rattle.dd_wire.specs.declared.fault.Fault.TheVariants.{LineTooLong, NotAnObject, WrongField, OutOfMemory}
 use Rattle.dd_wire.specs.declared.line_asked.LineAsked.{LineAsked}
 use Rattle.dd_wire.specs.declared.line_asked.LineAsked.TheVariants.{Cards, Par, ParOfDeal}
 use Rattle.dd_wire.specs.declared.par_request.Conditions.{Conditions}
@@ -17,17 +16,10 @@ use Rattle.dd_wire.specs.Lines.{Means, MeansMembers}
 use Rattle.dd_wire.specs.ParLines.{par_fields}
 use Rattle.dd_wire.specs.ParReplies.{TellsPar, par_text, rows_of}
 use Rattle.dd_wire.specs.Replies.{asked_text, fault_text}
-use Rattle.dd_wire.specs.Requests.{MeansObject, object_of}
+use Rattle.dd_wire.specs.Requests.{MeansObject, object_of, wait_at}
 use Rattle.dd_wire.proofs.Meanings.{SomeMeaning, by-test, by-option, by-fields, some-object, some-way, object-memory, way-memory}
 use Rattle.dd_wire.proofs.OneMeaning.{AtMostOne, both, one-by-test, one-by-option, one-object, one-way}
 use Rattle.dd_wire.proofs.ParMeanings.{some-given, one-given, given-memory}
-
--- a line that is not too long means what the members of its object mean
-pub means-members : (line : List ℕ) (object : Members) (meaning : Result LineAsked Fault)
-    → length line ≤ longest_line → object_of line ≡ Some object → MeansMembers object meaning → Means line meaning
-means-members line object meaning short is means =
-    let test : nat_lt longest_line (length line) ≡ false = le-ltb longest_line (length line) short in
-    rw (test, is) means
 
 -- ---- every line has a meaning
 some-members : (members : Members) → SomeMeaning (MeansMembers members)
@@ -37,7 +29,8 @@ some-members members =
 pub some-meaning : (line : List ℕ) → (meaning : Result LineAsked Fault) × Means line meaning
 some-meaning line =
     by-test (nat_lt longest_line (length line)) _ _ (λ _. (Err LineTooLong, refl)) (λ _.
-    by-option (object_of line) _ _ (Err NotAnObject, refl) (λ members _. some-members members))
+    by-option (object_of line) _ _ (Err NotAnObject, refl) (λ members _.
+    by-option (wait_at members) _ _ (Err WrongField, refl) (λ wait _. some-members members)))
 
 -- ---- and one
 one-members : (members : Members) → AtMostOne (MeansMembers members)
@@ -47,7 +40,8 @@ one-members members =
 pub one-meaning : (line : List ℕ) (a b : Result LineAsked Fault) → Means line a → Means line b → a ≡ b
 one-meaning line =
     one-by-test (nat_lt longest_line (length line)) _ _ (both _)
-    (one-by-option (object_of line) _ _ (both _) one-members)
+    (one-by-option (object_of line) _ _ (both _) (λ members.
+    one-by-option (wait_at members) _ _ (both _) (λ wait. one-members members)))
 
 -- ---- no meaning is that memory ran out
 pub members-memory : (members : Members) → MeansMembers members (Err OutOfMemory) → ⊥

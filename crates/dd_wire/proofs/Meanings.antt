@@ -3,7 +3,6 @@ use Rattle.std.proofs.Common.{◌≡◌, ℕ, zero, suc, ◌+◌, ◌<◌, ◌�
 use Rattle.std.specs.Prelude.{◌&&◌, Option, None, Some, Result, Ok, Err, MatchOption, map, nat_lt, nat_le, if◌then◌else◌}
 use Rattle.std.specs.Bool.{MatchBool}
 use Rattle.std.specs.List.{list_all}
-use Rattle.std.specs.Result.{IfOk, IfErr}
 use Rattle.std.proofs.lemmas.Bool.{ltb-false, le-ltb, le-leb, ltb-true, cases_Bool}
 use Rattle.std.proofs.lemmas.Bool.Decides.{eqb_tells, leb_tells}
 use Rattle.serde_json.specs.Data.{Members}
@@ -30,36 +29,51 @@ use Rattle.dd_play.specs.Board.{Board, board_of, times_in, NoneTwice, IsEven, tr
 use Rattle.dd_play.proofs.CallerLemmas.{times_in-once}
 use Rattle.dd_pbn.specs.Values.{begins_tag}
 use Rattle.dd_wire.specs.declared.fault.Fault.{Fault}
-use Rattle.dd_wire.specs.declared.fault.Fault.TheVariants.{WrongField, CardTwice, WrongTrump, WrongFirst, WrongPlayed, WrongSolutions, UnevenHands, NoCard, OutOfMemory}
+use Rattle.dd_wire.specs.declared.fault.Fault.TheVariants.{WrongField, CardTwice, WrongTrump, WrongFirst, WrongPlayed, WrongSolutions, WrongTarget, UnevenHands, NoCard, OutOfMemory}
 use Rattle.dd_solve.specs.Questions.{Question}
-use Rattle.dd_wire.specs.Requests.{SolveFields, MeansObject, MeansDeal, MeansTable, MeansFields, MeansHands, MeansBoard, IsAskedOf, SpellsDeal, SpellsNone, asked_as, deal_fault, are_cards, pair_of_card, solve_fields, table_deal}
+use Rattle.dd_solve.specs.Targets.{TargetQuestion}
+use Rattle.dd_wire.specs.Requests.{SolveFields, TargetFields, MeansObject, MeansDeal, MeansTable, MeansFields, MeansTargetFields, MeansStart, MeansCards, MeansHands, MeansTargetHands, MeansBoard, IsAskedOf, are_solutions, question, target_question, target_fields, SpellsDeal, SpellsNone, asked_as, deal_fault, are_cards, pair_of_card, solve_fields, table_deal}
 use Rattle.dd_solve.specs.declared.asked.Asked.{Asked}
-use Rattle.dd_solve.specs.declared.asked.Asked.TheVariants.{Solve, Table}
+use Rattle.dd_solve.specs.declared.asked.Asked.TheVariants.{Solve, Table, Target}
 use Rattle.dd_solve.specs.Results.{AreEven}
 use Rattle.dd_wire.proofs.Pairs.{is_card}
 use Rattle.dd_wire.proofs.Starts.{means-twice, means-uneven, means-empty, means-some}
 
 -- ---- from the fields to the cards
--- with a strain, a leader, cards played and solutions in range the cards together decide
-pub means-cards : (fields : SolveFields) (hands : FourHands) (strain : Strain) (first : Seat) (trick : List PlayingCard) (meaning : Result Question Fault)
-    → strain_code strain ≡ fields.trump → fields.trump ≤ 4 → seat_code first ≡ fields.first → fields.first < 4 → map pair_of_card trick ≡ fields.played → are_cards fields.played ≡ true
-    → 1 ≤ fields.solutions → fields.solutions ≤ 3 → MeansBoard (board_of hands strain first trick) fields.solutions meaning → MeansHands fields hands meaning
-means-cards fields hands strain first trick meaning trump low leader below played cards least most means =
+-- with a strain, a leader and cards played in range the rest decides
+pub means-start : {A : Type 0} (fields : SolveFields) (Rest : Result A Fault → Type 0) (meaning : Result A Fault)
+    → fields.trump ≤ 4 → fields.first < 4 → are_cards fields.played ≡ true → Rest meaning → MeansStart fields Rest meaning
+means-start fields Rest meaning low below cards means =
     let strain-test : nat_lt 4 fields.trump ≡ false = le-ltb 4 fields.trump low in
     let first-test : nat_lt 3 fields.first ≡ false = le-ltb 3 fields.first (omega arith) in
+    rw (strain-test, first-test, cards) means
+
+-- solutions in range
+pub solutions-in : (fields : SolveFields) (most : ℕ) → 1 ≤ fields.solutions → fields.solutions ≤ most → are_solutions fields most ≡ true
+solutions-in fields most least bound =
     let least-test : nat_le 1 fields.solutions ≡ true = le-leb 1 fields.solutions least in
-    let most-test : nat_le fields.solutions 3 ≡ true = le-leb fields.solutions 3 most in
-    rw (strain-test, first-test, cards, least-test, most-test) (board_of hands strain first trick, record { hands = refl; strain = trump; first = leader; trick = played }, means)
+    let most-test : nat_le fields.solutions most ≡ true = le-leb fields.solutions most bound in
+    rw (least-test, most-test) refl
 
--- what holds of a result at hand holds of its value
-pub at-ok : {A E : Type 0} (result : Result A E) (P : Result A E → Type 0) → P result → IfOk result (λ x. P (Ok x))
-at-ok (Ok x) P holds = holds
-at-ok (Err e) P holds = tt
+-- with solutions in range too the cards together decide
+pub means-cards : (fields : SolveFields) (hands : FourHands) (strain : Strain) (first : Seat) (trick : List PlayingCard) (meaning : Result Question Fault)
+    → strain_code strain ≡ fields.trump → fields.trump ≤ 4 → seat_code first ≡ fields.first → fields.first < 4 → map pair_of_card trick ≡ fields.played → are_cards fields.played ≡ true
+    → 1 ≤ fields.solutions → fields.solutions ≤ 3 → MeansBoard (board_of hands strain first trick) (question fields.solutions (board_of hands strain first trick)) meaning → MeansHands fields hands meaning
+means-cards fields hands strain first trick meaning trump low leader below played cards least most means =
+    let test : are_solutions fields 3 ≡ true = solutions-in fields 3 least most in
+    means-start fields _ meaning low below cards
+    (rw test (board_of hands strain first trick, record { hands = refl; strain = trump; first = leader; trick = played }, means))
 
--- and of its error
-pub at-err : {A E : Type 0} (result : Result A E) (P : Result A E → Type 0) → P result → IfErr result (λ e. P (Err e))
-at-err (Ok x) P holds = tt
-at-err (Err e) P holds = holds
+-- and with a target in range
+pub means-target_cards : (fields : TargetFields) (hands : FourHands) (strain : Strain) (first : Seat) (trick : List PlayingCard) (meaning : Result TargetQuestion Fault)
+    → strain_code strain ≡ fields.solve.trump → fields.solve.trump ≤ 4 → seat_code first ≡ fields.solve.first → fields.solve.first < 4 → map pair_of_card trick ≡ fields.solve.played
+    → are_cards fields.solve.played ≡ true → 1 ≤ fields.solve.solutions → fields.solve.solutions ≤ 2 → fields.target ≤ 13
+    → MeansBoard (board_of hands strain first trick) (target_question fields (board_of hands strain first trick)) meaning → MeansTargetHands fields hands meaning
+means-target_cards fields hands strain first trick meaning trump low leader below played cards least most target means =
+    let test : are_solutions fields.solve 2 ≡ true = solutions-in fields.solve 2 least most in
+    let target-test : nat_lt 13 fields.target ≡ false = le-ltb 13 fields.target target in
+    means-start fields.solve _ meaning low below cards
+    (rw (test, target-test) (board_of hands strain first trick, record { hands = refl; strain = trump; first = leader; trick = played }, means))
 
 -- ---- every line has a meaning
 -- some meaning is such
@@ -125,15 +139,15 @@ same-decided f g (suc n) =
 pub even-decided : (p : Board) → IsEven p ⊎ (IsEven p → ⊥)
 even-decided p = same-decided (λ k. length (cards_at p (seat_after p.first k)) + (if nat_lt k (length p.trick) then 1 else 0)) (λ _. tricks_left p) 4
 
-some-board : (board : Board) (solutions : ℕ) → AreHands board.hands → SomeMeaning (MeansBoard board solutions)
-some-board board solutions are =
+some-board : {A : Type 0} (board : Board) (asked : A) → AreHands board.hands → SomeMeaning (MeansBoard board asked)
+some-board board asked are =
     elim (none-twice-decided board are) [
-      | inr double ↦ (Err CardTwice, means-twice board solutions double)
+      | inr double ↦ (Err CardTwice, means-twice board asked double)
       | inl once ↦ elim (even-decided board) [
-        | inr odd ↦ (Err UnevenHands, means-uneven board solutions once odd)
+        | inr odd ↦ (Err UnevenHands, means-uneven board asked once odd)
         | inl even ↦ elim (eqb_tells (tricks_left board) 0) [
-          | inl none ↦ (Err NoCard, means-empty board solutions once even none.1)
-          | inr some ↦ (Ok (record { board = board; solutions = solutions }), means-some board solutions once even (let ne = some.1 in omega arith))
+          | inl none ↦ (Err NoCard, means-empty board asked once even none.1)
+          | inr some ↦ (Ok asked, means-some board asked once even (let ne = some.1 in omega arith))
         ]
       ]
     ]
@@ -178,27 +192,39 @@ cards-of ((suit, rank) ∷ pairs) all =
     ]
 
 -- ---- the fields
-some-cards : (fields : SolveFields) (hands : FourHands) → AreHands hands → fields.trump ≤ 4 → fields.first ≤ 3 → are_cards fields.played ≡ true
-    → SomeMeaning (λ m. (board : Board) × IsAskedOf hands fields board × MeansBoard board fields.solutions m)
-some-cards fields hands are trump first played =
+some-cards : {A : Type 0} (fields : SolveFields) (hands : FourHands) (asked : Board → A) → AreHands hands → fields.trump ≤ 4 → fields.first ≤ 3 → are_cards fields.played ≡ true
+    → SomeMeaning (MeansCards fields hands asked)
+some-cards fields hands asked are trump first played =
     let strain = strain-of fields.trump trump in
     let seat = seat-of fields.first first in
     let cards = cards-of fields.played (and-right (nat_le (length fields.played) 3) (list_all is_card fields.played) played) in
     let board = board_of hands strain.0 seat.0 cards.0 in
-    let means = some-board board fields.solutions are in
+    let means = some-board board (asked board) are in
     (means.0, (board, record { hands = refl; strain = strain.1; first = seat.1; trick = cards.1 }, means.1))
   where
     and-right : (a b : Bool) → (a && b) ≡ true → b ≡ true
     and-right true b both = both
     and-right false b both = absurd (cc)
 
-some-hands : (fields : SolveFields) (hands : FourHands) → AreHands hands → SomeMeaning (MeansHands fields hands)
-some-hands fields hands are =
+some-start : {A : Type 0} (fields : SolveFields) (Rest : Result A Fault → Type 0) → (fields.trump ≤ 4 → fields.first ≤ 3 → are_cards fields.played ≡ true → SomeMeaning Rest)
+    → SomeMeaning (MeansStart fields Rest)
+some-start fields Rest rest =
     by-test (nat_lt 4 fields.trump) _ _ (λ _. (Err WrongTrump, refl)) (λ trump.
     by-test (nat_lt 3 fields.first) _ _ (λ _. (Err WrongFirst, refl)) (λ first.
-    by-test (are_cards fields.played) _ _ (λ played.
-    by-test (nat_le 1 fields.solutions && nat_le fields.solutions 3) _ _ (λ _. some-cards fields hands are (ltb-false 4 fields.trump trump) (ltb-false 3 fields.first first) played) (λ _. (Err WrongSolutions, refl)))
+    by-test (are_cards fields.played) _ _ (rest (ltb-false 4 fields.trump trump) (ltb-false 3 fields.first first))
     (λ _. (Err WrongPlayed, refl))))
+
+some-hands : (fields : SolveFields) (hands : FourHands) → AreHands hands → SomeMeaning (MeansHands fields hands)
+some-hands fields hands are =
+    some-start fields _ (λ trump first played.
+    by-test (are_solutions fields 3) _ _ (λ _. some-cards fields hands (question fields.solutions) are trump first played) (λ _. (Err WrongSolutions, refl)))
+
+some-target_hands : (fields : TargetFields) (hands : FourHands) → AreHands hands → SomeMeaning (MeansTargetHands fields hands)
+some-target_hands fields hands are =
+    some-start fields.solve _ (λ trump first played.
+    by-test (are_solutions fields.solve 2) _ _
+    (λ _. by-test (nat_lt 13 fields.target) _ _ (λ _. (Err WrongTarget, refl)) (λ _. some-cards fields.solve hands (target_question fields) are trump first played))
+    (λ _. (Err WrongSolutions, refl)))
 
 -- a text spells some deal, or it has a fault
 spelled-decided : (text : List ℕ) → ((hands : FourHands) × AreHands hands × SpellsDeal text hands) ⊎ ((fault : PbnFault) × SpellsNone text fault)
@@ -257,12 +283,14 @@ some-way way Is asked = (asked_as way asked.0, (asked.0, asked.1, refl))
 pub some-object : (members : Members) → SomeMeaning (MeansObject members)
 some-object members =
     by-option (table_deal members) _ _
+    (by-option (target_fields members) _ _
     (by-option (solve_fields members) _ _ (Err WrongField, refl) (λ fields _. some-way Solve (MeansFields fields) (some-deal fields.deal (MeansHands fields) (some-hands fields))))
+    (λ fields _. some-way Target (MeansTargetFields fields) (some-deal fields.solve.deal (MeansTargetHands fields) (some-target_hands fields))))
     (λ deal _. some-way Table (MeansDeal deal MeansTable) (some-deal deal MeansTable (λ hands _. some-table hands)))
 
 -- ---- no meaning is that memory ran out
-board-memory : (board : Board) (solutions : ℕ) → MeansBoard board solutions (Err OutOfMemory) → ⊥
-board-memory board solutions means =
+board-memory : {A : Type 0} (board : Board) (asked : A) → MeansBoard board asked (Err OutOfMemory) → ⊥
+board-memory board asked means =
     let twice : (NoneTwice board → ⊥) → ⊥ = λ double. (let no = means.twice double in cc) in
     twice (λ once.
     let uneven : (IsEven board → ⊥) → ⊥ = λ odd. (let no = means.uneven once odd in cc) in
@@ -275,13 +303,23 @@ by-bool : (b : Bool) (P Q : Type 0) → (P → ⊥) → (Q → ⊥) → MatchBoo
 by-bool true P Q p q held = p held
 by-bool false P Q p q held = q held
 
-hands-memory : (fields : SolveFields) (hands : FourHands) → MeansHands fields hands (Err OutOfMemory) → ⊥
-hands-memory fields hands =
+start-memory : {A : Type 0} (fields : SolveFields) (Rest : Result A Fault → Type 0) → (Rest (Err OutOfMemory) → ⊥) → MeansStart fields Rest (Err OutOfMemory) → ⊥
+start-memory fields Rest none =
     by-bool (nat_lt 4 fields.trump) _ _ (λ no. cc)
     (by-bool (nat_lt 3 fields.first) _ _ (λ no. cc)
-    (by-bool (are_cards fields.played) _ _
-    (by-bool (nat_le 1 fields.solutions && nat_le fields.solutions 3) _ _ (λ asked. board-memory asked.0 fields.solutions asked.2) (λ no. cc))
-    (λ no. cc)))
+    (by-bool (are_cards fields.played) _ _ none (λ no. cc)))
+
+hands-memory : (fields : SolveFields) (hands : FourHands) → MeansHands fields hands (Err OutOfMemory) → ⊥
+hands-memory fields hands =
+    start-memory fields _
+    (by-bool (are_solutions fields 3) _ _ (λ asked. board-memory asked.0 (question fields.solutions asked.0) asked.2) (λ no. cc))
+
+target_hands-memory : (fields : TargetFields) (hands : FourHands) → MeansTargetHands fields hands (Err OutOfMemory) → ⊥
+target_hands-memory fields hands =
+    start-memory fields.solve _
+    (by-bool (are_solutions fields.solve 2) _ _
+    (by-bool (nat_lt 13 fields.target) _ _ (λ no. cc) (λ asked. board-memory asked.0 (target_question fields asked.0) asked.2))
+    (λ no. cc))
 
 fault-memory : {A : Type 0} (fault : PbnFault) (meaning : Result A Fault) → meaning ≡ Err OutOfMemory → meaning ≡ Err (deal_fault fault) → ⊥
 fault-memory Grammar meaning is e = cc
@@ -315,5 +353,14 @@ way-memory way Is none (Err fault) is e = none (subst (λ (f : Fault). Is (Err f
 pub object-memory : (members : Members) → MeansObject members (Err OutOfMemory) → ⊥
 object-memory members =
     by-fields (table_deal members) _ _
+    (by-fields (target_fields members) _ _
     (by-fields (solve_fields members) _ _ (λ no. cc) (λ fields means. way-memory Solve (MeansFields fields) (deal-memory fields.deal (MeansHands fields) (hands-memory fields)) means.0 means.1 means.2))
+    (λ fields means. way-memory Target (MeansTargetFields fields) (deal-memory fields.solve.deal (MeansTargetHands fields) (target_hands-memory fields)) means.0 means.1 means.2))
     (λ deal means. way-memory Table (MeansDeal deal MeansTable) (deal-memory deal MeansTable table-memory) means.0 means.1 means.2)
+
+-- so no fault that is handed on is it
+pub never-memory : {A B : Type 0} (Is : Result A Fault → Type 0) (told : Result A Fault) (back : Result B Fault) (fault given : Fault) → (Is (Err OutOfMemory) → ⊥)
+    → Is told → told ≡ Err fault → back ≡ Err given → given ≡ fault → back ≡ Err OutOfMemory → ⊥
+never-memory Is told back fault given never is at hands from out =
+    let same : fault ≡ OutOfMemory = cc in
+    never (subst (λ (f : Fault). Is (Err f)) same (subst Is at is))

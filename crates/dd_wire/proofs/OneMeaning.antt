@@ -21,8 +21,8 @@ use Rattle.dd_pbn.specs.Values.{begins_tag}
 use Rattle.dd_wire.specs.declared.fault.Fault.{Fault}
 use Rattle.serde_json.specs.Data.{Members}
 use Rattle.dd_solve.specs.declared.asked.Asked.{Asked}
-use Rattle.dd_solve.specs.declared.asked.Asked.TheVariants.{Solve, Table}
-use Rattle.dd_wire.specs.Requests.{SolveFields, MeansObject, MeansDeal, MeansTable, MeansFields, MeansHands, MeansBoard, IsAskedOf, asked_as, table_deal, deal_fault, are_cards, pair_of_card, solve_fields}
+use Rattle.dd_solve.specs.declared.asked.Asked.TheVariants.{Solve, Table, Target}
+use Rattle.dd_wire.specs.Requests.{SolveFields, TargetFields, MeansObject, MeansDeal, MeansTable, MeansFields, MeansTargetFields, MeansStart, MeansCards, MeansHands, MeansTargetHands, MeansBoard, IsAskedOf, are_solutions, question, target_question, target_fields, asked_as, table_deal, deal_fault, are_cards, pair_of_card, solve_fields}
 use Rattle.dd_wire.proofs.Meanings.{none-twice-decided, even-decided, hands-decided}
 
 -- two meanings that are one value are one
@@ -42,8 +42,8 @@ one-by-option None P Q one_p one_q = one_p
 one-by-option (Some x) P Q one_p one_q = one_q x
 
 -- ---- the cards together
-one-board : (board : Board) (solutions : ℕ) → AreHands board.hands → AtMostOne (MeansBoard board solutions)
-one-board board solutions are a b means_a means_b =
+one-board : {A : Type 0} (board : Board) (asked : A) → AreHands board.hands → AtMostOne (MeansBoard board asked)
+one-board board asked are a b means_a means_b =
     elim (none-twice-decided board are) [
       | inr double ↦ both _ a b (means_a.twice double) (means_b.twice double)
       | inl once ↦ elim (even-decided board) [
@@ -83,19 +83,29 @@ one-asked hands fields x y asks_x asks_y =
     (seat_code-injective x.first y.first (asks_x.first ∙ sym asks_y.first))
     (one-trick x.trick y.trick (asks_x.trick ∙ sym asks_y.trick))
 
-one-hands : (fields : SolveFields) (hands : FourHands) → AreHands hands → AtMostOne (MeansHands fields hands)
-one-hands fields hands are =
+one-cards : {A : Type 0} (fields : SolveFields) (hands : FourHands) (asked : Board → A) → AreHands hands → AtMostOne (MeansCards fields hands asked)
+one-cards fields hands asked are a b (x, asks_x, means_x) (y, asks_y, means_y) =
+    let same : y ≡ x = one-asked hands fields y x asks_y asks_x in
+    let valid : AreHands x.hands = rw asks_x.hands are in
+    one-board x (asked x) valid a b means_x (subst (λ (board : Board). MeansBoard board (asked board) b) same means_y)
+
+one-start : {A : Type 0} (fields : SolveFields) (Rest : Result A Fault → Type 0) → AtMostOne Rest → AtMostOne (MeansStart fields Rest)
+one-start fields Rest one =
     one-by-test (nat_lt 4 fields.trump) _ _ (both _)
     (one-by-test (nat_lt 3 fields.first) _ _ (both _)
-    (one-by-test (are_cards fields.played) _ _
-    (one-by-test (nat_le 1 fields.solutions && nat_le fields.solutions 3) _ _ cards (both _))
-    (both _)))
-  where
-    cards : AtMostOne (λ m. (board : Board) × IsAskedOf hands fields board × MeansBoard board fields.solutions m)
-    cards a b (x, asks_x, means_x) (y, asks_y, means_y) =
-        let same : y ≡ x = one-asked hands fields y x asks_y asks_x in
-        let valid : AreHands x.hands = rw asks_x.hands are in
-        one-board x fields.solutions valid a b means_x (subst (λ (board : Board). MeansBoard board fields.solutions b) same means_y)
+    (one-by-test (are_cards fields.played) _ _ one (both _)))
+
+one-hands : (fields : SolveFields) (hands : FourHands) → AreHands hands → AtMostOne (MeansHands fields hands)
+one-hands fields hands are =
+    one-start fields _
+    (one-by-test (are_solutions fields 3) _ _ (one-cards fields hands (question fields.solutions) are) (both _))
+
+one-target_hands : (fields : TargetFields) (hands : FourHands) → AreHands hands → AtMostOne (MeansTargetHands fields hands)
+one-target_hands fields hands are =
+    one-start fields.solve _
+    (one-by-test (are_solutions fields.solve 2) _ _
+    (one-by-test (nat_lt 13 fields.target) _ _ (both _) (one-cards fields.solve hands (target_question fields) are))
+    (both _))
 
 -- ---- the deal
 -- what reading a text of one of the two forms gives
@@ -158,5 +168,7 @@ one-way way Is one a b (x, is_x, e) (y, is_y, f) = e ∙ ap (asked_as way) (one 
 pub one-object : (members : Members) → AtMostOne (MeansObject members)
 one-object members =
     one-by-option (table_deal members) _ _
+    (one-by-option (target_fields members) _ _
     (one-by-option (solve_fields members) _ _ (both _) (λ fields. one-way Solve (MeansFields fields) (one-deal fields.deal (MeansHands fields) (one-hands fields))))
+    (λ fields. one-way Target (MeansTargetFields fields) (one-deal fields.solve.deal (MeansTargetHands fields) (one-target_hands fields))))
     (λ deal. one-way Table (MeansDeal deal MeansTable) (one-deal deal MeansTable (λ hands _. one-table hands)))

@@ -16,7 +16,7 @@ use Rattle.dd_play.specs.Board.{board_of, NoneTwice, IsEven}
 use Rattle.dd_play.proofs.CallerLemmas.{times_in-once}
 use Rattle.dd_pbn.specs.Values.{begins_tag}
 use Rattle.dd_wire.specs.declared.fault.Fault.TheVariants.{CardTwice}
-use Rattle.dd_wire.specs.Requests.{SolveFields, MeansBoard, object_of, solve_fields, are_cards}
+use Rattle.dd_wire.specs.Requests.{SolveFields, MeansBoard, question, object_of, solve_fields, are_cards}
 use Rattle.dd_wire.proofs.Starts.{means-twice, means-some}
 
 -- the fields of a line
@@ -96,13 +96,13 @@ none-twice : (hands : FourHands) (strain : Strain) (first : Seat) → AreHands h
 none-twice hands strain first are c = let one = times_in-once hands c are in omega arith
 
 -- East is asked for the best cards
-pub asks-best : MeansBoard (board_of two_suits Notrump East []) 2 (Ok (record { board = board_of two_suits Notrump East []; solutions = 2 }))
-asks-best = means-some (board_of two_suits Notrump East []) 2 (none-twice two_suits Notrump East spades-and-hearts.0) suits-even (omega arith)
+pub asks-best : MeansBoard (board_of two_suits Notrump East []) (question 2 (board_of two_suits Notrump East [])) (Ok (record { board = board_of two_suits Notrump East []; solutions = 2 }))
+asks-best = means-some (board_of two_suits Notrump East []) (question 2 (board_of two_suits Notrump East [])) (none-twice two_suits Notrump East spades-and-hearts.0) suits-even (omega arith)
 
 -- North is asked for every card
-pub asks-all : MeansBoard (board_of eight_spades (Trump Spades) North []) 3 (Ok (record { board = board_of eight_spades (Trump Spades) North []; solutions = 3 }))
-asks-all = means-some (board_of eight_spades (Trump Spades) North []) 3 (none-twice eight_spades (Trump Spades) North tag-from-east.0) spades-even (omega arith)
+pub asks-all : MeansBoard (board_of eight_spades (Trump Spades) North []) (question 3 (board_of eight_spades (Trump Spades) North [])) (Ok (record { board = board_of eight_spades (Trump Spades) North []; solutions = 3 }))
+asks-all = means-some (board_of eight_spades (Trump Spades) North []) (question 3 (board_of eight_spades (Trump Spades) North [])) (none-twice eight_spades (Trump Spades) North tag-from-east.0) spades-even (omega arith)
 
 -- the ace that is led is still in North's hand
-pub ace-led : MeansBoard (board_of two_suits Notrump North (card_of Spades 14 ∷ [])) 3 (Err CardTwice)
-ace-led = means-twice (board_of two_suits Notrump North (card_of Spades 14 ∷ [])) 3 (λ once. (let most : 2 ≤ 1 = once (card_of Spades 14) in omega arith))
+pub ace-led : MeansBoard (board_of two_suits Notrump North (card_of Spades 14 ∷ [])) (question 3 (board_of two_suits Notrump North (card_of Spades 14 ∷ []))) (Err CardTwice)
+ace-led = means-twice (board_of two_suits Notrump North (card_of Spades 14 ∷ [])) (question 3 (board_of two_suits Notrump North (card_of Spades 14 ∷ []))) (λ once. (let most : 2 ≤ 1 = once (card_of Spades 14) in omega arith))

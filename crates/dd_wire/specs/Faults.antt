@@ -1,8 +1,8 @@
 -- To be believed: the numbers of the faults of a line.
 use Rattle.std.specs.Prelude.{ℕ}
-use Rattle.dd_solve.specs.declared.fault_numbers.TheConstants.{CARD_TWICE, DEAL_TEXT, HAND_LEFT_OUT, LINE_TOO_LONG, NOT_AN_OBJECT, NOT_THIRTEEN, NO_CARD, OUT_OF_MEMORY, UNEVEN_HANDS, WRONG_FIELD, WRONG_FIRST, WRONG_ORDER, WRONG_PLAYED, WRONG_RESULT, WRONG_SOLUTIONS, WRONG_TRUMP, WRONG_VULNERABLE}
+use Rattle.dd_solve.specs.declared.fault_numbers.TheConstants.{CARD_TWICE, DEAL_TEXT, HAND_LEFT_OUT, LINE_TOO_LONG, NOT_AN_OBJECT, NOT_THIRTEEN, NO_CARD, OUT_OF_MEMORY, UNEVEN_HANDS, WRONG_FIELD, WRONG_FIRST, WRONG_ORDER, WRONG_PLAYED, WRONG_RESULT, WRONG_SOLUTIONS, WRONG_TARGET, WRONG_TRUMP, WRONG_VULNERABLE}
 use Rattle.dd_wire.specs.declared.fault.Fault.{Fault}
-use Rattle.dd_wire.specs.declared.fault.Fault.TheVariants.{LineTooLong, NotAnObject, WrongField, DealText, HandLeftOut, CardTwice, WrongTrump, WrongFirst, WrongPlayed, WrongSolutions, WrongOrder, WrongVulnerable, WrongResult, UnevenHands, NoCard, NotThirteen, OutOfMemory}
+use Rattle.dd_wire.specs.declared.fault.Fault.TheVariants.{LineTooLong, NotAnObject, WrongField, DealText, HandLeftOut, CardTwice, WrongTrump, WrongFirst, WrongPlayed, WrongSolutions, WrongTarget, WrongOrder, WrongVulnerable, WrongResult, UnevenHands, NoCard, NotThirteen, OutOfMemory}
 
 -- the number of a fault in a reply
 abbrev pub fault_number : Fault → ℕ
@@ -18,6 +18,7 @@ fault_number WrongTrump = WRONG_TRUMP
 fault_number WrongFirst = WRONG_FIRST
 fault_number WrongPlayed = WRONG_PLAYED
 fault_number WrongSolutions = WRONG_SOLUTIONS
+fault_number WrongTarget = WRONG_TARGET
 fault_number OutOfMemory = OUT_OF_MEMORY
 fault_number WrongOrder = WRONG_ORDER
 fault_number WrongVulnerable = WRONG_VULNERABLE

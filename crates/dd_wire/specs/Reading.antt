@@ -9,8 +9,9 @@ use Rattle.dd_play.specs.declared.play_fault.PlayFault.TheVariants.{Played, Twic
 use Rattle.dd_wire.specs.declared.fault.Fault.{Fault}
 use Rattle.dd_wire.specs.declared.fault.Fault.TheVariants.{NotAnObject, CardTwice, WrongPlayed, UnevenHands, NoCard, OutOfMemory}
 use Rattle.dd_wire.specs.declared.request_reader.SolveFields as kept
+use Rattle.dd_wire.specs.declared.target_reader.TargetFields as kept_target
 use Rattle.dd_wire.specs.declared.request_reader.TheConstants.{MOST_PLAYED}
-use Rattle.dd_wire.specs.Requests.{SolveFields, object_of, pair_of_value, are_cards, pair_of_card}
+use Rattle.dd_wire.specs.Requests.{SolveFields, TargetFields, object_of, pair_of_value, are_cards, pair_of_card}
 
 -- why a line gives no object: memory ran out, or the line is none
 abbrev pub IsUnread : List ℕ → Fault → Type 0
@@ -48,6 +49,16 @@ pub record ReadsFields (read : Option SolveFields) (fields : kept.SolveFields) :
   pub pairs : List (ℕ × ℕ)
   pub are : read ≡ Some (fields_of fields pairs)
   pub played : ArePlayed (played_in fields) pairs
+
+-- the fields with a target, as the program keeps them, where these are the pairs
+abbrev pub target_fields_of : kept_target.TargetFields → List (ℕ × ℕ) → TargetFields
+target_fields_of fields pairs = record { solve = fields_of fields.solve pairs; target = fields.target }
+
+-- fields with a target were read, and the program keeps them so
+pub record ReadsTarget (read : Option TargetFields) (fields : kept_target.TargetFields) : Type 0 where
+  pub pairs : List (ℕ × ℕ)
+  pub are : read ≡ Some (target_fields_of fields pairs)
+  pub played : ArePlayed (played_in fields.solve) pairs
 
 -- the fault of a request whose cards are no position
 abbrev pub play_fault : PlayFault → Fault

@@ -6,8 +6,9 @@ use Rattle.dd_wire.specs.declared.fault.Fault.{Fault}
 use Rattle.dd_wire.specs.Faults.{fault_number}
 use Rattle.dd_solve.specs.Results.{results}
 use Rattle.dd_solve.specs.declared.asked.Asked.{Asked}
-use Rattle.dd_solve.specs.declared.asked.Asked.TheVariants.{Solve, Table}
+use Rattle.dd_solve.specs.declared.asked.Asked.TheVariants.{Solve, Table, Target}
 use Rattle.dd_solve.specs.ScoredClasses.{ScoredClass, answer}
+use Rattle.dd_solve.specs.Targets.{reaching}
 
 -- {"equals":e,"rank":r,"score":n,"suit":s}
 abbrev pub class_text : ScoredClass → List ℕ
@@ -58,3 +59,4 @@ spent_text = codes "{\"state\":\"spent\"}"
 abbrev pub asked_text : Asked → List ℕ
 asked_text (Solve question) = answer_text (answer question.board question.solutions)
 asked_text (Table hands) = table_text (results hands)
+asked_text (Target question) = answer_text (reaching question.board question.target question.solutions)

@@ -1,5 +1,5 @@
 -- To be believed: what a request line means: the position and the number of cards that it asks for, or its first fault.
-use Rattle.std.specs.Prelude.{◌≡◌, ℕ, ◌<◌, ◌⊎◌, ◌&&◌, Bool, List, [], ◌∷◌, map, nat_lt, nat_le, length, codes, Option, None, Some, option_and_then, Result, Ok, Err, MatchOption, if◌then◌else◌}
+use Rattle.std.specs.Prelude.{◌≡◌, ℕ, ◌<◌, ◌⊎◌, ◌&&◌, min, Bool, List, [], ◌∷◌, map, nat_lt, nat_le, length, codes, Option, None, Some, option_and_then, option_map, Result, Ok, Err, MatchOption, if◌then◌else◌}
 use Rattle.std.specs.Bool.{MatchBool}
 use Rattle.std.specs.List.{list_any, list_all}
 use Rattle.std.specs.Str.{is_utf8, bytes_eq}
@@ -19,11 +19,13 @@ use Rattle.dd_pbn.specs.Values.{begins_tag}
 use Rattle.dd_pbn.specs.Deals as deals
 use Rattle.dd_play.specs.Board.{Board, NoneTwice, IsEven, tricks_left}
 use Rattle.dd_solve.specs.Questions.{Question}
+use Rattle.dd_solve.specs.Targets.{TargetQuestion}
 use Rattle.dd_solve.specs.Results.{AreEven}
 use Rattle.dd_solve.specs.declared.asked.Asked.{Asked}
-use Rattle.dd_solve.specs.declared.asked.Asked.TheVariants.{Solve, Table}
+use Rattle.dd_solve.specs.declared.asked.Asked.TheVariants.{Solve, Table, Target}
+use Rattle.dd_wire.specs.declared.wish.TheConstants.{LONGEST_WAIT}
 use Rattle.dd_wire.specs.declared.fault.Fault.{Fault}
-use Rattle.dd_wire.specs.declared.fault.Fault.TheVariants.{WrongField, DealText, HandLeftOut, CardTwice, WrongTrump, WrongFirst, WrongPlayed, WrongSolutions, UnevenHands, NoCard}
+use Rattle.dd_wire.specs.declared.fault.Fault.TheVariants.{WrongField, DealText, HandLeftOut, CardTwice, WrongTrump, WrongFirst, WrongPlayed, WrongSolutions, WrongTarget, UnevenHands, NoCard}
 
 -- the fields of a request to solve; the cards played as pairs of a suit's code and a rank
 pub record SolveFields : Type 0 where
@@ -32,6 +34,11 @@ pub record SolveFields : Type 0 where
   pub first : ℕ
   pub played : List (ℕ × ℕ)
   pub solutions : ℕ
+
+-- and of one with a target
+pub record TargetFields : Type 0 where
+  pub solve : SolveFields
+  pub target : ℕ
 
 -- ---- JSON
 
@@ -53,6 +60,14 @@ whole_number value = option_and_then as_u64 (as_number value)
 
 abbrev pub whole_number_at : Members → List ℕ → Option ℕ
 whole_number_at members key = option_and_then whole_number (get_member key members)
+
+-- how many milliseconds the reply may wait: none where that is left out, and never more than the most; nothing where it is no
+-- whole number
+abbrev pub wait_at : Members → Option ℕ
+wait_at members = elim (get_member (codes "wait") members) [
+  | None ↦ Some 0
+  | Some value ↦ option_map (λ count. min count LONGEST_WAIT) (whole_number value)
+]
 
 -- a list of exactly two whole numbers
 abbrev pub pair_of : Items → Option (ℕ × ℕ)
@@ -85,19 +100,23 @@ pairs_at members key = elim (get_member key members) [
 
 -- the names of the fields of a request to solve
 abbrev pub solve_keys : List (List ℕ)
-solve_keys = codes "deal" ∷ codes "do" ∷ codes "first" ∷ codes "played" ∷ codes "solutions" ∷ codes "trump" ∷ []
+solve_keys = codes "deal" ∷ codes "do" ∷ codes "first" ∷ codes "played" ∷ codes "solutions" ∷ codes "trump" ∷ codes "wait" ∷ []
+
+-- and of one with a target
+abbrev pub target_keys : List (List ℕ)
+target_keys = codes "deal" ∷ codes "do" ∷ codes "first" ∷ codes "played" ∷ codes "solutions" ∷ codes "target" ∷ codes "trump" ∷ codes "wait" ∷ []
 
 -- and of a request for a table
 abbrev pub table_keys : List (List ℕ)
-table_keys = codes "deal" ∷ codes "do" ∷ []
+table_keys = codes "deal" ∷ codes "do" ∷ codes "wait" ∷ []
 
 -- is each of these keys one of the known?
 abbrev pub are_among : List (List ℕ) → List (List ℕ) → Bool
 are_among known keys = list_all (λ key. list_any (bytes_eq key) known) keys
 
--- the fields, where all of them are there, each of its kind, and no other is
-abbrev pub solve_fields : Members → Option SolveFields
-solve_fields members = if are_among solve_keys (keys_of members) then (do
+-- the fields, where all of them are there, each of its kind
+abbrev pub known_fields : Members → Option SolveFields
+known_fields members = do
   task ← text_at members (codes "do")
   if bytes_eq task (codes "solve") then (do
     deal ← text_at members (codes "deal")
@@ -105,7 +124,18 @@ solve_fields members = if are_among solve_keys (keys_of members) then (do
     first ← whole_number_at members (codes "first")
     played ← pairs_at members (codes "played")
     solutions ← whole_number_at members (codes "solutions")
-    Some (record { deal = deal; trump = trump; first = first; played = played; solutions = solutions })) else None) else None
+    Some (record { deal = deal; trump = trump; first = first; played = played; solutions = solutions })) else None
+
+-- the same, where no other field is there
+abbrev pub solve_fields : Members → Option SolveFields
+solve_fields members = (if are_among solve_keys (keys_of members) then known_fields members else None)
+
+-- the fields with a target, where this is there too, and no other field is
+abbrev pub target_fields : Members → Option TargetFields
+target_fields members = if are_among target_keys (keys_of members) then (do
+  fields ← known_fields members
+  target ← whole_number_at members (codes "target")
+  Some (record { solve = fields; target = target })) else None
 
 -- the text of the deal whose table is asked for, where it is there and no other field is
 abbrev pub table_deal : Members → Option (List ℕ)
@@ -146,23 +176,47 @@ pub record IsAskedOf (cards : FourHands) (fields : SolveFields) (board : Board) 
   pub first : seat_code board.first ≡ fields.first
   pub trick : map pair_of_card board.trick ≡ fields.played
 
--- the cards decide: one that stands twice, uneven hands, none to play, or a position
-pub record MeansBoard (board : Board) (solutions : ℕ) (meaning : Result Question Fault) : Type 0 where
+-- the cards decide: one that stands twice, uneven hands, none to play, or a position of which this is asked
+pub record MeansBoard {A : Type 0} (board : Board) (asked : A) (meaning : Result A Fault) : Type 0 where
   pub twice : (NoneTwice board → ⊥) → meaning ≡ Err CardTwice
   pub uneven : NoneTwice board → (IsEven board → ⊥) → meaning ≡ Err UnevenHands
   pub none : NoneTwice board → IsEven board → tricks_left board ≡ 0 → meaning ≡ Err NoCard
-  pub some : NoneTwice board → IsEven board → 0 < tricks_left board → meaning ≡ Ok (record { board = board; solutions = solutions })
+  pub some : NoneTwice board → IsEven board → 0 < tricks_left board → meaning ≡ Ok asked
 
--- the trump, then the leader, then the cards played, then the solutions, then the cards together
-abbrev pub MeansHands : SolveFields → FourHands → Result Question Fault → Type 0
-MeansHands fields hands meaning =
+-- the cards together, in the position of which this is asked
+abbrev pub MeansCards : {A : Type 0} → SolveFields → FourHands → (Board → A) → Result A Fault → Type 0
+MeansCards fields hands asked meaning = (board : Board) × IsAskedOf hands fields board × MeansBoard board (asked board) meaning
+
+-- the trump, then the leader, then the cards played, then the rest
+abbrev pub MeansStart : {A : Type 0} → SolveFields → (Result A Fault → Type 0) → Result A Fault → Type 0
+MeansStart fields Rest meaning =
     MatchBool (nat_lt 4 fields.trump) (meaning ≡ Err WrongTrump)
     (MatchBool (nat_lt 3 fields.first) (meaning ≡ Err WrongFirst)
-    (MatchBool (are_cards fields.played)
-    (MatchBool (nat_le 1 fields.solutions && nat_le fields.solutions 3)
-    ((board : Board) × IsAskedOf hands fields board × MeansBoard board fields.solutions meaning)
+    (MatchBool (are_cards fields.played) (Rest meaning) (meaning ≡ Err WrongPlayed)))
+
+-- the solutions of these fields are 1 to so many
+abbrev pub are_solutions : SolveFields → ℕ → Bool
+are_solutions fields most = nat_le 1 fields.solutions && nat_le fields.solutions most
+
+-- so many cards of a position
+abbrev pub question : ℕ → Board → Question
+question solutions board = record { board = board; solutions = solutions }
+
+-- then the solutions, then the cards together
+abbrev pub MeansHands : SolveFields → FourHands → Result Question Fault → Type 0
+MeansHands fields hands = MeansStart fields (λ meaning.
+    MatchBool (are_solutions fields 3) (MeansCards fields hands (question fields.solutions) meaning) (meaning ≡ Err WrongSolutions))
+
+-- those that reach a target
+abbrev pub target_question : TargetFields → Board → TargetQuestion
+target_question fields board = record { board = board; target = fields.target; solutions = fields.solve.solutions }
+
+-- with a target the solutions are 1 or 2; then the target, then the cards together
+abbrev pub MeansTargetHands : TargetFields → FourHands → Result TargetQuestion Fault → Type 0
+MeansTargetHands fields hands = MeansStart fields.solve (λ meaning.
+    MatchBool (are_solutions fields.solve 2)
+    (MatchBool (nat_lt 13 fields.target) (meaning ≡ Err WrongTarget) (MeansCards fields.solve hands (target_question fields) meaning))
     (meaning ≡ Err WrongSolutions))
-    (meaning ≡ Err WrongPlayed)))
 
 -- the deal first
 abbrev pub MeansDeal : {A : Type 0} → List ℕ → (FourHands → Result A Fault → Type 0) → Result A Fault → Type 0
@@ -172,6 +226,9 @@ MeansDeal text Of meaning =
 
 abbrev pub MeansFields : SolveFields → Result Question Fault → Type 0
 MeansFields fields = MeansDeal fields.deal (MeansHands fields)
+
+abbrev pub MeansTargetFields : TargetFields → Result TargetQuestion Fault → Type 0
+MeansTargetFields fields = MeansDeal fields.solve.deal (MeansTargetHands fields)
 
 -- ---- the table
 
@@ -188,10 +245,18 @@ abbrev pub asked_as : {A B : Type 0} → (A → B) → Result A Fault → Result
 asked_as way (Ok asked) = Ok (way asked)
 asked_as way (Err fault) = Err fault
 
--- what the members of an object ask: a table, or else the cards of a position
+-- the cards of a position with their scores are asked for
+abbrev pub MeansSolve : Members → Result Asked Fault → Type 0
+MeansSolve members meaning = MatchOption (solve_fields members) (meaning ≡ Err WrongField) (λ fields.
+    (asked : Result Question Fault) × MeansFields fields asked × (meaning ≡ asked_as Solve asked))
+
+-- those of a position that reach a target are, or else those with their scores
+abbrev pub MeansPosition : Members → Result Asked Fault → Type 0
+MeansPosition members meaning = MatchOption (target_fields members) (MeansSolve members meaning) (λ fields.
+    (asked : Result TargetQuestion Fault) × MeansTargetFields fields asked × (meaning ≡ asked_as Target asked))
+
+-- what the members of an object ask: a table, or else cards of a position
 abbrev pub MeansObject : Members → Result Asked Fault → Type 0
 MeansObject members meaning =
-    MatchOption (table_deal members)
-    (MatchOption (solve_fields members) (meaning ≡ Err WrongField) (λ fields.
-    (asked : Result Question Fault) × MeansFields fields asked × (meaning ≡ asked_as Solve asked)))
+    MatchOption (table_deal members) (MeansPosition members meaning)
     (λ deal. (asked : Result FourHands Fault) × MeansDeal deal MeansTable asked × (meaning ≡ asked_as Table asked))

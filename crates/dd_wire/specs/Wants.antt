@@ -6,26 +6,30 @@ use Rattle.serde_json.specs.Data.{Members}
 use Rattle.dd_pbn.specs.Reading.{◌>>=◌}
 use Rattle.dd_solve.specs.declared.asked.Asked.{Asked}
 use Rattle.dd_wire.specs.declared.fault.Fault.{Fault}
-use Rattle.dd_wire.specs.declared.fault.Fault.TheVariants.{LineTooLong, NotAnObject}
+use Rattle.dd_wire.specs.declared.fault.Fault.TheVariants.{LineTooLong, NotAnObject, WrongField}
 use Rattle.dd_wire.specs.declared.want.Want.{Want}
 use Rattle.dd_wire.specs.declared.want.Want.TheVariants.{Submit, Cancel, Fetch, Stop}
 use Rattle.dd_wire.specs.declared.session_asked.SessionAsked.{SessionAsked}
 use Rattle.dd_wire.specs.declared.session_asked.SessionAsked.TheVariants.{Book, Par}
 use Rattle.dd_wire.specs.ParLines.{par_fields, table_par_of}
-use Rattle.dd_wire.specs.Requests.{MeansObject, asked_as, object_of, keys_of, are_among, text_at, whole_number_at}
+use Rattle.dd_wire.specs.Requests.{MeansObject, asked_as, object_of, keys_of, are_among, text_at, wait_at, whole_number_at}
 use Rattle.dd_lines.specs.Line.{longest_line}
 
 -- the names of the fields of a call that names a job
 abbrev pub job_keys : List (List ℕ)
 job_keys = codes "do" ∷ codes "job" ∷ []
 
+-- and of one that may wait for the job's end
+abbrev pub fetch_keys : List (List ℕ)
+fetch_keys = codes "do" ∷ codes "job" ∷ codes "wait" ∷ []
+
 -- and of a call that names nothing
 abbrev pub alone_keys : List (List ℕ)
 alone_keys = codes "do" ∷ []
 
--- the number of the job that is named, where no other field is there
-abbrev pub named_job : Members → Option ℕ
-named_job members = (if are_among job_keys (keys_of members) then whole_number_at members (codes "job") else None)
+-- the number of the job that is named, where no field but these is there
+abbrev pub named_job : List (List ℕ) → Members → Option ℕ
+named_job known members = (if are_among known (keys_of members) then whole_number_at members (codes "job") else None)
 
 -- does `do` stand there alone?
 abbrev pub is_alone : Members → Bool
@@ -36,28 +40,34 @@ is_alone members = are_among alone_keys (keys_of members)
 abbrev pub session_call : Bool → Members → Option Want
 session_call allow_stop members = do
   task ← text_at members (codes "do")
-  if bytes_eq task (codes "cancel") then option_map Cancel (named_job members)
-      else if bytes_eq task (codes "fetch") then option_map Fetch (named_job members)
+  if bytes_eq task (codes "cancel") then option_map Cancel (named_job job_keys members)
+      else if bytes_eq task (codes "fetch") then option_map Fetch (named_job fetch_keys members)
       else if bytes_eq task (codes "stop") && (allow_stop && is_alone members) then Some Stop else None
 
+-- a call of the book, whose reply may so long wait
+abbrev pub called : ℕ → Want → SessionAsked
+called wait want = Book (record { want = want; wait = wait })
+
 -- a request is submitted
-abbrev pub submitted : Asked → SessionAsked
-submitted asked = Book (Submit asked)
+abbrev pub submitted : ℕ → Asked → SessionAsked
+submitted wait asked = called wait (Submit asked)
 
 -- what members ask that are no such call: par of given results, or else that the request is submitted which they are
-abbrev pub MeansOther : Members → Result SessionAsked Fault → Type 0
-MeansOther members meaning =
+abbrev pub MeansOther : ℕ → Members → Result SessionAsked Fault → Type 0
+MeansOther wait members meaning =
     MatchOption (par_fields members)
-    ((asked : Result Asked Fault) × MeansObject members asked × (meaning ≡ asked_as submitted asked))
+    ((asked : Result Asked Fault) × MeansObject members asked × (meaning ≡ asked_as (submitted wait) asked))
     (λ fields. meaning ≡ asked_as Par (table_par_of fields.given fields))
 
 -- what the members of an object ask: such a call, or else one of these
-abbrev pub MeansWanted : Bool → Members → Result SessionAsked Fault → Type 0
-MeansWanted allow_stop members meaning =
-    MatchOption (session_call allow_stop members) (MeansOther members meaning) (λ want. meaning ≡ Ok (Book want))
+abbrev pub MeansWanted : Bool → ℕ → Members → Result SessionAsked Fault → Type 0
+MeansWanted allow_stop wait members meaning =
+    MatchOption (session_call allow_stop members) (MeansOther wait members meaning) (λ want. meaning ≡ Ok (called wait want))
 
--- what a line of a session means: its length is looked at first, then that it is a JSON object, then its members
+-- what a line of a session means: its length is looked at first, then that it is a JSON object, then its wait, then the other
+-- members
 abbrev pub MeansWant : Bool → List ℕ → Result SessionAsked Fault → Type 0
 MeansWant allow_stop line meaning =
     MatchBool (nat_lt longest_line (length line)) (meaning ≡ Err LineTooLong)
-    (MatchOption (object_of line) (meaning ≡ Err NotAnObject) (λ members. MeansWanted allow_stop members meaning))
+    (MatchOption (object_of line) (meaning ≡ Err NotAnObject) (λ members.
+    MatchOption (wait_at members) (meaning ≡ Err WrongField) (λ wait. MeansWanted allow_stop wait members meaning)))

@@ -6,7 +6,7 @@ use thiserror::Error;
 
 /// Why a request line has no answer, each with its number in a reply. They stand in the order in which they are looked
 /// for, and a line is answered with the first that it has. A card that stands twice is looked for twice: in the deal
-/// alone, where `CardTwice` stands here, and with the cards played, between `WrongSolutions` and `UnevenHands`.
+/// alone, where `CardTwice` stands here, and with the cards played, between `WrongTarget` and `UnevenHands`.
 #[derive(Clone, Copy, Debug, PartialEq, Eq, Error)]
 pub enum Fault {
     /// 2: the line is over 4,096 bytes.
@@ -48,6 +48,9 @@ pub enum Fault {
     /// 22: one of the results is over 13.
     #[error("a result is over 13")]
     WrongResult,
+    /// 27: the target is over 13.
+    #[error("the target is over 13")]
+    WrongTarget,
     /// 7: the hands have not the cards that they have at one point of play.
     #[error("the counts of cards are uneven")]
     UnevenHands,
@@ -66,7 +69,7 @@ impl Fault {
     /// The number of the fault in a reply.
     pub fn number(self) -> u8
         ensures value { result ≡ fault_number self }
-        ensures bound { result ≤ 23 }
+        ensures bound { result ≤ 27 }
     {
         match self {
             Fault::NotAnObject => fault_numbers::NOT_AN_OBJECT,
@@ -81,6 +84,7 @@ impl Fault {
             Fault::WrongFirst => fault_numbers::WRONG_FIRST,
             Fault::WrongPlayed => fault_numbers::WRONG_PLAYED,
             Fault::WrongSolutions => fault_numbers::WRONG_SOLUTIONS,
+            Fault::WrongTarget => fault_numbers::WRONG_TARGET,
             Fault::OutOfMemory => fault_numbers::OUT_OF_MEMORY,
             Fault::WrongOrder => fault_numbers::WRONG_ORDER,
             Fault::WrongVulnerable => fault_numbers::WRONG_VULNERABLE,

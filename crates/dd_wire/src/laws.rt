@@ -65,6 +65,10 @@ pub fn worked_lines()
         (Err Fault.WrongResult) }
     ensures nineteen_results { Means (codes "{\"do\":\"par\",\"table\":[[5,8,5,8],[6,6,6,6],[5,7,5,7],[7,5,7,5],[6,6,6]],\"dealer\":4,\"vulnerable\":4}")
         (Err Fault.WrongField) }
+    ensures wait { Means (codes "{\"do\":\"table\",\"deal\":\"N:A.2.. K.A.. Q.K.. J.Q..\",\"wait\":9}")
+        (Ok (LineAsked.Cards (Asked.Table two_suits))) }
+    ensures wait_below_zero { Means (codes "{\"do\":\"solve\",\"deal\":\"N:A... - Q... J...\",\"trump\":4,\"first\":0,\"solutions\":3,\"wait\":-1}")
+        (Err Fault.WrongField) }
 {}
 
 /// A line of a session has a meaning, and only one, with leave to stop as without.
@@ -78,11 +82,11 @@ pub fn one_want()
 /// Lines of a session worked by hand.
 pub fn worked_wants()
     ensures fetch { (leave : Bool) → MeansWant leave (codes "{\"do\":\"fetch\",\"job\":0}")
-        (Ok (SessionAsked.Book (Want.Fetch 0))) }
+        (Ok (SessionAsked.Book record { want = Want.Fetch 0; wait = 0 })) }
     ensures cancel { (leave : Bool) →
         MeansWant leave (codes "{\"job\":18446744073709551615,\"do\":\"cancel\"}")
-        (Ok (SessionAsked.Book (Want.Cancel 18446744073709551615))) }
-    ensures stop { MeansWant true (codes "{\"do\":\"stop\"}") (Ok (SessionAsked.Book Want.Stop)) }
+        (Ok (SessionAsked.Book record { want = Want.Cancel 18446744073709551615; wait = 0 })) }
+    ensures stop { MeansWant true (codes "{\"do\":\"stop\"}") (Ok (SessionAsked.Book record { want = Want.Stop; wait = 0 })) }
     ensures no_leave { MeansWant false (codes "{\"do\":\"stop\"}") (Err Fault.WrongField) }
     ensures stop_of_a_job { MeansWant true (codes "{\"do\":\"stop\",\"job\":1}")
         (Err Fault.WrongField) }
@@ -97,13 +101,33 @@ pub fn worked_wants()
     ensures no_object { MeansWant true (codes "[1]") (Err Fault.NotAnObject) }
     ensures solve { (leave : Bool) → MeansWant leave
         (codes "{\"do\":\"solve\",\"deal\":\"N:A.2.. K.A.. Q.K.. J.Q..\",\"trump\":4,\"first\":1,\"solutions\":2}")
-        (Ok (SessionAsked.Book (Want.Submit (Asked.Solve record { board = board_of two_suits Notrump East []; solutions = 2 })))) }
+        (Ok (SessionAsked.Book record { want = Want.Submit (Asked.Solve record { board = board_of two_suits Notrump East []; solutions = 2 }); wait = 0 })) }
     ensures table { (leave : Bool) → MeansWant leave
         (codes "{\"do\":\"table\",\"deal\":\"N:A.2.. K.A.. Q.K.. J.Q..\"}")
-        (Ok (SessionAsked.Book (Want.Submit (Asked.Table two_suits)))) }
+        (Ok (SessionAsked.Book record { want = Want.Submit (Asked.Table two_suits); wait = 0 })) }
     ensures par { (leave : Bool) → MeansWant leave
         (codes "{\"do\":\"par\",\"table\":[[5,8,5,8],[6,6,6,6],[5,7,5,7],[7,5,7,5],[6,6,6,13]],\"dealer\":1,\"vulnerable\":2}")
         (Ok (SessionAsked.Par record { results = (5 ∷ 8 ∷ 5 ∷ 8 ∷ []) ∷ (6 ∷ 6 ∷ 6 ∷ 6 ∷ []) ∷ (5 ∷ 7 ∷ 5 ∷ 7 ∷ []) ∷ (7 ∷ 5 ∷ 7 ∷ 5 ∷ []) ∷ (6 ∷ 6 ∷ 6 ∷ 13 ∷ []) ∷ []; conditions = record { vulnerable = Vulnerable.NorthSouth; order = Order.Dealer East } })) }
     ensures par_of_a_deal { (leave : Bool) → MeansWant leave
         (codes "{\"do\":\"par\",\"deal\":\"\",\"dealer\":4,\"vulnerable\":4}") (Err Fault.WrongField) }
+    ensures waits { (leave : Bool) →
+        MeansWant leave (codes "{\"do\":\"fetch\",\"job\":7,\"wait\":30000}")
+        (Ok (SessionAsked.Book record { want = Want.Fetch 7; wait = 30000 })) }
+    ensures no_longer { (leave : Bool) →
+        MeansWant leave (codes "{\"wait\":18446744073709551615,\"do\":\"fetch\",\"job\":7}")
+        (Ok (SessionAsked.Book record { want = Want.Fetch 7; wait = 60000 })) }
+    ensures waits_in_words { MeansWant true
+        (codes "{\"do\":\"fetch\",\"job\":7,\"wait\":\"1\"}") (Err Fault.WrongField) }
+    ensures waits_in_part { MeansWant true
+        (codes "{\"do\":\"table\",\"deal\":\"\",\"wait\":1.5}") (Err Fault.WrongField) }
+    ensures cancel_that_waits { MeansWant true
+        (codes "{\"do\":\"cancel\",\"job\":7,\"wait\":1}") (Err Fault.WrongField) }
+    ensures stop_that_waits { MeansWant true (codes "{\"do\":\"stop\",\"wait\":1}")
+        (Err Fault.WrongField) }
+    ensures solve_that_waits { (leave : Bool) → MeansWant leave
+        (codes "{\"do\":\"solve\",\"deal\":\"N:A.2.. K.A.. Q.K.. J.Q..\",\"trump\":4,\"first\":1,\"solutions\":2,\"wait\":500}")
+        (Ok (SessionAsked.Book record { want = Want.Submit (Asked.Solve record { board = board_of two_suits Notrump East []; solutions = 2 }); wait = 500 })) }
+    ensures table_that_waits { (leave : Bool) → MeansWant leave
+        (codes "{\"do\":\"table\",\"deal\":\"N:A.2.. K.A.. Q.K.. J.Q..\",\"wait\":60001}")
+        (Ok (SessionAsked.Book record { want = Want.Submit (Asked.Table two_suits); wait = 60000 })) }
 {}

@@ -11,8 +11,10 @@ mod par_request;
 mod reply;
 mod request_reader;
 mod session_asked;
+mod target_reader;
 mod want;
 mod want_reader;
+mod wish;
 
 pub use fault::Fault;
 pub use laws::{one_meaning, one_want, worked_lines, worked_wants};
@@ -28,3 +30,4 @@ pub use request_reader::read_request;
 pub use session_asked::SessionAsked;
 pub use want::Want;
 pub use want_reader::read_want;
+pub use wish::{LONGEST_WAIT, Wish};

@@ -13,7 +13,7 @@ use crate::reply::{write_answer, write_fault, write_spent, write_table};
 use crate::request_reader::read_request;
 use dd_lines::{LONGEST_REPLY, ReplyText};
 use dd_search::{Bounds, Budget, Endless};
-use dd_solve::{Asked, Request, TableRequest, solve, solve_table};
+use dd_solve::{Asked, Request, TableRequest, TargetRequest, solve, solve_table, solve_target};
 use std::alloc::Global;
 
 /// The reply to a line of any length, without a line feed at its end.
@@ -46,6 +46,8 @@ fn cards_reply<B: Bounds>(asked: Asked, table: &mut B, budget: Option<u64>) -> R
         (Asked::Solve(request), Some(limit)) => reply_within(request, table, limit),
         (Asked::Solve(request), None) => reply_in_the_end(request, table),
         (Asked::Table(request), _) => table_reply(&request, table, budget),
+        (Asked::Target(request), Some(limit)) => target_reply_within(request, table, limit),
+        (Asked::Target(request), None) => target_reply_in_the_end(request, table),
     }
 }
 
@@ -92,5 +94,27 @@ fn deal_par_reply<B: Bounds>(asked: &ParOfDeal, table: &mut B, budget: Option<u6
     match solve_table(asked.request(), table, budget) {
         Some(found) => table_par_reply(&found, asked.conditions()),
         None => write_spent(),
+    }
+}
+
+/// The cards that reach a target, or that the budget is spent.
+fn target_reply_within<B: Bounds>(request: TargetRequest, table: &mut B, limit: u64) -> ReplyText
+    ensures text { (result.bytes ≡ asked_text (Asked.Target request)) ⊎ (result.bytes ≡ spent_text) }
+    ensures bound { array_string_len result ≤ LONGEST_REPLY }
+{
+    match solve_target(request, table, &mut Budget::new(limit)) {
+        Ok(solved) => write_answer(solved.answer()),
+        Err(_) => write_spent(),
+    }
+}
+
+/// The cards that reach a target, however long it takes to find them.
+fn target_reply_in_the_end<B: Bounds>(request: TargetRequest, table: &mut B) -> ReplyText
+    ensures text { result.bytes ≡ asked_text (Asked.Target request) }
+    ensures bound { array_string_len result ≤ LONGEST_REPLY }
+{
+    match solve_target(request, table, &mut Endless) {
+        Ok(solved) => write_answer(solved.answer()),
+        Err(_) => unreachable!(),
     }
 }

@@ -12,13 +12,15 @@ ghost use Rattle.dd_pbn.specs.declared.fault.PbnFault.{PbnFault};
 ghost use Rattle.dd_play.specs.Board.{board_of};
 ghost use Rattle.dd_solve.specs.Questions.{Question};
 ghost use Rattle.dd_wire.specs.Lines.{Means, MeansMembers};
-ghost use Rattle.dd_wire.specs.Requests.{MeansObject, MeansDeal, MeansTable, MeansFields, MeansHands, MeansBoard, SpellsDeal, SpellsNone, asked_as, deal_fault, pair_of_card, object_of, solve_keys, table_keys, are_among, keys_of, solve_fields, table_deal, text_at, whole_number_at, pairs_at, pairs_of};
+ghost use Rattle.dd_wire.specs.Requests.{MeansObject, MeansDeal, MeansTable, MeansFields, MeansHands, MeansBoard, MeansSolve, MeansPosition, question, known_fields, SpellsDeal, SpellsNone, asked_as, deal_fault, pair_of_card, object_of, solve_keys, table_keys, are_among, keys_of, solve_fields, table_deal, text_at, wait_at, whole_number_at, pairs_at, pairs_of};
 ghost use Rattle.dd_lines.specs.Line.{longest_line};
 ghost use Rattle.dd_wire.specs.Reading.{IsUnread, ArePlayed, ReadsPlayed, ReadsFields, pair_in, cards_in, played_in, fields_of, play_fault};
 
 use crate::fault::Fault;
 use crate::line_asked::LineAsked;
 use crate::par_reader::{par_asked, par_fields};
+use crate::target_reader::{target_asked, target_fields};
+use crate::wish::LONGEST_WAIT;
 use arrayvec::ArrayVec;
 use dd_cards::{Card, Hands, Rank, Seat, Strain, Suit};
 use dd_lines::LONGEST_LINE;
@@ -43,7 +45,9 @@ pub fn read_request(alloc: Global, line: &[u8]) -> Result<LineAsked, Fault>
         return Err(Fault::LineTooLong);
     }
     let object = read_object(alloc, line)?;
-    line_asked_by(&object)
+    wait_at(&object).ok_or(Fault::WrongField)?;
+    let asked = line_asked_by(&object)?;
+    Ok(asked)
 }
 
 // What the members of an object ask, or their first fault: par, or else a question of cards.
@@ -62,7 +66,7 @@ pub(crate) fn asked_by(object: &Map<String, Value>) -> Result<Asked, Fault>
 {
     match table_deal(object) {
         Some(deal) => table_asked(deal),
-        None => solve_asked(object),
+        None => position_asked(object),
     }
 }
 
@@ -102,17 +106,17 @@ fn fault_of(error: Error) -> Fault
 // ---- The fields, as JSON has them.
 
 // The cards on a trick that isn't complete.
-type Played = ArrayVec<Card, MOST_PLAYED>;
+pub(crate) type Played = ArrayVec<Card, MOST_PLAYED>;
 
 // The fields of a request to solve. There are no cards played where the pairs that stand for them are none of such
 // cards: that is a fault, and others go before it.
 #[derive(Drop)]
-struct SolveFields<'a> {
-    deal: &'a str,
-    trump: u64,
-    first: u64,
-    played: Option<Played>,
-    solutions: u64,
+pub(crate) struct SolveFields<'a> {
+    pub(crate) deal: &'a str,
+    pub(crate) trump: u64,
+    pub(crate) first: u64,
+    pub(crate) played: Option<Played>,
+    pub(crate) solutions: u64,
 }
 
 // The text of the deal whose table is asked for, where it is there and no other field is.
@@ -135,7 +139,7 @@ fn has_table_keys_alone(object: &Map<String, Value>) -> bool
 fn is_table_key(key: &str) -> bool
     ensures { result ≡ list_any (bytes_eq key.now) table_keys }
 {
-    matches!(key, "deal" | "do")
+    matches!(key, "deal" | "do" | "wait")
 }
 
 // The fields, where all of them are there, each of its kind, and no other is.
@@ -143,7 +147,19 @@ fn solve_fields(object: &Map<String, Value>) -> Option<SolveFields<'_>>
     ensures { let read = solve_fields (members_view object.now.entries) in
         MatchOption result (read ≡ None) (ReadsFields read) }
 {
-    if !has_solve_keys_alone(object) || text_at(object, "do")? != "solve" {
+    if has_solve_keys_alone(object) {
+        known_fields(object)
+    } else {
+        None
+    }
+}
+
+// The fields, where all of them are there, each of its kind, whatever others are.
+pub(crate) fn known_fields(object: &Map<String, Value>) -> Option<SolveFields<'_>>
+    ensures { let read = known_fields (members_view object.now.entries) in
+        MatchOption result (read ≡ None) (ReadsFields read) }
+{
+    if text_at(object, "do")? != "solve" {
         return None;
     }
     Some(SolveFields {
@@ -167,7 +183,7 @@ fn is_solve_key(key: &str) -> bool
 {
     matches!(
         key,
-        "deal" | "do" | "first" | "played" | "solutions" | "trump"
+        "deal" | "do" | "first" | "played" | "solutions" | "trump" | "wait"
     )
 }
 
@@ -183,6 +199,16 @@ pub(crate) fn whole_number_at(object: &Map<String, Value>, key: &str) -> Option<
     ensures { result ≡ whole_number_at (members_view object.now.entries) key.now }
 {
     member_at(object, key)?.as_u64()
+}
+
+// How many milliseconds the reply may wait, which may be left out: None where it is no whole number.
+pub(crate) fn wait_at(object: &Map<String, Value>) -> Option<u64>
+    ensures { result ≡ wait_at (members_view object.now.entries) }
+{
+    match member_at(object, "wait") {
+        None => Some(0),
+        Some(value) => Some(value.as_u64()?.min(LONGEST_WAIT)),
+    }
 }
 
 // The cards played, which may be left out: None where they are no list of pairs.
@@ -259,12 +285,19 @@ pub(crate) fn table_request(hands: Hands) -> Result<TableRequest, Fault>
     TableRequest::new(hands).map_err(play_fault)
 }
 
+// What is asked of a position, with a target or without, or the first fault of the fields.
+fn position_asked(object: &Map<String, Value>) -> Result<Asked, Fault>
+    ensures { MeansPosition (members_view object.now.entries) result }
+{
+    match target_fields(object) {
+        Some(fields) => target_asked(&fields),
+        None => solve_asked(object),
+    }
+}
+
 // What is asked of a position, or the first fault of the fields.
 fn solve_asked(object: &Map<String, Value>) -> Result<Asked, Fault>
-    ensures { MatchOption (solve_fields (members_view object.now.entries)) (result
-        ≡ Err Fault.WrongField)
-        (λ fields. (asked : Result Question Fault) × MeansFields fields asked × (result
-        ≡ asked_as Asked.Solve asked)) }
+    ensures { MeansSolve (members_view object.now.entries) result }
 {
     let fields = solve_fields(object).ok_or(Fault::WrongField)?;
     let request = request_of(&fields)?;
@@ -323,7 +356,7 @@ fn deal_fault(fault: PbnFault) -> Fault
     }
 }
 
-fn strain_of(code: u64) -> Option<Strain>
+pub(crate) fn strain_of(code: u64) -> Option<Strain>
     ensures valid { IsSome result ↔ (code ≤ 4) }
     ensures value { IfSome result (λ strain. strain_code strain ≡ code) }
 {
@@ -368,13 +401,14 @@ fn request(
     solutions: u8,
 ) -> Result<Request, Fault>
     requires { (length trick.now ≤ 3) × (1 ≤ solutions) × (solutions ≤ 3) }
-    ensures { MeansBoard (board_of hands strain first trick.now) solutions result }
+    ensures { let board = board_of hands strain first trick.now in
+        MeansBoard board (question solutions board) result }
 {
     let position = Position::new(hands, strain, first, trick).map_err(play_fault)?;
     Ok(Request::of(position, solutions))
 }
 
-fn play_fault(fault: PlayFault) -> Fault
+pub(crate) fn play_fault(fault: PlayFault) -> Fault
     ensures { result ≡ play_fault fault }
 {
     match fault {

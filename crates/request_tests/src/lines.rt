@@ -1,6 +1,7 @@
 //! Lines through `solve_lines`, over devices of memory that give and take little and fail in time.
 mod budgets;
 mod counted_device;
+mod cut;
 mod faults;
 mod runs;
 mod served;

@@ -16,6 +16,8 @@ mod quick;
 #[cfg(test)]
 mod rank;
 #[cfg(test)]
+mod relative;
+#[cfg(test)]
 mod rows;
 #[cfg(test)]
 mod search;

@@ -1,5 +1,10 @@
 //! Tests of the program, by the words of its command line and its streams.
+mod asking;
+mod budgets;
 mod devices;
+mod given;
+mod leave;
+mod limits;
 mod runs;
 mod served;
 mod words;

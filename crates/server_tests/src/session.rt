@@ -5,5 +5,6 @@ mod messages;
 mod replies;
 mod served;
 mod sockets;
+mod waits;
 mod words;
 mod worked;

@@ -62,6 +62,9 @@ pub(crate) fn call(alloc: Global, caller: u64, words: &str) -> Option<Call> {
 pub(crate) fn shown(alloc: Global, state: &JobState) -> Result<String, AllocError> {
     match state {
         JobState::Done(solved) => String::from_str(alloc, write_answer(solved.answer()).as_str()),
+        JobState::TargetDone(solved) => {
+            String::from_str(alloc, write_answer(solved.answer()).as_str())
+        }
         JobState::TableDone(table) => {
             String::from_str(alloc, write_table(table.results()).as_str())
         }

@@ -3,7 +3,10 @@ use dd_book::{Call, JobState, Outcome, Reply};
 use dd_cards::{Card, Hands, Rank, Seat, Strain, Suit};
 use dd_play::Position;
 use dd_search::{Endless, NoTable};
-use dd_solve::{Asked, Request, Solved, SolvedPart, TableRequest, solve, solve_part};
+use dd_solve::{
+    Asked, Request, Solved, SolvedPart, SolvedTarget, TableRequest, TargetRequest, solve,
+    solve_part, solve_target,
+};
 use std::alloc::{AllocError, Global};
 
 /// What is asked.
@@ -15,6 +18,8 @@ pub enum Asks {
     Pair,
     /// The table of the hands of `Ace`.
     Table,
+    /// The cards of `Pair` that win one trick.
+    Target,
 }
 
 /// How a part ends.
@@ -44,6 +49,7 @@ pub enum Shows {
     Running,
     Done(u8),
     TableDone,
+    TargetDone(u8),
     Cancelled,
     Spent,
 }
@@ -54,6 +60,7 @@ pub enum Told {
     Job(u64),
     Claimed(u64, u64),
     ClaimedPart(u64, u8, u64),
+    ClaimedTarget(u64, u64),
     NothingWaits,
     Closing,
     Recorded,
@@ -69,6 +76,7 @@ pub enum Told {
 pub struct Made {
     ace: Solved,
     pair: Solved,
+    target: SolvedTarget,
     table: TableRequest,
     parts: Vec<SolvedPart>,
 }
@@ -92,6 +100,14 @@ fn solved(ranks: &[u8], each: usize) -> Option<Solved> {
     solve(request, &mut NoTable, &mut Endless).ok()
 }
 
+// The cards of these hands that win one trick.
+fn reaching(ranks: &[u8], each: usize) -> Option<SolvedTarget> {
+    let hands = hands(ranks, each)?;
+    let position = Position::new(hands, Strain::Notrump, Seat::North, &[]).ok()?;
+    let request = TargetRequest::new(position, 1, 2)?;
+    solve_target(request, &mut NoTable, &mut Endless).ok()
+}
+
 // The twenty parts in their order.
 fn parts(alloc: Global, table: &TableRequest) -> Result<Vec<SolvedPart>, AllocError> {
     let mut parts = Vec::new(alloc);
@@ -112,6 +128,9 @@ pub fn make(alloc: Global) -> Result<Option<Made>, AllocError> {
     let Some(pair) = solved(&[3, 2, 13, 4, 14, 12, 6, 5], 2) else {
         return Ok(None);
     };
+    let Some(target) = reaching(&[3, 2, 13, 4, 14, 12, 6, 5], 2) else {
+        return Ok(None);
+    };
     let Some(hands) = hands(&cards, 1) else {
         return Ok(None);
     };
@@ -122,6 +141,7 @@ pub fn make(alloc: Global) -> Result<Option<Made>, AllocError> {
     Ok(Some(Made {
         ace,
         pair,
+        target,
         table,
         parts,
     }))
@@ -133,6 +153,7 @@ impl Made {
             Asks::Ace => Asked::Solve(self.ace.request().copy()),
             Asks::Pair => Asked::Solve(self.pair.request().copy()),
             Asks::Table => Asked::Table(self.table.copy()),
+            Asks::Target => Asked::Target(self.target.request().copy()),
         }
     }
 
@@ -141,6 +162,7 @@ impl Made {
         match ends {
             Ends::Answer(Asks::Ace) => Outcome::Solved(self.ace.copy()),
             Ends::Answer(Asks::Pair) => Outcome::Solved(self.pair.copy()),
+            Ends::Answer(Asks::Target) => Outcome::Target(self.target.copy()),
             Ends::Part(part) => match self.parts.get(part as usize) {
                 Some(solved) => Outcome::Part(solved.copy()),
                 None => Outcome::Stopped,
@@ -184,6 +206,7 @@ fn plain_outcome(outcome: &Outcome) -> Ends {
     match outcome {
         Outcome::Solved(solved) => Ends::Answer(asks_of(solved.request())),
         Outcome::Part(solved) => Ends::Part(solved.part()),
+        Outcome::Target(_) => Ends::Answer(Asks::Target),
         Outcome::Spent => Ends::Spent,
         Outcome::Stopped => Ends::Stopped,
     }
@@ -195,6 +218,7 @@ pub fn plain_call(call: &Call) -> Step {
         Call::Submit { caller, asked } => match asked {
             Asked::Solve(request) => Step::Submit(*caller, asks_of(request)),
             Asked::Table(_) => Step::Submit(*caller, Asks::Table),
+            Asked::Target(_) => Step::Submit(*caller, Asks::Target),
         },
         Call::Claim { worker } => Step::Claim(*worker),
         Call::Finish {
@@ -219,6 +243,10 @@ pub fn shown(state: &JobState) -> Shows {
             None => Shows::Done(99),
         },
         JobState::TableDone(_) => Shows::TableDone,
+        JobState::TargetDone(solved) => match solved.answer().as_slice().first() {
+            Some(first) => Shows::TargetDone(first.score),
+            None => Shows::TargetDone(99),
+        },
         JobState::Cancelled => Shows::Cancelled,
         JobState::Spent => Shows::Spent,
     }
@@ -229,6 +257,7 @@ pub fn plain(reply: &Reply) -> Told {
     match reply {
         Reply::Submitted(job) => Told::Job(*job),
         Reply::Claimed { job, claim, .. } => Told::Claimed(*job, *claim),
+        Reply::ClaimedTarget { job, claim, .. } => Told::ClaimedTarget(*job, *claim),
         Reply::ClaimedPart {
             job,
             part,

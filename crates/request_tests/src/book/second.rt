@@ -169,10 +169,10 @@ impl Second {
             part,
             asks,
         })?;
-        Ok(if asks == Asks::Table {
-            Told::ClaimedPart(job, part, claim)
-        } else {
-            Told::Claimed(job, claim)
+        Ok(match asks {
+            Asks::Table => Told::ClaimedPart(job, part, claim),
+            Asks::Target => Told::ClaimedTarget(job, claim),
+            _ => Told::Claimed(job, claim),
         })
     }
 
@@ -189,6 +189,7 @@ impl Second {
             (_, Ends::Stopped) => found.set(part, Part::Waiting),
             (Asks::Ace, Ends::Answer(Asks::Ace)) => found.end(Shows::Done(1)),
             (Asks::Pair, Ends::Answer(Asks::Pair)) => found.end(Shows::Done(2)),
+            (Asks::Target, Ends::Answer(Asks::Target)) => found.end(Shows::TargetDone(1)),
             (Asks::Table, Ends::Part(number)) if number as usize == part => {
                 found.set(part, Part::Ended)
             }

@@ -20,9 +20,10 @@ fn recent(seed: &mut u64, second: &Second) -> u64 {
 }
 
 fn asks(seed: &mut u64) -> Asks {
-    match draw(seed) % 4 {
+    match draw(seed) % 5 {
         0 => Asks::Table,
         1 => Asks::Pair,
+        2 => Asks::Target,
         _ => Asks::Ace,
     }
 }
@@ -36,6 +37,7 @@ fn ends(seed: &mut u64, claimed: Asks, part: u8) -> Ends {
         16..19 => Ends::Answer(Asks::Pair),
         19..22 => Ends::Part(0),
         22..25 => Ends::Part(19),
+        25..28 => Ends::Answer(Asks::Target),
         _ if claimed == Asks::Table => Ends::Part(part),
         _ => Ends::Answer(claimed),
     }

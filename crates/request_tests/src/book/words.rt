@@ -6,7 +6,7 @@ use dd_book::{Call, JobState, Outcome, Reply};
 use dd_cards::{Card, Hands, Rank, Seat, Strain, Suit};
 use dd_play::Position;
 use dd_search::{Endless, NoTable};
-use dd_solve::{Asked, Request, TableRequest, solve, solve_part};
+use dd_solve::{Asked, Request, TableRequest, TargetRequest, solve, solve_part, solve_target};
 use std::alloc::{AllocError, Global};
 
 // A suit each: North's spades, East's hearts, South's diamonds, West's clubs.
@@ -22,7 +22,7 @@ fn whole_suits() -> Option<Hands> {
 }
 
 // A: North's ace, with the king, queen and jack; B: two cards each; T: the table of the hands of A;
-// S: the table of a suit each.
+// S: the table of a suit each; G: the cards of B that win a trick, U: those that win two, V: the first of these.
 fn asked(name: &str) -> Option<Asked> {
     if name == "T" {
         let hands = hands(&[14, 13, 12, 11], 1)?;
@@ -37,10 +37,15 @@ fn asked(name: &str) -> Option<Asked> {
         hands(&[3, 2, 13, 4, 14, 12, 6, 5], 2)?
     };
     let position = Position::new(hands, Strain::Notrump, Seat::North, &[]).ok()?;
-    Some(Asked::Solve(Request::new(position, 3)?))
+    match name {
+        "G" => Some(Asked::Target(TargetRequest::new(position, 1, 2)?)),
+        "U" => Some(Asked::Target(TargetRequest::new(position, 2, 2)?)),
+        "V" => Some(Asked::Target(TargetRequest::new(position, 2, 1)?)),
+        _ => Some(Asked::Solve(Request::new(position, 3)?)),
+    }
 }
 
-// The outcome of this name: the answer to A or B, the result of a part of T by its letter (a for
+// The outcome of this name: the answer to A or B, to G, U or V, the result of a part of T by its letter (a for
 // 0), the result of the second part of S by its own, spent or stopped.
 fn outcome(name: &str) -> Option<Outcome> {
     if name == "spent" {
@@ -57,10 +62,17 @@ fn outcome(name: &str) -> Option<Outcome> {
             return part_of("T", *part - 97);
         }
     }
-    let Asked::Solve(request) = asked(name)? else {
-        return None;
-    };
-    Some(Outcome::Solved(solve(request, &mut NoTable, &mut Endless).ok()?))
+    match asked(name)? {
+        Asked::Solve(request) => {
+            let solved = solve(request, &mut NoTable, &mut Endless).ok()?;
+            Some(Outcome::Solved(solved))
+        }
+        Asked::Target(request) => {
+            let solved = solve_target(request, &mut NoTable, &mut Endless).ok()?;
+            Some(Outcome::Target(solved))
+        }
+        Asked::Table(_) => None,
+    }
 }
 
 // The result of a part of the table of this name.
@@ -126,6 +138,13 @@ fn shown(alloc: Global, state: &JobState) -> Result<String, AllocError> {
             }
             None => String::from_str(alloc, "done without a card"),
         },
+        JobState::TargetDone(solved) => match solved.answer().as_slice().first() {
+            Some(first) => {
+                let target = first.score;
+                format!(in alloc; "reached {target}")
+            }
+            None => String::from_str(alloc, "reached by none"),
+        },
         JobState::TableDone(table) => match table.results().as_slice().first() {
             Some(tricks) => format!(in alloc; "done with {tricks}"),
             None => String::from_str(alloc, "done without a result"),
@@ -140,6 +159,9 @@ pub fn told(alloc: Global, reply: &Reply) -> Result<String, AllocError> {
     match reply {
         Reply::Submitted(job) => format!(in alloc; "job {job}"),
         Reply::Claimed { job, claim, .. } => format!(in alloc; "job {job} claim {claim}"),
+        Reply::ClaimedTarget { job, claim, .. } => format!(in alloc;
+            "job {job} target claim {claim}"
+        ),
         Reply::ClaimedPart {
             job,
             part,

@@ -125,6 +125,39 @@ fn a_table_is_claimed_part_by_part_and_cancelled_whole(rt: HostRuntime) -> Resul
 }
 
 #[test]
+fn a_target_is_one_part_and_ends_with_its_own_answer(rt: HostRuntime) -> Result<(), AllocError> {
+    let rows = "1 submits G: job 1
+1 submits U: job 2
+1 submits V: job 3
+2 submits B: job 4
+1 fetches 1: waiting
+9 claims: job 1 target claim 1
+1 fetches 1: running
+9 finishes 1 1 B: stale
+9 finishes 1 1 U: stale
+9 finishes 1 1 stopped: recorded
+1 fetches 1: waiting
+9 claims: job 1 target claim 2
+9 finishes 1 2 G: recorded
+1 fetches 1: reached 1
+2 fetches 1: fault 16
+1 cancels 1: fault 17
+9 claims: job 2 target claim 3
+9 finishes 2 3 V: stale
+9 finishes 2 3 U: recorded
+1 fetches 2: reached 2
+9 claims: job 3 target claim 4
+9 finishes 3 4 spent: recorded
+1 fetches 3: spent
+9 claims: job 4 claim 5
+9 finishes 4 5 G: stale
+9 finishes 4 5 B: recorded
+2 fetches 4: done with 2
+9 claims: nothing waits";
+    follow(&rt, rt.alloc(), ample(&rt), rows)
+}
+
+#[test]
 fn a_full_table_is_claimed_so_too(rt: HostRuntime) -> Result<(), AllocError> {
     let rows = "1 submits S: job 1
 1 submits A: job 2

@@ -1,8 +1,9 @@
 //! Lines whose budget just suffices, or lacks one position.
 use super::runs::run_within;
 use crate::devices::Pieces;
-use dd_search::{Budget, NoTable};
-use dd_solve::{Asked, solve};
+use dd_cards::Seat;
+use dd_search::{Budget, NoTable, value, value_from_guess};
+use dd_solve::{Asked, PARTS, TableRequest, solve};
 use dd_wire::{LineAsked, read_request};
 use std::alloc::Global;
 
@@ -17,15 +18,18 @@ const MANY_CARDS: &str =
 const TABLE: &[u8] =
     br#"{"do":"table","deal":"N:8.73.Q.AT97 954.A.974.8 AK.62.3.J32 T7.94.T85.Q"}"#;
 
-// How many positions the search for the line comes to, over no table, where these are more than 1,000 and no more than
-// 20,000.
-fn positions(alloc: Global, line: &str) -> Option<u64> {
+// Nine cards a hand: 42,638 positions were visited.
+const LONG_SEARCH: &str =
+    r#"{"do":"solve","deal":"N:T74.JT.8.AKQ AK2.7.T74.T9 QJ63..653.83 98.Q96.AK.J7","trump":0,"first":1,"solutions":3}"#;
+
+// How many positions the search for the line visits, over no table, where these are more than `least` and no more than `most`.
+fn positions(alloc: Global, line: &str, least: u64, most: u64) -> Option<u64> {
     let Ok(LineAsked::Cards(Asked::Solve(request))) = read_request(alloc, line.as_bytes()) else {
         return None;
     };
-    let mut budget = Budget::new(20_000);
+    let mut budget = Budget::new(most);
     solve(request, &mut NoTable, &mut budget).ok()?;
-    Some(budget.ticks()).filter(|count| *count > 1_000)
+    Some(budget.ticks()).filter(|count| *count > least)
 }
 
 // Is the line spent within this budget?
@@ -51,7 +55,7 @@ fn a_budget_suffices_or_lacks_one_position(rt: HostRuntime) {
     let alloc = rt.alloc();
     let mut found = false;
     for line in MANY_CARDS.lines() {
-        if let Some(count) = positions(alloc, line) {
+        if let Some(count) = positions(alloc, line, 1_000, 20_000) {
             found = needs(alloc, line, count);
             break;
         }
@@ -60,7 +64,63 @@ fn a_budget_suffices_or_lacks_one_position(rt: HostRuntime) {
 }
 
 #[test]
+fn a_large_budget_suffices_or_lacks_one_position(rt: HostRuntime) {
+    let alloc = rt.alloc();
+    let count = positions(alloc, LONG_SEARCH, 30_000, 1_000_000);
+    let count = count.expect(&rt, "over 30,000 positions");
+    assert!(rt; needs(alloc, LONG_SEARCH, count));
+}
+
+#[test]
 fn the_budget_of_a_table_is_its_own_number(rt: HostRuntime) {
     let alloc = rt.alloc();
     assert!(rt; is_spent(alloc, TABLE, 20) && !is_spent(alloc, TABLE, 1_000_000));
+}
+
+// The tricks of a part of the table, and how many positions its search visits, over no table, where North and South are thought to
+// take some `first_guess` tricks.
+fn searched(request: &TableRequest, part: u8, first_guess: Option<u8>) -> Option<(u8, u64)> {
+    if part >= PARTS {
+        return None;
+    }
+    let position = request.opening(part);
+    let mut budget = Budget::new(5_000_000);
+    let leaders = match first_guess {
+        Some(first_guess) => value_from_guess(&position, first_guess, &mut NoTable, &mut budget),
+        None => value(&position, &mut NoTable, &mut budget),
+    };
+    let declarers = position.tricks_left().checked_sub(leaders.ok()?)?;
+    Some((declarers, budget.ticks()))
+}
+
+// How many positions the longest search for a result of this strain visits. The line tool asks West's first, and then begins near
+// the result before: East's, North's, South's.
+fn positions_of_strain(request: &TableRequest, strain: u8) -> Option<u64> {
+    let part = strain.checked_mul(4)?;
+    let all = request.hands().len(Seat::North);
+    let (west, first) = searched(request, part.checked_add(3)?, None)?;
+    let (east, second) = searched(request, part.checked_add(1)?, all.checked_sub(west))?;
+    let (north, third) = searched(request, part, all.checked_sub(east))?;
+    let (_, last) = searched(request, part.checked_add(2)?, Some(north))?;
+    Some(first.max(second).max(third).max(last))
+}
+
+// And the longest of all twenty, where that is over 1,000.
+fn positions_of_table(alloc: Global, line: &[u8]) -> Option<u64> {
+    let Ok(LineAsked::Cards(Asked::Table(request))) = read_request(alloc, line) else {
+        return None;
+    };
+    let mut most = 0u64;
+    for strain in 0..5u8 {
+        most = most.max(positions_of_strain(&request, strain)?);
+    }
+    Some(most).filter(|count| *count > 1_000)
+}
+
+#[test]
+fn a_budget_of_a_table_suffices_or_lacks_one_position(rt: HostRuntime) {
+    let alloc = rt.alloc();
+    let count = positions_of_table(alloc, TABLE).expect(&rt, "over 1,000 positions");
+    let less = count.saturating_sub(1);
+    assert!(rt; is_spent(alloc, TABLE, less) && !is_spent(alloc, TABLE, count));
 }

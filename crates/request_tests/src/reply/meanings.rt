@@ -35,6 +35,16 @@ fn meaning_of_cards(alloc: Global, asked: &Asked) -> Result<String, AllocError> 
             let solutions = request.solutions();
             format!(in alloc; "{strain} {first} {left} {played} {solutions}")
         }
+        Asked::Target(request) => {
+            let position = request.position();
+            let strain = position.strain().code();
+            let first = position.first().code();
+            let left = position.tricks_left();
+            let played = position.trick().len();
+            let solutions = request.solutions();
+            let target = request.target();
+            format!(in alloc; "{strain} {first} {left} {played} {solutions} target {target}")
+        }
     }
 }
 
@@ -156,6 +166,19 @@ const FIELDS: &[u8] = br#"3|"do":"Solve"
 3|"first":false
 12|"solutions":0
 12|"solutions":4
+12|"target":1
+12|"target":14
+4 0 1 0 1 target 0|"target":0,"solutions":1
+4 0 1 0 2 target 13|"target":13,"solutions":2
+27|"target":14,"solutions":2
+27|"target":257,"solutions":1
+27|"target":18446744073709551615,"solutions":1
+3|"target":18446744073709551616,"solutions":1
+3|"target":-1,"solutions":1
+3|"target":1.0,"solutions":1
+3|"target":"1","solutions":1
+3|"target":null,"solutions":1
+3|"target":1,"solutions":1,"do":"table"
 12|"solutions":259
 12|"solutions":18446744073709551615
 3|"solutions":18446744073709551616
@@ -244,6 +267,9 @@ const TWO_FAULTS: &[u8] = br#"1|"x":1,
 11|"played":[[0,1]],"solutions":4
 11|"played":[[0,2],[0,3],[0,4],[0,14]]
 12|"solutions":4,"played":[[0,11]]
+27|"target":14,"solutions":1,"deal":"N:A2... K... Q... J..."
+12|"target":14,"solutions":0
+11|"target":14,"solutions":4,"played":[[0,1]]
 12|"solutions":0,"deal":"N:A2... K... Q... J..."
 6|"played":[[0,11]],"deal":"N:A2... K... Q... J..."
 6|"played":[[0,14],[0,14]],"deal":"N:... ... Q... J..."

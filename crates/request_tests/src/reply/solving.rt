@@ -6,7 +6,7 @@ use dd_pbn::read_deal;
 use dd_play::{Interval, Position, TrickStart};
 use dd_rank::Depths;
 use dd_search::{Bounds, Budget, Endless, Halt, NoTable};
-use dd_solve::{Answer, Request, solve};
+use dd_solve::{Answer, Request, TargetRequest, solve, solve_target};
 
 // Counts the looks and the notes, and keeps the last interval.
 #[derive(Drop)]
@@ -103,4 +103,53 @@ fn a_copy_has_the_request_and_the_answer(rt: HostRuntime) {
     let copy = solved.copy();
     assert_eq!(rt; copy.request().solutions(), 1);
     assert_eq!(rt; rows_of(copy.answer()).as_slice(), [(14, 0, 1)].as_slice());
+}
+
+// A request at notrump for the cards that win so many tricks.
+fn target_of(deal: &str, first: Seat, target: u8, solutions: u8) -> Option<TargetRequest> {
+    let hands = read_deal(deal.as_bytes()).ok()?;
+    let position = Position::new(hands, Strain::Notrump, first, &[]).ok()?;
+    TargetRequest::new(position, target, solutions)
+}
+
+#[test]
+fn a_target_is_in_its_range_and_copied(rt: HostRuntime) {
+    let deal = "N:A.2.. K.A.. Q.K.. J.Q..";
+    assert!(rt; target_of(deal, Seat::North, 14, 1).is_none());
+    assert!(rt; target_of(deal, Seat::North, 1, 0).is_none());
+    assert!(rt; target_of(deal, Seat::North, 1, 3).is_none());
+    assert!(rt; target_of("N:... ... ... ...", Seat::North, 1, 1).is_none());
+    let request = target_of(deal, Seat::North, 1, 2).expect(&rt, "a request");
+    let solved = solve_target(request, &mut NoTable, &mut Endless).expect(&rt, "an answer");
+    let copy = solved.copy();
+    let request = copy.request().copy();
+    assert_eq!(rt; (request.target(), request.solutions()), (1, 2));
+    assert_eq!(rt; request.position().tricks_left(), 2);
+    assert_eq!(rt;
+        rows_of(copy.answer()).as_slice(),
+        [(14, 0, 1), (18, 0, 1)].as_slice()
+    );
+}
+
+#[test]
+fn one_card_that_reaches_the_target_is_enough(rt: HostRuntime) {
+    let deal = "N:A.2.. K.A.. Q.K.. J.Q..";
+    let one = target_of(deal, Seat::North, 1, 1).expect(&rt, "a request");
+    let all = target_of(deal, Seat::North, 1, 2).expect(&rt, "a request");
+    let mut few = Budget::new(1_000);
+    let mut more = Budget::new(1_000);
+    let first = solve_target(one, &mut NoTable, &mut few).expect(&rt, "an answer");
+    solve_target(all, &mut NoTable, &mut more).expect(&rt, "an answer");
+    assert_eq!(rt; rows_of(first.answer()).as_slice(), [(14, 0, 1)].as_slice());
+    assert!(rt; few.ticks() < more.ticks());
+}
+
+#[test]
+fn a_halt_is_told(rt: HostRuntime) {
+    let request = target_of("N:2.A.. AK... Q.4.. J.5..", Seat::North, 1, 2);
+    let request = request.expect(&rt, "a request");
+    assert_eq!(rt;
+        solve_target(request, &mut NoTable, &mut Budget::new(0)).err(),
+        Some(Halt::Spent)
+    );
 }

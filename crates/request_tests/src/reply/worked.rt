@@ -32,6 +32,28 @@ const REPLIES: &[u8] =
 {"do":"solve","deal":"N:32... K4... AQ... 65...","trump":4,"first":0,"solutions":1}|{"cards":[{"equals":4,"rank":3,"score":2,"suit":0}]}
 {"do":"solve","deal":"N:A... K... Q... J...","trump":4,"first":1,"solutions":2}|{"cards":[{"equals":0,"rank":13,"score":0,"suit":0}]}"#;
 
+/// The same with a target.
+const REPLIES_WITH_A_TARGET: &[u8] =
+    br#"{"do":"solve","deal":"N:32... 65... AQ... K4...","trump":4,"first":0,"solutions":2,"target":0}|{"cards":[{"equals":4,"rank":3,"score":0,"suit":0}]}
+{"do":"solve","deal":"N:32... 65... AQ... K4...","trump":4,"first":0,"solutions":2,"target":1}|{"cards":[{"equals":4,"rank":3,"score":1,"suit":0}]}
+{"do":"solve","deal":"N:32... 65... AQ... K4...","trump":4,"first":0,"solutions":2,"target":2}|{"cards":[]}
+{"do":"solve","deal":"N:32... 65... AQ... K4...","trump":4,"first":0,"solutions":2,"target":13}|{"cards":[]}
+{"do":"solve","deal":"N:32... 65... AQ... K4...","trump":4,"first":0,"solutions":2,"target":14}|{"fault":27}
+{"do":"solve","deal":"N:32... 65... AQ... K4...","trump":4,"first":0,"solutions":3,"target":1}|{"fault":12}
+{"do":"solve","deal":"N:32... 65... AQ... K4...","trump":4,"first":0,"solutions":3,"target":14}|{"fault":12}
+{"do":"solve","deal":"N:32... 65... AQ... K...","trump":4,"first":0,"solutions":1,"target":14}|{"fault":27}
+{"do":"solve","deal":"N:32... 65... AQ... K...","trump":4,"first":0,"solutions":1,"target":13}|{"fault":7}
+{"do":"solve","deal":"N:.65.. .2.. QT... .43..","trump":4,"first":1,"played":[[0,11]],"solutions":2,"target":1}|{"cards":[{"equals":0,"rank":12,"score":1,"suit":0},{"equals":0,"rank":10,"score":1,"suit":0}]}
+{"do":"solve","deal":"N:.65.. .2.. QT... .43..","trump":4,"first":1,"played":[[0,11]],"solutions":2,"target":2}|{"cards":[{"equals":0,"rank":12,"score":2,"suit":0}]}
+{"do":"solve","deal":"N:.65.. .2.. QT... .43..","trump":4,"first":1,"played":[[0,11]],"solutions":1,"target":1}|{"cards":[{"equals":0,"rank":12,"score":1,"suit":0}]}
+{"do":"solve","deal":"N:2.2.. A.A.. K.K.. Q.Q..","trump":4,"first":0,"solutions":1,"target":0}|{"cards":[{"equals":0,"rank":2,"score":0,"suit":0}]}
+{"do":"solve","deal":"N:2.2.. A.A.. K.K.. Q.Q..","trump":4,"first":0,"solutions":2,"target":0}|{"cards":[{"equals":0,"rank":2,"score":0,"suit":0},{"equals":0,"rank":2,"score":0,"suit":1}]}
+{"do":"solve","deal":"N:A... K... Q... J...","trump":4,"first":1,"solutions":2,"target":1}|{"cards":[]}
+{"do":"solve","deal":"N:A... K... Q... J...","trump":4,"first":1,"solutions":2,"target":0}|{"cards":[{"equals":0,"rank":13,"score":0,"suit":0}]}
+{"do":"solve","deal":"N:2.A.. AK... Q.4.. J.5..","trump":4,"first":0,"solutions":1,"target":1}|{"cards":[{"equals":0,"rank":14,"score":1,"suit":1}]}
+{"do":"solve","deal":"N:A.2.. K.A.. Q.K.. J.Q..","trump":4,"first":0,"solutions":2,"target":1}|{"cards":[{"equals":0,"rank":14,"score":1,"suit":0},{"equals":0,"rank":2,"score":1,"suit":1}]}
+{"do":"solve","deal":"N:A.2.. K.A.. Q.K.. J.Q..","trump":4,"first":0,"solutions":2,"target":"1"}|{"fault":3}"#;
+
 /// The same with a budget of 1,000.
 const REPLIES_WITH_1_000_POSITIONS: &[u8] =
     br#"{"do":"solve","deal":"N:AKQJT98765432... .AKQJT98765432.. ..AKQJT98765432. ...AKQJT98765432","trump":4,"first":0,"solutions":3}|{"cards":[{"equals":16380,"rank":14,"score":13,"suit":0}]}"#;
@@ -45,7 +67,10 @@ const REPLIES_WITH_NO_POSITION: &[u8] =
     br#"{"do":"solve","deal":"N:A... ... ... ...","trump":4,"first":1,"played":[[0,13],[0,12],[0,11]],"solutions":3}|{"state":"spent"}
 {"do":"solve","deal":"N:2.A.. AK... Q.4.. J.5..","trump":4,"first":0,"solutions":3}|{"state":"spent"}
 {"do":"solve","deal":"N:A... K... Q... J...","trump":4,"first":1.5,"solutions":3}|{"fault":3}
-{"do":"solve","deal":"N:A... K... Q... J...","trump":4,"first":0,"solutions":4}|{"fault":12}"#;
+{"do":"solve","deal":"N:A... K... Q... J...","trump":4,"first":0,"solutions":4}|{"fault":12}
+{"do":"solve","deal":"N:2.A.. AK... Q.4.. J.5..","trump":4,"first":0,"solutions":2,"target":1}|{"state":"spent"}
+{"do":"solve","deal":"N:2.A.. AK... Q.4.. J.5..","trump":4,"first":0,"solutions":2,"target":0}|{"cards":[{"equals":0,"rank":2,"score":0,"suit":0},{"equals":0,"rank":14,"score":0,"suit":1}]}
+{"do":"solve","deal":"N:2.A.. AK... Q.4.. J.5..","trump":4,"first":0,"solutions":2,"target":3}|{"cards":[]}"#;
 
 /// The same with a budget of 10,000.
 const REPLIES_WITH_10_000_POSITIONS: &[u8] =
@@ -70,6 +95,7 @@ pub(super) fn first_with_another_reply(
 fn worked_requests_have_their_replies(rt: HostRuntime) {
     for (table, budget) in [
         (REPLIES, None),
+        (REPLIES_WITH_A_TARGET, None),
         (REPLIES_WITH_NO_POSITION, Some(0)),
         (REPLIES_WITH_ONE_POSITION, Some(1)),
         (REPLIES_WITH_1_000_POSITIONS, Some(1_000)),

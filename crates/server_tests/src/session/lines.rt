@@ -128,7 +128,7 @@ fn a_line_cut_short_is_no_object(rt: HostRuntime) -> Result<(), Fail> {
 // Does the line ask, and is it told that memory ran out?
 fn asks_or_is_refused(session: &Session, line: &[u8]) -> (bool, bool) {
     match session.on_line(line) {
-        Step::Ask(want) => (matches!(want, Want::Submit(_)), false),
+        Step::Ask(wish) => (matches!(wish.want, Want::Submit(_)), false),
         Step::Say(text) => (false, text.as_str() == r#"{"fault":19}"#),
     }
 }

@@ -10,6 +10,7 @@ use request_tests::devices::{Pieces, Taker};
 use std::alloc::Global;
 use std::marker::Brand;
 use std::sync::Wait;
+use std::time::Clock;
 use tungstenite::Duplex;
 
 /// How the bytes of a session come and go.
@@ -79,7 +80,12 @@ fn serve_port<P: BookPort>(alloc: Global, client: &Client, port: &mut P) -> (End
 }
 
 // A session at the desk of this row, which is closed when it has ended.
-fn serve_row<J: Naming, R: Wait>(rt: &R, alloc: Global, row: Row, client: &Client) -> Option<Served>
+fn serve_row<J: Naming, R: Wait + Clock>(
+    rt: &R,
+    alloc: Global,
+    row: Row,
+    client: &Client,
+) -> Option<Served>
     requires cells { (map cell_name row.cells.items ≡ J.cells) × (J.all ≡ J.parts) }
     requires limits { row.limits ≡ J.limits }
     requires count { (row.count.name ≡ J.counts) × (row.count.parts ≡ J.parts) }
@@ -100,7 +106,7 @@ fn serve_row<J: Naming, R: Wait>(rt: &R, alloc: Global, row: Row, client: &Clien
 }
 
 /// A session at a desk of its own; `None` where there is no memory for it.
-pub fn serve<R: Wait>(rt: &R, alloc: Global, client: &Client) -> Option<Served> {
+pub fn serve<R: Wait + Clock>(rt: &R, alloc: Global, client: &Client) -> Option<Served> {
     let limits = Limits::new(64, 1_000, 1, client.events)?;
     let row = Row::new(alloc, limits).ok()?;
     serve_row::<Brand, R>(rt, alloc, row, client)

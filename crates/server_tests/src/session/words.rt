@@ -1,17 +1,35 @@
 //! What follows a line, in words.
 use dd_session::Step;
 use dd_solve::Asked;
-use dd_wire::Want;
+use dd_wire::{Want, Wish};
 use std::alloc::{AllocError, Global};
 
-/// A step in a word: what is wanted, with the job that it names, or the text that is said.
+/// A step in a word: what is wanted, with the job that it names and the wait where there is one, or the text that is said.
 pub fn plain(alloc: Global, step: &Step) -> Result<String, AllocError> {
     match step {
         Step::Say(text) => String::from_str(alloc, text.as_str()),
-        Step::Ask(Want::Submit(Asked::Solve(_))) => String::from_str(alloc, "solve"),
-        Step::Ask(Want::Submit(Asked::Table(_))) => String::from_str(alloc, "table"),
-        Step::Ask(Want::Cancel(job)) => format!(in alloc; "cancel {job}"),
-        Step::Ask(Want::Fetch(job)) => format!(in alloc; "fetch {job}"),
-        Step::Ask(Want::Stop) => String::from_str(alloc, "stop"),
+        Step::Ask(wish) => wished(alloc, wish),
+    }
+}
+
+// A wish in a word.
+fn wished(alloc: Global, wish: &Wish) -> Result<String, AllocError> {
+    let wait = wish.wait;
+    let want = wanted(alloc, &wish.want)?;
+    if wait == 0 {
+        return Ok(want);
+    }
+    format!(in alloc; "{want} within {wait}")
+}
+
+// A want in a word.
+fn wanted(alloc: Global, want: &Want) -> Result<String, AllocError> {
+    match want {
+        Want::Submit(Asked::Solve(_)) => String::from_str(alloc, "solve"),
+        Want::Submit(Asked::Table(_)) => String::from_str(alloc, "table"),
+        Want::Submit(Asked::Target(_)) => String::from_str(alloc, "target"),
+        Want::Cancel(job) => format!(in alloc; "cancel {job}"),
+        Want::Fetch(job) => format!(in alloc; "fetch {job}"),
+        Want::Stop => String::from_str(alloc, "stop"),
     }
 }

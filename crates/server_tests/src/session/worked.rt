@@ -3,6 +3,7 @@ use crate::session::served::{Client, End, Served, Way, serve};
 use std::alloc::{AllocError, Global};
 use std::sync::Wait;
 use std::test::Fail;
+use std::time::Clock;
 
 /// A client with these lines, over a connection that bears all.
 pub fn client(alloc: Global, lines: &[u8]) -> Result<Client, AllocError> {
@@ -29,7 +30,7 @@ fn has_served(served: &Option<Served>, written: &[u8], events: usize) -> bool {
     }
 }
 
-fn serves<R: Wait>(
+fn serves<R: Wait + Clock>(
     rt: &R,
     alloc: Global,
     lines: &[u8],
@@ -60,12 +61,14 @@ fn a_job_is_submitted_fetched_and_cancelled(rt: HostRuntime) -> Result<(), Fail>
 
 #[test]
 fn par_is_told_at_once_and_leaves_no_event(rt: HostRuntime) -> Result<(), Fail> {
-    let lines = br#"{"do":"par","table":[[5,8,5,8],[6,6,6,6],[5,7,5,7],[7,5,7,5],[6,6,6,6]],"dealer":0,"vulnerable":0}
+    let lines =
+        br#"{"do":"par","table":[[5,8,5,8],[6,6,6,6],[5,7,5,7],[7,5,7,5],[6,6,6,6]],"dealer":0,"vulnerable":0}
 {"do":"solve","deal":"N:A... K... Q... J...","trump":4,"first":0,"solutions":3}
 {"do":"par","table":[[6,6,6,6],[6,6,6,6],[6,6,6,6],[6,6,6,6],[7,7,7,7]],"side":1,"vulnerable":0}
 {"do":"fetch","job":1}
 "#;
-    let replies = br#"{"contracts":[{"declarers":[1,3],"level":2,"tricks":8,"trump":0}],"score":-110}
+    let replies =
+        br#"{"contracts":[{"declarers":[1,3],"level":2,"tricks":8,"trump":0}],"score":-110}
 {"job":1}
 {"contracts":[{"declarers":[1,3],"level":1,"tricks":7,"trump":4}],"score":-90}
 {"job":1,"state":"waiting"}

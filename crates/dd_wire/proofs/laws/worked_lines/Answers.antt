@@ -98,3 +98,11 @@ returns-clause-table_and_deal c = (Err WrongField, refl, refl)
 pub returns-clause-nineteen_results : goal.returns-clause-nineteen_results
 unfolding is_utf8 chars serde_json_on_literals
 returns-clause-nineteen_results c = (Err WrongField, refl, refl)
+
+pub returns-clause-wait : goal.returns-clause-wait
+unfolding is_utf8 chars serde_json_on_literals
+returns-clause-wait c = (_, (_, inl (two_suits, spades-and-hearts.0, spades-and-hearts.1, means-table two_suits (refl, refl, refl) (omega arith)), refl), refl)
+
+pub returns-clause-wait_below_zero : goal.returns-clause-wait_below_zero
+unfolding is_utf8 chars serde_json_on_literals
+returns-clause-wait_below_zero c = refl

@@ -71,3 +71,35 @@ returns-clause-par c = λ leave. refl
 pub returns-clause-par_of_a_deal : goal.returns-clause-par_of_a_deal
 unfolding is_utf8 chars serde_json_on_literals
 returns-clause-par_of_a_deal c = λ leave. refl
+
+pub returns-clause-waits : goal.returns-clause-waits
+unfolding is_utf8 chars serde_json_on_literals
+returns-clause-waits c = λ leave. refl
+
+pub returns-clause-no_longer : goal.returns-clause-no_longer
+unfolding is_utf8 chars serde_json_on_literals
+returns-clause-no_longer c = λ leave. refl
+
+pub returns-clause-waits_in_words : goal.returns-clause-waits_in_words
+unfolding is_utf8 chars serde_json_on_literals
+returns-clause-waits_in_words c = refl
+
+pub returns-clause-waits_in_part : goal.returns-clause-waits_in_part
+unfolding is_utf8 chars serde_json_on_literals
+returns-clause-waits_in_part c = refl
+
+pub returns-clause-cancel_that_waits : goal.returns-clause-cancel_that_waits
+unfolding is_utf8 chars serde_json_on_literals
+returns-clause-cancel_that_waits c = (Err WrongField, refl, refl)
+
+pub returns-clause-stop_that_waits : goal.returns-clause-stop_that_waits
+unfolding is_utf8 chars serde_json_on_literals
+returns-clause-stop_that_waits c = (Err WrongField, refl, refl)
+
+pub returns-clause-solve_that_waits : goal.returns-clause-solve_that_waits
+unfolding is_utf8 chars serde_json_on_literals
+returns-clause-solve_that_waits c = λ leave. (_, (_, inl (two_suits, spades-and-hearts.0, spades-and-hearts.1, (board_of two_suits Notrump East [], record { hands = refl; strain = refl; first = refl; trick = refl }, asks-best)), refl), refl)
+
+pub returns-clause-table_that_waits : goal.returns-clause-table_that_waits
+unfolding is_utf8 chars serde_json_on_literals
+returns-clause-table_that_waits c = λ leave. (_, (_, inl (two_suits, spades-and-hearts.0, spades-and-hearts.1, means-table two_suits (refl, refl, refl) (omega arith)), refl), refl)

@@ -4,7 +4,7 @@ use Rattle.dd_cards.specs.Seats.{seat_code}
 use Rattle.dd_cards.specs.Strains.{strain_code}
 use Rattle.dd_play.specs.Board.{board_of}
 use Rattle.dd_wire.specs.Reading.{ArePlayed, fields_of}
-use Rattle.dd_wire.specs.Requests.{MeansBoard, are_cards, pair_of_card}
+use Rattle.dd_wire.specs.Requests.{MeansBoard, question, are_cards, pair_of_card}
 use Rattle.dd_wire.proofs.Meanings.{means-cards}
 use Rattle.dd_wire.proofs.request_reader.request_for.Goals as goal
 
@@ -20,5 +20,6 @@ returns c = λ pairs found.
     let played : map pair_of_card c.as_slice.result.now ≡ fields.played = ap (map pair_of_card) c.as_slice.ensures.value ∙ cards.1 in
     let within : (1 ≤ fields.solutions) × (fields.solutions ≤ 3) = c.solutions_of.ensures.valid.0 (ap is_some c.in_ok-solutions.ensures.ok_part) in
     let solutions : c.in_ok-solutions.solutions ≡ fields.solutions = rw c.in_ok-solutions.ensures.ok_part at c.solutions_of.ensures.value in
-    let means : MeansBoard (board_of c.args.hands c.in_ok-strain.strain c.in_ok-first.first c.as_slice.result.now) fields.solutions c.request.result = rw solutions at c.request.ensures in
+    let board = board_of c.args.hands c.in_ok-strain.strain c.in_ok-first.first c.as_slice.result.now in
+    let means : MeansBoard board (question fields.solutions board) c.request.result = rw solutions at c.request.ensures in
     means-cards fields c.args.hands c.in_ok-strain.strain c.in_ok-first.first c.as_slice.result.now c.request.result strain low first below played cards.0 within.0 within.1 means

@@ -1,24 +1,22 @@
-use Rattle.std.proofs.Common.{arith}
-use Rattle.std.specs.Prelude.{Err}
-use Rattle.std.proofs.lemmas.Result.{IfErr-weaker}
+use Rattle.std.proofs.Common.{◌≡◌, ◌∙◌, Some, arith, subst, sym}
+use Rattle.std.proofs.lemmas.Result.{err_from_is_err_and}
 use Rattle.serde_json.specs.View.{members_view}
-use Rattle.dd_wire.specs.declared.fault.Fault.TheVariants.{OutOfMemory}
-use Rattle.dd_wire.specs.Wants.{MeansWant, MeansWanted}
-use Rattle.dd_wire.proofs.Meanings.{at-ok, at-err}
+use Rattle.dd_wire.specs.Requests.{wait_at}
+use Rattle.dd_wire.specs.Wants.{MeansWanted}
+use Rattle.dd_wire.proofs.Meanings.{never-memory}
 use Rattle.dd_wire.proofs.WantMeanings.{means-wanted, wanted-memory}
 use Rattle.dd_wire.proofs.want_reader.read_want.Goals as goal
 
-pub returns-clause-ok : goal.returns-clause-ok
-returns-clause-ok c =
-    at-ok c.wanted_by.result (MeansWant c.args.allow_stop c.args.line.now)
-    (means-wanted c.args.allow_stop c.args.line.now _ _ (omega arith) c.in_ok-object.ensures.ok c.wanted_by.ensures)
+pub returns-in_err-asked-clause-err : goal.returns-in_err-asked-clause-err
+returns-in_err-asked-clause-err c =
+    let members = members_view c.in_ok-object.object.entries in
+    let p = err_from_is_err_and c.from_residual-in_err-asked.result c.from_residual-in_err-asked.ensures.1 in
+    let waits : wait_at members ≡ Some c.in_ok-wait.wait = sym c.wait_at.ensures ∙ c.in_ok-wait.ensures.ok_part in
+    rw (p.1, p.2) (λ _. means-wanted c.args.allow_stop c.args.line.now members c.in_ok-wait.wait _ (omega arith) c.in_ok-object.ensures.ok waits
+    (subst (MeansWanted c.args.allow_stop c.in_ok-wait.wait members) c.in_err-asked.was c.wanted_by.ensures))
 
-pub returns-clause-err : goal.returns-clause-err
-returns-clause-err c =
-    IfErr-weaker c.wanted_by.result (λ fault. MeansWant c.args.allow_stop c.args.line.now (Err fault)) _ (λ fault means _. means)
-    (at-err c.wanted_by.result (MeansWant c.args.allow_stop c.args.line.now)
-    (means-wanted c.args.allow_stop c.args.line.now _ _ (omega arith) c.in_ok-object.ensures.ok c.wanted_by.ensures))
-
-pub returns-clause-memory : goal.returns-clause-memory
-returns-clause-memory c = λ out.
-    absurd (wanted-memory c.args.allow_stop (members_view c.in_ok-object.object.entries) (let means : MeansWanted c.args.allow_stop (members_view c.in_ok-object.object.entries) (Err OutOfMemory) = rw out at c.wanted_by.ensures in means))
+pub returns-in_err-asked-clause-memory : goal.returns-in_err-asked-clause-memory
+returns-in_err-asked-clause-memory c = λ out.
+    let members = members_view c.in_ok-object.object.entries in
+    let p = err_from_is_err_and c.from_residual-in_err-asked.result c.from_residual-in_err-asked.ensures.1 in
+    absurd (never-memory (MeansWanted c.args.allow_stop c.in_ok-wait.wait members) c.wanted_by.result c.from_residual-in_err-asked.result _ p.0 (wanted-memory c.args.allow_stop c.in_ok-wait.wait members) c.wanted_by.ensures c.in_err-asked.was p.1 p.2 out)

@@ -1,0 +1,103 @@
+-- four hands and the board that they make
+use Rattle.std.proofs.Common.{◌≡◌, ◌≢◌, ℕ, zero, suc, ◌+◌, ◌<◌, ◌≤◌, ◌⊎◌, Bool, true, false, refl, sym, ap, ◌∙◌, subst, arith, inl, inr, List, [], ◌∷◌, ◌++◌, length}
+use Rattle.std.specs.Prelude.{◌||◌, nat_lt, if◌then◌else◌}
+use Rattle.std.specs.List.{list_any}
+use mathlib.Core.Path.{ap₂}
+use Rattle.std.proofs.lemmas.List.Folds.{list_any-append}
+use Rattle.dd_cards.specs.declared.seat.Seat.{Seat}
+use Rattle.dd_cards.specs.declared.seat.Seat.TheVariants.{North, East, South, West}
+use Rattle.dd_cards.specs.declared.strain.Strain.{Strain}
+use Rattle.dd_cards.specs.PlayingCard.{PlayingCard}
+use Rattle.dd_cards.specs.Cards.{has_card, same_card}
+use Rattle.dd_cards.specs.Hands.{FourHands, dealt, hand_of, times, AreHands, IsSet}
+use Rattle.dd_cards.specs.Seats.{seat_after}
+use Rattle.dd_cards.proofs.CallerLemmas.{or-left, or-right, or-split}
+use Rattle.dd_play.specs.Board.{Board, IsBoard, cards_at, times_in, tricks_left}
+use Rattle.dd_play.proofs.CallerLemmas.{times-has, times_in-once}
+use Rattle.dd_rank.specs.Depths.{all_cards}
+use Rattle.dd_relative.specs.Relative.{led_by_north}
+
+-- a card of all hands is in one of the four
+pub held : (l s t f : List PlayingCard) (strain : Strain) (c : PlayingCard) → has_card (all_cards (led_by_north l s t f strain)) c ≡ (((has_card l c || has_card s c) || has_card t c) || has_card f c)
+held l s t f strain c =
+    let test = λ (d : PlayingCard). same_card d c in
+    list_any-append test ((l ++ s) ++ t) f
+    ∙ ap (λ b. b || has_card f c) (list_any-append test (l ++ s) t ∙ ap (λ b. b || has_card t c) (list_any-append test l s))
+
+-- .. of any board
+pub held-by : (p : Board) (c : PlayingCard) → has_card (all_cards p) c ≡ (((has_card (cards_at p North) c || has_card (cards_at p East) c) || has_card (cards_at p South) c) || has_card (cards_at p West) c)
+held-by p c =
+    let test = λ (d : PlayingCard). same_card d c in
+    list_any-append test ((cards_at p North ++ cards_at p East) ++ cards_at p South) (cards_at p West)
+    ∙ ap (λ b. b || has_card (cards_at p West) c) (list_any-append test (cards_at p North ++ cards_at p East) (cards_at p South)
+    ∙ ap (λ b. b || has_card (cards_at p South) c) (list_any-append test (cards_at p North) (cards_at p East)))
+
+-- the hand that has it
+pub holder-of : (p : Board) (c : PlayingCard) → has_card (all_cards p) c ≡ true → (x : Seat) × (has_card (cards_at p x) c ≡ true)
+holder-of p c has = elim (or-split _ _ (sym (held-by p c) ∙ has)) [
+  | inl three ↦ elim (or-split _ _ three) [
+    | inl two ↦ elim (or-split _ _ two) [ inl n ↦ (North, n) | inr e ↦ (East, e) ]
+    | inr s ↦ (South, s)
+  ]
+  | inr w ↦ (West, w)
+]
+
+-- a card of a hand is one of all
+pub one-of-all : (p : Board) (x : Seat) (c : PlayingCard) → has_card (cards_at p x) c ≡ true → has_card (all_cards p) c ≡ true
+one-of-all p x c has = held-by p c ∙ go x has
+  where
+    go : (x : Seat) → has_card (cards_at p x) c ≡ true → (((has_card (cards_at p North) c || has_card (cards_at p East) c) || has_card (cards_at p South) c) || has_card (cards_at p West) c) ≡ true
+    go North h = or-left _ _ (or-left _ _ (or-left _ _ h))
+    go East h = or-left _ _ (or-left _ _ (or-right _ _ h))
+    go South h = or-left _ _ (or-right _ _ h)
+    go West h = or-right _ _ h
+
+-- the hands of a board are four hands
+pub board-hands : (p : Board) → IsBoard p → AreHands p.hands
+board-hands p valid = record { sets = valid.sets; disjoint = λ c s t h k. go c s t (times-has _ c h) (times-has _ c k) (fewer c) }
+  where
+    fewer : (c : PlayingCard) → times_in p.hands c ≤ 1
+    fewer c = (let o = valid.once c in omega (arith, o))
+
+    go : (c : PlayingCard) (s t : Seat) → 1 ≤ times (cards_at p s) c → 1 ≤ times (cards_at p t) c → times_in p.hands c ≤ 1 → s ≡ t
+    go c North North a b o = refl
+    go c North East a b o = absurd (omega (arith, a, b, o))
+    go c North South a b o = absurd (omega (arith, a, b, o))
+    go c North West a b o = absurd (omega (arith, a, b, o))
+    go c East North a b o = absurd (omega (arith, a, b, o))
+    go c East East a b o = refl
+    go c East South a b o = absurd (omega (arith, a, b, o))
+    go c East West a b o = absurd (omega (arith, a, b, o))
+    go c South North a b o = absurd (omega (arith, a, b, o))
+    go c South East a b o = absurd (omega (arith, a, b, o))
+    go c South South a b o = refl
+    go c South West a b o = absurd (omega (arith, a, b, o))
+    go c West North a b o = absurd (omega (arith, a, b, o))
+    go c West East a b o = absurd (omega (arith, a, b, o))
+    go c West South a b o = absurd (omega (arith, a, b, o))
+    go c West West a b o = refl
+
+-- four hands of one length that North leads from are a board
+pub start-board : (l s t f : List PlayingCard) (strain : Strain) → AreHands (dealt l s t f) → length s ≡ length l → length t ≡ length l → length f ≡ length l → IsBoard (led_by_north l s t f strain)
+start-board l s t f strain hands es et ef = record {
+  sets = hands.sets;
+  short = omega arith;
+  real = λ c h. absurd (cc);
+  once = λ c. (let o = times_in-once (dealt l s t f) c hands in omega (arith, o));
+  even = even;
+}
+  where
+    even : (k : ℕ) → k < 4 → length (hand_of (dealt l s t f) (seat_after North k)) + (if nat_lt k 0 then 1 else 0) ≡ length l
+    even zero h = omega arith
+    even (suc zero) h = omega (arith, es)
+    even (suc (suc zero)) h = omega (arith, et)
+    even (suc (suc (suc zero))) h = omega (arith, ef)
+    even (suc (suc (suc (suc k)))) h = absurd (omega (arith, h))
+
+-- .. and the other way
+pub board-even : (l s t f : List PlayingCard) (strain : Strain) → IsBoard (led_by_north l s t f strain) → (length s ≡ length l) × (length t ≡ length l) × (length f ≡ length l)
+board-even l s t f strain valid =
+    let b : length s + 0 ≡ length l = valid.even 1 (omega arith) in
+    let c : length t + 0 ≡ length l = valid.even 2 (omega arith) in
+    let d : length f + 0 ≡ length l = valid.even 3 (omega arith) in
+    (omega (arith, b), omega (arith, c), omega (arith, d))

@@ -1,0 +1,64 @@
+-- the highest cards of runs, by their bits
+use Rattle.std.proofs.Common.{◌≡◌, ◌≢◌, ℕ, zero, suc, ◌+◌, ◌-◌, ◌/◌, ◌%◌, ◌^◌, ◌<◌, ◌≤◌, ◌⊎◌, Bool, true, false, refl, sym, ap, ◌∙◌, arith, inl, inr, bit_and, min, w64, List}
+use Rattle.std.specs.Prelude.{filter, ◌==◌, ◌&&◌}
+use mathlib.Core.Bool.{not}
+use mathlib.Core.Path.{ap₂}
+use Rattle.std.specs.Int.{bit_at, bit_not}
+use Rattle.std.proofs.lemmas.Bool.{cases_lt}
+use Rattle.std.proofs.lemmas.Bool.Decides.{eqb_tells}
+use Rattle.std.proofs.lemmas.Nat.{shr-shr, shr_le}
+use Rattle.std.proofs.lemmas.Nat.Bits.{bit_at-lt, bit_at_and, bit_at_not}
+use Rattle.dd_cards.specs.PlayingCard.{PlayingCard}
+use Rattle.dd_cards.specs.Suits.{suit_code, suit_shift}
+use Rattle.dd_cards.specs.Ranks.{IsRank}
+use Rattle.dd_cards.specs.Cards.{has_card, place_of}
+use Rattle.dd_cards.specs.HandMasks.{IsHandMask, in_hand, cards_of}
+use Rattle.dd_cards.specs.Hands.{IsSet}
+use Rattle.dd_cards.proofs.CallerLemmas.{IsSet-filter, else-false, has_card-filter, real-set, same-members, suit_code-lt}
+use Rattle.dd_relative.specs.Runs.{next_above, heads_of}
+use Rattle.dd_relative.proofs.Moved.{cards-set, has-bit}
+
+-- a bit of both is one of the first
+pub both-first : (m n i : ℕ) → bit_at (bit_and m n) i ≡ 1 → bit_at m i ≡ 1
+both-first m n i h = (let e : bit_at (bit_and m n) i ≡ min (bit_at m i) (bit_at n i) = bit_at_and m n i in let b = bit_at-lt m i in omega (arith, h, e, b))
+
+-- two bits, of which the second is turned
+turned : (b e : ℕ) → b < 2 → e < 2 → (min b (1 - e) == 1) ≡ (not (e == 1) && (b == 1))
+turned zero zero lb le = refl
+turned zero (suc zero) lb le = refl
+turned (suc zero) zero lb le = refl
+turned (suc zero) (suc zero) lb le = refl
+turned (suc (suc b)) e lb le = absurd (omega (arith, lb))
+turned zero (suc (suc e)) lb le = absurd (omega (arith, le))
+turned (suc zero) (suc (suc e)) lb le = absurd (omega (arith, le))
+
+-- the bit above a card's
+pub above-bit : (m : ℕ) (c : PlayingCard) → IsHandMask m → IsRank c.rank → (bit_at m (place_of c + 1) == 1) ≡ has_card (cards_of m) (next_above c)
+above-bit m c valid real = elim (cases_lt c.rank 14) [
+  | inl low ↦ (
+      let b = real.0 in
+      ap (λ i. bit_at m i == 1) (let e : place_of c + 1 ≡ place_of (next_above c) = omega arith in e) ∙ sym (has-bit m (next_above c) (omega (arith, b), omega (arith, low))))
+  | inr high ↦ (
+      let none : has_card (cards_of m) (next_above c) ≡ false = else-false _ (λ h. let t = (real-set (cards_of m) (next_above c) (cards-set m) h).1 in omega (arith, t, high)) in
+      let clear : (bit_at m (place_of c + 1) == 1) ≡ false = elim (eqb_tells (bit_at m (place_of c + 1)) 1) [
+        | inl same ↦ absurd (let t = (valid (place_of c + 1) same.1).2 in let k = suit_code-lt c.suit in let top = real.1 in omega (arith, t, high, k, top))
+        | inr other ↦ other.0
+      ] in
+      clear ∙ sym none)
+]
+
+pub heads-cards : (m : ℕ) → IsHandMask m → m < 2 ^ 64 → cards_of (bit_and m (bit_not w64 (m / 2 ^ 1))) ≡ heads_of (cards_of m)
+heads-cards m valid fits =
+    same-members (cards_of (bit_and m (bit_not w64 (m / 2 ^ 1)))) (heads_of (cards_of m)) (cards-set _) (IsSet-filter (λ c. not (has_card (cards_of m) (next_above c))) (cards_of m) (cards-set m))
+    (λ c real.
+    let k = suit_code-lt c.suit in
+    let top = real.1 in
+    let p : place_of c < 64 = omega (arith, k, top) in
+    let n : bit_at (bit_not w64 (m / 2 ^ 1)) (place_of c) ≡ 1 - bit_at m (place_of c + 1) =
+    bit_at_not w64 (m / 2 ^ 1) (place_of c) (let l = shr_le m 1 in omega (arith, l, fits)) p
+    ∙ ap (λ x. 1 - x) (ap (λ x. x % 2) (shr-shr m 1 (place_of c)) ∙ ap (bit_at m) (let e : 1 + place_of c ≡ place_of c + 1 = omega arith in e)) in
+    has-bit (bit_and m (bit_not w64 (m / 2 ^ 1))) c real
+    ∙ ap (λ x. x == 1) (bit_at_and m (bit_not w64 (m / 2 ^ 1)) (place_of c) ∙ ap (min (bit_at m (place_of c))) n)
+    ∙ turned (bit_at m (place_of c)) (bit_at m (place_of c + 1)) (bit_at-lt m (place_of c)) (bit_at-lt m (place_of c + 1))
+    ∙ ap₂ (λ a b. not a && b) (above-bit m c valid real) (sym (has-bit m c real))
+    ∙ sym (has_card-filter (λ x. not (has_card (cards_of m) (next_above x))) (cards_of m) c))

@@ -1,0 +1,10 @@
+pub mod Cards
+pub mod Moved
+pub mod Boards
+pub mod Gapped
+pub mod Turned
+pub mod Packs
+pub mod UnderWay
+pub mod Heads
+pub mod Tops
+pub mod Starts

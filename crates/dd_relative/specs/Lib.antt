@@ -1,0 +1,6 @@
+pub mod Gaps
+pub mod Relative
+pub mod Gapped
+pub mod Turned
+pub mod UnderWay
+pub mod Runs

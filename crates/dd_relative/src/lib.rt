@@ -1,0 +1,10 @@
+//! Positions by relative ranks: the leader is North, and of each suit the cards left are the highest.
+#![tactic(auto)]
+
+mod gap;
+mod relative_start;
+mod relative_trick;
+mod runs;
+
+pub use relative_start::RelativeStart;
+pub use relative_trick::RelativeTrick;

@@ -1,0 +1,161 @@
+-- Without leave no line wants a stop, so the port is asked for none.
+use Rattle.std.proofs.Common.{◌≡◌, ℕ, List, [], ◌∷◌, Bool, true, false, IsTrue, Option, Ok, Err, inl, inr, refl, sym, ap, ◌∙◌, subst}
+use Rattle.std.specs.Prelude.{◌&&◌, Result, Some, None, MatchOption, OnOk, OnErr, option_map, codes, length, nat_lt, if◌then◌else◌}
+use Rattle.std.specs.Bool.{MatchBool}
+use Rattle.std.specs.Str.{bytes_eq}
+use Rattle.serde_json.specs.Data.{Members}
+use Rattle.dd_pbn.specs.Reading.{◌>>=◌}
+use Rattle.dd_solve.specs.declared.asked.Asked.{Asked}
+use Rattle.dd_lines.specs.Line.{longest_line}
+use Rattle.dd_wire.specs.declared.fault.Fault.{Fault}
+use Rattle.dd_book.specs.declared.call.Reply.{Reply}
+use Rattle.dd_desk.specs.declared.fault.Fault.{Fault as DeskFault}
+use Rattle.dd_wire.specs.declared.par_request.ParOfResults.{ParOfResults}
+use Rattle.dd_wire.specs.declared.session_asked.SessionAsked.{SessionAsked}
+use Rattle.dd_wire.specs.declared.session_asked.SessionAsked.TheVariants.{Book, Par}
+use Rattle.dd_wire.specs.declared.want.Want.{Want}
+use Rattle.dd_wire.specs.declared.want.Want.TheVariants.{Submit, Cancel, Fetch, Stop}
+use Rattle.dd_wire.specs.declared.wish.Wish.{Wish}
+use Rattle.dd_wire.specs.ParLines.{par_fields, table_par_of}
+use Rattle.dd_wire.specs.Requests.{asked_as, object_of, text_at, wait_at}
+use Rattle.dd_wire.specs.Wants.{MeansOther, MeansWant, MeansWanted, called, fetch_keys, is_alone, job_keys, named_job, session_call, submitted}
+use Rattle.dd_session.specs.Ports.{AreNoStops, AsksNoStop, PortOf, Told}
+use Rattle.dd_session.specs.Serving.{Says, SaysAfter, SaysEnd, SaysOne, SaysState, awaited, new_job}
+use Rattle.dd_session.specs.Served.{AreServed, IsServed, ServedAll, ServedBeginning}
+use Rattle.dd_session.specs.Sockets.{ServesMessages}
+
+-- ---- what members stand for
+
+-- of two that are no stop neither is chosen as one
+either : (b : Bool) (x y : Option Want) → (x ≡ Some Stop → ⊥) → (y ≡ Some Stop → ⊥) → (if b then x else y) ≡ Some Stop → ⊥
+either true x y a c = a
+either false x y a c = c
+
+-- what follows a text that is there, and of none nothing
+after-text : (text : Option (List ℕ)) (next : List ℕ → Option Want) → ((t : List ℕ) → next t ≡ Some Stop → ⊥) → (text >>= next) ≡ Some Stop → ⊥
+after-text None next none e = cc
+after-text (Some t) next none = none t
+
+-- a call that names a job is no stop
+of-job : (call : ℕ → Want) (job : Option ℕ) → ((n : ℕ) → call n ≡ Stop → ⊥) → option_map call job ≡ Some Stop → ⊥
+of-job call None other e = cc
+of-job call (Some n) other e = other n (let same : call n ≡ Stop = cc in same)
+
+-- without leave the word is not enough
+no-leave : (b alone : Bool) → (if b && (false && alone) then Some Stop else None) ≡ Some Stop → ⊥
+no-leave true alone e = cc
+no-leave false alone e = cc
+
+no-stop-call : (members : Members) → session_call false members ≡ Some Stop → ⊥
+no-stop-call members =
+    after-text (text_at members (codes "do")) _ (λ task.
+    either (bytes_eq task (codes "cancel")) _ _ (of-job Cancel (named_job job_keys members) (λ n e. cc))
+    (either (bytes_eq task (codes "fetch")) _ _ (of-job Fetch (named_job fetch_keys members) (λ n e. cc))
+    (no-leave (bytes_eq task (codes "stop")) (is_alone members))))
+
+-- what the book is asked for with this wait
+asked-want : (wait : ℕ) (wish : Wish) (want : Want) (a : Result SessionAsked Fault) → a ≡ Ok (Book wish) → a ≡ Ok (called wait want) → want ≡ wish.want
+asked-want wait wish want a is_wish is_want = let same : called wait want ≡ Book wish = cc in let wishes : record { want = want; wait = wait } ≡ wish = cc in ap (λ (w : Wish). w.want) wishes
+
+-- a request that is submitted is no stop
+no-stop-submitted : (wait : ℕ) (wish : Wish) (asked : Result Asked Fault) → Ok (Book wish) ≡ asked_as (submitted wait) asked → wish.want ≡ Stop → ⊥
+no-stop-submitted wait wish (Ok asked) e stops = let same : Submit asked ≡ Stop = asked-want wait wish (Submit asked) (Ok (Book wish)) refl e ∙ stops in cc
+no-stop-submitted wait wish (Err fault) e stops = cc
+
+-- and par asks the book for nothing
+no-stop-par : (wish : Wish) (par : Result ParOfResults Fault) → Ok (Book wish) ≡ asked_as Par par → ⊥
+no-stop-par wish (Ok par) e = cc
+no-stop-par wish (Err fault) e = cc
+
+-- ---- what a line wants
+
+by-test : (b : Bool) (A B : Type 0) → (A → ⊥) → (B → ⊥) → MatchBool b A B → ⊥
+by-test true A B a c = a
+by-test false A B a c = c
+
+by-option : {X : Type 0} (o : Option X) (A : Type 0) (B : X → Type 0) → (A → ⊥) → ((x : X) → o ≡ Some x → B x → ⊥) → MatchOption o A B → ⊥
+by-option None A B a c = a
+by-option (Some x) A B a c = c x refl
+
+no-stop-other : (wait : ℕ) (members : Members) (wish : Wish) → wish.want ≡ Stop → MeansOther wait members (Ok (Book wish)) → ⊥
+no-stop-other wait members wish stops =
+    by-option (par_fields members) _ _ (λ means. no-stop-submitted wait wish means.0 means.2 stops)
+    (λ fields is e. no-stop-par wish (table_par_of fields.given fields) e)
+
+no-stop-members : (wait : ℕ) (members : Members) (wish : Wish) → wish.want ≡ Stop → MeansWanted false wait members (Ok (Book wish)) → ⊥
+no-stop-members wait members wish stops =
+    by-option (session_call false members) _ _ (no-stop-other wait members wish stops)
+    (λ want is same. no-stop-call members (is ∙ ap Some (asked-want wait wish want (Ok (Book wish)) refl same ∙ stops)))
+
+no-stop-line : (line : List ℕ) (wish : Wish) → wish.want ≡ Stop → MeansWant false line (Ok (Book wish)) → ⊥
+no-stop-line line wish stops =
+    by-test (nat_lt longest_line (length line)) _ _ (λ e. cc)
+    (by-option (object_of line) _ _ (λ e. cc) (λ members is.
+    by-option (wait_at members) _ _ (λ e. cc) (λ wait waits. no-stop-members wait members wish stops)))
+
+-- ---- what was told for a line
+
+one-no-stop : (want : Want) (said : Result Reply DeskFault) (news : List Told) (refused : ℕ) → (want ≡ Stop → ⊥) → SaysOne want said news refused → AreNoStops news
+one-no-stop want (Ok reply) news refused none (is, count) = subst AreNoStops (sym is) (none, tt)
+one-no-stop want (Err fault) news refused none (of_call, is, count) = subst AreNoStops (sym is) tt
+
+state-no-stop : (asked : Asked) (made : Reply) (job : ℕ) (said : Result Reply DeskFault) (news : List Told) (refused : ℕ) → SaysState asked made job said news refused → AreNoStops news
+state-no-stop asked made job said news refused (inl (state, says, is, count)) = subst AreNoStops (sym is) (λ e. cc, λ e. cc, tt)
+state-no-stop asked made job said news refused (inr (fault, of_call, says, is, count)) = subst AreNoStops (sym is) (λ e. cc, tt)
+
+after-no-stop : (asked : Asked) (first said : Result Reply DeskFault) (news : List Told) (refused : ℕ) → SaysAfter asked first said news refused → AreNoStops news
+after-no-stop asked (Err fault) said news refused (is, one) = one-no-stop (Submit asked) (Err fault) news refused (λ e. cc) one
+after-no-stop asked (Ok made) said news refused says = go (new_job made) says
+  where
+    go : (job : Option ℕ) → MatchOption job ((said ≡ Ok made) × SaysOne (Submit asked) (Ok made) news refused) (λ j. SaysState asked made j said news refused) → AreNoStops news
+    go None (is, one) = one-no-stop (Submit asked) (Ok made) news refused (λ e. cc) one
+    go (Some job) state = state-no-stop asked made job said news refused state
+
+says-no-stop : (wish : Wish) (said : Result Reply DeskFault) (news : List Told) (refused : ℕ) → (wish.want ≡ Stop → ⊥) → Says wish said news refused → AreNoStops news
+says-no-stop wish said news refused none says = go (awaited wish.wait wish.want) says
+  where
+    go : (asked : Option Asked) → MatchOption asked (SaysOne wish.want said news refused) (λ a. SaysEnd a said news refused) → AreNoStops news
+    go None one = one-no-stop wish.want said news refused none one
+    go (Some asked) (first, after) = after-no-stop asked first said news refused after
+
+-- ---- what was told
+
+both-no-stops : (news later : List Told) → AreNoStops news → AreNoStops later → AreNoStops (news ++ later)
+both-no-stops [] later none more = more
+both-no-stops (told ∷ news) later (none, rest) more = (none, both-no-stops news later rest more)
+
+no-stops : (lines : List (List ℕ)) (bytes : List ℕ) (told : List Told) (refused : ℕ) → AreServed false lines bytes told refused → AreNoStops told
+no-stops [] bytes told refused (no_bytes, none, no_refusals) = subst AreNoStops (sym none) tt
+no-stops (line ∷ rest) bytes told refused (text, more, split, way) =
+    elim way [
+      | inl (fault, has, is, later) ↦ no-stops rest more told refused later
+      | inr other ↦ elim other [
+        | inl (par, means, is, later) ↦ no-stops rest more told refused later
+        | inr (wish, said, news, later, here, others, means, says, is, tells, refuses, replies) ↦ subst AreNoStops (sym tells)
+            (both-no-stops news later (says-no-stop wish said news here (λ stops. no-stop-line line wish stops means) says) (no-stops rest more later others replies))
+      ]
+    ]
+
+-- ---- what a session asked for
+
+served-no-stop : (leave : Bool) (before after : PortOf) (lines : List (List ℕ)) (bytes : List ℕ) → leave ≡ false → IsServed leave before lines bytes after → AsksNoStop before.told after.told
+served-no-stop true before after lines bytes no served = cc
+served-no-stop false before after lines bytes no served =
+    record {
+      gained = served.told;
+      told = ap (λ (p : PortOf). p.told) served.gained;
+      no_stops = no-stops lines bytes served.told served.refused served.replies;
+    }
+
+-- over lines, however the session ended
+pub lines-no-stop : {E : Type 0} (result : Result (Unit {0}) E) (leave : Bool) (before after : PortOf) (r0 r1 w0 w1 : Option (List ℕ))
+    → OnOk result (ServedAll leave before after r0 r1 w0 w1) → OnErr result (ServedBeginning leave before after r0 r1 w0 w1)
+    → leave ≡ false → AsksNoStop before.told after.told
+lines-no-stop (Ok x) leave before after r0 r1 w0 w1 all some no = served-no-stop leave before after _ _ no all.served
+lines-no-stop (Err e) leave before after r0 r1 w0 w1 all some no = served-no-stop leave before after _ _ no some.served
+
+-- and over messages
+pub messages-no-stop : (allow_stop : Bool) (before after : PortOf) → ServesMessages allow_stop before after → allow_stop ≡ false → AsksNoStop before.told after.told
+messages-no-stop true before after serves no = cc
+messages-no-stop false before after (true, given, messages, replies, served) no = absurd (given tt)
+messages-no-stop false before after (false, given, messages, replies, served) no = served-no-stop false before after messages replies refl served
