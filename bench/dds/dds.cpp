@@ -1,6 +1,7 @@
 // The same lines by DDS: reads request lines in the written form, with no card played, and prints the reply lines of
-// `ddserve solve`, each at once. SolveBoard with the line's target or else -1, mode 1, or CalcDDtable for a table, one thread;
-// DealerParBin or SidesParBin for par of a table, of which the score alone is printed. It takes good input for granted.
+// `ddserve solve`, each at once. SolveBoard with the line's target or else -1, mode 1, CalcDDtable for a table, or AnalysePlayBin
+// for a play, one thread; DealerParBin or SidesParBin for par of a table, of which the score alone is printed. It takes good input
+// for granted.
 #include <dds/dll.h>
 
 #include <algorithm>
@@ -21,10 +22,10 @@ static std::string field(const std::string &line, const std::string &name) {
 static void cards_of(const std::string &line, unsigned cards[DDS_HANDS][DDS_SUITS]) {
     const std::string ranks = "..23456789TJQKA";
     std::string text = field(line, "deal");
-    int hand = 0, suit = 0;
+    int hand = std::string("NESW").find(text[0]), suit = 0;
     for (size_t i = 2; i < text.size(); i++) {
         if (text[i] == ' ') {
-            hand++;
+            hand = (hand + 1) % DDS_HANDS;
             suit = 0;
         } else if (text[i] == '.') {
             suit++;
@@ -105,6 +106,31 @@ static void answer_solve(const std::string &line) {
     std::printf("]}\n");
 }
 
+// The numbers of the trace that DDS leaves out, those after the first card of the last trick, are the last that it gives.
+static void answer_play(const std::string &line) {
+    deal d = deal{};
+    d.trump = atoi(field(line, "trump").c_str());
+    d.first = atoi(field(line, "first").c_str());
+    cards_of(line, d.remainCards);
+    playTraceBin play = playTraceBin{};
+    size_t at = line.find("\"cards\":[") + 9;
+    while ((at = line.find('[', at)) != std::string::npos) {
+        play.suit[play.number] = atoi(line.c_str() + at + 1);
+        at = line.find(',', at) + 1;
+        play.rank[play.number++] = atoi(line.c_str() + at);
+    }
+    solvedPlay found;
+    int status = AnalysePlayBin(d, play, &found, 0);
+    if (status != RETURN_NO_FAULT) {
+        std::printf("DDS: %d\n", status);
+        return;
+    }
+    std::printf("{\"tricks\":[");
+    for (int i = 0; i <= play.number; i++)
+        std::printf("%s%d", i ? "," : "", found.tricks[std::min(i, found.number - 1)]);
+    std::printf("]}\n");
+}
+
 int main() {
     SetMaxThreads(1);
     std::string line;
@@ -114,6 +140,8 @@ int main() {
             answer_table(line);
         else if (task == "par")
             answer_par(line);
+        else if (task == "play")
+            answer_play(line);
         else
             answer_solve(line);
         std::fflush(stdout);

@@ -74,6 +74,18 @@ score is 0:
 
   {\"contracts\":[{\"declarers\":[0,2],\"level\":3,\"tricks\":9,\"trump\":4}],\"score\":400}
 
+And for the tricks that declarer's side takes before the first card of a play and after each one:
+
+  {\"do\":\"play\",\"deal\":\"N:32... K4... AQ... 65...\",\"trump\":4,\"first\":0,\"cards\":[[0,2],[0,4],[0,14],[0,5]]}
+
+  do         \"play\"
+  deal       the hands before the opening lead, each of as many cards
+  trump      as above
+  first      the hand that leads first; its opponents are declarer's side
+  cards      the cards as they were played, each [suit, rank], at most 52; they stand in deal
+
+  {\"tricks\":[0,0,0,1,1]}
+
 A line whose budget was spent has the reply {\"state\":\"spent\"}. A line that can't be answered has
 the reply {\"fault\":F}:
 
@@ -87,17 +99,20 @@ the reply {\"fault\":F}:
    8  there is no card to play
    9  trump is not 0 to 4
   10  first is not 0 to 3
-  11  played has more than three cards, or one that is no card
+  11  played has more than three cards, cards more than 52, or one of them is no card
   12  solutions is not 1 to 3, or not 1 or 2 beside a target
   19  memory ran out while the line was read
   20  dealer is not 0 to 3, or side not 0 or 1
   21  vulnerable is not 0 to 3
   22  a result is over 13
   23  the hands are not of thirteen cards
+  24  a card of a play is not in the hand that is to play it
+  25  a card of a play is not of the suit led, which the hand has
+  26  a play has a card after the last
   27  target is over 13
 
 Of several the first in this order is told: 2, 1, 3, 4, 5, 6 (in the deal), 9, 10, 11, 12, 27, 20,
-21, 22, 6 (with the trick), 7, 8, 23.
+21, 22, 6 (with the trick), 7, 8, 23; then of a play's cards the first with a fault, of 26, 24, 25.
 
 A position is a state of play that the search comes to; some six to eight million take a second. A
 budget of a million was enough for nine of ten full deals, ten million for each of 80.

@@ -4,4 +4,5 @@ pub mod Scores
 pub mod Turns
 pub mod Greatest
 pub mod Classes
+pub mod Known
 pub mod CallerLemmas

@@ -101,7 +101,7 @@ same-test a b m n holds fails = elim (leb_tells a b) [
 ]
 
 -- an answer says whether North and South take so many
-answer-tells : (p : Board) (need : ℕ) (said : Bool) → IsBoard p → IsAnswer p need said → said ≡ nat_le need (ns p)
+pub answer-tells : (p : Board) (need : ℕ) (said : Bool) → IsBoard p → IsAnswer p need said → said ≡ nat_le need (ns p)
 answer-tells p need true valid h = sym (le-leb need (ns p) h)
 answer-tells p need false valid h = let most = ns-le p valid in sym (lt-leb need (ns p) (omega (arith, h, most)))
 
@@ -135,14 +135,15 @@ asked-north-south p q c tricks need rest trick_for winner said b k side e is =
     same true = refl
     same false = refl
 
+-- where x is whether North and South take one more than the rest, its contrary is whether the others take n
+pub not-the-rest : (x : Bool) (tricks m n : ℕ) → m ≤ n → x ≡ nat_le (n + 1 - tricks) m → beq x false ≡ nat_le tricks (n - m)
+not-the-rest true tricks m n h same = let reach = leb-true (n + 1 - tricks) m (sym same) in sym (lt-leb tricks (n - m) (omega (arith, reach, h)))
+not-the-rest false tricks m n h same = let less = leb-false (n + 1 - tricks) m (sym same) in sym (le-leb tricks (n - m) (omega (arith, less, h)))
+
 -- and a card of East or West, where it is asked whether North and South take one more than East and West then leave
 pub asked-east-west : (p q : Board) (c : PlayingCard) (tricks need rest trick_for : ℕ) (winner : Option Seat) (said b : Bool) → AskedOf p q c need rest trick_for winner said → b ≡ is_north_south (mover p)
     → b ≡ false → need ≡ tricks_left p + 1 - tricks → beq said b ≡ nat_le tricks (score p c)
 asked-east-west p q c tricks need rest trick_for winner said b k side e is =
     let turn : is_north_south (mover p) ≡ false = sym side ∙ e in
     let most = ns_with-le p c k.valid k.legal in
-    rw (e, turn) (other said (ns_with p c) (tricks_left p) most (asked-tells p q c need rest trick_for winner said k ∙ ap (λ n. nat_le n (ns_with p c)) is))
-  where
-    other : (x : Bool) (m n : ℕ) → m ≤ n → x ≡ nat_le (n + 1 - tricks) m → beq x false ≡ nat_le tricks (n - m)
-    other true m n h same = let reach = leb-true (n + 1 - tricks) m (sym same) in sym (lt-leb tricks (n - m) (omega (arith, reach, h)))
-    other false m n h same = let less = leb-false (n + 1 - tricks) m (sym same) in sym (le-leb tricks (n - m) (omega (arith, less, h)))
+    rw (e, turn) (not-the-rest said tricks (ns_with p c) (tricks_left p) most (asked-tells p q c need rest trick_for winner said k ∙ ap (λ n. nat_le n (ns_with p c)) is))

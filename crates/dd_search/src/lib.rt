@@ -9,6 +9,7 @@ mod discard;
 mod follow;
 mod guess;
 mod holdings;
+mod known_tricks;
 mod laws;
 mod lead;
 mod meter;
@@ -24,6 +25,7 @@ mod zero_window;
 
 pub use card_reaches::reaches;
 pub use card_scores::{score, score_up_to};
+pub use known_tricks::value_at_least;
 pub use laws::value_is_the_greatest_score;
 pub use meter::{Budget, Endless, Halt, Meter, Tick};
 pub use position_value::{value, value_from_guess};

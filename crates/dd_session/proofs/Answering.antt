@@ -63,7 +63,7 @@ pub answers_refused : (before after : PortOf) (asked : Asked) (wait : ℕ) (faul
 answers_refused before after asked zero fault some tells = absurd (omega arith)
 answers_refused before after asked (suc wait) fault some tells =
     let one = says_one before after (Submit asked) (Err fault) tells in
-    (one.0, one.1, (Err fault, refl, one.2), one.3)
+    (one.0, one.1, (Err fault, (refl, one.2)), one.3)
 
 -- or makes no job
 pub answers_no_job : (before after : PortOf) (asked : Asked) (wait : ℕ) (made : Reply) → 0 < wait → new_job made ≡ None

@@ -25,7 +25,6 @@ pub(crate) fn ask_for<P: BookPort>(port: &mut P, wish: Wish) -> Result<Reply, Fa
 }
 
 // The same, where there is a wait.
-#[tactic(auto, using(crate::proofs::Answering::answers_fetch, crate::proofs::Answering::answers_cancel, crate::proofs::Answering::answers_stop))]
 fn ask_and_wait<P: BookPort>(port: &mut P, want: Want, wait: u64) -> Result<Reply, Fault>
     requires { 0 < wait }
     ensures { Answers (port_of (P.told port.old) (P.refusals port.old))
@@ -41,7 +40,7 @@ fn ask_and_wait<P: BookPort>(port: &mut P, want: Want, wait: u64) -> Result<Repl
 }
 
 // A submit, and where it made a job, a fetch of it.
-#[tactic(auto, using(crate::proofs::Answering::answers_refused, crate::proofs::Answering::answers_no_job, crate::proofs::Answering::answers_state, crate::proofs::Answering::answers_made))]
+#[tactic(auto, using(crate::proofs::Answering::answers_no_job))]
 fn submit_and_fetch<P: BookPort>(port: &mut P, asked: Asked, wait: u64) -> Result<Reply, Fault>
     requires { 0 < wait }
     ensures { Answers (port_of (P.told port.old) (P.refusals port.old))

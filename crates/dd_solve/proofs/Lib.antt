@@ -3,4 +3,7 @@ pub mod Best
 pub mod ByScore
 pub mod Openings
 pub mod Parts
+pub mod Regular
+pub mod CardByCard
+pub mod CallerLemmas
 pub mod Reaching

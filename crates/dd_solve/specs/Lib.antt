@@ -3,3 +3,6 @@ pub mod Results
 pub mod ScoredClasses
 pub mod Targets
 pub mod Classes
+pub mod Plays
+pub mod CardFaults
+pub mod SideTricks

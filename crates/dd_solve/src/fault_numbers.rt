@@ -69,5 +69,14 @@ pub const WRONG_RESULT: u8 = 22;
 /// The hands are not of thirteen cards.
 pub const NOT_THIRTEEN: u8 = 23;
 
+/// A card of a play is not in the hand that is to play it.
+pub const NOT_IN_HAND: u8 = 24;
+
+/// A card of a play is not of the suit led, which the hand has.
+pub const REVOKE: u8 = 25;
+
+/// A play has a card after the last.
+pub const AFTER_LAST: u8 = 26;
+
 /// The target is over 13.
 pub const WRONG_TARGET: u8 = 27;

@@ -1,11 +1,15 @@
-//! What may be asked of a position or of hands, and the answers: the classes of cards with their scores, those that reach a
-//! target, and the twenty results.
+//! What may be asked of a position, of hands or of a play, and the answers: the classes of cards with their scores, those
+//! that reach a target, the twenty results, and the tricks after each card.
 #![tactic(auto)]
 
 mod answer;
 mod asked;
+mod card_fault;
 pub mod fault_numbers;
+mod play_request;
+mod play_solving;
 mod request;
+mod solved_play;
 mod solved_table;
 mod solving;
 mod table_part;
@@ -16,7 +20,11 @@ mod target_solving;
 
 pub use answer::{Answer, Scored};
 pub use asked::Asked;
+pub use card_fault::CardFault;
+pub use play_request::{MOST_CARDS, PlayRequest};
+pub use play_solving::{solve_play, solve_play_part};
 pub use request::Request;
+pub use solved_play::{MOST_NUMBERS, PlayPart, SolvedPlay, Trace};
 pub use solved_table::{RESULTS, Results, SolvedTable};
 pub use solving::{Solved, solve};
 pub use table_part::{SolvedPart, solve_part};

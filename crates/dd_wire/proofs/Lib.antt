@@ -8,6 +8,8 @@ pub mod OneMeaning
 pub mod Pairs
 pub mod ParCodes
 pub mod ParMeanings
+pub mod PlayCards
+pub mod PlayMeanings
 pub mod ParResults
 pub mod ParRows
 pub mod RequestExamples

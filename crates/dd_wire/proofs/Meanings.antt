@@ -55,13 +55,24 @@ solutions-in fields most least bound =
     let most-test : nat_le fields.solutions most ≡ true = le-leb fields.solutions most bound in
     rw (least-test, most-test) refl
 
+-- what is left of a request to solve: the solutions, then the cards together
+abbrev AfterStart : SolveFields → FourHands → Result Question Fault → Type 0
+AfterStart fields hands meaning = MatchBool (are_solutions fields 3) (MeansCards fields hands (question fields.solutions) meaning) (meaning ≡ Err WrongSolutions)
+
+-- and with a target
+abbrev AfterTargetStart : TargetFields → FourHands → Result TargetQuestion Fault → Type 0
+AfterTargetStart fields hands meaning =
+    MatchBool (are_solutions fields.solve 2)
+    (MatchBool (nat_lt 13 fields.target) (meaning ≡ Err WrongTarget) (MeansCards fields.solve hands (target_question fields) meaning))
+    (meaning ≡ Err WrongSolutions)
+
 -- with solutions in range too the cards together decide
 pub means-cards : (fields : SolveFields) (hands : FourHands) (strain : Strain) (first : Seat) (trick : List PlayingCard) (meaning : Result Question Fault)
     → strain_code strain ≡ fields.trump → fields.trump ≤ 4 → seat_code first ≡ fields.first → fields.first < 4 → map pair_of_card trick ≡ fields.played → are_cards fields.played ≡ true
     → 1 ≤ fields.solutions → fields.solutions ≤ 3 → MeansBoard (board_of hands strain first trick) (question fields.solutions (board_of hands strain first trick)) meaning → MeansHands fields hands meaning
 means-cards fields hands strain first trick meaning trump low leader below played cards least most means =
     let test : are_solutions fields 3 ≡ true = solutions-in fields 3 least most in
-    means-start fields _ meaning low below cards
+    means-start fields (AfterStart fields hands) meaning low below cards
     (rw test (board_of hands strain first trick, record { hands = refl; strain = trump; first = leader; trick = played }, means))
 
 -- and with a target in range
@@ -72,7 +83,7 @@ pub means-target_cards : (fields : TargetFields) (hands : FourHands) (strain : S
 means-target_cards fields hands strain first trick meaning trump low leader below played cards least most target means =
     let test : are_solutions fields.solve 2 ≡ true = solutions-in fields.solve 2 least most in
     let target-test : nat_lt 13 fields.target ≡ false = le-ltb 13 fields.target target in
-    means-start fields.solve _ meaning low below cards
+    means-start fields.solve (AfterTargetStart fields hands) meaning low below cards
     (rw (test, target-test) (board_of hands strain first trick, record { hands = refl; strain = trump; first = leader; trick = played }, means))
 
 -- ---- every line has a meaning
@@ -162,7 +173,7 @@ suit-of (suc (suc (suc zero))) h = (Clubs, refl)
 suit-of (suc (suc (suc (suc code)))) h = absurd (omega arith)
 
 -- each code up to 4 is that of a strain
-strain-of : (code : ℕ) → code ≤ 4 → (strain : Strain) × (strain_code strain ≡ code)
+pub strain-of : (code : ℕ) → code ≤ 4 → (strain : Strain) × (strain_code strain ≡ code)
 strain-of zero h = (Trump Spades, refl)
 strain-of (suc zero) h = (Trump Hearts, refl)
 strain-of (suc (suc zero)) h = (Trump Diamonds, refl)
@@ -171,7 +182,7 @@ strain-of (suc (suc (suc (suc zero)))) h = (Notrump, refl)
 strain-of (suc (suc (suc (suc (suc code))))) h = absurd (omega arith)
 
 -- each code up to 3 is that of a seat
-seat-of : (code : ℕ) → code ≤ 3 → (seat : Seat) × (seat_code seat ≡ code)
+pub seat-of : (code : ℕ) → code ≤ 3 → (seat : Seat) × (seat_code seat ≡ code)
 seat-of zero h = (North, refl)
 seat-of (suc zero) h = (East, refl)
 seat-of (suc (suc zero)) h = (South, refl)
@@ -179,7 +190,7 @@ seat-of (suc (suc (suc zero))) h = (West, refl)
 seat-of (suc (suc (suc (suc code)))) h = absurd (omega arith)
 
 -- pairs that are cards' are those of some cards
-cards-of : (pairs : List (ℕ × ℕ)) → list_all is_card pairs ≡ true → (cards : List PlayingCard) × (map pair_of_card cards ≡ pairs)
+pub cards-of : (pairs : List (ℕ × ℕ)) → list_all is_card pairs ≡ true → (cards : List PlayingCard) × (map pair_of_card cards ≡ pairs)
 cards-of [] all = ([], refl)
 cards-of ((suit, rank) ∷ pairs) all =
     elim (cases_Bool (nat_lt suit 4)) [
@@ -299,7 +310,7 @@ board-memory board asked means =
       | inr some ↦ (let no = means.some once even (let ne = some.1 in omega arith) in cc)
     ]))
 
-by-bool : (b : Bool) (P Q : Type 0) → (P → ⊥) → (Q → ⊥) → MatchBool b P Q → ⊥
+pub by-bool : (b : Bool) (P Q : Type 0) → (P → ⊥) → (Q → ⊥) → MatchBool b P Q → ⊥
 by-bool true P Q p q held = p held
 by-bool false P Q p q held = q held
 
@@ -311,12 +322,12 @@ start-memory fields Rest none =
 
 hands-memory : (fields : SolveFields) (hands : FourHands) → MeansHands fields hands (Err OutOfMemory) → ⊥
 hands-memory fields hands =
-    start-memory fields _
+    start-memory fields (AfterStart fields hands)
     (by-bool (are_solutions fields 3) _ _ (λ asked. board-memory asked.0 (question fields.solutions asked.0) asked.2) (λ no. cc))
 
 target_hands-memory : (fields : TargetFields) (hands : FourHands) → MeansTargetHands fields hands (Err OutOfMemory) → ⊥
 target_hands-memory fields hands =
-    start-memory fields.solve _
+    start-memory fields.solve (AfterTargetStart fields hands)
     (by-bool (are_solutions fields.solve 2) _ _
     (by-bool (nat_lt 13 fields.target) _ _ (λ no. cc) (λ asked. board-memory asked.0 (target_question fields asked.0) asked.2))
     (λ no. cc))

@@ -57,7 +57,7 @@ one-board board asked are a b means_a means_b =
 
 -- ---- the board
 -- pairs are those of one list of cards
-one-trick : (xs ys : List PlayingCard) → map pair_of_card xs ≡ map pair_of_card ys → xs ≡ ys
+pub one-trick : (xs ys : List PlayingCard) → map pair_of_card xs ≡ map pair_of_card ys → xs ≡ ys
 one-trick [] [] e = refl
 one-trick [] (y ∷ ys) e = absurd (cc)
 one-trick (x ∷ xs) [] e = absurd (cc)
@@ -72,7 +72,7 @@ one-trick (x ∷ xs) (y ∷ ys) e =
     same-card : (s t : Suit) (q r : ℕ) → s ≡ t → q ≡ r → card_of s q ≡ card_of t r
     same-card s t q r a b = rw (a, b) refl
 
-same-board : (h h' : FourHands) (s s' : Strain) (f f' : Seat) (t t' : List PlayingCard) → h ≡ h' → s ≡ s' → f ≡ f' → t ≡ t' → board_of h s f t ≡ board_of h' s' f' t'
+pub same-board : (h h' : FourHands) (s s' : Strain) (f f' : Seat) (t t' : List PlayingCard) → h ≡ h' → s ≡ s' → f ≡ f' → t ≡ t' → board_of h s f t ≡ board_of h' s' f' t'
 same-board h h' s s' f f' t t' a b c d = rw (a, b, c, d) refl
 
 -- fields ask about one board

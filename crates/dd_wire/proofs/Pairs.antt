@@ -41,7 +41,7 @@ pairs-cons : (first : Option (ℕ × ℕ)) (rest : Option (List (ℕ × ℕ))) (
 pairs-cons first rest pair more is are = rw (is, are) refl
 
 -- the pairs of one value more
-pairs-append : (values : List Value) (value : Value) (pairs : List (ℕ × ℕ)) (pair : ℕ × ℕ) → pairs_of (items_view values) ≡ Some pairs → pair_in value ≡ Some pair
+pub pairs-append : (values : List Value) (value : Value) (pairs : List (ℕ × ℕ)) (pair : ℕ × ℕ) → pairs_of (items_view values) ≡ Some pairs → pair_in value ≡ Some pair
     → pairs_of (items_view (values ++ value ∷ [])) ≡ Some (pairs ++ pair ∷ [])
 pairs-append [] value pairs pair are is = let none : [] ≡ pairs = cc in rw (is, ← none) refl
 pairs-append (v ∷ values) value pairs pair are is =

@@ -1,8 +1,8 @@
 -- To be believed: the numbers of the faults of a line.
 use Rattle.std.specs.Prelude.{ℕ}
-use Rattle.dd_solve.specs.declared.fault_numbers.TheConstants.{CARD_TWICE, DEAL_TEXT, HAND_LEFT_OUT, LINE_TOO_LONG, NOT_AN_OBJECT, NOT_THIRTEEN, NO_CARD, OUT_OF_MEMORY, UNEVEN_HANDS, WRONG_FIELD, WRONG_FIRST, WRONG_ORDER, WRONG_PLAYED, WRONG_RESULT, WRONG_SOLUTIONS, WRONG_TARGET, WRONG_TRUMP, WRONG_VULNERABLE}
+use Rattle.dd_solve.specs.declared.fault_numbers.TheConstants.{AFTER_LAST, CARD_TWICE, DEAL_TEXT, HAND_LEFT_OUT, LINE_TOO_LONG, NOT_AN_OBJECT, NOT_IN_HAND, NOT_THIRTEEN, NO_CARD, OUT_OF_MEMORY, REVOKE, UNEVEN_HANDS, WRONG_FIELD, WRONG_FIRST, WRONG_ORDER, WRONG_PLAYED, WRONG_RESULT, WRONG_SOLUTIONS, WRONG_TARGET, WRONG_TRUMP, WRONG_VULNERABLE}
 use Rattle.dd_wire.specs.declared.fault.Fault.{Fault}
-use Rattle.dd_wire.specs.declared.fault.Fault.TheVariants.{LineTooLong, NotAnObject, WrongField, DealText, HandLeftOut, CardTwice, WrongTrump, WrongFirst, WrongPlayed, WrongSolutions, WrongTarget, WrongOrder, WrongVulnerable, WrongResult, UnevenHands, NoCard, NotThirteen, OutOfMemory}
+use Rattle.dd_wire.specs.declared.fault.Fault.TheVariants.{LineTooLong, NotAnObject, WrongField, DealText, HandLeftOut, CardTwice, WrongTrump, WrongFirst, WrongPlayed, WrongSolutions, WrongTarget, WrongOrder, WrongVulnerable, WrongResult, UnevenHands, NoCard, NotThirteen, AfterLast, NotInHand, Revoke, OutOfMemory}
 
 -- the number of a fault in a reply
 abbrev pub fault_number : Fault → ℕ
@@ -24,3 +24,6 @@ fault_number WrongOrder = WRONG_ORDER
 fault_number WrongVulnerable = WRONG_VULNERABLE
 fault_number WrongResult = WRONG_RESULT
 fault_number NotThirteen = NOT_THIRTEEN
+fault_number AfterLast = AFTER_LAST
+fault_number NotInHand = NOT_IN_HAND
+fault_number Revoke = REVOKE

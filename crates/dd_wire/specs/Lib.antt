@@ -1,10 +1,13 @@
 pub mod Faults
 pub mod Requests
 pub mod ParLines
+pub mod PlayLines
 pub mod Lines
 pub mod Wants
 pub mod Reading
 pub mod ReadingPar
+pub mod ReadingPlay
 pub mod Replies
 pub mod ParReplies
+pub mod PlayReplies
 pub mod LineReplies

@@ -60,6 +60,15 @@ pub enum Fault {
     /// 23: the hands are not of thirteen cards.
     #[error("the hands are not of thirteen cards")]
     NotThirteen,
+    /// 26: a card of a play comes after the last.
+    #[error("a card after the last")]
+    AfterLast,
+    /// 24: a card of a play isn't in the hand that is to play it.
+    #[error("the hand to play does not hold the card")]
+    NotInHand,
+    /// 25: a card of a play isn't of the suit led, which the hand has.
+    #[error("the card is not of the suit led, which the hand holds")]
+    Revoke,
     /// 19: memory ran out while the line was read as JSON.
     #[error("out of memory")]
     OutOfMemory,
@@ -90,6 +99,9 @@ impl Fault {
             Fault::WrongVulnerable => fault_numbers::WRONG_VULNERABLE,
             Fault::WrongResult => fault_numbers::WRONG_RESULT,
             Fault::NotThirteen => fault_numbers::NOT_THIRTEEN,
+            Fault::NotInHand => fault_numbers::NOT_IN_HAND,
+            Fault::Revoke => fault_numbers::REVOKE,
+            Fault::AfterLast => fault_numbers::AFTER_LAST,
         }
     }
 }

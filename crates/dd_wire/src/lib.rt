@@ -8,6 +8,8 @@ mod line_reply;
 mod par_reader;
 mod par_reply;
 mod par_request;
+mod play_reader;
+mod play_reply;
 mod reply;
 mod request_reader;
 mod session_asked;
@@ -22,6 +24,7 @@ pub use line_asked::LineAsked;
 pub use line_reply::reply_to_line;
 pub use par_reply::write_par;
 pub use par_request::{Conditions, ParOfDeal, ParOfResults};
+pub use play_reply::{TRACE_ROOM, push_trace, write_trace};
 pub use reply::{
     CARDS_ROOM, JOB_ROOM, TABLE_ROOM, push_cards, push_job, push_table, write_answer, write_fault,
     write_numbered_fault, write_spent, write_table,

@@ -1,5 +1,5 @@
 use crate::par_request::{ParOfDeal, ParOfResults};
-use dd_solve::Asked;
+use dd_solve::{Asked, PlayRequest};
 
 /// What a line of the line tool asks.
 #[derive(Drop)]
@@ -10,4 +10,6 @@ pub enum LineAsked {
     Par(ParOfResults),
     /// Par of the results of a deal.
     ParOfDeal(ParOfDeal),
+    /// The tricks after each card of a play.
+    Play(PlayRequest),
 }

@@ -3,23 +3,30 @@ ghost use Rattle.std.specs.Prelude.{◌≡◌, ◌≤◌, ◌⊎◌, IsSome};
 ghost use Rattle.arrayvec.specs.ArrayString.{array_string_len};
 ghost use Rattle.dd_wire.specs.LineReplies.{IsReply};
 ghost use Rattle.dd_wire.specs.ParReplies.{TellsPar, rows_of};
+ghost use Rattle.dd_wire.specs.PlayReplies.{trace_text};
 ghost use Rattle.dd_wire.specs.Replies.{asked_text, spent_text};
+ghost use Rattle.dd_solve.specs.Plays.{trace};
 ghost use Rattle.dd_solve.specs.Results.{results};
 
 use crate::line_asked::LineAsked;
 use crate::par_reply::{table_par_reply, write_par};
 use crate::par_request::ParOfDeal;
+use crate::play_reply::write_trace;
 use crate::reply::{write_answer, write_fault, write_spent, write_table};
 use crate::request_reader::read_request;
 use dd_lines::{LONGEST_REPLY, ReplyText};
 use dd_search::{Bounds, Budget, Endless};
-use dd_solve::{Asked, Request, TableRequest, TargetRequest, solve, solve_table, solve_target};
+use dd_solve::{
+    Asked, PlayRequest, Request, TableRequest, TargetRequest, solve, solve_play, solve_table,
+    solve_target,
+};
 use std::alloc::Global;
 
 /// The reply to a line of any length, without a line feed at its end.
 ///
-/// The budget is the most positions that the search for the answer comes to, and for a table the search for each of its
-/// twenty results; `None` lets it go on to its end. A line whose search spends it is told so in place of an answer.
+/// The budget is the most positions that the search for the answer comes to, for a table the search for each of its
+/// twenty results, and for a play the search for each number; `None` lets it go on to its end. A line whose search spends
+/// it is told so in place of an answer.
 pub fn reply_to_line<B: Bounds>(
     alloc: Global,
     line: &[u8],
@@ -33,6 +40,7 @@ pub fn reply_to_line<B: Bounds>(
         Ok(LineAsked::Cards(asked)) => cards_reply(asked, table, budget),
         Ok(LineAsked::Par(asked)) => write_par(&asked),
         Ok(LineAsked::ParOfDeal(asked)) => deal_par_reply(&asked, table, budget),
+        Ok(LineAsked::Play(request)) => play_reply(request, table, budget),
         Err(fault) => write_fault(fault),
     }
 }
@@ -93,6 +101,17 @@ fn deal_par_reply<B: Bounds>(asked: &ParOfDeal, table: &mut B, budget: Option<u6
 {
     match solve_table(asked.request(), table, budget) {
         Some(found) => table_par_reply(&found, asked.conditions()),
+        None => write_spent(),
+    }
+}
+
+/// The tricks after each card of a play, or that the search for one of these numbers spent the budget.
+fn play_reply<B: Bounds>(request: PlayRequest, table: &mut B, budget: Option<u64>) -> ReplyText
+    ensures text { (result.bytes ≡ trace_text (trace request)) ⊎ (IsSome budget × (result.bytes ≡ spent_text)) }
+    ensures bound { array_string_len result ≤ LONGEST_REPLY }
+{
+    match solve_play(request, table, budget) {
+        Some(solved) => write_trace(solved.trace()),
         None => write_spent(),
     }
 }

@@ -11,7 +11,7 @@ ghost use Rattle.dd_cards.specs.Hands.{AreHands, FourHands};
 ghost use Rattle.dd_pbn.specs.declared.fault.PbnFault.{PbnFault};
 ghost use Rattle.dd_play.specs.Board.{board_of};
 ghost use Rattle.dd_solve.specs.Questions.{Question};
-ghost use Rattle.dd_wire.specs.Lines.{Means, MeansMembers};
+ghost use Rattle.dd_wire.specs.Lines.{Means, MeansOfCards, MeansMembers};
 ghost use Rattle.dd_wire.specs.Requests.{MeansObject, MeansDeal, MeansTable, MeansFields, MeansHands, MeansBoard, MeansSolve, MeansPosition, question, known_fields, SpellsDeal, SpellsNone, asked_as, deal_fault, pair_of_card, object_of, solve_keys, table_keys, are_among, keys_of, solve_fields, table_deal, text_at, wait_at, whole_number_at, pairs_at, pairs_of};
 ghost use Rattle.dd_lines.specs.Line.{longest_line};
 ghost use Rattle.dd_wire.specs.Reading.{IsUnread, ArePlayed, ReadsPlayed, ReadsFields, pair_in, cards_in, played_in, fields_of, play_fault};
@@ -19,6 +19,7 @@ ghost use Rattle.dd_wire.specs.Reading.{IsUnread, ArePlayed, ReadsPlayed, ReadsF
 use crate::fault::Fault;
 use crate::line_asked::LineAsked;
 use crate::par_reader::{par_asked, par_fields};
+use crate::play_reader::{play_asked, play_fields};
 use crate::target_reader::{target_asked, target_fields};
 use crate::wish::LONGEST_WAIT;
 use arrayvec::ArrayVec;
@@ -50,12 +51,22 @@ pub fn read_request(alloc: Global, line: &[u8]) -> Result<LineAsked, Fault>
     Ok(asked)
 }
 
-// What the members of an object ask, or their first fault: par, or else a question of cards.
+// What the members of an object ask, or their first fault: par, or else a play, or else a question of cards.
 fn line_asked_by(object: &Map<String, Value>) -> Result<LineAsked, Fault>
     ensures { MeansMembers (members_view object.now.entries) result }
 {
     match par_fields(object) {
         Some(fields) => par_asked(fields),
+        None => cards_asked_by(object),
+    }
+}
+
+// What they ask that don't ask for par: a play, or else a question of cards.
+fn cards_asked_by(object: &Map<String, Value>) -> Result<LineAsked, Fault>
+    ensures { MeansOfCards (members_view object.now.entries) result }
+{
+    match play_fields(object) {
+        Some(fields) => Ok(LineAsked::Play(play_asked(&fields)?)),
         None => Ok(LineAsked::Cards(asked_by(object)?)),
     }
 }
@@ -250,7 +261,7 @@ fn with_pair(played: Option<Played>, suit: u64, rank: u64) -> Option<Played>
 }
 
 // The two whole numbers of a list of exactly two.
-fn pair_of(value: &Value) -> Option<(u64, u64)>
+pub(crate) fn pair_of(value: &Value) -> Option<(u64, u64)>
     ensures { result ≡ pair_in value.now }
 {
     match value.as_array()?.as_slice() {
@@ -370,7 +381,7 @@ pub(crate) fn seat_of(code: u64) -> Option<Seat>
     Seat::from_code(u8::try_from(code).ok()?)
 }
 
-fn card_of(suit: u64, rank: u64) -> Option<Card>
+pub(crate) fn card_of(suit: u64, rank: u64) -> Option<Card>
     ensures valid { IsSome result ↔ ((suit < 4) × IsRank rank) }
     ensures value { IfSome result (λ card. pair_of_card card ≡ (suit, rank)) }
 {

@@ -19,8 +19,7 @@ const REPLIES: &[u8] =
 {"do":"par","deal":"[Deal \"n:akqjt98765432... .akqjt98765432.. ..akqjt98765432. ...akqjt98765432\"]","side":1,"vulnerable":1}|{"contracts":[{"declarers":[0,2],"level":7,"tricks":13,"trump":0}],"score":2210}"#;
 
 /// The first fault of each line.
-const FAULTS: &[u8] =
-    br#"{"do":"par"}|{"fault":3}
+const FAULTS: &[u8] = br#"{"do":"par"}|{"fault":3}
 {"do":"par","table":[[6,6,6,6],[6,6,6,6],[6,6,6,6],[6,6,6,6],[6,6,6,6]],"vulnerable":0}|{"fault":3}
 {"do":"par","table":[[6,6,6,6],[6,6,6,6],[6,6,6,6],[6,6,6,6],[6,6,6,6]],"dealer":0}|{"fault":3}
 {"do":"par","dealer":0,"vulnerable":0}|{"fault":3}

@@ -1,0 +1,18 @@
+use Rattle.std.proofs.Common.{[], refl}
+use Rattle.std.specs.Prelude.{Err}
+use Rattle.std.proofs.lemmas.Result.{err_from_is_err_and, IfErr-at_err}
+use Rattle.dd_play.specs.Board.{board_of}
+use Rattle.dd_play.specs.Positions.{IsFirstFault}
+use Rattle.dd_wire.specs.PlayLines.{MeansPlay}
+use Rattle.dd_wire.proofs.Objects.{map_err-err, at-each_err}
+use Rattle.dd_wire.proofs.PlayMeanings.{opening-fault}
+use Rattle.dd_wire.proofs.play_reader.play_request.Goals as goal
+
+pub returns-in_err-opening : goal.returns-in_err-opening
+returns-in_err-opening c =
+    let p = err_from_is_err_and c.from_residual.result c.from_residual.ensures.1 in
+    rw (p.1, p.2) (
+    let board = board_of c.args.hands c.args.strain c.args.first [] in
+    let faults = at-each_err c.new.result (λ fault. IsFirstFault fault board) (λ fault is. (c.new.ensures.faults fault).0 is) in
+    IfErr-at_err _ c.in_err-opening.was (map_err-err c.new.result c.map_err.result _ _ _ (λ fault. MeansPlay (record { opening = board; cards = c.args.cards.now }) (Err fault)) c.map_err.ensures.cases faults faults
+    (λ why fault turns is _. rw turns (opening-fault (record { opening = board; cards = c.args.cards.now }) why c.requires refl is))))
