@@ -2,8 +2,8 @@ use Rattle.std.proofs.Common.{◌≡◌, ℕ, ◌<◌, ◌++◌, ◌∷◌, [], 
 use Rattle.std.specs.Prelude.{codes, decimal}
 use Rattle.arrayvec.specs.ArrayString.{ArrayString}
 use Rattle.dd_wire.proofs.Texts.{join-first, join-next}
-use Rattle.dd_wire.proofs.reply.push_trace.Goals as goal
-use Rattle.dd_wire.proofs.reply.push_trace.Goals.{then-place-gt0, else-place-gt0}
+use Rattle.dd_wire.proofs.play_reply.push_trace.Goals as goal
+use Rattle.dd_wire.proofs.play_reply.push_trace.Goals.{then-place-gt0, else-place-gt0}
 
 pub loop-place-preserved : goal.loop-place-preserved
 loop-place-preserved c =
