@@ -144,8 +144,7 @@ pub in-range : (arguments : List Text) (args : Args) → Asks arguments args →
 in-range arguments (Solve budget entries workers) (given, asks, budget-is, entries-are, workers-are) =
     let entries-fit = or-in-range MOST_SHAPES 4096 (given_to Entries given) (omega arith) (omega arith) (given-admitted Entries given asks.words asks.gives) in
     let workers-fit = or-in-range MOST_WORKERS 1 (given_to Workers given) (omega arith) (omega arith) (given-admitted Workers given asks.words asks.gives) in
-    let workers-range = subst (λ n. (1 ≤ n) × (n ≤ MOST_WORKERS)) (sym workers-are) workers-fit in
-    (
+    let workers-range = subst (λ n. (1 ≤ n) × (n ≤ MOST_WORKERS)) (sym workers-are) workers-fit in (
       subst (λ b. IfSome b IsBudget) (sym budget-is) (given-admitted Budget given asks.words asks.gives),
       subst IsTableSize (sym entries-are) entries-fit,
       workers-range.0,
@@ -207,21 +206,24 @@ word-begins Workers text = (refl, refl)
 -- words of which none begins with an option give it nothing
 gives-nothing : (o : SolveOption) (given : List (SolveOption × ℕ)) (words : List Text) → GiveOptions given words → list_any (begins (word_of o)) words ≡ false → given_to o given ≡ None
 gives-nothing o [] words gives out = refl
-gives-nothing o ((p, number) ∷ given) words (text, rest, is, admits, forms, gives) out = go (same-or-other p o)
+gives-nothing o ((p, number) ∷ given) words (text, rest, is, admits, forms, gives) out = go (same-or-other p o) (gives-nothing o given rest gives (later forms))
   where
-    named : p ≡ o → (words ≡ word_of p ∷ text ∷ rest) ⊎ (words ≡ (word_of p ++ codes "=" ++ text) ∷ rest) → list_any (begins (word_of p)) words ≡ true
-    named same (inl words-are) = subst (λ ws. list_any (begins (word_of p)) ws ≡ true) (sym words-are) (rw (word-begins p text).0 refl)
-    named same (inr words-are) = subst (λ ws. list_any (begins (word_of p)) ws ≡ true) (sym words-are) (rw (word-begins p text).1 refl)
+    named : (words ≡ word_of p ∷ text ∷ rest) ⊎ (words ≡ (word_of p ++ codes "=" ++ text) ∷ rest) → list_any (begins (word_of p)) words ≡ true
+    named (inl words-are) = subst (λ ws. list_any (begins (word_of p)) ws ≡ true) (sym words-are) (rw (word-begins p text).0 refl)
+    named (inr words-are) = subst (λ ws. list_any (begins (word_of p)) ws ≡ true) (sym words-are) (rw (word-begins p text).1 refl)
 
     later : (words ≡ word_of p ∷ text ∷ rest) ⊎ (words ≡ (word_of p ++ codes "=" ++ text) ∷ rest) → list_any (begins (word_of o)) rest ≡ false
     later (inl words-are) =
         let all-out = subst (λ ws. list_any (begins (word_of o)) ws ≡ false) words-are out in
-        (neither (begins (word_of o) text) _ (neither (begins (word_of o) (word_of p)) _ all-out).1).1
-    later (inr words-are) = (neither (begins (word_of o) (word_of p ++ codes "=" ++ text)) _ (subst (λ ws. list_any (begins (word_of o)) ws ≡ false) words-are out)).1
+        let after-flag = (neither (begins (word_of o) (word_of p)) _ all-out).1 in
+        (neither (begins (word_of o) text) _ after-flag).1
+    later (inr words-are) =
+        let all-out = subst (λ ws. list_any (begins (word_of o)) ws ≡ false) words-are out in
+        (neither (begins (word_of o) (word_of p ++ codes "=" ++ text)) _ all-out).1
 
-    go : (p ≡ o) ⊎ (is_option p o ≡ false) → given_to o ((p, number) ∷ given) ≡ None
-    go (inl same) = absurd (true≢false (sym (subst (λ q. list_any (begins (word_of q)) words ≡ true) same (named same forms)) ∙ out))
-    go (inr other) = rw other (gives-nothing o given rest gives (later forms))
+    go : (p ≡ o) ⊎ (is_option p o ≡ false) → given_to o given ≡ None → given_to o ((p, number) ∷ given) ≡ None
+    go (inl same) none = absurd (true≢false (sym (subst (λ q. list_any (begins (word_of q)) words ≡ true) same (named forms)) ∙ out))
+    go (inr other) none = rw other none
 
 -- so a line of which no word begins with an option gives it nothing
 line-gives-nothing : (o : SolveOption) (arguments : List Text) (given : List (SolveOption × ℕ)) → AsksToSolve arguments given → IsLeftOut (word_of o) arguments → given_to o given ≡ None
@@ -334,7 +336,7 @@ has-defaults arguments (Serve listen workers shards entries budget websocket all
 
 -- a line that asks for something has no fault
 pub asks-free : (app : App) (arguments : List Text) (args : Args) → app ≡ program_app → Asks arguments args → fault_of app arguments ≡ []
-asks-free app arguments (Solve budget entries workers) is (given, asks, numbers) =
+asks-free app arguments (Solve budget entries workers) is (given, asks, budget-is, entries-are, workers-are) =
     let free = solves-free asks.program asks.words (walked-line arguments given asks).faultless in
     subst (λ a. fault_of a arguments ≡ []) (sym is) (subst (λ ws. fault_of program_app ws ≡ []) (sym asks.line) free)
 asks-free app arguments (Serve listen workers shards entries budget websocket allow_stop) is asks = subst (λ a. fault_of a arguments ≡ []) (sym is) asks.1

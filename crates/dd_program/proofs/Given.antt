@@ -1,6 +1,6 @@
 -- What the uses of the options give.
 use Rattle.std.specs.Prelude.{⊤}
-use Rattle.std.proofs.Common.{◌≡◌, ◌∙◌, ◌⊎◌, ◌||◌, Bool, cond, codes, true, false, true≢false, refl, sym, ap, subst, inl, inr, List, [], ◌∷◌, ◌++◌, append-nil, append_assoc, map, Option, Some, None}
+use Rattle.std.proofs.Common.{◌≡◌, ◌∙◌, ◌⊎◌, ◌||◌, ◌&&◌, Bool, cond, codes, true, false, true≢false, refl, sym, ap, subst, inl, inr, List, [], ◌∷◌, ◌++◌, append-nil, append_assoc, map, Option, Some, None}
 use Rattle.std.specs.Prelude.{IfSome, pos}
 use Rattle.std.specs.Str.{bytes_eq}
 use Rattle.std.proofs.lemmas.List.Folds.{list_any-append}
@@ -68,11 +68,11 @@ AllPass (u ∷ us) = Passes u.0 u.1 × AllPass us
 -- what an option is given passes its parser
 pub given-passes : (o : SolveOption) (us : List Use) → AllPass us → IfSome (given_to o us) (Passes o)
 given-passes o [] passes = tt
-given-passes o ((p, text) ∷ us) passes = go (same-or-other p o)
+given-passes o ((p, text) ∷ us) passes = go (same-or-other p o) (given-passes o us passes.1)
   where
-    go : (p ≡ o) ⊎ (is_option p o ≡ false) → IfSome (given_to o ((p, text) ∷ us)) (Passes o)
-    go (inl same) = subst (λ q. IfSome (given_to q ((p, text) ∷ us)) (Passes q)) same (rw (is-itself p) passes.0)
-    go (inr other) = rw other (given-passes o us passes.1)
+    go : (p ≡ o) ⊎ (is_option p o ≡ false) → IfSome (given_to o us) (Passes o) → IfSome (given_to o ((p, text) ∷ us)) (Passes o)
+    go (inl same) later = subst (λ q. IfSome (given_to q ((p, text) ∷ us)) (Passes q)) same (rw (is-itself p) passes.0)
+    go (inr other) later = rw other later
 
 -- ---- one use
 
@@ -182,20 +182,24 @@ once-leads [] rows once passes later = sym (append-nil rows)
 once-leads ((o, text) ∷ us) rows once passes later =
     let lacks = fresh (has_row (name_of o) rows) refl (later o) in
     let now = rows ++ row_of (o, text) ∷ [] in
-    let rest = once-leads us now once.1 passes.1 (λ p has. after p has (same-or-other o p)) in
-    (use-free o text rows lacks passes.0,
-      subst (λ r. Leads r us (rows ++ map row_of ((o, text) ∷ us))) (sym (use-adds o text rows lacks)) (subst (Leads now us) (append_assoc rows (row_of (o, text) ∷ []) (map row_of us)) rest))
+    let rest = once-leads us now once.1 passes.1 (λ p has. after p has (same-or-other o p)) in (
+      use-free o text rows lacks passes.0,
+      subst (λ r. Leads r us (rows ++ map row_of ((o, text) ∷ us))) (sym (use-adds o text rows lacks)) (subst (Leads now us) (append_assoc rows (row_of (o, text) ∷ []) (map row_of us)) rest),
+    )
   where
+    had : (a b : Bool) → b ≡ false → (a || b) ≡ true → a ≡ true
+    had true b is e = refl
+    had false b is e = absurd (true≢false (sym e ∙ is))
+
     fresh : (b : Bool) → has_row (name_of o) rows ≡ b → (has_row (name_of o) rows ≡ true → given_to o ((o, text) ∷ us) ≡ None) → has_row (name_of o) rows ≡ false
     fresh false is none = is
     fresh true is none =
-        let bad = rw (is-itself o) at none is in
+        let gone = none is in
+        let bad = rw (is-itself o) at gone in
         cc
 
     after : (p : SolveOption) → has_row (name_of p) (rows ++ row_of (o, text) ∷ []) ≡ true → (o ≡ p) ⊎ (is_option o p ≡ false) → given_to p us ≡ None
     after p has (inl same) = subst (λ q. given_to q us ≡ None) same once.0
-    after p has (inr other) = rw other at later p (had (has_row (name_of p) rows) (is_option o p) other (sym (row-added p o text rows) ∙ has))
-      where
-        had : (a b : Bool) → b ≡ false → (a || b) ≡ true → a ≡ true
-        had true b is e = refl
-        had false b is e = absurd (true≢false (sym e ∙ is))
+    after p has (inr other) =
+        let gone = later p (had (has_row (name_of p) rows) (is_option o p) other (sym (row-added p o text rows) ∙ has)) in
+        rw other at gone

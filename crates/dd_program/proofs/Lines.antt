@@ -65,6 +65,10 @@ record Used (given : List (SolveOption × ℕ)) (words : List Text) : Type 0 whe
   passes : AllPass uses
   gives : numbers_of uses ≡ given
 
+-- lists that begin with the same option
+same-cons : (o : SolveOption) (m n : ℕ) (xs ys : List (SolveOption × ℕ)) → m ≡ n → xs ≡ ys → ◌≡◌ {A = List (SolveOption × ℕ)} ((o, m) ∷ xs) ((o, n) ∷ ys)
+same-cons o m n xs ys e f = λ i. (o, e i) ∷ f i
+
 -- words that give numbers are so
 used-of : (given : List (SolveOption × ℕ)) (words : List Text) → GiveOptions given words → Used given words
 used-of [] words gives = record { uses = []; end = words; spells = refl; ends = gives; passes = tt; gives = refl }
@@ -76,7 +80,7 @@ used-of ((o, number) ∷ given) words (text, rest, is, admits, forms, gives) =
       spells = (rest, spelled forms, later.spells);
       ends = later.ends;
       passes = (admitted-passes o text number is admits, later.passes);
-      gives = ap (λ n. (o, n) ∷ numbers_of later.uses) is.1 ∙ ap (λ g. (o, number) ∷ g) later.gives;
+      gives = same-cons o (value_of text) number (numbers_of later.uses) given is.1 later.gives;
     }
   where
     spelled : (words ≡ word_of o ∷ text ∷ rest) ⊎ (words ≡ (word_of o ++ codes "=" ++ text) ∷ rest) → (words ≡ flag o ∷ text ∷ rest) ⊎ (words ≡ flag_with (o, text) ∷ rest)
@@ -163,8 +167,8 @@ one-meaning arguments given other one also =
 -- what an option is given it may be given
 pub given-admitted : (o : SolveOption) (given : List (SolveOption × ℕ)) (words : List Text) → GiveOptions given words → IfSome (given_to o given) (Admits o)
 given-admitted o [] words gives = tt
-given-admitted o ((p, number) ∷ given) words (text, rest, is, admits, forms, gives) = go (same-or-other p o)
+given-admitted o ((p, number) ∷ given) words (text, rest, is, admits, forms, gives) = go (same-or-other p o) (given-admitted o given rest gives)
   where
-    go : (p ≡ o) ⊎ (is_option p o ≡ false) → IfSome (given_to o ((p, number) ∷ given)) (Admits o)
-    go (inl same) = subst (λ q. IfSome (given_to q ((p, number) ∷ given)) (Admits q)) same (rw (is-itself p) admits)
-    go (inr other) = rw other (given-admitted o given rest gives)
+    go : (p ≡ o) ⊎ (is_option p o ≡ false) → IfSome (given_to o given) (Admits o) → IfSome (given_to o ((p, number) ∷ given)) (Admits o)
+    go (inl same) later = subst (λ q. IfSome (given_to q ((p, number) ∷ given)) (Admits q)) same (rw (is-itself p) admits)
+    go (inr other) later = rw other later

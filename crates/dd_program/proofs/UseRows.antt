@@ -59,8 +59,9 @@ filled-own id how text rows own = go (has_row id rows) refl
         → row_in id (cond b rows (with_values id how DefaultValue (text ∷ []) rows)) ≡ option_or (row_in id rows) (Some (default_row id how text))
     go true is = there (row_in id rows) (sym (any-found (λ (r : Row). bytes_eq r.id id) rows) ∙ is)
     go false is =
+        let last : row_in id (default_row id how text ∷ []) ≡ Some (default_row id how text) = rw own refl in
         ap (row_in id) (at-missing id (more_values DefaultValue (text ∷ [])) (default_row id how text ∷ []) rows is)
-        ∙ find-append (λ (r : Row). bytes_eq r.id id) rows (default_row id how text ∷ []) ∙ ap (option_or (row_in id rows)) (rw own refl)
+        ∙ find-append (λ (r : Row). bytes_eq r.id id) rows (default_row id how text ∷ []) ∙ ap (option_or (row_in id rows)) last
 
 -- where there is nothing else it is what there is
 none-more : (o : Option Row) → option_or o None ≡ o
@@ -74,8 +75,9 @@ filled-other id other how text rows differs = go (has_row id rows) refl
     go : (b : Bool) → has_row id rows ≡ b → row_in other (cond b rows (with_values id how DefaultValue (text ∷ []) rows)) ≡ row_in other rows
     go true is = refl
     go false is =
+        let last : row_in other (default_row id how text ∷ []) ≡ None = rw differs refl in
         ap (row_in other) (at-missing id (more_values DefaultValue (text ∷ [])) (default_row id how text ∷ []) rows is)
-        ∙ find-append (λ (r : Row). bytes_eq r.id other) rows (default_row id how text ∷ []) ∙ ap (option_or (row_in other rows)) (rw differs refl)
+        ∙ find-append (λ (r : Row). bytes_eq r.id other) rows (default_row id how text ∷ []) ∙ ap (option_or (row_in other rows)) last
         ∙ none-more (row_in other rows)
 
 -- the rows with the defaults of the two options that have one
@@ -122,13 +124,14 @@ own-or-default Workers rows =
 -- the row of an option among those of uses is that of its use
 used-row : (o : SolveOption) (us : List Use) → row_in (name_of o) (map row_of us) ≡ option_map (λ text. row_of (o, text)) (given_to o us)
 used-row o [] = refl
-used-row o ((p, text) ∷ us) = go (same-or-other p o)
+used-row o ((p, text) ∷ us) = go (same-or-other p o) (used-row o us)
   where
-    go : (p ≡ o) ⊎ (is_option p o ≡ false) → row_in (name_of o) (map row_of ((p, text) ∷ us)) ≡ option_map (λ t. row_of (o, t)) (given_to o ((p, text) ∷ us))
-    go (inl same) =
+    go : (p ≡ o) ⊎ (is_option p o ≡ false) → row_in (name_of o) (map row_of us) ≡ option_map (λ t. row_of (o, t)) (given_to o us)
+        → row_in (name_of o) (map row_of ((p, text) ∷ us)) ≡ option_map (λ t. row_of (o, t)) (given_to o ((p, text) ∷ us))
+    go (inl same) later =
         subst (λ q. row_in (name_of q) (map row_of ((p, text) ∷ us)) ≡ option_map (λ t. row_of (q, t)) (given_to q ((p, text) ∷ us))) same
         (rw (same-name p p ∙ is-itself p, is-itself p) refl)
-    go (inr other) = rw (same-name p o ∙ other, other) (used-row o us)
+    go (inr other) later = rw (same-name p o ∙ other, other) later
 
 -- a text that passes is read as it is written
 read-as-written : (most : ℕ) (text : Text) → IsSignedIn (pos 1) (pos most) text → without_minus text ≡ text
@@ -210,8 +213,7 @@ pub uses-have-numbers : (us : List Use) → AllPass us → HasNumbers (with_defa
 uses-have-numbers us passes =
     let of-entries = range-fits MOST_SHAPES (given_to Entries us) (codes "4096") (omega arith)
     ((omega arith, (omega arith, (omega arith, (omega arith, (omega arith, tt))))), omega arith) (given-passes Entries us passes) in
-    let of-workers = range-fits MOST_WORKERS (given_to Workers us) (codes "1") (omega arith) ((omega arith, (omega arith, tt)), omega arith) (given-passes Workers us passes) in
-    (
+    let of-workers = range-fits MOST_WORKERS (given_to Workers us) (codes "1") (omega arith) ((omega arith, (omega arith, tt)), omega arith) (given-passes Workers us passes) in (
       subst (λ o. IfSome o (FitsBits 64)) (sym (use-read Budget us passes)) (budget-fits (given_to Budget us) (given-passes Budget us passes)),
       subst IsSome (sym (use-read Entries us passes)) of-entries.0,
       subst (λ o. IfSome o (FitsBits 32)) (sym (use-read Entries us passes)) of-entries.1,

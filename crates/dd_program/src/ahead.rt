@@ -49,7 +49,16 @@ pub(crate) fn solve_ahead<W: Threads + Wait + Sync, R: Read, O: Write, E: Write>
     let Ok(mut others) = caches(rt, alloc, &table, workers.saturating_sub(1)) else {
         return fail(errors, Ending::OutOfMemory);
     };
-    solve_on(rt, alloc, budget, reader, output, errors, &mut cache, &mut others)
+    solve_on(
+        rt,
+        alloc,
+        budget,
+        reader,
+        output,
+        errors,
+        &mut cache,
+        others.as_mut_slice(),
+    )
 }
 
 /// So many caches that have learned nothing, each before a view of the table. The error says that memory ran out.
@@ -84,7 +93,16 @@ fn solve_on<W: Threads + Wait + Sync, B: Bounds, H: Bounds + Send, R: Read, O: W
         (state_of E.contents errors.new)) result }
 {
     let mut buffer = [0; PIECE];
-    match solve_lines_on(rt, alloc, reader, output, table, others, budget, &mut buffer) {
+    match solve_lines_on(
+        rt,
+        alloc,
+        reader,
+        output,
+        table,
+        others,
+        budget,
+        &mut buffer,
+    ) {
         Ok(()) => Ending::Answered,
         Err(LineFault::Read) => fail(errors, Ending::ReadFailed),
         Err(LineFault::Write) => fail(errors, Ending::WriteFailed),

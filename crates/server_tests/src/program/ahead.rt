@@ -74,12 +74,18 @@ fn has_failed_to_write(outcome: &Outcome, room: usize) -> bool {
 
 #[test]
 fn an_output_that_fails_ends_the_run_of_several_threads(rt: HostRuntime) -> Result<(), Fail> {
-    for room in 0usize..200 {
+    for room in [0usize, 1, 134, 135, 136, 137, 700] {
         let short = Devices {
             output: room,
             ..SOUND
         };
-        let outcome = run_line(&rt, rt.alloc(), "ddserve solve --workers 3", recorded(), short)?;
+        let outcome = run_line(
+            &rt,
+            rt.alloc(),
+            "ddserve solve --workers 3",
+            recorded(),
+            short,
+        )?;
         assert!(rt; has_failed_to_write(&outcome, room), "{room}");
     }
     Ok(())
@@ -89,7 +95,13 @@ fn an_output_that_fails_ends_the_run_of_several_threads(rt: HostRuntime) -> Resu
 fn an_input_that_fails_ends_the_run_of_several_threads(rt: HostRuntime) -> Result<(), Fail> {
     for calls in 0usize..2 {
         let devices = Devices { calls, ..SOUND };
-        let outcome = run_line(&rt, rt.alloc(), "ddserve solve --workers 2", recorded(), devices)?;
+        let outcome = run_line(
+            &rt,
+            rt.alloc(),
+            "ddserve solve --workers 2",
+            recorded(),
+            devices,
+        )?;
         assert!(rt; outcome.ending == Ending::ReadFailed);
         assert!(rt; outcome.output.is_empty() == (calls == 0));
     }
@@ -98,7 +110,8 @@ fn an_input_that_fails_ends_the_run_of_several_threads(rt: HostRuntime) -> Resul
 
 #[test]
 fn several_threads_keep_to_the_budget(rt: HostRuntime) -> Result<(), Fail> {
-    let position = "{\"do\":\"solve\",\"deal\":\"N:A... ... ... ...\",\"trump\":4,\"first\":1,\"played\":[[0,13],[0,12],[0,11]],\"solutions\":3}\n";
+    let position =
+        "{\"do\":\"solve\",\"deal\":\"N:A... ... ... ...\",\"trump\":4,\"first\":1,\"played\":[[0,13],[0,12],[0,11]],\"solutions\":3}\n";
     let lines = format!(in rt.alloc(); "{position}{position}{position}")?;
     let spent = "{\"state\":\"spent\"}\n{\"state\":\"spent\"}\n{\"state\":\"spent\"}\n";
     let outcome = run_line(

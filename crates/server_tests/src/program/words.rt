@@ -14,12 +14,11 @@ fn read(alloc: Global, line: &str) -> Result<Args, Error> {
 fn asks(alloc: Global, line: &str, budget: Option<u64>, entries: u32) -> bool {
     match read(alloc, line) {
         Ok(args) => {
-            args
-                == Args::Solve {
-                    budget,
-                    entries,
-                    workers: 1,
-                }
+            args == Args::Solve {
+                budget,
+                entries,
+                workers: 1,
+            }
         }
         Err(_) => false,
     }
@@ -29,12 +28,11 @@ fn asks(alloc: Global, line: &str, budget: Option<u64>, entries: u32) -> bool {
 fn asks_for(alloc: Global, line: &str, budget: Option<u64>, entries: u32, workers: u32) -> bool {
     match read(alloc, line) {
         Ok(args) => {
-            args
-                == Args::Solve {
-                    budget,
-                    entries,
-                    workers,
-                }
+            args == Args::Solve {
+                budget,
+                entries,
+                workers,
+            }
         }
         Err(_) => false,
     }

@@ -26,16 +26,15 @@ pub unwrap-requires : goal.unwrap-requires
 unwrap-requires c =
     subst IsSome (sym (entries-read c)) (is_some-mapped value_of (one_of (codes "entries") (rows_of (found_of c.args.options.now))) c.requires.1)
 
-pub unwrap-2-requires : goal.unwrap-2-requires
-unwrap-2-requires c =
+pub unwrap-requires-2 : goal.unwrap-requires-2
+unwrap-requires-2 c =
     subst IsSome (sym (workers-read c)) (is_some-mapped value_of (one_of (codes "workers") (rows_of (found_of c.args.options.now))) c.requires.3)
 
 pub returns : goal.returns
 returns c =
     let found = found_of c.args.options.now in
     let budget = option-read _ (λ text r. ParsesUnsigned 64 10 text r × ExplainsUnsignedError 10 text r × HasUnsignedDigitsIfOk text r) 64 (one_of (codes "budget") (rows_of found)) c.get_one.result
-    (λ e. c.get_one.ensures.none (one_text-rows found (codes "budget") ∙ e)) (λ t e. c.get_one.ensures.value t (one_text-rows found (codes "budget") ∙ e)) (λ u x g. g.0) c.requires.0 in
-    (
+    (λ e. c.get_one.ensures.none (one_text-rows found (codes "budget") ∙ e)) (λ t e. c.get_one.ensures.value t (one_text-rows found (codes "budget") ∙ e)) (λ u x g. g.0) c.requires.0 in (
       c.unwrap.result,
       c.unwrap-2.result,
       sym (entries-read (goal.at.returns c).After-get_one-2) ∙ c.unwrap.ensures,
