@@ -1,5 +1,5 @@
 -- A line of `solve`: the words of its options, and what they ask for.
-use Rattle.std.proofs.Common.{◌≡◌, ◌∙◌, ◌⊎◌, ◌≤◌, ℕ, codes, refl, sym, ap, subst, inl, inr, arith, false, List, [], ◌∷◌, ◌++◌, map, Option, Some, None}
+use Rattle.std.proofs.Common.{◌≡◌, ◌∙◌, ◌⊎◌, ℕ, codes, refl, sym, ap, subst, inl, inr, arith, false, List, [], ◌∷◌, ◌++◌, map, Option, Some, None}
 use Rattle.std.specs.Prelude.{IfSome, option_map, unwrap_or}
 use Rattle.clap.specs.Walk.{Row, Text, idle}
 use Rattle.dd_shard.specs.declared.shard.TheConstants.{MOST_SHAPES}

@@ -1,5 +1,5 @@
 -- What the rows of uses have, once each option that was left out has its default.
-use Rattle.std.proofs.Common.{◌≡◌, ◌∙◌, ◌⊎◌, ◌≤◌, ◌||◌, ℕ, Bool, cond, codes, true, false, refl, sym, ap, subst, inl, inr, arith, List, [], ◌∷◌, ◌++◌, map, Option, Some, None, is_some}
+use Rattle.std.proofs.Common.{◌≡◌, ◌∙◌, ◌⊎◌, ◌≤◌, ◌||◌, ℕ, Bool, cond, codes, true, false, refl, sym, ap, subst, inl, inr, arith, List, [], ◌∷◌, map, Option, Some, None, is_some}
 use Rattle.std.specs.Prelude.{IfSome, IsSome, option_and_then, option_map, unwrap_or, fold, pos}
 use Rattle.std.specs.List.{find, list_any}
 use Rattle.std.specs.Option.{option_or}
