@@ -3,3 +3,7 @@
 -- ---- Every line has a meaning.
 -- every line has a meaning
 pub use Rattle.dd_wire.proofs.Meanings.{some-meaning}
+
+-- ---- Without leave no line wants a stop.
+-- no line means that
+pub use Rattle.dd_wire.proofs.NoStops.{no-stop-line}

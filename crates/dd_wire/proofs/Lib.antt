@@ -2,6 +2,7 @@ pub mod CallerLemmas
 pub mod Examples
 pub mod Keys
 pub mod Meanings
+pub mod NoStops
 pub mod Objects
 pub mod OneMeaning
 pub mod Pairs
