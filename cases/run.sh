@@ -17,6 +17,13 @@ for name in written small full tables targets target_faults plays; do
     cmp "$work/replies" "$data/$name.expected"
     echo "$name: $(wc -l < "$data/$name.jsonl") replies agree with DDS"
 done
+for workers in 2 4; do
+    for name in written small full tables; do
+        "$here/../ddserve" solve --workers "$workers" < "$data/$name.jsonl" > "$work/replies"
+        cmp "$work/replies" "$data/$name.expected"
+    done
+    echo "with $workers workers the same replies"
+done
 # How the built program ends: its status and what it says.
 ends() { # STATUS TEXT COMMAND..
     status=$1 said=$2

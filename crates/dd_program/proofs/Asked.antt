@@ -15,7 +15,7 @@ use Rattle.clap.specs.declared.error.Error.{Error}
 use Rattle.clap.specs.declared.error.kind.ErrorKind.TheVariants.{OutOfMemory}
 use Rattle.clap.specs.declared.parser.matches.ArgMatches.{ArgMatches}
 use Rattle.clap.specs.declared.parser.matches.ArgMatches.TheViews.{out-ArgMatches, out-SubCommand}
-use Rattle.dd_program.specs.CommandLine.{Asks, AsksToSolve, GivesOption, HasDefaults, IsBudget, IsInRange, IsLeftOut, IsSame, IsTableSize}
+use Rattle.dd_program.specs.CommandLine.{SolveOption, Budget, Entries, Workers, Asks, AsksToSolve, GiveOptions, HasDefaults, IsBudget, IsInRange, IsLeftOut, IsSame, IsTableSize, given_to, is_option, word_of}
 use Rattle.dd_program.specs.ServeWords.{AsksToServeBy, HasNumber, IsGiven, budget_in, is_set}
 use Rattle.dd_program.specs.Program.{number_of, program_app}
 use Rattle.dd_program.specs.declared.command_line.Args.{Args}
@@ -23,7 +23,8 @@ use Rattle.dd_program.specs.declared.command_line.Args.TheVariants.{Serve, Solve
 use Rattle.dd_program.specs.declared.command_line.TheConstants.{MOST_WORKERS}
 use Rattle.dd_table.specs.declared.shared_table.TheConstants.{MOST_SHARDS}
 use Rattle.dd_shard.specs.declared.shard.TheConstants.{MOST_SHAPES}
-use Rattle.dd_program.proofs.Lines.{Asked, asked-of, one-meaning, walked-line}
+use Rattle.dd_program.proofs.Given.{same-or-other}
+use Rattle.dd_program.proofs.Lines.{Asked, asked-of, given-admitted, one-meaning, walked-line}
 use Rattle.dd_program.proofs.Programs.{Serves, Solves, line-of, serve-rows, serve_rows, serve_rules, solve_rows, solves-free, subcommand-rows}
 use Rattle.dd_program.proofs.ServeWords.{budget-fits, given-one, no-row, none-given, number-default, number-fits, number-one}
 use Rattle.dd_program.proofs.LeftOut.{Avoids, Each, NamesOther, defaults-lack, find-has, neither, settled-lacks, walk-clean}
@@ -114,28 +115,41 @@ serve-has app arguments m rows is free matches named has = elim (line-free app a
 
 -- arguments that have the rows' numbers
 abbrev HasNumbersOf : List Row → Args → Type 0
-HasNumbersOf rows args = (entries : ℕ) × (number_of (codes "entries") rows ≡ Some entries) × (args ≡ Solve (number_of (codes "budget") rows) entries)
+HasNumbersOf rows args = (entries : ℕ) × (workers : ℕ) × (number_of (codes "entries") rows ≡ Some entries) × (number_of (codes "workers") rows ≡ Some workers)
+    × (args ≡ Solve (number_of (codes "budget") rows) entries workers)
 
 -- arguments with the numbers of the rows are what the line asks for
 pub asks-args : (arguments : List Text) (rows : List Row) (args : Args) → Asked arguments rows → HasNumbersOf rows args → Asks arguments args
 asks-args arguments rows args asked has =
-    let table-is : has.0 ≡ unwrap_or asked.table 4096 = let same : Some has.0 ≡ Some (unwrap_or asked.table 4096) = sym has.1 ∙ asked.has_entries in cc in
-    subst (Asks arguments) (sym has.2) (asked.table, subst (λ b. AsksToSolve arguments b asked.table) (sym asked.has_budget) asked.asks, table-is)
+    let entries-are : Some has.0 ≡ Some (unwrap_or (given_to Entries asked.given) 4096) = sym has.2 ∙ asked.reads.has_entries in
+    let workers-are : Some has.1 ≡ Some (unwrap_or (given_to Workers asked.given) 1) = sym has.3 ∙ asked.reads.has_workers in
+    subst (Asks arguments) (sym has.4) (asked.given, asked.asks, asked.reads.has_budget, some-number entries-are, some-number workers-are)
+  where
+    some-number : {m n : ℕ} → Some m ≡ Some n → m ≡ n
+    some-number e = cc
 
--- the default is a size of a table too
-table-in-range : (e : Option ℕ) → IfSome e IsTableSize → IsTableSize (unwrap_or e 4096)
-table-in-range None fits = (omega arith, omega arith)
-table-in-range (Some entries) fits = fits
+-- what is given lies in a range, and so does the default
+or-in-range : (most default : ℕ) (given : Option ℕ) → 1 ≤ default → default ≤ most → IfSome given (λ n. (1 ≤ n) × (n ≤ most)) → (1 ≤ unwrap_or given default) × (unwrap_or given default ≤ most)
+or-in-range most default None low high fits = (low, high)
+or-in-range most default (Some number) low high fits = fits
 
 -- arguments of the rows of `serve` are what the line asks for
 pub asks-serve : (arguments : List Text) (rows : List Row) (args : Args) → (fault_of program_app arguments ≡ []) × (subcommand_of program_app arguments ≡ Some (codes "serve", rows))
     → AsksToServeBy rows args → Asks arguments args
-asks-serve arguments rows (Solve budget entries) line by = absurd by
+asks-serve arguments rows (Solve budget entries workers) line by = absurd by
 asks-serve arguments rows (Serve listen workers shards entries budget websocket allow_stop) line by = (rows, line.0, line.1, by)
 
 -- the numbers of a line that asks lie in their ranges
 pub in-range : (arguments : List Text) (args : Args) → Asks arguments args → IsInRange args
-in-range arguments (Solve budget entries) asks = (asks.1.budget_fits, subst IsTableSize (sym asks.2) (table-in-range asks.0 asks.1.entries_fit))
+in-range arguments (Solve budget entries workers) (given, asks, budget-is, entries-are, workers-are) =
+    let entries-fit = or-in-range MOST_SHAPES 4096 (given_to Entries given) (omega arith) (omega arith) (given-admitted Entries given asks.words asks.gives) in
+    let workers-fit = or-in-range MOST_WORKERS 1 (given_to Workers given) (omega arith) (omega arith) (given-admitted Workers given asks.words asks.gives) in
+    let workers-range = subst (λ n. (1 ≤ n) × (n ≤ MOST_WORKERS)) (sym workers-are) workers-fit in (
+      subst (λ b. IfSome b IsBudget) (sym budget-is) (given-admitted Budget given asks.words asks.gives),
+      subst IsTableSize (sym entries-are) entries-fit,
+      workers-range.0,
+      workers-range.1,
+    )
 in-range arguments (Serve listen workers shards entries budget websocket allow_stop) (rows, free, line, by) =
     let workers-fit = subst (λ n. (1 ≤ n) × (n ≤ MOST_WORKERS)) (sym by.1.2) (number-fits MOST_WORKERS 4 by.1.0 (omega arith) (omega arith)) in
     let shards-fit = subst (λ n. (1 ≤ n) × (n ≤ MOST_SHARDS)) (sym by.2.2) (number-fits MOST_SHARDS 16 by.2.0 (omega arith) (omega arith)) in
@@ -152,20 +166,19 @@ entered_rows None = []
 entered_rows (Some entered) = entered.1
 
 -- a line of `solve` is none of `serve`
-solve-only : (arguments : List Text) (b e : Option ℕ) (rows : List Row) → AsksToSolve arguments b e → subcommand_of program_app arguments ≡ Some (codes "serve", rows) → ⊥
-solve-only arguments b e rows asks line =
-    let solve = walked-line arguments b e asks in
-    let as-solve : subcommand_of program_app arguments ≡ Some (codes "solve", solve_rows solve.1) = ap (subcommand_of program_app) solve.2 ∙ subcommand-rows solve.0 solve.1 in
+solve-only : (arguments : List Text) (given : List (SolveOption × ℕ)) (rows : List Row) → AsksToSolve arguments given → subcommand_of program_app arguments ≡ Some (codes "serve", rows) → ⊥
+solve-only arguments given rows asks line =
+    let as-solve : subcommand_of program_app arguments ≡ Some (codes "solve", solve_rows asks.words) = ap (subcommand_of program_app) asks.line ∙ subcommand-rows asks.program asks.words in
     let both : codes "solve" ≡ codes "serve" = ap entered_name (sym as-solve ∙ line) in
     other-name both
 
 -- a line asks for one thing
 pub asks-one : (arguments : List Text) (args other : Args) → Asks arguments args → Asks arguments other → IsSame other args
-asks-one arguments (Solve b e) (Solve c f) asks also =
-    let same = one-meaning arguments b asks.0 c also.0 asks.1 also.1 in
-    (λ i. Solve (sym same.0 i) ((also.2 ∙ sym same.1 ∙ sym asks.2) i))
-asks-one arguments (Solve b e) (Serve m x t f c j d) asks also = solve-only arguments b asks.0 also.0 asks.1 also.2
-asks-one arguments (Serve l w s e b k a) (Solve c f) asks also = solve-only arguments c also.0 asks.0 also.1 asks.2
+asks-one arguments (Solve b e w) (Solve c f x) asks also =
+    let same = one-meaning arguments asks.0 also.0 asks.1 also.1 in
+    (λ i. Solve ((also.2 ∙ sym same.0 ∙ sym asks.2) i) ((also.3 ∙ sym same.1 ∙ sym asks.3) i) ((also.4 ∙ sym same.2 ∙ sym asks.4) i))
+asks-one arguments (Solve b e w) (Serve m x t f c j d) asks also = solve-only arguments asks.0 also.0 asks.1 also.2
+asks-one arguments (Serve l w s e b k a) (Solve c f x) asks also = solve-only arguments also.0 asks.0 also.1 asks.2
 asks-one arguments (Serve l w s e b k a) (Serve m x t f c j d) (rows, free, line, by) (rows2, free2, line2, by2) =
     let same : rows2 ≡ rows = ap entered_rows (sym line2 ∙ line) in
     let also = subst (λ r. AsksToServeBy r (Serve m x t f c j d)) same by2 in (
@@ -180,68 +193,44 @@ asks-one arguments (Serve l w s e b k a) (Serve m x t f c j d) (rows, free, line
 
 -- ---- what is left out
 
--- a choice holds where its second part does
-or-right : (a b : Bool) → b ≡ true → (a || b) ≡ true
-or-right true b is = refl
-or-right false b is = is
-
--- what some word has, some word of a longer list has
-any-front : (p : Text → Bool) (xs ys : List Text) → list_any p xs ≡ true → list_any p (xs ++ ys) ≡ true
-any-front p [] ys is = absurd (true≢false (sym is))
-any-front p (x ∷ xs) ys is = go (p x) is (any-front p xs ys)
-  where
-    go : (b : Bool) → (b || list_any p xs) ≡ true → (list_any p xs ≡ true → list_any p (xs ++ ys) ≡ true) → (b || list_any p (xs ++ ys)) ≡ true
-    go true e more = refl
-    go false e more = more e
-
--- the same, with arguments before it
-any-back : (p : Text → Bool) (xs ys : List Text) → list_any p ys ≡ true → list_any p (xs ++ ys) ≡ true
-any-back p [] ys is = is
-any-back p (x ∷ xs) ys is = or-right (p x) (list_any p (xs ++ ys)) (any-back p xs ys is)
-
 -- does the word begin with the option's name?
 abbrev begins : Text → Text → Bool
 begins option word = bytes_eq (take (length option) word) option
 
--- arguments of a line that has those of both options
-in-line : (p : Text → Bool) (arguments : List Text) (b e : Option ℕ) (asks : AsksToSolve arguments b e)
-    → (list_any p asks.of_budget ≡ true) ⊎ (list_any p asks.of_entries ≡ true) → list_any p arguments ≡ true
-in-line p arguments b e asks has = elim asks.line [
-  | inl is ↦ subst (λ ws. list_any p ws ≡ true) (sym is) (or-right (p asks.program) _ (or-right (p (codes "solve")) _
-      (any-front p (asks.of_budget ++ asks.of_entries) asks.end (either asks.of_budget asks.of_entries has))))
-  | inr is ↦ subst (λ ws. list_any p ws ≡ true) (sym is) (or-right (p asks.program) _ (or-right (p (codes "solve")) _
-      (any-front p (asks.of_entries ++ asks.of_budget) asks.end (either asks.of_entries asks.of_budget (turned has)))))
-]
+-- a word of an option begins with it, with or without a text
+word-begins : (o : SolveOption) (text : Text) → (begins (word_of o) (word_of o) ≡ true) × (begins (word_of o) (word_of o ++ codes "=" ++ text) ≡ true)
+word-begins Budget text = (refl, refl)
+word-begins Entries text = (refl, refl)
+word-begins Workers text = (refl, refl)
+
+-- words of which none begins with an option give it nothing
+gives-nothing : (o : SolveOption) (given : List (SolveOption × ℕ)) (words : List Text) → GiveOptions given words → list_any (begins (word_of o)) words ≡ false → given_to o given ≡ None
+gives-nothing o [] words gives out = refl
+gives-nothing o ((p, number) ∷ given) words (text, rest, is, admits, forms, gives) out = go (same-or-other p o) (gives-nothing o given rest gives (later forms))
   where
-    either : (xs ys : List Text) → (list_any p xs ≡ true) ⊎ (list_any p ys ≡ true) → list_any p (xs ++ ys) ≡ true
-    either xs ys (inl here) = any-front p xs ys here
-    either xs ys (inr there) = any-back p xs ys there
+    named : (words ≡ word_of p ∷ text ∷ rest) ⊎ (words ≡ (word_of p ++ codes "=" ++ text) ∷ rest) → list_any (begins (word_of p)) words ≡ true
+    named (inl words-are) = subst (λ ws. list_any (begins (word_of p)) ws ≡ true) (sym words-are) (rw (word-begins p text).0 refl)
+    named (inr words-are) = subst (λ ws. list_any (begins (word_of p)) ws ≡ true) (sym words-are) (rw (word-begins p text).1 refl)
 
-    turned : {A B : Type 0} → A ⊎ B → B ⊎ A
-    turned (inl a) = inr a
-    turned (inr b) = inl b
+    later : (words ≡ word_of p ∷ text ∷ rest) ⊎ (words ≡ (word_of p ++ codes "=" ++ text) ∷ rest) → list_any (begins (word_of o)) rest ≡ false
+    later (inl words-are) =
+        let all-out = subst (λ ws. list_any (begins (word_of o)) ws ≡ false) words-are out in
+        let after-flag = (neither (begins (word_of o) (word_of p)) _ all-out).1 in
+        (neither (begins (word_of o) text) _ after-flag).1
+    later (inr words-are) =
+        let all-out = subst (λ ws. list_any (begins (word_of o)) ws ≡ false) words-are out in
+        (neither (begins (word_of o) (word_of p ++ codes "=" ++ text)) _ all-out).1
 
--- arguments that give a budget have one that begins with its name
-budget-stands : (number : ℕ) (ws : List Text) → GivesOption (codes "--budget") (Some number) ws → list_any (begins (codes "--budget")) ws ≡ true
-budget-stands number ws (text, writes, inl is) = ap (list_any (begins (codes "--budget"))) is
-budget-stands number ws (text, writes, inr is) = ap (list_any (begins (codes "--budget"))) is
+    go : (p ≡ o) ⊎ (is_option p o ≡ false) → given_to o given ≡ None → given_to o ((p, number) ∷ given) ≡ None
+    go (inl same) none = absurd (true≢false (sym (subst (λ q. list_any (begins (word_of q)) words ≡ true) same (named forms)) ∙ out))
+    go (inr other) none = rw other none
 
--- the same of the entries
-entries-stand : (number : ℕ) (ws : List Text) → GivesOption (codes "--entries") (Some number) ws → list_any (begins (codes "--entries")) ws ≡ true
-entries-stand number ws (text, writes, inl is) = ap (list_any (begins (codes "--entries"))) is
-entries-stand number ws (text, writes, inr is) = ap (list_any (begins (codes "--entries"))) is
-
--- a line without a word that begins with `--budget` gives none
-no-budget : (arguments : List Text) (b e : Option ℕ) → AsksToSolve arguments b e → IsLeftOut (codes "--budget") arguments → b ≡ None
-no-budget arguments None e asks out = refl
-no-budget arguments (Some number) e asks out =
-    absurd (true≢false (sym (in-line (begins (codes "--budget")) arguments (Some number) e asks (inl (budget-stands number asks.of_budget asks.gives_budget))) ∙ out))
-
--- the same of `--entries`, where the default stands in
-no-entries : (arguments : List Text) (b e : Option ℕ) → AsksToSolve arguments b e → IsLeftOut (codes "--entries") arguments → unwrap_or e 4096 ≡ 4096
-no-entries arguments b None asks out = refl
-no-entries arguments b (Some number) asks out =
-    absurd (true≢false (sym (in-line (begins (codes "--entries")) arguments b (Some number) asks (inr (entries-stand number asks.of_entries asks.gives_entries))) ∙ out))
+-- so a line of which no word begins with an option gives it nothing
+line-gives-nothing : (o : SolveOption) (arguments : List Text) (given : List (SolveOption × ℕ)) → AsksToSolve arguments given → IsLeftOut (word_of o) arguments → given_to o given ≡ None
+line-gives-nothing o arguments given asks out =
+    let from-line = subst (λ ws. list_any (begins (word_of o)) ws ≡ false) asks.line out in
+    let after-program = (neither (begins (word_of o) asks.program) _ from-line).1 in
+    gives-nothing o given asks.words asks.gives (neither (begins (word_of o) (codes "solve")) _ after-program).1
 
 -- the rules of `serve` avoid a short flag or a place for this option, and have no default for it
 serve-avoids : (o : Text) → bytes_eq (codes "help") o ≡ false → Avoids serve_rules o
@@ -328,9 +317,10 @@ left-out arguments s rows o line other none out =
 
 -- an option that is left out of a line that asks has its default
 pub has-defaults : (arguments : List Text) (args : Args) → Asks arguments args → HasDefaults arguments args
-has-defaults arguments (Solve budget entries) asks = (
-  no-budget arguments budget asks.0 asks.1,
-  λ out. asks.2 ∙ no-entries arguments budget asks.0 asks.1 out,
+has-defaults arguments (Solve budget entries workers) (given, asks, budget-is, entries-are, workers-are) = (
+  λ out. budget-is ∙ line-gives-nothing Budget arguments given asks out,
+  λ out. entries-are ∙ ap (λ n. unwrap_or n 4096) (line-gives-nothing Entries arguments given asks out),
+  λ out. workers-are ∙ ap (λ n. unwrap_or n 1) (line-gives-nothing Workers arguments given asks out),
 )
 has-defaults arguments (Serve listen workers shards entries budget websocket allow_stop) (rows, free, line, by) = elim (line-of arguments free) [
   | inl s ↦ absurd (other-name (ap entered_name (sym (enters arguments s) ∙ line)))
@@ -346,9 +336,9 @@ has-defaults arguments (Serve listen workers shards entries budget websocket all
 
 -- a line that asks for something has no fault
 pub asks-free : (app : App) (arguments : List Text) (args : Args) → app ≡ program_app → Asks arguments args → fault_of app arguments ≡ []
-asks-free app arguments (Solve budget entries) is asks =
-    let line = walked-line arguments budget asks.0 asks.1 in
-    subst (λ a. fault_of a arguments ≡ []) (sym is) (subst (λ ws. fault_of program_app ws ≡ []) (sym line.2) (solves-free line.0 line.1 line.3.faultless))
+asks-free app arguments (Solve budget entries workers) is (given, asks, budget-is, entries-are, workers-are) =
+    let free = solves-free asks.program asks.words (walked-line arguments given asks).faultless in
+    subst (λ a. fault_of a arguments ≡ []) (sym is) (subst (λ ws. fault_of program_app ws ≡ []) (sym asks.line) free)
 asks-free app arguments (Serve listen workers shards entries budget websocket allow_stop) is asks = subst (λ a. fault_of a arguments ≡ []) (sym is) asks.1
 
 -- the parser's error says that memory ran out, or the line asks for nothing

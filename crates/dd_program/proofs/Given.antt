@@ -1,31 +1,111 @@
 -- What the uses of the options give.
-use Rattle.std.proofs.Common.{◌≡◌, ◌⊎◌, Bool, cond, codes, true, false, refl, ap, subst, inl, inr, List, [], ◌∷◌, ◌++◌, Option, Some, None}
-use Rattle.std.specs.Prelude.{IfSome, fold, pos, unwrap_or}
-use Rattle.clap.specs.Walk.{Row, Text, one_of, used, with_default}
+use Rattle.std.specs.Prelude.{⊤}
+use Rattle.std.proofs.Common.{◌≡◌, ◌∙◌, ◌⊎◌, ◌||◌, ◌&&◌, Bool, cond, codes, true, false, true≢false, refl, sym, ap, subst, inl, inr, List, [], ◌∷◌, ◌++◌, append-nil, append_assoc, map, Some, None}
+use Rattle.std.specs.Prelude.{IfSome, pos}
+use Rattle.std.specs.Str.{bytes_eq}
+use Rattle.std.proofs.lemmas.List.Folds.{list_any-append}
+use Rattle.clap.specs.Walk.{Row, Text, at_row, has_row, more_values, reading_by, used, with_values, without}
 use Rattle.clap.specs.Kinds.{Kinds, or_else}
 use Rattle.clap.specs.Values.{IsSignedIn, IsUnsignedIn}
 use Rattle.clap.specs.ValueTests.{accepts}
 use Rattle.clap.specs.Faults.{repeat_fault, use_fault, values_fault}
-use Rattle.clap.specs.declared.error.kind.ErrorKind.TheVariants.{ValueValidation}
+use Rattle.clap.specs.declared.error.kind.ErrorKind.TheVariants.{ArgumentConflict, ValueValidation}
+use Rattle.clap.specs.declared.builder.value_parser.Reading.{Reading}
 use Rattle.clap.specs.declared.builder.value_parser.ValueParser.{ValueParser}
 use Rattle.clap.specs.declared.builder.value_parser.ValueParser.TheVariants.{Signed, Unsigned}
+use Rattle.clap.specs.declared.parser.matches.ValueSource.TheVariants.{CommandLine}
 use Rattle.clap.proofs.ValueTestLemmas.{Accepts-accepts, accepts-Accepts}
-use Rattle.clap.specs.Lexer.{without_minus}
 use Rattle.dd_shard.specs.declared.shard.TheConstants.{MOST_SHAPES}
-use Rattle.dd_program.proofs.Numbers.{numeral-without_minus, table-accepted}
-use Rattle.dd_program.proofs.Options.{Opt, budget, entries, rule_for, solve_rules}
+use Rattle.dd_program.specs.declared.command_line.TheConstants.{MOST_WORKERS}
+use Rattle.dd_program.specs.CommandLine.{SolveOption, Budget, Entries, Workers, given_to, is_option, GivesEachOnce}
+use Rattle.dd_program.proofs.LeftOut.{neither}
+use Rattle.dd_program.proofs.Options.{name_of, rule_for}
 use Rattle.dd_program.proofs.Steps.{first-free, second-free}
 use Rattle.dd_program.proofs.Runs.{Leads, Use}
 
--- one use, or none
-abbrev pub use_of : Opt → Option Text → List Use
-use_of o None = []
-use_of o (Some text) = (o, text) ∷ []
+-- ---- options
+
+-- options have one name exactly where they are one
+pub same-name : (o p : SolveOption) → bytes_eq (name_of o) (name_of p) ≡ is_option o p
+same-name Budget Budget = refl
+same-name Budget Entries = refl
+same-name Budget Workers = refl
+same-name Entries Budget = refl
+same-name Entries Entries = refl
+same-name Entries Workers = refl
+same-name Workers Budget = refl
+same-name Workers Entries = refl
+same-name Workers Workers = refl
+
+pub is-itself : (o : SolveOption) → is_option o o ≡ true
+is-itself Budget = refl
+is-itself Entries = refl
+is-itself Workers = refl
+
+-- an option is another's, or a different one
+pub same-or-other : (o p : SolveOption) → (o ≡ p) ⊎ (is_option o p ≡ false)
+same-or-other Budget Budget = inl refl
+same-or-other Budget Entries = inr refl
+same-or-other Budget Workers = inr refl
+same-or-other Entries Budget = inr refl
+same-or-other Entries Entries = inl refl
+same-or-other Entries Workers = inr refl
+same-or-other Workers Budget = inr refl
+same-or-other Workers Entries = inr refl
+same-or-other Workers Workers = inl refl
 
 -- the text passes the option's parser
-abbrev pub Passes : Opt → Text → Type 0
-Passes budget text = IsUnsignedIn 0 1000000000000 text
-Passes entries text = IsSignedIn (pos 1) (pos MOST_SHAPES) text
+abbrev pub Passes : SolveOption → Text → Type 0
+Passes Budget text = IsUnsignedIn 0 1000000000000 text
+Passes Entries text = IsSignedIn (pos 1) (pos MOST_SHAPES) text
+Passes Workers text = IsSignedIn (pos 1) (pos MOST_WORKERS) text
+
+-- each text passes the parser of its option
+abbrev pub AllPass : List Use → Type 0
+AllPass [] = ⊤
+AllPass (u ∷ us) = Passes u.0 u.1 × AllPass us
+
+-- what an option is given passes its parser
+pub given-passes : (o : SolveOption) (us : List Use) → AllPass us → IfSome (given_to o us) (Passes o)
+given-passes o [] passes = tt
+given-passes o ((p, text) ∷ us) passes = go (same-or-other p o) (given-passes o us passes.1)
+  where
+    go : (p ≡ o) ⊎ (is_option p o ≡ false) → IfSome (given_to o us) (Passes o) → IfSome (given_to o ((p, text) ∷ us)) (Passes o)
+    go (inl same) later = subst (λ q. IfSome (given_to q ((p, text) ∷ us)) (Passes q)) same (rw (is-itself p) passes.0)
+    go (inr other) later = rw other later
+
+-- ---- one use
+
+-- the row of a use
+abbrev pub row_of : Use → Row
+row_of u = record { id = name_of u.0; values = u.1 ∷ []; count = None; source = Some CommandLine; reading = reading_by (rule_for u.0) }
+
+-- what is to be at a row that is missing comes at the end
+pub at-missing : (id : Text) (change : Row → List Row) (missing rows : List Row) → has_row id rows ≡ false → at_row id change missing rows ≡ rows ++ missing
+at-missing id change missing [] e = refl
+at-missing id change missing (r ∷ rs) e =
+    let parts = neither (bytes_eq r.id id) (has_row id rs) e in
+    rw parts.0 (ap (λ xs. r ∷ xs) (at-missing id change missing rs parts.1))
+
+-- a first use adds its row
+set-adds : (id : Text) (how : Reading) (text : Text) (rows : List Row) → has_row id rows ≡ false
+    → with_values id how CommandLine (text ∷ []) (without id rows) ≡ rows ++ (record { id = id; values = text ∷ []; count = None; source = Some CommandLine; reading = how }) ∷ []
+set-adds id how text rows lacks =
+    ap (with_values id how CommandLine (text ∷ [])) (at-missing id (λ _. []) [] rows lacks ∙ append-nil rows) ∙ at-missing id (more_values CommandLine (text ∷ [])) _ rows lacks
+
+use-adds : (o : SolveOption) (text : Text) (rows : List Row) → has_row (name_of o) rows ≡ false → used (rule_for o) (text ∷ []) rows ≡ rows ++ row_of (o, text) ∷ []
+use-adds Budget text rows lacks = set-adds (codes "budget") (reading_by (rule_for Budget)) text rows lacks
+use-adds Entries text rows lacks = set-adds (codes "entries") (reading_by (rule_for Entries)) text rows lacks
+use-adds Workers text rows lacks = set-adds (codes "workers") (reading_by (rule_for Workers)) text rows lacks
+
+-- an option has a row where it had one, or is the one that was used
+row-added : (p o : SolveOption) (text : Text) (rows : List Row) → has_row (name_of p) (rows ++ row_of (o, text) ∷ []) ≡ (has_row (name_of p) rows || is_option o p)
+row-added p o text rows =
+    list_any-append (λ (r : Row). bytes_eq r.id (name_of p)) rows (row_of (o, text) ∷ []) ∙ ap (λ b. has_row (name_of p) rows || b) (alone (bytes_eq (name_of o) (name_of p)) ∙ same-name o p)
+  where
+    alone : (b : Bool) → (b || false) ≡ b
+    alone true = refl
+    alone false = refl
 
 -- a parser that has no fault at a text accepts it
 accepted : (parser : ValueParser) (text : Text) (rest : Kinds)
@@ -37,113 +117,89 @@ accepted parser text rest free = go (accepts false parser text) refl (first-free
     go false is e = cc
 
 -- a use without a fault has a text that passes
-passes-of : (o : Opt) (text : Text) (rows : List Row) → use_fault false (rule_for o) (text ∷ []) rows ≡ [] → Passes o text
-passes-of budget text rows free =
+use-passes : (o : SolveOption) (text : Text) (rows : List Row) → use_fault false (rule_for o) (text ∷ []) rows ≡ [] → Passes o text
+use-passes Budget text rows free =
     accepts-Accepts false (Unsigned 0 1000000000000) text
-    (accepted (Unsigned 0 1000000000000) text [] (second-free (repeat_fault false (codes "budget") rows) (values_fault (rule_for budget) (text ∷ [])) free))
-passes-of entries text rows free =
+    (accepted (Unsigned 0 1000000000000) text [] (second-free (repeat_fault false (codes "budget") rows) (values_fault (rule_for Budget) (text ∷ [])) free))
+use-passes Entries text rows free =
     accepts-Accepts false (Signed (pos 1) (pos MOST_SHAPES)) text
-    (accepted (Signed (pos 1) (pos MOST_SHAPES)) text [] (second-free (repeat_fault false (codes "entries") rows) (values_fault (rule_for entries) (text ∷ [])) free))
+    (accepted (Signed (pos 1) (pos MOST_SHAPES)) text [] (second-free (repeat_fault false (codes "entries") rows) (values_fault (rule_for Entries) (text ∷ [])) free))
+use-passes Workers text rows free =
+    accepts-Accepts false (Signed (pos 1) (pos MOST_WORKERS)) text
+    (accepted (Signed (pos 1) (pos MOST_WORKERS)) text [] (second-free (repeat_fault false (codes "workers") rows) (values_fault (rule_for Workers) (text ∷ [])) free))
 
--- the rows of the options that are given, with the defaults of those that are not
-abbrev pub with_defaults : List Row → List Row
-with_defaults rows = fold with_default rows solve_rules
+-- and is the first of its option
+first-lacks : (id : Text) (rows : List Row) → repeat_fault false id rows ≡ [] → has_row id rows ≡ false
+first-lacks id rows free = go (has_row id rows) free
+  where
+    go : (b : Bool) → cond (b && true) (ArgumentConflict ∷ []) [] ≡ [] → b ≡ false
+    go true e = cc
+    go false e = refl
 
--- each option is used once or not at all, its text passes, and the rows have it or the default
-pub record Options (us : List Use) (rows : List Row) : Type 0 where
-  pub budget_text : Option Text
-  pub entries_text : Option Text
-  pub order : (us ≡ use_of budget budget_text ++ use_of entries entries_text) ⊎ (us ≡ use_of entries entries_text ++ use_of budget budget_text)
-  pub budget_passes : IfSome budget_text (Passes budget)
-  pub entries_pass : IfSome entries_text (Passes entries)
-  pub budget_read : one_of (codes "budget") (with_defaults rows) ≡ budget_text
-  pub entries_read : one_of (codes "entries") (with_defaults rows) ≡ Some (unwrap_or entries_text (codes "4096"))
+use-lacks : (o : SolveOption) (text : Text) (rows : List Row) → use_fault false (rule_for o) (text ∷ []) rows ≡ [] → has_row (name_of o) rows ≡ false
+use-lacks Budget text rows free = first-lacks (codes "budget") rows (first-free (repeat_fault false (codes "budget") rows) (values_fault (rule_for Budget) (text ∷ [])) free)
+use-lacks Entries text rows free = first-lacks (codes "entries") rows (first-free (repeat_fault false (codes "entries") rows) (values_fault (rule_for Entries) (text ∷ [])) free)
+use-lacks Workers text rows free = first-lacks (codes "workers") rows (first-free (repeat_fault false (codes "workers") rows) (values_fault (rule_for Workers) (text ∷ [])) free)
 
--- the text of the entries is read as it is written
-same-text : (text : Text) → Passes entries text → without_minus text ≡ text
-same-text text passes = numeral-without_minus text (table-accepted text passes).0.0
+-- a first use with a text that passes has no fault
+use-free : (o : SolveOption) (text : Text) (rows : List Row) → has_row (name_of o) rows ≡ false → Passes o text → use_fault false (rule_for o) (text ∷ []) rows ≡ []
+use-free Budget text rows lacks passes = rw (lacks, Accepts-accepts false (Unsigned 0 1000000000000) text passes) refl
+use-free Entries text rows lacks passes = rw (lacks, Accepts-accepts false (Signed (pos 1) (pos MOST_SHAPES)) text passes) refl
+use-free Workers text rows lacks passes = rw (lacks, Accepts-accepts false (Signed (pos 1) (pos MOST_WORKERS)) text passes) refl
 
--- uses in turn without a fault are each option at most once
-pub options-of : (us : List Use) (rows : List Row) → Leads [] us rows → Options us rows
-options-of [] rows leads = subst (Options []) leads (record {
-  budget_text = None;
-  entries_text = None;
-  order = inl refl;
-  budget_passes = tt;
-  entries_pass = tt;
-  budget_read = refl;
-  entries_read = refl;
-})
-options-of ((budget, text) ∷ []) rows leads = subst (Options ((budget, text) ∷ [])) leads.1 (record {
-  budget_text = Some text;
-  entries_text = None;
-  order = inl refl;
-  budget_passes = passes-of budget text [] leads.0;
-  entries_pass = tt;
-  budget_read = refl;
-  entries_read = refl;
-})
-options-of ((entries, text) ∷ []) rows leads = subst (Options ((entries, text) ∷ [])) leads.1 (record {
-  budget_text = None;
-  entries_text = Some text;
-  order = inl refl;
-  budget_passes = tt;
-  entries_pass = passes-of entries text [] leads.0;
-  budget_read = refl;
-  entries_read = ap Some (same-text text (passes-of entries text [] leads.0));
-})
-options-of ((budget, text) ∷ (entries, number) ∷ []) rows leads = subst (Options ((budget, text) ∷ (entries, number) ∷ [])) leads.1.1 (record {
-  budget_text = Some text;
-  entries_text = Some number;
-  order = inl refl;
-  budget_passes = passes-of budget text [] leads.0;
-  entries_pass = passes-of entries number (used (rule_for budget) (text ∷ []) []) leads.1.0;
-  budget_read = refl;
-  entries_read = ap Some (same-text number (passes-of entries number (used (rule_for budget) (text ∷ []) []) leads.1.0));
-})
-options-of ((entries, number) ∷ (budget, text) ∷ []) rows leads = subst (Options ((entries, number) ∷ (budget, text) ∷ [])) leads.1.1 (record {
-  budget_text = Some text;
-  entries_text = Some number;
-  order = inr refl;
-  budget_passes = passes-of budget text (used (rule_for entries) (number ∷ []) []) leads.1.0;
-  entries_pass = passes-of entries number [] leads.0;
-  budget_read = refl;
-  entries_read = ap Some (same-text number (passes-of entries number [] leads.0));
-})
-options-of ((budget, text) ∷ (budget, again) ∷ us) rows leads = let bad = leads.1.0 in cc
-options-of ((entries, text) ∷ (entries, again) ∷ us) rows leads = let bad = leads.1.0 in cc
-options-of ((budget, text) ∷ (entries, number) ∷ (budget, again) ∷ us) rows leads = let bad = leads.1.1.0 in cc
-options-of ((budget, text) ∷ (entries, number) ∷ (entries, again) ∷ us) rows leads = let bad = leads.1.1.0 in cc
-options-of ((entries, number) ∷ (budget, text) ∷ (budget, again) ∷ us) rows leads = let bad = leads.1.1.0 in cc
-options-of ((entries, number) ∷ (budget, text) ∷ (entries, again) ∷ us) rows leads = let bad = leads.1.1.0 in cc
+-- ---- uses in turn
 
--- the uses meet no fault, and lead to rows with these texts
-pub record Led (us : List Use) (b e : Option Text) : Type 0 where
-  pub rows : List Row
-  pub leads : Leads [] us rows
-  pub budget_read : one_of (codes "budget") (with_defaults rows) ≡ b
-  pub entries_read : one_of (codes "entries") (with_defaults rows) ≡ Some (unwrap_or e (codes "4096"))
+-- each option is used once, none that has a row already, each text passes, and the rows of the uses are added
+pub record Once (rows : List Row) (us : List Use) (out : List Row) : Type 0 where
+  pub once : GivesEachOnce us
+  pub passes : AllPass us
+  pub adds : out ≡ rows ++ map row_of us
+  pub later : (p : SolveOption) → has_row (name_of p) rows ≡ true → given_to p us ≡ None
 
--- a text that passes is accepted
-budget-free : (text : Text) → Passes budget text → accepts false (Unsigned 0 1000000000000) text ≡ true
-budget-free text passes = Accepts-accepts false (Unsigned 0 1000000000000) text passes
+-- uses in turn without a fault are so
+pub once-of : (us : List Use) (rows out : List Row) → Leads rows us out → Once rows us out
+once-of [] rows out leads = record { once = tt; passes = tt; adds = sym leads ∙ sym (append-nil rows); later = λ p has. refl }
+once-of ((o, text) ∷ us) rows out leads =
+    let lacks = use-lacks o text rows leads.0 in
+    let rest = once-of us (rows ++ row_of (o, text) ∷ []) out (subst (λ r. Leads r us out) (use-adds o text rows lacks) leads.1) in
+    record {
+      once = (rest.later o (row-added o o text rows ∙ rw (lacks, is-itself o) refl), rest.once);
+      passes = (use-passes o text rows leads.0, rest.passes);
+      adds = rest.adds ∙ append_assoc rows (row_of (o, text) ∷ []) (map row_of us);
+      later = λ p has. again p has lacks rest.later (same-or-other o p);
+    }
+  where
+    again : (p : SolveOption) → has_row (name_of p) rows ≡ true → has_row (name_of o) rows ≡ false
+        → ((q : SolveOption) → has_row (name_of q) (rows ++ row_of (o, text) ∷ []) ≡ true → given_to q us ≡ None)
+        → (o ≡ p) ⊎ (is_option o p ≡ false) → given_to p ((o, text) ∷ us) ≡ None
+    again p has lacks later (inl same) = absurd (true≢false (sym has ∙ subst (λ q. has_row (name_of q) rows ≡ false) same lacks))
+    again p has lacks later (inr other) = rw other (later p (row-added p o text rows ∙ rw has refl))
 
--- the same of the entries
-entries-free : (text : Text) → Passes entries text → accepts false (Signed (pos 1) (pos MOST_SHAPES)) text ≡ true
-entries-free text passes = Accepts-accepts false (Signed (pos 1) (pos MOST_SHAPES)) text passes
+-- uses that are so meet no fault
+pub once-leads : (us : List Use) (rows : List Row) → GivesEachOnce us → AllPass us → ((p : SolveOption) → has_row (name_of p) rows ≡ true → given_to p us ≡ None)
+    → Leads rows us (rows ++ map row_of us)
+once-leads [] rows once passes later = sym (append-nil rows)
+once-leads ((o, text) ∷ us) rows once passes later =
+    let lacks = fresh (has_row (name_of o) rows) refl (later o) in
+    let now = rows ++ row_of (o, text) ∷ [] in
+    let rest = once-leads us now once.1 passes.1 (λ p has. after p has (same-or-other o p)) in (
+      use-free o text rows lacks passes.0,
+      subst (λ r. Leads r us (rows ++ map row_of ((o, text) ∷ us))) (sym (use-adds o text rows lacks)) (subst (Leads now us) (append_assoc rows (row_of (o, text) ∷ []) (map row_of us)) rest),
+    )
+  where
+    had : (a b : Bool) → b ≡ false → (a || b) ≡ true → a ≡ true
+    had true b is e = refl
+    had false b is e = absurd (true≢false (sym e ∙ is))
 
--- options that pass, the budget first
-pub budget-led : (b e : Option Text) → IfSome b (Passes budget) → IfSome e (Passes entries) → Led (use_of budget b ++ use_of entries e) b e
-budget-led None None p q = record { rows = _; leads = refl; budget_read = refl; entries_read = refl }
-budget-led (Some t) None p q = record { rows = _; leads = (rw (budget-free t p) refl, refl); budget_read = refl; entries_read = refl }
-budget-led None (Some n) p q = record { rows = _; leads = (rw (entries-free n q) refl, refl); budget_read = refl; entries_read = ap Some (same-text n q) }
-budget-led (Some t) (Some n) p q =
-    record { rows = _; leads = (rw (budget-free t p) refl, (rw (entries-free n q) refl, refl)); budget_read = refl; entries_read = ap Some (same-text n q) }
+    fresh : (b : Bool) → has_row (name_of o) rows ≡ b → (has_row (name_of o) rows ≡ true → given_to o ((o, text) ∷ us) ≡ None) → has_row (name_of o) rows ≡ false
+    fresh false is none = is
+    fresh true is none =
+        let gone = none is in
+        let bad = rw (is-itself o) at gone in
+        cc
 
--- the same, the entries first
-pub entries-led : (b e : Option Text) → IfSome b (Passes budget) → IfSome e (Passes entries) → Led (use_of entries e ++ use_of budget b) b e
-entries-led None None p q = record { rows = _; leads = refl; budget_read = refl; entries_read = refl }
-entries-led (Some t) None p q = record { rows = _; leads = (rw (budget-free t p) refl, refl); budget_read = refl; entries_read = refl }
-entries-led None (Some n) p q = record { rows = _; leads = (rw (entries-free n q) refl, refl); budget_read = refl; entries_read = ap Some (same-text n q) }
-entries-led (Some t) (Some n) p q =
-    record { rows = _; leads = (rw (entries-free n q) refl, (rw (budget-free t p) refl, refl)); budget_read = refl; entries_read = ap Some (same-text n q) }
+    after : (p : SolveOption) → has_row (name_of p) (rows ++ row_of (o, text) ∷ []) ≡ true → (o ≡ p) ⊎ (is_option o p ≡ false) → given_to p us ≡ None
+    after p has (inl same) = subst (λ q. given_to q us ≡ None) same once.0
+    after p has (inr other) =
+        let gone = later p (had (has_row (name_of p) rows) (is_option o p) other (sym (row-added p o text rows) ∙ has)) in
+        rw other at gone

@@ -9,4 +9,5 @@ mod Programs
 mod Runs
 mod ServeWords
 mod Steps
+mod UseRows
 mod Words

@@ -1,5 +1,5 @@
 -- The texts of numbers.
-use Rattle.std.proofs.Common.{◌≡◌, ℕ, Bool, codes, true, false, ◌==◌, refl, sym, ap, subst, arith, [], ◌∷◌, Option, Some, None, Result, Ok, Err}
+use Rattle.std.proofs.Common.{◌≡◌, ◌≤◌, ℕ, Bool, codes, true, false, ◌==◌, refl, sym, ap, subst, arith, [], ◌∷◌, Option, Some, None, Result, Ok, Err}
 use Rattle.std.specs.Prelude.{IfSome, IsSome, option_map, pos}
 use Rattle.std.specs.Str.{bytes_eq}
 use Rattle.std.specs.Str.Parse.{IsNumeral, ParsesUnsigned, digits_value, starts_with_minus, without_leading_plus}
@@ -9,8 +9,7 @@ use Rattle.clap.specs.Lexer.{long_of, short_of, without_minus}
 use Rattle.clap.specs.Values.{IsSignedIn, IsUnsignedIn}
 use Rattle.clap.specs.Matches.{ReadsOne}
 use Rattle.clap.specs.Walk.{Text}
-use Rattle.dd_shard.specs.declared.shard.TheConstants.{MOST_SHAPES}
-use Rattle.dd_program.specs.CommandLine.{IsBudget, IsNumberText, IsTableSize}
+use Rattle.dd_program.specs.CommandLine.{IsBudget, IsNumberText}
 use Rattle.dd_program.specs.Program.{FitsBits}
 
 -- the number that a text writes, after any plus sign
@@ -52,11 +51,11 @@ numeral-sign text numeral =
     let begun = no-minus text numeral in
     subst (λ t. starts_with_minus t ≡ false) (sym begun.2) begun.3
 
--- what the parser of the entries lets through
-pub table-accepted : (text : Text) → IsSignedIn (pos 1) (pos MOST_SHAPES) text → IsNumberText text (value_of text) × IsTableSize (value_of text)
-table-accepted text passed = go (starts_with_minus text) refl
+-- what a parser of numbers from 1 to so many lets through
+pub range-accepted : (most : ℕ) (text : Text) → IsSignedIn (pos 1) (pos most) text → IsNumberText text (value_of text) × ((1 ≤ value_of text) × (value_of text ≤ most))
+range-accepted most text passed = go (starts_with_minus text) refl
   where
-    go : (b : Bool) → starts_with_minus text ≡ b → IsNumberText text (value_of text) × IsTableSize (value_of text)
+    go : (b : Bool) → starts_with_minus text ≡ b → IsNumberText text (value_of text) × ((1 ≤ value_of text) × (value_of text ≤ most))
     go true is =
         let low = rw is at passed.2 in
         absurd (omega (arith, ints))
@@ -67,8 +66,8 @@ table-accepted text passed = go (starts_with_minus text) refl
         ((numeral, refl), (omega (arith, ints), omega (arith, ints)))
 
 -- it lets each number of its range through
-pub table-accepts : (text : Text) (number : ℕ) → IsNumberText text number → IsTableSize number → IsSignedIn (pos 1) (pos MOST_SHAPES) text
-table-accepts text number is fits =
+pub range-accepts : (most : ℕ) (text : Text) (number : ℕ) → IsNumberText text number → 1 ≤ number → number ≤ most → most ≤ 65536 → IsSignedIn (pos 1) (pos most) text
+range-accepts most text number is low high small =
     let sign = numeral-sign text is.0 in
     let same = is.1 in
     rw sign (is.0, omega (arith, ints), omega (arith, ints), omega (arith, ints))

@@ -6,42 +6,45 @@ use Rattle.std.proofs.lemmas.Slice.Eq.{bytes_eq-Decides}
 use Rattle.clap.specs.Walk.{Held, Row, Rule, Text, Waiting, Walk, arg_by_long, settled, walked}
 use Rattle.clap.specs.Simple.{Shape, filled, help_rule}
 use Rattle.clap.specs.Faults.{settle_fault, walk_fault}
-use Rattle.dd_program.specs.Program.{budget_rule, entries_rule, solve_app}
+use Rattle.dd_program.specs.CommandLine.{SolveOption, Budget, Entries, Workers}
+use Rattle.dd_program.specs.Program.{budget_rule, entries_rule, line_workers_rule, solve_app}
 
--- an option that takes a number
-pub data Opt : Type 0 where
-  budget : Opt
-  entries : Opt
-
--- its name, without the hyphens
-abbrev pub name_of : Opt → Text
-name_of budget = codes "budget"
-name_of entries = codes "entries"
+-- an option's name, without the hyphens
+abbrev pub name_of : SolveOption → Text
+name_of Budget = codes "budget"
+name_of Entries = codes "entries"
+name_of Workers = codes "workers"
 
 -- its rule once the command is built
-abbrev pub rule_for : Opt → Rule
-rule_for budget = filled budget_rule
-rule_for entries = filled entries_rule
+abbrev pub rule_for : SolveOption → Rule
+rule_for Budget = filled budget_rule
+rule_for Entries = filled entries_rule
+rule_for Workers = filled line_workers_rule
 
--- the rules of `solve` once it is built: its two options and the call for help
+-- the rules of `solve` once it is built: its options and the call for help
 abbrev pub solve_rules : List Rule
-solve_rules = rule_for budget ∷ rule_for entries ∷ filled help_rule ∷ []
+solve_rules = rule_for Budget ∷ rule_for Entries ∷ rule_for Workers ∷ filled help_rule ∷ []
 
 -- `solve` once it is built
 abbrev pub solve_shape : Shape
 solve_shape = record solve_app.top { rules = solve_rules; is_built = true; disable_help_subcommand = true }
 
+-- what is known of a long name
+abbrev Known : Text → Type 0
+Known name = ((o : SolveOption) × (name ≡ name_of o)) ⊎ ((name ≡ codes "help") ⊎ (arg_by_long solve_rules name ≡ None))
+
 -- a long name is an option's, or that of the call for help, or nobody's
-pub known_name : (name : Text) → ((o : Opt) × (name ≡ name_of o)) ⊎ ((name ≡ codes "help") ⊎ (arg_by_long solve_rules name ≡ None))
+pub known_name : (name : Text) → Known name
 known_name name =
-    go (bytes_eq (codes "budget") name) refl (bytes_eq (codes "entries") name) refl (bytes_eq (codes "help") name) refl
+    go (bytes_eq (codes "budget") name) refl (bytes_eq (codes "entries") name) refl (bytes_eq (codes "workers") name) refl (bytes_eq (codes "help") name) refl
   where
-    go : (b : Bool) → bytes_eq (codes "budget") name ≡ b → (e : Bool) → bytes_eq (codes "entries") name ≡ e → (h : Bool) → bytes_eq (codes "help") name ≡ h
-        → ((o : Opt) × (name ≡ name_of o)) ⊎ ((name ≡ codes "help") ⊎ (arg_by_long solve_rules name ≡ None))
-    go true is-b e is-e h is-h = inl (budget, sym ((bytes_eq-Decides (codes "budget") name).0 is-b))
-    go false is-b true is-e h is-h = inl (entries, sym ((bytes_eq-Decides (codes "entries") name).0 is-e))
-    go false is-b false is-e true is-h = inr (inl (sym ((bytes_eq-Decides (codes "help") name).0 is-h)))
-    go false is-b false is-e false is-h = inr (inr (rw (is-b, is-e, is-h) refl))
+    go : (b : Bool) → bytes_eq (codes "budget") name ≡ b → (e : Bool) → bytes_eq (codes "entries") name ≡ e → (w : Bool) → bytes_eq (codes "workers") name ≡ w
+        → (h : Bool) → bytes_eq (codes "help") name ≡ h → Known name
+    go true is-b e is-e w is-w h is-h = inl (Budget, sym ((bytes_eq-Decides (codes "budget") name).0 is-b))
+    go false is-b true is-e w is-w h is-h = inl (Entries, sym ((bytes_eq-Decides (codes "entries") name).0 is-e))
+    go false is-b false is-e true is-w h is-h = inl (Workers, sym ((bytes_eq-Decides (codes "workers") name).0 is-w))
+    go false is-b false is-e false is-w true is-h = inr (inl (sym ((bytes_eq-Decides (codes "help") name).0 is-h)))
+    go false is-b false is-e false is-w false is-h = inr (inr (rw (is-b, is-e, is-w, is-h) refl))
 
 -- what a walk holds between two arguments
 abbrev pub held_rows : List Row → Option (Text × List Text) → Held
@@ -52,7 +55,7 @@ abbrev pub here : List Row → Option (Text × List Text) → Waiting → Walk
 here rows pending waiting = record { held = held_rows rows pending; waiting = waiting; position = 1; is_trailing = false; stopped = None }
 
 -- an option's text that is read and not yet used
-abbrev pub pending_of : Option (Opt × Text) → Option (Text × List Text)
+abbrev pub pending_of : Option (SolveOption × Text) → Option (Text × List Text)
 pending_of = option_map (λ p. (name_of p.0, p.1 ∷ []))
 
 -- the walk from here over these arguments, and the use of what is pending then, meet no fault

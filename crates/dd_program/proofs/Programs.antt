@@ -11,9 +11,10 @@ use Rattle.clap.specs.Kinds.{Kinds, or_else}
 use Rattle.clap.specs.Faults.{bundle_fault, check_fault, default_fault, defaults_fault, given_default_fault, entered_fault, fault_of, flag_word_fault, is_simple_and_free, level_fault, long_fault, settle_fault, short_fault, step_fault, turn_fault, walk_fault}
 use Rattle.clap.proofs.OnLiterals.{clap_on_literals}
 use Rattle.dd_program.specs.Program.{program_app, serve_app}
-use Rattle.dd_program.proofs.Options.{IsFaultless, budget, entries, here, rows_at_end, rule_for, solve_rules, solve_shape}
+use Rattle.dd_program.specs.CommandLine.{Budget, Entries, Workers}
+use Rattle.dd_program.proofs.Options.{IsFaultless, here, rows_at_end, rule_for, solve_rules, solve_shape}
 use Rattle.dd_program.proofs.Runs.{both-free}
-use Rattle.dd_program.proofs.Given.{with_defaults}
+use Rattle.dd_program.proofs.UseRows.{with_defaults}
 use Rattle.dd_program.proofs.Steps.{first-free, second-free}
 
 -- the parser states the matches and the faults of the program
@@ -191,18 +192,26 @@ line-of (program ∷ word ∷ rest) e =
 -- ---- a line of `solve` has no fault
 
 -- a default is no fault, whatever was given
-default-of-budget : (rows : List Row) → default_fault rows (rule_for budget) ≡ []
+default-of-budget : (rows : List Row) → default_fault rows (rule_for Budget) ≡ []
 default-of-budget rows = go (has_row (codes "budget") rows)
   where
-    go : (b : Bool) → cond (b || true) [] (given_default_fault (rule_for budget) (rule_for budget).defaults) ≡ []
+    go : (b : Bool) → cond (b || true) [] (given_default_fault (rule_for Budget) (rule_for Budget).defaults) ≡ []
     go true = refl
     go false = refl
 
 -- so of the entries
-default-of-entries : (rows : List Row) → default_fault rows (rule_for entries) ≡ []
+default-of-entries : (rows : List Row) → default_fault rows (rule_for Entries) ≡ []
 default-of-entries rows = go (has_row (codes "entries") rows)
   where
-    go : (b : Bool) → cond (b || false) [] (given_default_fault (rule_for entries) (rule_for entries).defaults) ≡ []
+    go : (b : Bool) → cond (b || false) [] (given_default_fault (rule_for Entries) (rule_for Entries).defaults) ≡ []
+    go true = refl
+    go false = refl
+
+-- and of the workers
+default-of-workers : (rows : List Row) → default_fault rows (rule_for Workers) ≡ []
+default-of-workers rows = go (has_row (codes "workers") rows)
+  where
+    go : (b : Bool) → cond (b || false) [] (given_default_fault (rule_for Workers) (rule_for Workers).defaults) ≡ []
     go true = refl
     go false = refl
 
@@ -214,13 +223,14 @@ default-of-help rows = go (has_row (codes "help") rows)
     go true = refl
     go false = refl
 
--- and so of all three in turn
+-- and so of all in turn
 defaults-free : (rows : List Row) → defaults_fault rows solve_rules ≡ []
 unfolding defaults_fault
 defaults-free rows =
-    let after-budget = with_default rows (rule_for budget) in
-    let after-entries = with_default after-budget (rule_for entries) in
-    both-free _ _ (default-of-budget rows) (both-free _ _ (default-of-entries after-budget) (both-free _ [] (default-of-help after-entries) refl))
+    let after-budget = with_default rows (rule_for Budget) in
+    let after-entries = with_default after-budget (rule_for Entries) in
+    let after-workers = with_default after-entries (rule_for Workers) in
+    both-free _ _ (default-of-budget rows) (both-free _ _ (default-of-entries after-budget) (both-free _ _ (default-of-workers after-entries) (both-free _ [] (default-of-help after-workers) refl)))
 
 -- the options of `solve` without a fault have none at its end
 solve-faultless : (rest : List Text) → IsFaultless (here [] None idle) rest → solve_faults rest ≡ []

@@ -6,16 +6,17 @@ use Rattle.clap.specs.Kinds.{Kinds, or_else}
 use Rattle.clap.specs.Faults.{settle_fault, turn_fault, use_fault, walk_fault}
 use Rattle.clap.proofs.OnLiterals.{clap_on_literals}
 use Rattle.dd_program.proofs.Numbers.{IsPlain}
-use Rattle.dd_program.proofs.Options.{IsFaultless, Opt, budget, entries, held_rows, here, name_of, pending_of, rows_at_end, rule_for, solve_rules, solve_shape}
+use Rattle.dd_program.specs.CommandLine.{SolveOption, Budget, Entries, Workers}
+use Rattle.dd_program.proofs.Options.{IsFaultless, held_rows, here, name_of, pending_of, rows_at_end, rule_for, solve_rules, solve_shape}
 use Rattle.dd_program.proofs.Steps.{after_end, after_end-fails, apart-fault, apart-walked, end-walked, first-free, idle-form, joined-fault, joined-walked, second-free, settle-fails, text-free, text-walked, waiting-form}
 use Rattle.dd_program.proofs.Words.{with_value}
 
 -- an option with its text
 abbrev pub Use : Type 0
-Use = Opt × Text
+Use = SolveOption × Text
 
 -- an option's word alone
-abbrev pub flag : Opt → Text
+abbrev pub flag : SolveOption → Text
 flag o = 45 ∷ 45 ∷ with_value (name_of o) None
 
 -- an option's word with its text
@@ -72,8 +73,9 @@ same-end w after word rest is = sym (ap (λ v. rows_at_end v rest) is)
 settled-first : (rows : List Row) (pending : Option Use) (us : List Use) (out : List Row) → settle_fault solve_rules false (held_rows rows (pending_of pending)) ≡ []
     → Leads (settled solve_rules (held_rows rows (pending_of pending))).rows us out → Leads rows (with_pending pending us) out
 settled-first rows None us out free leads = leads
-settled-first rows (Some (budget, text)) us out free leads = (free, leads)
-settled-first rows (Some (entries, text)) us out free leads = (free, leads)
+settled-first rows (Some (Budget, text)) us out free leads = (free, leads)
+settled-first rows (Some (Entries, text)) us out free leads = (free, leads)
+settled-first rows (Some (Workers, text)) us out free leads = (free, leads)
 
 -- ---- arguments without a fault are uses
 
@@ -84,7 +86,7 @@ IdleRuns arguments = (rows : List Row) (pending : Option Use) → IsFaultless (h
 
 -- and where one does
 abbrev WaitingRuns : List Text → Type 0
-WaitingRuns arguments = (rows : List Row) (o : Opt) → IsFaultless (here rows (Some (name_of o, [])) (option (name_of o))) arguments
+WaitingRuns arguments = (rows : List Row) (o : SolveOption) → IsFaultless (here rows (Some (name_of o, [])) (option (name_of o))) arguments
     → (text : Text) × (rest : List Text) × (arguments ≡ text ∷ rest) × Ran rows (Some (o, text)) rest (rows_at_end (here rows (Some (name_of o, [])) (option (name_of o))) arguments)
 
 -- no word at all
@@ -107,7 +109,7 @@ idle-ended (x ∷ xs) rows pending free =
     absurd (after_end-fails rows (pending_of pending) idle x (faultless-turn (after_end rows (pending_of pending) idle) x xs later))
 
 -- `--` in the place of a text is a fault
-waiting-ended : (rest : List Text) (rows : List Row) (o : Opt) → IsFaultless (here rows (Some (name_of o, [])) (option (name_of o))) (codes "--" ∷ rest) → ⊥
+waiting-ended : (rest : List Text) (rows : List Row) (o : SolveOption) → IsFaultless (here rows (Some (name_of o, [])) (option (name_of o))) (codes "--" ∷ rest) → ⊥
 unfolding clap_on_literals
 waiting-ended [] rows o free = settle-fails rows o free.1
 waiting-ended (x ∷ xs) rows o free =
@@ -116,7 +118,7 @@ waiting-ended (x ∷ xs) rows o free =
     after_end-fails rows (Some (name_of o, [])) (option (name_of o)) x (faultless-turn after x xs later)
 
 -- an option with its text in one word, and then the rest
-idle-joined : (rest : List Text) → IdleRuns rest → (rows : List Row) (pending : Option Use) (o : Opt) (text : Text)
+idle-joined : (rest : List Text) → IdleRuns rest → (rows : List Row) (pending : Option Use) (o : SolveOption) (text : Text)
     → IsFaultless (here rows (pending_of pending) idle) (flag_with (o, text) ∷ rest)
     → Ran rows pending (flag_with (o, text) ∷ rest) (rows_at_end (here rows (pending_of pending) idle) (flag_with (o, text) ∷ rest))
 idle-joined rest runs rows pending o text free =
@@ -138,7 +140,7 @@ idle-joined rest runs rows pending o text free =
     }
 
 -- an option and then its text, and then the rest
-idle-apart : (rest : List Text) → WaitingRuns rest → (rows : List Row) (pending : Option Use) (o : Opt)
+idle-apart : (rest : List Text) → WaitingRuns rest → (rows : List Row) (pending : Option Use) (o : SolveOption)
     → IsFaultless (here rows (pending_of pending) idle) (flag o ∷ rest)
     → Ran rows pending (flag o ∷ rest) (rows_at_end (here rows (pending_of pending) idle) (flag o ∷ rest))
 idle-apart rest runs rows pending o free =
@@ -203,8 +205,9 @@ ArePlain (u ∷ us) = IsPlain u.1 × ArePlain us
 settled-back : (rows : List Row) (pending : Option Use) (us : List Use) (out : List Row) → Leads rows (with_pending pending us) out
     → (settle_fault solve_rules false (held_rows rows (pending_of pending)) ≡ []) × Leads (settled solve_rules (held_rows rows (pending_of pending))).rows us out
 settled-back rows None us out leads = (refl, leads)
-settled-back rows (Some (budget, text)) us out leads = (leads.0, leads.1)
-settled-back rows (Some (entries, text)) us out leads = (leads.0, leads.1)
+settled-back rows (Some (Budget, text)) us out leads = (leads.0, leads.1)
+settled-back rows (Some (Entries, text)) us out leads = (leads.0, leads.1)
+settled-back rows (Some (Workers, text)) us out leads = (leads.0, leads.1)
 
 -- the arguments meet no fault, and lead to the rows
 abbrev RunsTo : Walk → List Text → List Row → Type 0

@@ -9,7 +9,8 @@ use Rattle.clap.specs.Walk.{Held, Row, Step, Text, Waiting, Walk, after_step, ar
 use Rattle.clap.specs.Kinds.{Kinds, or_else}
 use Rattle.clap.specs.Faults.{bundle_fault, flag_word_fault, long_fault, settle_fault, short_fault, step_fault, turn_fault, use_fault}
 use Rattle.clap.proofs.OnLiterals.{clap_on_literals}
-use Rattle.dd_program.proofs.Options.{Opt, budget, entries, held_rows, here, known_name, name_of, rule_for, solve_rules, solve_shape}
+use Rattle.dd_program.specs.CommandLine.{SolveOption, Budget, Entries, Workers}
+use Rattle.dd_program.proofs.Options.{held_rows, here, known_name, name_of, rule_for, solve_rules, solve_shape}
 use Rattle.dd_program.proofs.Numbers.{IsPlain}
 use Rattle.dd_program.proofs.Words.{with_value, long_of-is}
 
@@ -68,7 +69,7 @@ short-fails rows pending word (Some (x ∷ xs)) e = go (slice_get (chars (x ∷ 
 long-form : (rows : List Row) (pending : Option (Text × List Text)) (word : Text) (long : Option (Text × Option Text))
     → or_else (flag_word_fault solve_rules false long word (held_rows rows pending))
     (step_fault solve_shape 1 (long_or_other solve_rules idle word long (held_rows rows pending)).0 (long_or_other solve_rules idle word long (held_rows rows pending)).1) ≡ []
-    → (o : Opt) × (value : Option Text) × (long ≡ Some (name_of o, value))
+    → (o : SolveOption) × (value : Option Text) × (long ≡ Some (name_of o, value))
 long-form rows pending word None e = absurd (short-fails rows pending word (short_of word) e)
 long-form rows pending word (Some (name, value)) e = elim (known_name name) [
   | inl known ↦ (known.0, value, ap (λ n. Some (n, value)) known.1)
@@ -83,10 +84,10 @@ long-form rows pending word (Some (name, value)) e = elim (known_name name) [
 
 -- what a word without a fault is, where no option waits
 pub idle-form : (rows : List Row) (pending : Option (Text × List Text)) (word : Text) → turn_fault solve_shape [] (here rows pending idle) word ≡ []
-    → (word ≡ codes "--") ⊎ ((o : Opt) × (value : Option Text) × (word ≡ 45 ∷ 45 ∷ with_value (name_of o) value))
+    → (word ≡ codes "--") ⊎ ((o : SolveOption) × (value : Option Text) × (word ≡ 45 ∷ 45 ∷ with_value (name_of o) value))
 idle-form rows pending word e = go (bytes_eq word (codes "--")) refl
   where
-    go : (b : Bool) → bytes_eq word (codes "--") ≡ b → (word ≡ codes "--") ⊎ ((o : Opt) × (value : Option Text) × (word ≡ 45 ∷ 45 ∷ with_value (name_of o) value))
+    go : (b : Bool) → bytes_eq word (codes "--") ≡ b → (word ≡ codes "--") ⊎ ((o : SolveOption) × (value : Option Text) × (word ≡ 45 ∷ 45 ∷ with_value (name_of o) value))
     go true is = inl ((bytes_eq-Decides word (codes "--")).0 is)
     go false is =
         let form = long-form rows pending word (long_of word) (rw is at e) in
@@ -95,12 +96,13 @@ idle-form rows pending word e = go (bytes_eq word (codes "--")) refl
 -- ---- a word where an option waits for its text
 
 -- the text that an option without one would have is a fault
-pub settle-fails : (rows : List Row) (o : Opt) → settle_fault solve_rules false (held_rows rows (Some (name_of o, []))) ≡ [] → ⊥
-settle-fails rows budget e = cc
-settle-fails rows entries e = cc
+pub settle-fails : (rows : List Row) (o : SolveOption) → settle_fault solve_rules false (held_rows rows (Some (name_of o, []))) ≡ [] → ⊥
+settle-fails rows Budget e = cc
+settle-fails rows Entries e = cc
+settle-fails rows Workers e = cc
 
 -- where an option waits, a long word is a fault
-waiting-long-fails : (rows : List Row) (o : Opt) (name : Text) (value : Option Text)
+waiting-long-fails : (rows : List Row) (o : SolveOption) (name : Text) (value : Option Text)
     → long_fault solve_rules false (arg_by_long solve_rules name) value (held_rows rows (Some (name_of o, []))) ≡ [] → ⊥
 waiting-long-fails rows o name value e = elim (known_name name) [
   | inl known ↦ taken known.0 value (subst (λ n. long_fault solve_rules false (arg_by_long solve_rules n) value (held_rows rows (Some (name_of o, []))) ≡ []) known.1 e)
@@ -110,27 +112,32 @@ waiting-long-fails rows o name value e = elim (known_name name) [
       cc
 ]
   where
-    taken : (k : Opt) (v : Option Text) → long_fault solve_rules false (arg_by_long solve_rules (name_of k)) v (held_rows rows (Some (name_of o, []))) ≡ [] → ⊥
-    taken budget None free = settle-fails rows o free
-    taken budget (Some v) free = settle-fails rows o (first-free _ _ free)
-    taken entries None free = settle-fails rows o free
-    taken entries (Some v) free = settle-fails rows o (first-free _ _ free)
+    taken : (k : SolveOption) (v : Option Text) → long_fault solve_rules false (arg_by_long solve_rules (name_of k)) v (held_rows rows (Some (name_of o, []))) ≡ [] → ⊥
+    taken Budget None free = settle-fails rows o free
+    taken Budget (Some v) free = settle-fails rows o (first-free _ _ free)
+    taken Entries None free = settle-fails rows o free
+    taken Workers None free = settle-fails rows o free
+    taken Entries (Some v) free = settle-fails rows o (first-free _ _ free)
+    taken Workers (Some v) free = settle-fails rows o (first-free _ _ free)
 
 -- the walk after a word that is no flag, where an option waits
-waiting-plain : (rows : List Row) (o : Opt) (word : Text) (flags : Option Text)
+waiting-plain : (rows : List Row) (o : SolveOption) (word : Text) (flags : Option Text)
     → option_map_or (λ f. bundle_fault solve_rules false f (held_rows rows (Some (name_of o, [])))) flags [] ≡ []
     → short_or_plain solve_rules (option (name_of o)) word flags (held_rows rows (Some (name_of o, []))) ≡ (held_rows rows (Some (name_of o, word ∷ [])), next idle)
 unfolding clap_on_literals
-waiting-plain rows budget word None e = refl
-waiting-plain rows entries word None e = refl
-waiting-plain rows budget word (Some []) e = refl
-waiting-plain rows entries word (Some []) e = refl
+waiting-plain rows Budget word None e = refl
+waiting-plain rows Entries word None e = refl
+waiting-plain rows Workers word None e = refl
+waiting-plain rows Budget word (Some []) e = refl
+waiting-plain rows Entries word (Some []) e = refl
+waiting-plain rows Workers word (Some []) e = refl
 waiting-plain rows o word (Some (x ∷ xs)) e = go (slice_get (chars (x ∷ xs)) 0) refl o e
   where
-    go : (c : Option ℕ) → slice_get (chars (x ∷ xs)) 0 ≡ c → (k : Opt) → bundle_fault solve_rules false (x ∷ xs) (held_rows rows (Some (name_of k, []))) ≡ []
+    go : (c : Option ℕ) → slice_get (chars (x ∷ xs)) 0 ≡ c → (k : SolveOption) → bundle_fault solve_rules false (x ∷ xs) (held_rows rows (Some (name_of k, []))) ≡ []
         → short_or_plain solve_rules (option (name_of k)) word (Some (x ∷ xs)) (held_rows rows (Some (name_of k, []))) ≡ (held_rows rows (Some (name_of k, word ∷ [])), next idle)
-    go None is budget free = rw is refl
-    go None is entries free = rw is refl
+    go None is Budget free = rw is refl
+    go None is Entries free = rw is refl
+    go None is Workers free = rw is refl
     go (Some c) is k free =
         let bad = rw is at free in
         absurd (flag-fails rows (Some (name_of k, [])) c _ _ bad)
@@ -140,7 +147,7 @@ abbrev pub after_end : List Row → Option (Text × List Text) → Waiting → W
 after_end rows pending waiting = record { held = held_rows rows pending; waiting = waiting; position = 1; is_trailing = true; stopped = None }
 
 -- where an option waits, a word without a fault is `--` or its text
-pub waiting-form : (rows : List Row) (o : Opt) (word : Text) → turn_fault solve_shape [] (here rows (Some (name_of o, [])) (option (name_of o))) word ≡ []
+pub waiting-form : (rows : List Row) (o : SolveOption) (word : Text) → turn_fault solve_shape [] (here rows (Some (name_of o, [])) (option (name_of o))) word ≡ []
     → (word ≡ codes "--") ⊎ (walked solve_rules [] (here rows (Some (name_of o, [])) (option (name_of o))) word ≡ here rows (Some (name_of o, word ∷ [])) idle)
 unfolding clap_on_literals
 waiting-form rows o word e = go (bytes_eq word (codes "--")) refl (long_of word) refl
@@ -159,35 +166,39 @@ waiting-form rows o word e = go (bytes_eq word (codes "--")) refl (long_of word)
 -- ---- what the walk makes of the arguments
 
 -- an option with its text in one word
-pub joined-walked : (rows : List Row) (pending : Option (Text × List Text)) (o : Opt) (text : Text)
+pub joined-walked : (rows : List Row) (pending : Option (Text × List Text)) (o : SolveOption) (text : Text)
     → walked solve_rules [] (here rows pending idle) (45 ∷ 45 ∷ with_value (name_of o) (Some text))
     ≡ here (used (rule_for o) (text ∷ []) (settled solve_rules (held_rows rows pending)).rows) None idle
 unfolding clap_on_literals
-joined-walked rows pending budget text = refl
-joined-walked rows pending entries text = refl
+joined-walked rows pending Budget text = refl
+joined-walked rows pending Entries text = refl
+joined-walked rows pending Workers text = refl
 
 -- its fault is that of what is pending, or of the option
-pub joined-fault : (rows : List Row) (pending : Option (Text × List Text)) (o : Opt) (text : Text)
+pub joined-fault : (rows : List Row) (pending : Option (Text × List Text)) (o : SolveOption) (text : Text)
     → turn_fault solve_shape [] (here rows pending idle) (45 ∷ 45 ∷ with_value (name_of o) (Some text))
     ≡ or_else (or_else (settle_fault solve_rules false (held_rows rows pending)) (use_fault false (rule_for o) (text ∷ []) (settled solve_rules (held_rows rows pending)).rows)) []
 unfolding clap_on_literals
-joined-fault rows pending budget text = refl
-joined-fault rows pending entries text = refl
+joined-fault rows pending Budget text = refl
+joined-fault rows pending Entries text = refl
+joined-fault rows pending Workers text = refl
 
 -- an option whose text is the next word
-pub apart-walked : (rows : List Row) (pending : Option (Text × List Text)) (o : Opt)
+pub apart-walked : (rows : List Row) (pending : Option (Text × List Text)) (o : SolveOption)
     → walked solve_rules [] (here rows pending idle) (45 ∷ 45 ∷ with_value (name_of o) None)
     ≡ here (settled solve_rules (held_rows rows pending)).rows (Some (name_of o, [])) (option (name_of o))
 unfolding clap_on_literals
-apart-walked rows pending budget = refl
-apart-walked rows pending entries = refl
+apart-walked rows pending Budget = refl
+apart-walked rows pending Entries = refl
+apart-walked rows pending Workers = refl
 
 -- its fault is that of what is pending
-pub apart-fault : (rows : List Row) (pending : Option (Text × List Text)) (o : Opt)
+pub apart-fault : (rows : List Row) (pending : Option (Text × List Text)) (o : SolveOption)
     → turn_fault solve_shape [] (here rows pending idle) (45 ∷ 45 ∷ with_value (name_of o) None) ≡ or_else (settle_fault solve_rules false (held_rows rows pending)) []
 unfolding clap_on_literals
-apart-fault rows pending budget = refl
-apart-fault rows pending entries = refl
+apart-fault rows pending Budget = refl
+apart-fault rows pending Entries = refl
+apart-fault rows pending Workers = refl
 
 -- `--`
 pub end-walked : (rows : List Row) (pending : Option (Text × List Text)) (waiting : Waiting)
@@ -203,13 +214,15 @@ pub after_end-fails : (rows : List Row) (pending : Option (Text × List Text)) (
 after_end-fails rows pending waiting word e = cc
 
 -- where an option waits, a word that is no flag and not `--` is its text
-pub text-walked : (rows : List Row) (o : Opt) (text : Text) → IsPlain text
+pub text-walked : (rows : List Row) (o : SolveOption) (text : Text) → IsPlain text
     → walked solve_rules [] (here rows (Some (name_of o, [])) (option (name_of o))) text ≡ here rows (Some (name_of o, text ∷ [])) idle
 unfolding walked
-text-walked rows budget text is-plain = rw (is-plain.0, is-plain.1, is-plain.2) refl
-text-walked rows entries text is-plain = rw (is-plain.0, is-plain.1, is-plain.2) refl
+text-walked rows Budget text is-plain = rw (is-plain.0, is-plain.1, is-plain.2) refl
+text-walked rows Entries text is-plain = rw (is-plain.0, is-plain.1, is-plain.2) refl
+text-walked rows Workers text is-plain = rw (is-plain.0, is-plain.1, is-plain.2) refl
 
 -- and it is no fault
-pub text-free : (rows : List Row) (o : Opt) (text : Text) → IsPlain text → turn_fault solve_shape [] (here rows (Some (name_of o, [])) (option (name_of o))) text ≡ []
-text-free rows budget text is-plain = rw (is-plain.0, is-plain.1, is-plain.2) refl
-text-free rows entries text is-plain = rw (is-plain.0, is-plain.1, is-plain.2) refl
+pub text-free : (rows : List Row) (o : SolveOption) (text : Text) → IsPlain text → turn_fault solve_shape [] (here rows (Some (name_of o, [])) (option (name_of o))) text ≡ []
+text-free rows Budget text is-plain = rw (is-plain.0, is-plain.1, is-plain.2) refl
+text-free rows Entries text is-plain = rw (is-plain.0, is-plain.1, is-plain.2) refl
+text-free rows Workers text is-plain = rw (is-plain.0, is-plain.1, is-plain.2) refl

@@ -1,5 +1,5 @@
 -- To be believed: what a command line asks for.
-use Rattle.std.specs.Prelude.{◌≡◌, ◌≤◌, ◌⊎◌, ℕ, false, List, [], ◌∷◌, ◌++◌, Option, Some, None, IfSome, unwrap_or, take, length, codes, string_bytes}
+use Rattle.std.specs.Prelude.{⊤, ◌≡◌, ◌≤◌, ◌⊎◌, ℕ, Bool, true, false, if◌then◌else◌, List, [], ◌∷◌, ◌++◌, Option, Some, None, IfSome, unwrap_or, take, length, codes, string_bytes}
 use Rattle.std.specs.List.{list_any}
 use Rattle.std.specs.Str.{bytes_eq}
 use Rattle.std.specs.Str.Parse.{IsNumeral, digits_value, without_leading_plus}
@@ -18,12 +18,6 @@ Text = List ℕ
 abbrev pub IsNumberText : Text → ℕ → Type 0
 IsNumberText text number = IsNumeral 10 (without_leading_plus text) × (digits_value 10 (without_leading_plus text) ≡ number)
 
--- The arguments give the option this number, as `--option N` or as `--option=N`; no word gives it none.
-abbrev pub GivesOption : Text → Option ℕ → List Text → Type 0
-GivesOption option None arguments = arguments ≡ []
-GivesOption option (Some number) arguments =
-    (text : Text) × IsNumberText text number × ((arguments ≡ option ∷ text ∷ []) ⊎ (arguments ≡ (option ++ codes "=" ++ text) ∷ []))
-
 -- a budget is at most 1,000,000,000,000 positions
 abbrev pub IsBudget : ℕ → Type 0
 IsBudget positions = positions ≤ 1000000000000
@@ -32,35 +26,73 @@ IsBudget positions = positions ≤ 1000000000000
 abbrev pub IsTableSize : ℕ → Type 0
 IsTableSize entries = (1 ≤ entries) × (entries ≤ MOST_SHAPES)
 
--- The line is the program's name, `solve`, the options that are given, each once and in either order, and maybe `--`.
-pub record AsksToSolve (arguments : List Text) (budget entries : Option ℕ) : Type 0 where
-  pub program : Text
-  pub of_budget : List Text
-  pub of_entries : List Text
-  pub end : List Text
-  pub line : (arguments ≡ program ∷ codes "solve" ∷ (of_budget ++ of_entries ++ end)) ⊎ (arguments ≡ program ∷ codes "solve" ∷ (of_entries ++ of_budget ++ end))
-  pub gives_budget : GivesOption (codes "--budget") budget of_budget
-  pub gives_entries : GivesOption (codes "--entries") entries of_entries
-  pub ends : (end ≡ []) ⊎ (end ≡ codes "--" ∷ [])
-  pub budget_fits : IfSome budget IsBudget
-  pub entries_fit : IfSome entries IsTableSize
+-- the options of `solve`
+pub data SolveOption : Type 0 where
+  Budget : SolveOption
+  Entries : SolveOption
+  Workers : SolveOption
 
--- The line asks for this. Without `--budget` there is no limit, and without `--entries` there are 4,096 of them.
+-- the word of each
+abbrev pub word_of : SolveOption → Text
+word_of Budget = codes "--budget"
+word_of Entries = codes "--entries"
+word_of Workers = codes "--workers"
+
+-- the numbers that each may be given
+abbrev pub Admits : SolveOption → ℕ → Type 0
+Admits Budget positions = IsBudget positions
+Admits Entries entries = IsTableSize entries
+Admits Workers workers = (1 ≤ workers) × (workers ≤ MOST_WORKERS)
+
+abbrev pub is_option : SolveOption → SolveOption → Bool
+is_option Budget Budget = true
+is_option Entries Entries = true
+is_option Workers Workers = true
+is_option _ _ = false
+
+-- what the list gives the option first, if it does at all
+abbrev pub given_to : {X : Type 0} → SolveOption → List (SolveOption × X) → Option X
+given_to option [] = None
+given_to option (g ∷ given) = (if is_option g.0 option then Some g.1 else given_to option given)
+
+-- the list gives no option twice
+abbrev pub GivesEachOnce : {X : Type 0} → List (SolveOption × X) → Type 0
+GivesEachOnce [] = ⊤
+GivesEachOnce (g ∷ given) = (given_to g.0 given ≡ None) × GivesEachOnce given
+
+-- The words give these options these numbers in this order, each as `--option N` or as `--option=N`, and maybe end with `--`.
+abbrev pub GiveOptions : List (SolveOption × ℕ) → List Text → Type 0
+GiveOptions [] words = (words ≡ []) ⊎ (words ≡ codes "--" ∷ [])
+GiveOptions (g ∷ given) words =
+    (text : Text) × (rest : List Text) × IsNumberText text g.1 × Admits g.0 g.1
+    × ((words ≡ word_of g.0 ∷ text ∷ rest) ⊎ (words ≡ (word_of g.0 ++ codes "=" ++ text) ∷ rest)) × GiveOptions given rest
+
+-- The line is the program's name, `solve` and words that give these options these numbers, each once, in any order.
+pub record AsksToSolve (arguments : List Text) (given : List (SolveOption × ℕ)) : Type 0 where
+  pub program : Text
+  pub words : List Text
+  pub line : arguments ≡ program ∷ codes "solve" ∷ words
+  pub gives : GiveOptions given words
+  pub once : GivesEachOnce given
+
+-- The line asks for this. Without `--budget` there is no limit, without `--entries` there are 4,096 of them, and without `--workers` there is one.
 abbrev pub Asks : List Text → Args → Type 0
-Asks arguments (Solve budget entries) = (given : Option ℕ) × AsksToSolve arguments budget given × (entries ≡ unwrap_or given 4096)
+Asks arguments (Solve budget entries workers) =
+    (given : List (SolveOption × ℕ)) × AsksToSolve arguments given × (budget ≡ given_to Budget given)
+    × (entries ≡ unwrap_or (given_to Entries given) 4096) × (workers ≡ unwrap_or (given_to Workers given) 1)
 Asks arguments (Serve listen workers shards entries budget websocket allow_stop) = AsksToServe arguments (Serve listen workers shards entries budget websocket allow_stop)
 
 -- the same is asked for: the same numbers, and an address of the same text
 abbrev pub IsSame : Args → Args → Type 0
-IsSame (Solve b e) (Solve c f) = Solve b e ≡ Solve c f
+IsSame (Solve b e w) (Solve c f x) = Solve b e w ≡ Solve c f x
 IsSame (Serve l w s e b k a) (Serve m x t f c j d) =
     (string_bytes l ≡ string_bytes m) × (w ≡ x) × (s ≡ t) × (e ≡ f) × (b ≡ c) × (k ≡ j) × (a ≡ d)
-IsSame (Solve b e) (Serve m x t f c j d) = ⊥
-IsSame (Serve l w s e b k a) (Solve c f) = ⊥
+IsSame (Solve b e w) (Serve m x t f c j d) = ⊥
+IsSame (Serve l w s e b k a) (Solve c f x) = ⊥
 
 -- each number lies in its range
 abbrev pub IsInRange : Args → Type 0
-IsInRange (Solve budget entries) = IfSome budget IsBudget × IsTableSize entries
+IsInRange (Solve budget entries workers) = IfSome budget IsBudget × IsTableSize entries × (1 ≤ workers) × (workers ≤ MOST_WORKERS)
 IsInRange (Serve listen workers shards entries budget websocket allow_stop) =
     (1 ≤ workers) × (workers ≤ MOST_WORKERS) × (1 ≤ shards) × (shards ≤ MOST_SHARDS) × IsTableSize entries × IfSome budget IsBudget
 
@@ -70,8 +102,9 @@ IsLeftOut option arguments = list_any (λ word. bytes_eq (take (length option) w
 
 -- an option that is left out has its default
 abbrev pub HasDefaults : List Text → Args → Type 0
-HasDefaults arguments (Solve budget entries) =
+HasDefaults arguments (Solve budget entries workers) =
     (IsLeftOut (codes "--budget") arguments → budget ≡ None) × (IsLeftOut (codes "--entries") arguments → entries ≡ 4096)
+    × (IsLeftOut (codes "--workers") arguments → workers ≡ 1)
 HasDefaults arguments (Serve listen workers shards entries budget websocket allow_stop) =
     (IsLeftOut (codes "--workers") arguments → workers ≡ 4) × (IsLeftOut (codes "--shards") arguments → shards ≡ 16)
     × (IsLeftOut (codes "--entries") arguments → entries ≡ 4096) × (IsLeftOut (codes "--budget") arguments → budget ≡ None)

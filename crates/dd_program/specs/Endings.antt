@@ -207,7 +207,7 @@ ServesUntil old new _ = ⊥
 
 -- what the arguments ask for is done, up to this ending
 abbrev pub AnswersUntil : Args → Streams → Streams → Ending → Type 0
-AnswersUntil (Solve budget entries) old new ending = SolvesUntil budget old new ending
+AnswersUntil (Solve budget entries workers) old new ending = SolvesUntil budget old new ending
 AnswersUntil (Serve listen workers shards entries budget websocket allow_stop) old new ending = ServesUntil old new ending
 
 -- ---- an error is shown

@@ -28,9 +28,18 @@ entries_rule = record (new_rule (codes "entries")) {
   defaults = codes "4096" ∷ [];
 }
 
+-- `--workers N` of `solve`
+abbrev pub line_workers_rule : Rule
+line_workers_rule = record (new_rule (codes "workers")) {
+  long = Some (codes "workers");
+  value_names = 1;
+  parser = Some (Signed (pos 1) (pos MOST_WORKERS));
+  defaults = codes "1" ∷ [];
+}
+
 -- `solve` with its options
 abbrev pub solve_app : App
-solve_app = with_rule (with_rule (new_app (codes "solve")) budget_rule) entries_rule
+solve_app = with_rule (with_rule (with_rule (new_app (codes "solve")) budget_rule) entries_rule) line_workers_rule
 
 -- `--listen ADDR`
 abbrev pub listen_rule : Rule
@@ -99,4 +108,6 @@ FitsBits bits text = IsNumeral 10 (without_leading_plus text) × (digits_value 1
 
 -- the options are there as far as they must be, and their texts are numbers of their types
 abbrev pub HasNumbers : List Row → Type 0
-HasNumbers rows = IfSome (one_of (codes "budget") rows) (FitsBits 64) × IsSome (one_of (codes "entries") rows) × IfSome (one_of (codes "entries") rows) (FitsBits 32)
+HasNumbers rows = IfSome (one_of (codes "budget") rows) (FitsBits 64)
+    × IsSome (one_of (codes "entries") rows) × IfSome (one_of (codes "entries") rows) (FitsBits 32)
+    × IsSome (one_of (codes "workers") rows) × IfSome (one_of (codes "workers") rows) (FitsBits 32)

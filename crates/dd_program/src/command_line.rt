@@ -2,7 +2,7 @@
 ghost use Rattle.std.specs.Prelude.{◌≡◌, ◌⊎◌, ◌≤◌, IfOk, IfErr, Some, codes, map, string_bytes};
 ghost use Rattle.clap.specs.Words.{app_of, fault_of, found_of, kind_of, rows_of, HasKind};
 ghost use Rattle.dd_program.specs.CommandLine.{Asks, HasDefaults, IsInRange, IsSame};
-ghost use Rattle.dd_program.specs.Program.{allow_stop_rule, budget_rule, entries_rule, listen_rule, program_app, serve_app, shard_entries_rule, shards_rule, solve_app, websocket_rule, workers_rule, number_of, HasNumbers, IsOption, IsSubcommand};
+ghost use Rattle.dd_program.specs.Program.{allow_stop_rule, budget_rule, entries_rule, line_workers_rule, listen_rule, program_app, serve_app, shard_entries_rule, shards_rule, solve_app, websocket_rule, workers_rule, number_of, HasNumbers, IsOption, IsSubcommand};
 ghost use Rattle.dd_program.specs.ServeWords.{budget_in, is_set, number_in, AsksToServeBy, IsGiven};
 
 use crate::help::requests;
@@ -17,7 +17,7 @@ use std::{env, io};
 /// The most positions of a budget.
 const MOST_POSITIONS: i64 = 1_000_000_000_000;
 
-/// The most workers of `serve`.
+/// The most workers.
 pub const MOST_WORKERS: u32 = 64;
 
 /// The program's version, as `CHANGELOG.md` has it.
@@ -30,8 +30,10 @@ pub enum Args {
     Solve {
         /// The most positions that the search may come to for each line, 0 to 1,000,000,000,000. `None` is no limit.
         budget: Option<u64>,
-        /// The entries of the transposition table, 1 to `MOST_SHAPES`.
+        /// The entries of each shard of the transposition table, 1 to `MOST_SHAPES`.
         entries: u32,
+        /// The threads that search, 1 to 64. One has a table of one shard, more have one of 16.
+        workers: u32,
     },
     /// Answers the connections of an address.
     Serve {
@@ -123,12 +125,14 @@ fn not_text_error(alloc: Global) -> Result<Error, AllocError>
 fn solve_args(options: &ArgMatches) -> Args
     requires { HasNumbers (rows_of (found_of options.now)) }
     ensures { let rows = rows_of (found_of options.now) in
-        (entries : _) × (number_of (codes "entries") rows ≡ Some entries)
-        × (result ≡ Args.Solve (number_of (codes "budget") rows) entries) }
+        (entries : _) × (workers : _) × (number_of (codes "entries") rows ≡ Some entries)
+        × (number_of (codes "workers") rows ≡ Some workers)
+        × (result ≡ Args.Solve (number_of (codes "budget") rows) entries workers) }
 {
     Args::Solve {
         budget: options.get_one("budget"),
         entries: options.get_one("entries").unwrap(),
+        workers: options.get_one("workers").unwrap(),
     }
 }
 
@@ -214,7 +218,8 @@ fn solve_command<'a>(alloc: Global) -> Result<Command<'a>, AllocError>
         )
         .after_help(requests())
         .arg(budget_option(alloc))?
-        .arg(entries_option(alloc))
+        .arg(entries_option(alloc))?
+        .arg(line_workers_option(alloc))
 }
 
 fn serve_command<'a>(alloc: Global) -> Result<Command<'a>, AllocError>
@@ -252,6 +257,17 @@ fn entries_option<'a>(alloc: Global) -> Arg<'a>
         .value_parser(value_parser!(u32).range(1..=MOST_SHAPES as i64))
         .default_value("4096")
         .help("The entries of the transposition table, 1 to 65536")
+}
+
+fn line_workers_option<'a>(alloc: Global) -> Arg<'a>
+    ensures { IsOption result line_workers_rule }
+{
+    Arg::new(alloc, "workers")
+        .long("workers")
+        .value_name("N")
+        .value_parser(value_parser!(u32).range(1..=MOST_WORKERS as i64))
+        .default_value("1")
+        .help("The threads that search, 1 to 64; more than one share a table of 16 shards")
 }
 
 fn listen_option<'a>(alloc: Global) -> Arg<'a>

@@ -122,6 +122,10 @@ each suit in each hand, and has up to eight results. With 65536 the program had 
 leads of 100 full deals, and 70 MB after their twenty results. A line by itself needs few entries:
 before the table stands a cache of some 27 MB, touched as it fills.
 
+With --workers N, threads answer ahead the lines of what was read, 65536 bytes at most. Replies are
+the same and keep their order. Each thread has a cache of its own, and they share a table of 16
+shards, each with as many entries as --entries says.
+
 Exit status: 0 at the end of the input, 1 where a read or a write failed or memory ran out
 before any input was read, and 2 for a bad command line."
 }

@@ -1,6 +1,7 @@
 //! What the program does: from the arguments of its command line and its streams to its ending.
 #![tactic(auto)]
 
+mod ahead;
 mod command_line;
 mod ending;
 mod help;

@@ -4,6 +4,7 @@ ghost use Rattle.clap.specs.Words.{kind_of};
 ghost use Rattle.dd_program.specs.CommandLine.{IsInRange, IsTableSize};
 ghost use Rattle.dd_program.specs.Endings.{line_of, state_of, streams, arguments_of, Device, AskFor, Explains, Writes, SolvesUntil, ShowsUntil, Runs};
 
+use crate::ahead::solve_ahead;
 use crate::command_line::{Args, ArgumentsFault, not_text, read_args};
 use crate::ending::Ending;
 use crate::serving::serve;
@@ -47,9 +48,20 @@ pub fn run_program<
         (state_of E.contents errors.new)) result }
 {
     match args_of(alloc, arguments) {
-        Ok(Args::Solve { budget, entries }) => {
-            solve(rt, alloc, budget, entries, reader, output, errors)
-        }
+        Ok(
+            Args::Solve {
+                budget,
+                entries,
+                workers: 1,
+            },
+        ) => solve(rt, alloc, budget, entries, reader, output, errors),
+        Ok(
+            Args::Solve {
+                budget,
+                entries,
+                workers,
+            },
+        ) => solve_ahead(rt, alloc, workers, budget, entries, reader, output, errors),
         Ok(
             Args::Serve {
                 listen,

@@ -1,18 +1,16 @@
 -- four hands and the board that they make
-use Rattle.std.proofs.Common.{◌≡◌, ◌≢◌, ℕ, zero, suc, ◌+◌, ◌<◌, ◌≤◌, ◌⊎◌, Bool, true, false, refl, sym, ap, ◌∙◌, subst, arith, inl, inr, List, [], ◌∷◌, ◌++◌, length}
+use Rattle.std.proofs.Common.{◌≡◌, ℕ, zero, suc, ◌+◌, ◌<◌, ◌≤◌, true, refl, sym, ap, ◌∙◌, arith, inl, inr, List, ◌++◌, length}
 use Rattle.std.specs.Prelude.{◌||◌, nat_lt, if◌then◌else◌}
-use Rattle.std.specs.List.{list_any}
-use mathlib.Core.Path.{ap₂}
 use Rattle.std.proofs.lemmas.List.Folds.{list_any-append}
 use Rattle.dd_cards.specs.declared.seat.Seat.{Seat}
 use Rattle.dd_cards.specs.declared.seat.Seat.TheVariants.{North, East, South, West}
 use Rattle.dd_cards.specs.declared.strain.Strain.{Strain}
 use Rattle.dd_cards.specs.PlayingCard.{PlayingCard}
 use Rattle.dd_cards.specs.Cards.{has_card, same_card}
-use Rattle.dd_cards.specs.Hands.{FourHands, dealt, hand_of, times, AreHands, IsSet}
+use Rattle.dd_cards.specs.Hands.{dealt, hand_of, times, AreHands}
 use Rattle.dd_cards.specs.Seats.{seat_after}
 use Rattle.dd_cards.proofs.CallerLemmas.{or-left, or-right, or-split}
-use Rattle.dd_play.specs.Board.{Board, IsBoard, cards_at, times_in, tricks_left}
+use Rattle.dd_play.specs.Board.{Board, IsBoard, cards_at, times_in}
 use Rattle.dd_play.proofs.CallerLemmas.{times-has, times_in-once}
 use Rattle.dd_rank.specs.Depths.{all_cards}
 use Rattle.dd_relative.specs.Relative.{led_by_north}

@@ -1,11 +1,10 @@
 -- where cards stand when those below a gap move up, and where they stood
 use Rattle.std.proofs.Common.{◌≡◌, ◌≢◌, ℕ, ◌+◌, ◌-◌, ◌<◌, ◌≤◌, ◌⊎◌, Bool, true, false, refl, sym, ap, ◌∙◌, arith, inl, inr, List, length, eq-eqb}
-use Rattle.std.specs.Prelude.{filter, nat_le, nat_lt, ◌&&◌}
+use Rattle.std.specs.Prelude.{nat_le, ◌&&◌}
 use mathlib.Core.Path.{ap₂}
-use Rattle.std.proofs.lemmas.Bool.{cases_lt, leb-true, lt-ltb, le-ltb, le-leb, lt-leb}
-use Rattle.std.proofs.lemmas.Bool.Decides.{eqb_tells, nat_tests}
+use Rattle.std.proofs.lemmas.Bool.{cases_lt, lt-ltb, le-ltb, le-leb, lt-leb}
+use Rattle.std.proofs.lemmas.Bool.Decides.{eqb_tells}
 use Rattle.dd_cards.specs.PlayingCard.{PlayingCard}
-use Rattle.dd_cards.specs.declared.suit.Suit.{Suit}
 use Rattle.dd_cards.specs.Suits.{suit_code}
 use Rattle.dd_cards.specs.Ranks.{IsRank}
 use Rattle.dd_cards.specs.Cards.{card_of, deck, has_card, is_of, same_card}
@@ -205,7 +204,7 @@ moved-forth g cards c set real none has =
 pub moved-fewer : (g : PlayingCard) (cards : List PlayingCard) → length (moved_up g cards) ≤ length cards
 moved-fewer g cards =
     let fewer : count (λ _. true) (moved_up g cards) ≤ count (λ _. true) cards = inject (lowered g) (raised g) (λ _. true) (λ _. true) (moved_up g cards) cards (λ c. times-set (moved_up g cards) c (moved-set g cards))
-        (λ d has t. let b = moved-back g cards d has in (b.1, refl, b.2)) in
+    (λ d has t. let b = moved-back g cards d has in (b.1, refl, b.2)) in
     let a : count (λ _. true) cards ≡ length cards = ap length (filter-true cards) in
     let b : count (λ _. true) (moved_up g cards) ≡ length (moved_up g cards) = ap length (filter-true (moved_up g cards)) in
     omega (arith, fewer, a, b)
@@ -214,7 +213,7 @@ moved-fewer g cards =
 pub moved-length : (g : PlayingCard) (cards : List PlayingCard) → IsSet cards → IsRank g.rank → has_card cards g ≡ false → length (moved_up g cards) ≡ length cards
 moved-length g cards set real none =
     let fewer : count (λ _. true) cards ≤ count (λ _. true) (moved_up g cards) = inject (raised g) (lowered g) (λ _. true) (λ _. true) cards (moved_up g cards) (λ c. times-set cards c set)
-        (λ c has t. let f = moved-forth g cards c set real none has in (f.0, refl, f.1)) in
+    (λ c has t. let f = moved-forth g cards c set real none has in (f.0, refl, f.1)) in
     let more = moved-fewer g cards in
     let a : count (λ _. true) cards ≡ length cards = ap length (filter-true cards) in
     let b : count (λ _. true) (moved_up g cards) ≡ length (moved_up g cards) = ap length (filter-true (moved_up g cards)) in

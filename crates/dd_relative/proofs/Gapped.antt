@@ -1,6 +1,6 @@
 -- one gap closed: the same game, with the cards below the gap a rank higher
-use Rattle.std.proofs.Common.{◌≡◌, ◌≢◌, ℕ, ◌+◌, ◌<◌, ◌≤◌, ◌⊎◌, Bool, true, false, refl, sym, ap, ◌∙◌, subst, arith, inl, inr, List, [], ◌∷◌, length}
-use Rattle.std.specs.Prelude.{◌||◌, nat_le}
+use Rattle.std.proofs.Common.{◌≡◌, ℕ, ◌+◌, ◌<◌, ◌≤◌, true, false, refl, sym, ap, ◌∙◌, subst, arith, inl, inr, List, [], ◌∷◌, length}
+use Rattle.std.specs.Prelude.{◌||◌}
 use mathlib.Core.Path.{ap₂}
 use Rattle.dd_cards.specs.declared.seat.Seat.{Seat}
 use Rattle.dd_cards.specs.declared.seat.Seat.TheVariants.{North, East, South, West}
@@ -12,14 +12,14 @@ use Rattle.dd_cards.specs.Hands.{dealt, hand_of, times, AreHands, IsSet}
 use Rattle.dd_cards.specs.Seats.{seat_after}
 use Rattle.dd_cards.proofs.CallerLemmas.{else-false, or-left, or-right, or-split, same_card-self, real-set, times-cons, times-set}
 use Rattle.dd_play.proofs.CallerLemmas.{flag_of, times-has}
-use Rattle.dd_play.specs.Board.{Board, IsBoard, cards_at}
-use Rattle.dd_rank.specs.Alike.{IsAlikeBy, IsAlike}
+use Rattle.dd_play.specs.Board.{Board, IsBoard}
+use Rattle.dd_rank.specs.Alike.{IsAlikeBy}
 use Rattle.dd_rank.specs.Depths.{all_cards}
 use Rattle.dd_relative.specs.Gaps.{raised, lowered, moved_up}
 use Rattle.dd_relative.specs.Relative.{IsRelative, led_by_north}
 use Rattle.dd_relative.specs.Gapped.{stands, IsGapped, IsClosing}
 use Rattle.dd_relative.proofs.Boards.{board-even, board-hands, held, one-of-all, start-board}
-use Rattle.dd_relative.proofs.Cards.{is-apart, lowered-apart, lowered-most, lowered-order, lowered-raised, lowered-suit, moved-back, moved-fewer, moved-forth, moved-has, moved-length, moved-set, raised-order, raised-suit}
+use Rattle.dd_relative.proofs.Cards.{is-apart, lowered-apart, lowered-most, lowered-order, lowered-suit, moved-back, moved-fewer, moved-forth, moved-has, moved-length, moved-set, raised-order, raised-suit}
 
 -- likeness goes on
 pub alike-then : (k : ℕ) (to from to' from' : PlayingCard → PlayingCard) (p q r : Board) → IsAlikeBy k to from p q → IsAlikeBy 0 to' from' q r → IsAlikeBy k (λ c. to' (to c)) (λ d. from (from' d)) p r
@@ -168,8 +168,8 @@ closed-up l s t f gaps strain none gapped = record {
 }
 
 -- a board is like itself
-pub alike-self : (p : Board) → p.trick ≡ [] → IsAlike p p
-alike-self p start = (λ c. c, λ d. d, record {
+pub alike-same : (p : Board) → p.trick ≡ [] → IsAlikeBy 0 (λ c. c) (λ d. d) p p
+alike-same p start = record {
   start_p = start;
   start_q = start;
   strain = refl;
@@ -179,7 +179,7 @@ alike-self p start = (λ c. c, λ d. d, record {
   forth = λ x c h. (h, refl);
   back = λ x d h. (h, refl);
   order = λ x y c d hx hy e. refl;
-})
+}
 
 -- one gap more is closed
 pub closing-step : (entry : Board) (l s t f gaps : List PlayingCard) (strain : Strain) (g : PlayingCard) → IsClosing entry (led_by_north l s t f strain) (g ∷ gaps)
@@ -207,4 +207,4 @@ fewer-gaps gaps rest left g popped el = (let a = ap length popped in let b = ap 
 
 -- at the start none has been
 pub closing-start : (entry : Board) (gaps : List PlayingCard) → IsGapped entry gaps → IsClosing entry entry gaps
-closing-start entry gaps gapped = record { gapped = gapped; alike = alike-self entry gapped.start }
+closing-start entry gaps gapped = record { gapped = gapped; alike = (λ c. c, λ d. d, alike-same entry gapped.start) }

@@ -1,6 +1,6 @@
 -- the highest cards of runs, by their bits
-use Rattle.std.proofs.Common.{◌≡◌, ◌≢◌, ℕ, zero, suc, ◌+◌, ◌-◌, ◌/◌, ◌%◌, ◌^◌, ◌<◌, ◌≤◌, ◌⊎◌, Bool, true, false, refl, sym, ap, ◌∙◌, arith, inl, inr, bit_and, min, w64, List}
-use Rattle.std.specs.Prelude.{filter, ◌==◌, ◌&&◌}
+use Rattle.std.proofs.Common.{◌≡◌, ℕ, zero, suc, ◌+◌, ◌-◌, ◌/◌, ◌%◌, ◌^◌, ◌<◌, false, refl, sym, ap, ◌∙◌, arith, inl, inr, bit_and, min, w64}
+use Rattle.std.specs.Prelude.{◌==◌, ◌&&◌}
 use mathlib.Core.Bool.{not}
 use mathlib.Core.Path.{ap₂}
 use Rattle.std.specs.Int.{bit_at, bit_not}
@@ -9,11 +9,9 @@ use Rattle.std.proofs.lemmas.Bool.Decides.{eqb_tells}
 use Rattle.std.proofs.lemmas.Nat.{shr-shr, shr_le}
 use Rattle.std.proofs.lemmas.Nat.Bits.{bit_at-lt, bit_at_and, bit_at_not}
 use Rattle.dd_cards.specs.PlayingCard.{PlayingCard}
-use Rattle.dd_cards.specs.Suits.{suit_code, suit_shift}
 use Rattle.dd_cards.specs.Ranks.{IsRank}
 use Rattle.dd_cards.specs.Cards.{has_card, place_of}
-use Rattle.dd_cards.specs.HandMasks.{IsHandMask, in_hand, cards_of}
-use Rattle.dd_cards.specs.Hands.{IsSet}
+use Rattle.dd_cards.specs.HandMasks.{IsHandMask, cards_of}
 use Rattle.dd_cards.proofs.CallerLemmas.{IsSet-filter, else-false, has_card-filter, real-set, same-members, suit_code-lt}
 use Rattle.dd_relative.specs.Runs.{next_above, heads_of}
 use Rattle.dd_relative.proofs.Moved.{cards-set, has-bit}

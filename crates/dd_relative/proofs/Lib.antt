@@ -8,3 +8,6 @@ pub mod UnderWay
 pub mod Heads
 pub mod Tops
 pub mod Starts
+pub mod Joined
+pub mod Opened
+pub mod TrickRanks

@@ -1,15 +1,13 @@
 -- the bits of a hand when those below a gap move up
-use Rattle.std.proofs.Common.{◌≡◌, ◌≢◌, ℕ, zero, suc, ◌+◌, ◌-◌, ◌*◌, ◌/◌, ◌%◌, ◌^◌, ◌<◌, ◌≤◌, ◌⊎◌, Bool, true, false, refl, sym, ap, ◌∙◌, subst, arith, inl, inr, bit_and, eq-eqb, List}
-use Rattle.std.specs.Prelude.{filter, ◌==◌, ◌&&◌}
+use Rattle.std.proofs.Common.{◌≡◌, ◌≢◌, ℕ, zero, suc, ◌+◌, ◌-◌, ◌*◌, ◌/◌, ◌%◌, ◌^◌, ◌<◌, ◌≤◌, ◌⊎◌, true, false, sym, ap, ◌∙◌, arith, inl, inr, bit_and}
+use Rattle.std.specs.Prelude.{◌==◌, ◌&&◌}
 use Rattle.std.specs.Int.{bit_at}
 use mathlib.Core.Path.{ap₂}
 use Rattle.std.proofs.Math.Nat.{pow-le-pow_right}
 use Rattle.std.proofs.lemmas.Bool.{cases_lt}
 use Rattle.std.proofs.lemmas.Bool.Decides.{eqb_tells}
 use Rattle.std.proofs.lemmas.Nat.{and_le_l, one_shl, mod-pow-add, mod_below, mul-add-lt, pow-add, pow_pos, pow_below, shr_split}
-use Rattle.std.proofs.lemmas.Nat.Bits.{and_high, bit_at-lt, bit_at-suc, bit_at-zero, bit_at_cat_low, bit_at_cat_high}
-use Rattle.dd_cards.specs.declared.suit.Suit.{Suit}
-use Rattle.dd_cards.specs.declared.suit.Suit.TheVariants.{Spades, Hearts, Diamonds, Clubs}
+use Rattle.std.proofs.lemmas.Nat.Bits.{and_high, bit_at-lt, bit_at-suc, bit_at_cat_low, bit_at_cat_high}
 use Rattle.dd_cards.specs.Suits.{suit_code, suit_shift}
 use Rattle.dd_cards.specs.PlayingCard.{PlayingCard}
 use Rattle.dd_cards.specs.Ranks.{IsRank}
@@ -103,7 +101,7 @@ up-next m s r i clear low high =
     ∙ ap (bit_at (2 * part m s r)) (let e : suc i - s ≡ suc (i - s) = omega (arith, low) in e)
     ∙ bit_at-suc (2 * part m s r) (i - s) ∙ ap (λ n. bit_at n (i - s)) (half (part m s r))
     ∙ sym (
-        ap (λ n. bit_at n i) (split m s r clear) ∙ bit_at_cat_low h (s + r + 1) (part m s r * 2 ^ s + m % 2 ^ s) i (omega (arith, high)) ∙ bit_at_cat_high (part m s r) s (m % 2 ^ s) i l low)
+    ap (λ n. bit_at n i) (split m s r clear) ∙ bit_at_cat_low h (s + r + 1) (part m s r * 2 ^ s + m % 2 ^ s) i (omega (arith, high)) ∙ bit_at_cat_high (part m s r) s (m % 2 ^ s) i l low)
   where
     half : (x : ℕ) → 2 * x / 2 ≡ x
     half x = omega arith

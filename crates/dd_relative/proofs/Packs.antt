@@ -1,5 +1,5 @@
 -- the pack, and the gaps that a position's cards leave in it
-use Rattle.std.proofs.Common.{◌≡◌, ◌≢◌, ℕ, zero, suc, ◌+◌, ◌%◌, ◌<◌, ◌≤◌, ◌⊎◌, Bool, true, false, refl, sym, ap, ◌∙◌, arith, inl, inr, List, [], eq-eqb}
+use Rattle.std.proofs.Common.{◌≡◌, ℕ, zero, suc, ◌%◌, ◌<◌, ◌⊎◌, Bool, true, false, refl, sym, ap, ◌∙◌, arith, inl, inr, List, [], eq-eqb}
 use Rattle.std.specs.Prelude.{filter, ◌==◌, ◌&&◌, ◌||◌, nat_le}
 use mathlib.Core.Bool.{not}
 use Rattle.std.specs.Int.{bit_at}
@@ -10,7 +10,7 @@ use Rattle.dd_cards.specs.PlayingCard.{PlayingCard}
 use Rattle.dd_cards.specs.Ranks.{IsRank}
 use Rattle.dd_cards.specs.Cards.{deck, has_card}
 use Rattle.dd_cards.specs.HandMasks.{IsHandMask, cards_of}
-use Rattle.dd_cards.proofs.CallerLemmas.{IsSet-deck, IsSet-filter, and-left, and-right, has_card-deck, has_card-filter, not-true, false-not, or-left, or-right, or-split, real-set}
+use Rattle.dd_cards.proofs.CallerLemmas.{IsSet-deck, IsSet-filter, and-left, and-right, has_card-deck, has_card-filter, not-true, or-left, or-right, or-split, real-set}
 use Rattle.dd_play.specs.Board.{Board, IsBoard}
 use Rattle.dd_play.proofs.CallerLemmas.{card-real}
 use Rattle.dd_rank.specs.Depths.{all_cards}

@@ -12,7 +12,6 @@ use Rattle.dd_cards.specs.Hands.{FourHands, hand_of}
 use Rattle.dd_cards.specs.Seats.{next_seat, seat_after}
 use Rattle.dd_cards.proofs.CallerLemmas.{and-true, has_card-deck, has_card-filter}
 use Rattle.dd_play.specs.Board.{Board, IsBoard, cards_at}
-use Rattle.dd_rank.specs.Depths.{all_cards}
 use Rattle.dd_relative.specs.Gapped.{IsGapped}
 use Rattle.dd_relative.specs.Relative.{led_by_north}
 use Rattle.dd_relative.specs.Turned.{from_leader}

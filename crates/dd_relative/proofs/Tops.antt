@@ -1,16 +1,14 @@
 -- the highest card of each class: where no rank above it is the mover's
-use Rattle.std.proofs.Common.{◌≡◌, ◌≢◌, ℕ, zero, suc, ◌+◌, ◌<◌, ◌≤◌, ◌⊎◌, Bool, true, false, refl, sym, ap, ◌∙◌, subst, arith, inl, inr, List, [], ◌∷◌, ◌++◌, eq-eqb, length}
+use Rattle.std.proofs.Common.{◌≡◌, ℕ, zero, suc, ◌+◌, ◌<◌, ◌≤◌, ◌⊎◌, Bool, true, false, refl, sym, ap, ◌∙◌, arith, inl, inr, List, [], ◌∷◌, ◌++◌, eq-eqb, length}
 use Rattle.std.specs.Prelude.{filter, take, nat_lt, ◌||◌, ◌&&◌}
 use Rattle.std.specs.List.{list_any}
 use mathlib.Core.Bool.{not}
-use mathlib.Core.Path.{ap₂}
-use Rattle.std.proofs.lemmas.Bool.{cases_lt, lt-ltb, le-ltb, ltb-true}
+use Rattle.std.proofs.lemmas.Bool.{cases_lt, lt-ltb, ltb-true}
 use Rattle.std.proofs.lemmas.List.Folds.{list_any-append}
 use Rattle.dd_cards.specs.declared.seat.Seat.{Seat}
 use Rattle.dd_cards.specs.declared.seat.Seat.TheVariants.{North, East, South, West}
 use Rattle.dd_cards.specs.PlayingCard.{PlayingCard}
 use Rattle.dd_cards.specs.Suits.{suit_code}
-use Rattle.dd_cards.specs.Ranks.{IsRank}
 use Rattle.dd_cards.specs.Cards.{has_card, is_of, same_card, without}
 use Rattle.dd_cards.specs.Hands.{FourHands, hand_of, IsSet}
 use Rattle.dd_cards.specs.Seats.{seat_after}
@@ -20,10 +18,9 @@ use Rattle.dd_play.specs.Tricks.{or_else}
 use Rattle.dd_play.specs.Play.{following, legal}
 use Rattle.dd_play.proofs.CallerLemmas.{Obeys, in-following, legal-in, legal-out, of-suit', suit-of}
 use Rattle.dd_equal.specs.EqualCards.{other_cards, is_between, are_equal, is_top, tops}
-use Rattle.dd_rank.specs.Depths.{all_cards}
 use Rattle.dd_relative.specs.Relative.{IsRelative}
 use Rattle.dd_relative.specs.Runs.{next_above, heads_of}
-use Rattle.dd_relative.specs.UnderWay.{under_way, AreOwn, IsUnderWay}
+use Rattle.dd_relative.specs.UnderWay.{under_way, IsUnderWay}
 use Rattle.dd_relative.proofs.Boards.{holder-of, one-of-all}
 
 -- ---- one of a list

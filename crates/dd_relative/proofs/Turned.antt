@@ -1,5 +1,5 @@
 -- the seats turned, so that the leader is North
-use Rattle.std.proofs.Common.{◌≡◌, ℕ, zero, suc, ◌+◌, ◌<◌, ◌≤◌, Bool, true, refl, sym, ap, ◌∙◌, subst, arith, List, [], ◌∷◌, length}
+use Rattle.std.proofs.Common.{◌≡◌, ℕ, ◌+◌, ◌<◌, refl, sym, ap, ◌∙◌, subst, arith, List, [], length}
 use Rattle.std.specs.Prelude.{nat_lt, if◌then◌else◌}
 use Rattle.std.proofs.lemmas.Bool.{le-ltb}
 use Rattle.dd_cards.specs.declared.seat.Seat.{Seat}
@@ -7,7 +7,7 @@ use Rattle.dd_cards.specs.declared.seat.Seat.TheVariants.{North, East, South, We
 use Rattle.dd_cards.specs.declared.strain.Strain.{Strain}
 use Rattle.dd_cards.specs.PlayingCard.{PlayingCard}
 use Rattle.dd_cards.specs.Cards.{has_card}
-use Rattle.dd_cards.specs.Hands.{FourHands, dealt, hand_of, AreHands, IsSet}
+use Rattle.dd_cards.specs.Hands.{FourHands, hand_of, AreHands, IsSet}
 use Rattle.dd_cards.specs.Seats.{seat_code, seat_after}
 use Rattle.dd_cards.proofs.CallerLemmas.{seat_code-injective, seat_code-lt}
 use Rattle.dd_play.specs.Board.{Board, IsBoard, cards_at}
@@ -17,7 +17,6 @@ use Rattle.dd_relative.specs.Relative.{led_by_north}
 use Rattle.dd_relative.specs.Turned.{from_seat, from_leader}
 use Rattle.dd_relative.specs.Gapped.{stands, IsGapped}
 use Rattle.dd_rank.specs.Depths.{all_cards}
-use mathlib.Core.Path.{ap₂}
 use Rattle.std.specs.Prelude.{◌||◌}
 use Rattle.dd_cards.proofs.CallerLemmas.{both-ways}
 use Rattle.dd_relative.proofs.Boards.{board-hands, holder-of, one-of-all, start-board}

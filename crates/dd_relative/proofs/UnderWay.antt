@@ -1,5 +1,5 @@
 -- a trick under way, card by card
-use Rattle.std.proofs.Common.{◌≡◌, ◌≢◌, ℕ, zero, suc, ◌+◌, ◌<◌, ◌≤◌, ◌⊎◌, Bool, true, false, refl, sym, ap, ◌∙◌, subst, arith, inl, inr, List, [], ◌∷◌, length}
+use Rattle.std.proofs.Common.{◌≡◌, ◌≢◌, ℕ, zero, suc, ◌+◌, ◌<◌, ◌≤◌, Bool, true, false, refl, sym, ap, ◌∙◌, subst, arith, inl, inr, List, [], ◌∷◌, length}
 use Rattle.std.specs.Prelude.{filter, take, slice_set, slice_index_or, ◌||◌, ◌&&◌}
 use mathlib.Core.Bool.{not}
 use mathlib.Core.Path.{ap₂}
@@ -10,10 +10,10 @@ use Rattle.dd_cards.specs.declared.strain.Strain.{Strain}
 use Rattle.dd_cards.specs.PlayingCard.{PlayingCard}
 use Rattle.dd_cards.specs.Ranks.{IsRank}
 use Rattle.dd_cards.specs.Cards.{has_card, is_of, same_card, with_card, without}
-use Rattle.dd_cards.specs.Hands.{FourHands, dealt, hand_of, IsSet}
+use Rattle.dd_cards.specs.Hands.{FourHands, dealt, IsSet}
 use Rattle.dd_cards.specs.Seats.{seat_after}
 use Rattle.dd_cards.proofs.CallerLemmas.{IsSet-with_card, and-both, and-left, and-right, else-false, false-not, has_card-with_card, has_card-without, not-true, or-left, or-right, or-split, real-set, same_card-eq, same_card-self}
-use Rattle.dd_play.specs.Board.{Board, board_of, IsBoard, cards_at, mover}
+use Rattle.dd_play.specs.Board.{Board, board_of, cards_at, mover}
 use Rattle.dd_play.specs.Tricks.{winner_of, or_else}
 use Rattle.dd_play.specs.Play.{following, legal, after}
 use Rattle.dd_play.specs.Simulations.{IsLegal}
@@ -23,7 +23,7 @@ use Rattle.dd_relative.specs.Relative.{IsRelative, led_by_north}
 use Rattle.dd_relative.specs.Turned.{from_seat, from_leader}
 use Rattle.dd_relative.proofs.Turned.{turned-gapped}
 use Rattle.dd_relative.specs.Gapped.{stands, IsGapped}
-use Rattle.dd_relative.specs.UnderWay.{under_way, AreOwn, IsUnderWay}
+use Rattle.dd_relative.specs.UnderWay.{under_way, IsUnderWay}
 use Rattle.dd_relative.proofs.Boards.{board-hands, holder-of, one-of-all}
 
 -- a start of a trick that North leads to, by its parts
@@ -215,7 +215,7 @@ module _ (s : Board) (x y z d : PlayingCard) (relative : IsRelative s) (under : 
   }
 
 -- three cards, as they are read one by one
-three-are : (cards : List PlayingCard) (n : ℕ) (a b c : PlayingCard) → length cards ≡ 3 → n ≡ 3 → take n cards ≡ slice_index_or cards 0 a ∷ slice_index_or cards 1 b ∷ slice_index_or cards 2 c ∷ []
+pub three-are : (cards : List PlayingCard) (n : ℕ) (a b c : PlayingCard) → length cards ≡ 3 → n ≡ 3 → take n cards ≡ slice_index_or cards 0 a ∷ slice_index_or cards 1 b ∷ slice_index_or cards 2 c ∷ []
 three-are cards n a b c three full = ap (λ k. take k cards) full ∙ go cards three
   where
     go : (cards : List PlayingCard) → length cards ≡ 3 → take 3 cards ≡ slice_index_or cards 0 a ∷ slice_index_or cards 1 b ∷ slice_index_or cards 2 c ∷ []
@@ -242,7 +242,7 @@ finish-from b x y z d l s t f gaps strain seat relative under has hands same_str
     (hands ∙ ap (from_seat (dealt (without b.hands.north x) (without b.hands.east y) (without b.hands.south z) (without b.hands.west d))) first) same_strain in
     record {
       gapped = subst (λ (g : List PlayingCard). IsGapped (led_by_north l s t f strain) g) (sym are)
-      (subst (λ (q : Board). IsGapped q (with_card (with_card (with_card (with_card [] x) y) z) d)) (sym same) (turned-gapped (after (under_way b (x ∷ y ∷ z ∷ [])) d) _ (trick-gapped b x y z d relative under has)));
+          (subst (λ (q : Board). IsGapped q (with_card (with_card (with_card (with_card [] x) y) z) d)) (sym same) (turned-gapped (after (under_way b (x ∷ y ∷ z ∷ [])) d) _ (trick-gapped b x y z d relative under has)));
       same = same;
       start = refl;
       winner = first;

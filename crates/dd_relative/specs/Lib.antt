@@ -4,3 +4,4 @@ pub mod Gapped
 pub mod Turned
 pub mod UnderWay
 pub mod Runs
+pub mod WinningRanks

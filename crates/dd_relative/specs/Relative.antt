@@ -1,9 +1,8 @@
 -- To be believed: a start of a trick by relative ranks: the leader is North, and of each suit the cards left are the highest.
-use Rattle.std.specs.Prelude.{◌≡◌, ◌≤◌, ◌||◌, true, false, List, []}
+use Rattle.std.specs.Prelude.{◌≡◌, ◌≤◌, true, List, []}
 use Rattle.dd_cards.specs.declared.seat.Seat.TheVariants.{North}
 use Rattle.dd_cards.specs.declared.strain.Strain.{Strain}
 use Rattle.dd_cards.specs.PlayingCard.{PlayingCard}
-use Rattle.dd_cards.specs.Ranks.{IsRank}
 use Rattle.dd_cards.specs.Cards.{has_card}
 use Rattle.dd_cards.specs.Hands.{dealt}
 use Rattle.dd_play.specs.Board.{Board, board_of, IsBoard}

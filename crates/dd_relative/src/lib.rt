@@ -5,6 +5,8 @@ mod gap;
 mod relative_start;
 mod relative_trick;
 mod runs;
+mod winning_ranks;
 
 pub use relative_start::RelativeStart;
 pub use relative_trick::RelativeTrick;
+pub use winning_ranks::WinningRanks;

@@ -8,9 +8,11 @@ ghost use Rattle.dd_play.specs.Play.{legal, after};
 ghost use Rattle.dd_equal.specs.EqualCards.{tops};
 ghost use Rattle.dd_rank.specs.Alike.{AreAlike};
 ghost use Rattle.dd_relative.specs.Turned.{from_seat};
+ghost use Rattle.dd_relative.specs.WinningRanks.{AreBefore};
 
-use crate::runs::run_heads;
 use crate::relative_start::{RelativeStart, closed_up};
+use crate::runs::run_heads;
+use crate::winning_ranks::{WinningRanks, before_gaps};
 use dd_cards::{Card, Hand, Seat, Suit};
 use dd_play::winner;
 use std::marker::Model;
@@ -115,9 +117,28 @@ impl RelativeTrick {
         );
         let gaps = Hand::new().with(first).with(second).with(third).with(card);
         let next = closed_up(
-            leader_left, second_left, third_left, fourth_left, strain, gaps,
+            leader_left,
+            second_left,
+            third_left,
+            fourth_left,
+            strain,
+            gaps,
         );
         (next, seat)
+    }
+
+    /// The winning ranks of the next start, as they stand among the cards that this legal card leaves in the hands, where it
+    /// completes the trick.
+    #[inline(always)]
+    pub fn ranks_before(&self, card: Card, later: &WinningRanks) -> WinningRanks
+        requires turn { length self.now.trick ≡ 3 }
+        requires card { has_card (legal self.now) card ≡ true }
+        ensures { AreBefore (after self.now card) later.now result }
+    {
+        let _start = self.start.leader();
+        let [first, second, third] = self.trick;
+        let gaps = Hand::new().with(first).with(second).with(third).with(card);
+        before_gaps(later, gaps)
     }
 
     // The hand of the mover, which is as it was before the trick.

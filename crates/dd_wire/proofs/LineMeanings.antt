@@ -11,7 +11,7 @@ use Rattle.dd_wire.specs.declared.fault.Fault.TheVariants.{LineTooLong, NotAnObj
 use Rattle.dd_wire.specs.declared.line_asked.LineAsked.{LineAsked}
 use Rattle.dd_wire.specs.declared.line_asked.LineAsked.TheVariants.{Cards, Par, ParOfDeal, Play}
 use Rattle.dd_wire.specs.declared.par_request.Conditions.{Conditions}
-use Rattle.dd_wire.specs.LineReplies.{Answers, Replies}
+use Rattle.dd_wire.specs.LineReplies.{IsReplyTo}
 use Rattle.dd_wire.specs.Lines.{Means, MeansOfCards, MeansMembers}
 use Rattle.dd_wire.specs.PlayLines.{MeansPlayFields, play_fields}
 use Rattle.dd_wire.specs.PlayReplies.{trace_text}
@@ -74,7 +74,7 @@ some-par-text rows c =
     let (score, is) = some-par rows c.vulnerable c.order in
     (par_text (par_contracts rows c.vulnerable c.order score) score, (score, is, refl))
 
-pub some-answer : (meaning : Result LineAsked Fault) → (text : List ℕ) × Replies meaning text
+pub some-answer : (meaning : Result LineAsked Fault) → (text : List ℕ) × IsReplyTo meaning text
 some-answer (Ok (Cards asked)) = (asked_text asked, refl)
 some-answer (Ok (Par par)) = some-par-text par.results par.conditions
 some-answer (Ok (ParOfDeal par)) = some-par-text (rows_of (results par.hands)) par.conditions

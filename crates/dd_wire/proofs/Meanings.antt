@@ -32,7 +32,7 @@ use Rattle.dd_wire.specs.declared.fault.Fault.{Fault}
 use Rattle.dd_wire.specs.declared.fault.Fault.TheVariants.{WrongField, CardTwice, WrongTrump, WrongFirst, WrongPlayed, WrongSolutions, WrongTarget, UnevenHands, NoCard, OutOfMemory}
 use Rattle.dd_solve.specs.Questions.{Question}
 use Rattle.dd_solve.specs.Targets.{TargetQuestion}
-use Rattle.dd_wire.specs.Requests.{SolveFields, TargetFields, MeansObject, MeansDeal, MeansTable, MeansFields, MeansTargetFields, MeansStart, MeansCards, MeansHands, MeansTargetHands, MeansBoard, IsAskedOf, are_solutions, question, target_question, target_fields, SpellsDeal, SpellsNone, asked_as, deal_fault, are_cards, pair_of_card, solve_fields, table_deal}
+use Rattle.dd_wire.specs.Requests.{SolveFields, TargetFields, MeansObject, MeansDeal, MeansTable, MeansFields, MeansTargetFields, MeansStart, MeansSolutions, MeansTarget, MeansCards, MeansHands, MeansTargetHands, MeansBoard, IsAskedOf, are_solutions, question, target_question, target_fields, SpellsDeal, SpellsNone, asked_as, deal_fault, are_cards, pair_of_card, solve_fields, table_deal}
 use Rattle.dd_solve.specs.declared.asked.Asked.{Asked}
 use Rattle.dd_solve.specs.declared.asked.Asked.TheVariants.{Solve, Table, Target}
 use Rattle.dd_solve.specs.Results.{AreEven}
@@ -55,24 +55,13 @@ solutions-in fields most least bound =
     let most-test : nat_le fields.solutions most ≡ true = le-leb fields.solutions most bound in
     rw (least-test, most-test) refl
 
--- what is left of a request to solve: the solutions, then the cards together
-abbrev AfterStart : SolveFields → FourHands → Result Question Fault → Type 0
-AfterStart fields hands meaning = MatchBool (are_solutions fields 3) (MeansCards fields hands (question fields.solutions) meaning) (meaning ≡ Err WrongSolutions)
-
--- and with a target
-abbrev AfterTargetStart : TargetFields → FourHands → Result TargetQuestion Fault → Type 0
-AfterTargetStart fields hands meaning =
-    MatchBool (are_solutions fields.solve 2)
-    (MatchBool (nat_lt 13 fields.target) (meaning ≡ Err WrongTarget) (MeansCards fields.solve hands (target_question fields) meaning))
-    (meaning ≡ Err WrongSolutions)
-
 -- with solutions in range too the cards together decide
 pub means-cards : (fields : SolveFields) (hands : FourHands) (strain : Strain) (first : Seat) (trick : List PlayingCard) (meaning : Result Question Fault)
     → strain_code strain ≡ fields.trump → fields.trump ≤ 4 → seat_code first ≡ fields.first → fields.first < 4 → map pair_of_card trick ≡ fields.played → are_cards fields.played ≡ true
     → 1 ≤ fields.solutions → fields.solutions ≤ 3 → MeansBoard (board_of hands strain first trick) (question fields.solutions (board_of hands strain first trick)) meaning → MeansHands fields hands meaning
 means-cards fields hands strain first trick meaning trump low leader below played cards least most means =
     let test : are_solutions fields 3 ≡ true = solutions-in fields 3 least most in
-    means-start fields (AfterStart fields hands) meaning low below cards
+    means-start fields (MeansSolutions fields hands) meaning low below cards
     (rw test (board_of hands strain first trick, record { hands = refl; strain = trump; first = leader; trick = played }, means))
 
 -- and with a target in range
@@ -83,7 +72,7 @@ pub means-target_cards : (fields : TargetFields) (hands : FourHands) (strain : S
 means-target_cards fields hands strain first trick meaning trump low leader below played cards least most target means =
     let test : are_solutions fields.solve 2 ≡ true = solutions-in fields.solve 2 least most in
     let target-test : nat_lt 13 fields.target ≡ false = le-ltb 13 fields.target target in
-    means-start fields.solve (AfterTargetStart fields hands) meaning low below cards
+    means-start fields.solve (MeansTarget fields hands) meaning low below cards
     (rw (test, target-test) (board_of hands strain first trick, record { hands = refl; strain = trump; first = leader; trick = played }, means))
 
 -- ---- every line has a meaning
@@ -227,12 +216,12 @@ some-start fields Rest rest =
 
 some-hands : (fields : SolveFields) (hands : FourHands) → AreHands hands → SomeMeaning (MeansHands fields hands)
 some-hands fields hands are =
-    some-start fields _ (λ trump first played.
+    some-start fields (MeansSolutions fields hands) (λ trump first played.
     by-test (are_solutions fields 3) _ _ (λ _. some-cards fields hands (question fields.solutions) are trump first played) (λ _. (Err WrongSolutions, refl)))
 
 some-target_hands : (fields : TargetFields) (hands : FourHands) → AreHands hands → SomeMeaning (MeansTargetHands fields hands)
 some-target_hands fields hands are =
-    some-start fields.solve _ (λ trump first played.
+    some-start fields.solve (MeansTarget fields hands) (λ trump first played.
     by-test (are_solutions fields.solve 2) _ _
     (λ _. by-test (nat_lt 13 fields.target) _ _ (λ _. (Err WrongTarget, refl)) (λ _. some-cards fields.solve hands (target_question fields) are trump first played))
     (λ _. (Err WrongSolutions, refl)))
@@ -322,12 +311,12 @@ start-memory fields Rest none =
 
 hands-memory : (fields : SolveFields) (hands : FourHands) → MeansHands fields hands (Err OutOfMemory) → ⊥
 hands-memory fields hands =
-    start-memory fields (AfterStart fields hands)
+    start-memory fields (MeansSolutions fields hands)
     (by-bool (are_solutions fields 3) _ _ (λ asked. board-memory asked.0 (question fields.solutions asked.0) asked.2) (λ no. cc))
 
 target_hands-memory : (fields : TargetFields) (hands : FourHands) → MeansTargetHands fields hands (Err OutOfMemory) → ⊥
 target_hands-memory fields hands =
-    start-memory fields.solve (AfterTargetStart fields hands)
+    start-memory fields.solve (MeansTarget fields hands)
     (by-bool (are_solutions fields.solve 2) _ _
     (by-bool (nat_lt 13 fields.target) _ _ (λ no. cc) (λ asked. board-memory asked.0 (target_question fields asked.0) asked.2))
     (λ no. cc))

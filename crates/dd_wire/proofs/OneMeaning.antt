@@ -22,7 +22,7 @@ use Rattle.dd_wire.specs.declared.fault.Fault.{Fault}
 use Rattle.serde_json.specs.Data.{Members}
 use Rattle.dd_solve.specs.declared.asked.Asked.{Asked}
 use Rattle.dd_solve.specs.declared.asked.Asked.TheVariants.{Solve, Table, Target}
-use Rattle.dd_wire.specs.Requests.{SolveFields, TargetFields, MeansObject, MeansDeal, MeansTable, MeansFields, MeansTargetFields, MeansStart, MeansCards, MeansHands, MeansTargetHands, MeansBoard, IsAskedOf, are_solutions, question, target_question, target_fields, asked_as, table_deal, deal_fault, are_cards, pair_of_card, solve_fields}
+use Rattle.dd_wire.specs.Requests.{SolveFields, TargetFields, MeansObject, MeansDeal, MeansTable, MeansFields, MeansTargetFields, MeansStart, MeansSolutions, MeansTarget, MeansCards, MeansHands, MeansTargetHands, MeansBoard, IsAskedOf, are_solutions, question, target_question, target_fields, asked_as, table_deal, deal_fault, are_cards, pair_of_card, solve_fields}
 use Rattle.dd_wire.proofs.Meanings.{none-twice-decided, even-decided, hands-decided}
 
 -- two meanings that are one value are one
@@ -97,12 +97,12 @@ one-start fields Rest one =
 
 one-hands : (fields : SolveFields) (hands : FourHands) → AreHands hands → AtMostOne (MeansHands fields hands)
 one-hands fields hands are =
-    one-start fields _
+    one-start fields (MeansSolutions fields hands)
     (one-by-test (are_solutions fields 3) _ _ (one-cards fields hands (question fields.solutions) are) (both _))
 
 one-target_hands : (fields : TargetFields) (hands : FourHands) → AreHands hands → AtMostOne (MeansTargetHands fields hands)
 one-target_hands fields hands are =
-    one-start fields.solve _
+    one-start fields.solve (MeansTarget fields hands)
     (one-by-test (are_solutions fields.solve 2) _ _
     (one-by-test (nat_lt 13 fields.target) _ _ (both _) (one-cards fields.solve hands (target_question fields) are))
     (both _))

@@ -1,5 +1,7 @@
 -- Codes of what par depends on.
-use Rattle.std.proofs.Common.{◌≡◌, ℕ, zero, suc, ◌<◌, ◌≤◌, refl, arith, Option, None, Some}
+use Rattle.std.proofs.Common.{◌≡◌, ℕ, zero, suc, ◌<◌, ◌≤◌, refl, sym, arith, inl, inr, Option, None, Some}
+use Rattle.std.specs.Prelude.{◌↔◌, IsSome, IfSome}
+use Rattle.std.proofs.lemmas.Bool.Decides.{leb_tells}
 use Rattle.dd_cards.specs.declared.seat.Seat.{Seat}
 use Rattle.dd_cards.specs.declared.seat.Seat.TheVariants.{North, East, South, West}
 use Rattle.dd_cards.specs.Seats.{seat_code}
@@ -36,3 +38,20 @@ no-vulnerable-coded (suc zero) h = absurd (omega arith)
 no-vulnerable-coded (suc (suc zero)) h = absurd (omega arith)
 no-vulnerable-coded (suc (suc (suc zero))) h = absurd (omega arith)
 no-vulnerable-coded (suc (suc (suc (suc code)))) h = refl
+
+-- ---- what is read by a code
+-- where nothing was read the code is none
+over : {A : Type 0} (code : ℕ) (found : Option A) → found ≡ None → IsSome found ↔ (code < 4) → 4 ≤ code
+over code (Some x) is valid = absurd (cc)
+over code None is valid = elim (leb_tells 4 code) [
+  | inl many ↦ many.1
+  | inr few ↦ absurd (let some = valid.1 few.1 in cc)
+]
+
+pub seat-read : (code : ℕ) (found : Option Seat) → IsSome found ↔ (code < 4) → IfSome found (λ seat. seat_code seat ≡ code) → found ≡ seat_coded code
+seat-read code (Some seat) valid value = sym (seat-coded seat code value)
+seat-read code None valid value = sym (no-seat-coded code (over {A = Seat} code None refl valid))
+
+pub vulnerable-read : (code : ℕ) (found : Option Vulnerable) → IsSome found ↔ (code < 4) → IfSome found (λ sides. vulnerable_code sides ≡ code) → found ≡ vulnerable_coded code
+vulnerable-read code (Some sides) valid value = sym (vulnerable-coded sides code value)
+vulnerable-read code None valid value = sym (no-vulnerable-coded code (over {A = Vulnerable} code None refl valid))

@@ -51,10 +51,14 @@ one-given (deal text) fields =
 conditions-memory : (first : FirstCode) (vulnerable : ℕ) → conditions_of first vulnerable ≡ Err OutOfMemory → ⊥
 conditions-memory first vulnerable = go (order_coded first) (vulnerable_coded vulnerable)
   where
-    go : (order : Option Order) (sides : Option Vulnerable) → elim order as (λ _. Result Conditions Fault) [
-      | None ↦ Err WrongOrder
-      | Some o ↦ elim sides as (λ _. Result Conditions Fault) [ None ↦ Err WrongVulnerable | Some v ↦ Ok (record { vulnerable = v; order = o }) ]
-    ] ≡ Err OutOfMemory → ⊥
+    go : (order : Option Order) (sides : Option Vulnerable)
+        → (elim order as (λ _. Result Conditions Fault) [
+          | None ↦ Err WrongOrder
+          | Some o ↦ elim sides as (λ _. Result Conditions Fault) [
+            | None ↦ Err WrongVulnerable
+            | Some v ↦ Ok (record { vulnerable = v; order = o })
+          ]
+        ]) ≡ Err OutOfMemory → ⊥
     go None sides is = cc
     go (Some o) None is = cc
     go (Some o) (Some v) is = cc
@@ -62,11 +66,11 @@ conditions-memory first vulnerable = go (order_coded first) (vulnerable_coded vu
 -- a fault that is another's is not that memory ran out
 thirteen-memory : (c : Conditions) (asked : Result FourHands Fault) → (asked ≡ Err OutOfMemory → ⊥) → of_thirteen c asked ≡ Err OutOfMemory → ⊥
 thirteen-memory c (Err fault) none is = none (let same : fault ≡ OutOfMemory = cc in ap Err same)
-thirteen-memory c (Ok hands) none is = go (length hands.north == 13) is
+thirteen-memory c (Ok hands) none is = go (length hands.north == 13) (record { hands = hands; conditions = c }) is
   where
-    go : (b : Bool) → cond b (Ok (record { hands = hands; conditions = c })) (Err NotThirteen) ≡ Err OutOfMemory → ⊥
-    go true e = cc
-    go false e = cc
+    go : (b : Bool) (x : DealPar) → cond b (Ok x) (Err NotThirteen) ≡ Err OutOfMemory → ⊥
+    go true x e = cc
+    go false x e = cc
 
 dealt-memory : (hands : FourHands) (conditions : Result Conditions Fault) → (conditions ≡ Err OutOfMemory → ⊥) → Dealt hands conditions (Err OutOfMemory) → ⊥
 dealt-memory hands (Ok c) none (asked, means, is) = thirteen-memory c asked (λ out. table-memory hands (let told : MeansTable hands (Err OutOfMemory) = rw out at means in told)) (sym is)
@@ -78,10 +82,10 @@ way-fault way (Ok x) fault is = absurd (cc)
 way-fault way (Err f) fault is = let same : f ≡ fault = cc in ap Err same
 
 results-memory : (conditions : Result Conditions Fault) (b : Bool) (rows : List (List ℕ)) → (conditions ≡ Err OutOfMemory → ⊥)
-    → elim conditions as (λ _. Result ParOfResults Fault) [
+    → (elim conditions as (λ _. Result ParOfResults Fault) [
       | Err fault ↦ Err fault
       | Ok c ↦ cond b (Ok (record { results = rows; conditions = c })) (Err WrongResult)
-    ] ≡ Err OutOfMemory → ⊥
+    ]) ≡ Err OutOfMemory → ⊥
 results-memory (Err fault) b rows none is = none (let same : fault ≡ OutOfMemory = cc in ap Err same)
 results-memory (Ok c) true rows none is = cc
 results-memory (Ok c) false rows none is = cc

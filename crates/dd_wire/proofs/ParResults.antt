@@ -28,4 +28,4 @@ module _ (hands : FourHands) (even : AreEven hands) (thirteen : length hands.nor
 
   pub results-table : IsTable (rows_of (results hands))
   unfolding results contracts
-  results-table = simp tricks-test tt
+  results-table = simp tricks-test

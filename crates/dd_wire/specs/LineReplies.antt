@@ -13,16 +13,16 @@ use Rattle.dd_wire.specs.PlayReplies.{trace_text}
 use Rattle.dd_wire.specs.Replies.{asked_text, fault_text, spent_text}
 
 -- the text answers what is asked
-abbrev pub Answers : LineAsked → List ℕ → Type 0
-Answers (Cards asked) text = text ≡ asked_text asked
-Answers (Par par) text = TellsPar par.results par.conditions text
-Answers (ParOfDeal par) text = TellsPar (rows_of (results par.hands)) par.conditions text
-Answers (Play play) text = text ≡ trace_text (trace play)
+abbrev pub IsAnswer : LineAsked → List ℕ → Type 0
+IsAnswer (Cards asked) text = text ≡ asked_text asked
+IsAnswer (Par par) text = TellsPar par.results par.conditions text
+IsAnswer (ParOfDeal par) text = TellsPar (rows_of (results par.hands)) par.conditions text
+IsAnswer (Play play) text = text ≡ trace_text (trace play)
 
 -- the text replies to a line of this meaning
-abbrev pub Replies : Result LineAsked Fault → List ℕ → Type 0
-Replies (Ok asked) text = Answers asked text
-Replies (Err fault) text = text ≡ fault_text fault
+abbrev pub IsReplyTo : Result LineAsked Fault → List ℕ → Type 0
+IsReplyTo (Ok asked) text = IsAnswer asked text
+IsReplyTo (Err fault) text = text ≡ fault_text fault
 
 -- is the answer found by a search, which has a budget?
 abbrev pub IsSearched : LineAsked → Type 0
@@ -36,6 +36,6 @@ IsSearched (Play play) = Unit {0}
 -- of a table, or for one number of a play's trace.
 abbrev pub IsReply : Option ℕ → List ℕ → List ℕ → Type 0
 IsReply budget line text =
-    ((meaning : Result LineAsked Fault) × Means line meaning × Replies meaning text)
+    ((meaning : Result LineAsked Fault) × Means line meaning × IsReplyTo meaning text)
     ⊎ ((0 < length line) × (length line ≤ longest_line) × (text ≡ fault_text OutOfMemory))
     ⊎ ((asked : LineAsked) × Means line (Ok asked) × IsSearched asked × IsSome budget × (text ≡ spent_text))

@@ -137,11 +137,11 @@ vulnerable_coded (suc (suc (suc (suc more)))) = None
 
 -- who calls first, then the vulnerability
 abbrev pub conditions_of : FirstCode → ℕ → Result Conditions Fault
-conditions_of first vulnerable = elim (order_coded first) [
+conditions_of first code = elim (order_coded first) [
   | None ↦ Err WrongOrder
-  | Some order ↦ elim (vulnerable_coded vulnerable) [
+  | Some order ↦ elim (vulnerable_coded code) [
     | None ↦ Err WrongVulnerable
-    | Some sides ↦ Ok (record { vulnerable = sides; order = order })
+    | Some vulnerable ↦ Ok (record { vulnerable = vulnerable; order = order })
   ]
 ]
 

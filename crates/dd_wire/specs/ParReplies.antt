@@ -19,10 +19,14 @@ declarer_codes (One seat) = seat_code seat ∷ []
 declarer_codes (Both NorthSouth) = 0 ∷ 2 ∷ []
 declarer_codes (Both EastWest) = 1 ∷ 3 ∷ []
 
+-- [s] or [s,t]
+unfoldable pub declarers_text : Declarers → List ℕ
+declarers_text declarers = list_text (declarer_codes declarers)
+
 -- {"declarers":[s,..],"level":l,"tricks":t,"trump":x}
 abbrev pub contract_text : ParContract → List ℕ
 contract_text contract =
-    codes "{\"declarers\":" ++ list_text (declarer_codes contract.declarers) ++ codes ",\"level\":" ++ decimal contract.level
+    codes "{\"declarers\":" ++ declarers_text contract.declarers ++ codes ",\"level\":" ++ decimal contract.level
     ++ codes ",\"tricks\":" ++ decimal contract.tricks ++ codes ",\"trump\":" ++ decimal (strain_code contract.strain) ++ codes "}"
 
 -- {"contracts":[C,..],"score":n}

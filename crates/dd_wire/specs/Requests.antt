@@ -203,20 +203,26 @@ abbrev pub question : ℕ → Board → Question
 question solutions board = record { board = board; solutions = solutions }
 
 -- then the solutions, then the cards together
+abbrev pub MeansSolutions : SolveFields → FourHands → Result Question Fault → Type 0
+MeansSolutions fields hands meaning =
+    MatchBool (are_solutions fields 3) (MeansCards fields hands (question fields.solutions) meaning) (meaning ≡ Err WrongSolutions)
+
 abbrev pub MeansHands : SolveFields → FourHands → Result Question Fault → Type 0
-MeansHands fields hands = MeansStart fields (λ meaning.
-    MatchBool (are_solutions fields 3) (MeansCards fields hands (question fields.solutions) meaning) (meaning ≡ Err WrongSolutions))
+MeansHands fields hands = MeansStart fields (MeansSolutions fields hands)
 
 -- those that reach a target
 abbrev pub target_question : TargetFields → Board → TargetQuestion
 target_question fields board = record { board = board; target = fields.target; solutions = fields.solve.solutions }
 
 -- with a target the solutions are 1 or 2; then the target, then the cards together
-abbrev pub MeansTargetHands : TargetFields → FourHands → Result TargetQuestion Fault → Type 0
-MeansTargetHands fields hands = MeansStart fields.solve (λ meaning.
+abbrev pub MeansTarget : TargetFields → FourHands → Result TargetQuestion Fault → Type 0
+MeansTarget fields hands meaning =
     MatchBool (are_solutions fields.solve 2)
     (MatchBool (nat_lt 13 fields.target) (meaning ≡ Err WrongTarget) (MeansCards fields.solve hands (target_question fields) meaning))
-    (meaning ≡ Err WrongSolutions))
+    (meaning ≡ Err WrongSolutions)
+
+abbrev pub MeansTargetHands : TargetFields → FourHands → Result TargetQuestion Fault → Type 0
+MeansTargetHands fields hands = MeansStart fields.solve (MeansTarget fields hands)
 
 -- the deal first
 abbrev pub MeansDeal : {A : Type 0} → List ℕ → (FourHands → Result A Fault → Type 0) → Result A Fault → Type 0

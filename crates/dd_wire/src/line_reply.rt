@@ -9,7 +9,7 @@ ghost use Rattle.dd_solve.specs.Plays.{trace};
 ghost use Rattle.dd_solve.specs.Results.{results};
 
 use crate::line_asked::LineAsked;
-use crate::par_reply::{par_reply, score_results, write_par};
+use crate::par_reply::{table_par_reply, write_par};
 use crate::par_request::ParOfDeal;
 use crate::play_reply::write_trace;
 use crate::reply::{write_answer, write_fault, write_spent, write_table};
@@ -17,8 +17,8 @@ use crate::request_reader::read_request;
 use dd_lines::{LONGEST_REPLY, ReplyText};
 use dd_search::{Bounds, Budget, Endless};
 use dd_solve::{
-    Asked, PlayRequest, Request, Results, TableRequest, TargetRequest, solve, solve_play,
-    solve_table, solve_target,
+    Asked, PlayRequest, Request, TableRequest, TargetRequest, solve, solve_play, solve_table,
+    solve_target,
 };
 use std::alloc::Global;
 
@@ -100,20 +100,8 @@ fn deal_par_reply<B: Bounds>(asked: &ParOfDeal, table: &mut B, budget: Option<u6
     ensures bound { array_string_len result ≤ LONGEST_REPLY }
 {
     match solve_table(asked.request(), table, budget) {
-        Some(found) => write_par_of_deal(asked, &found),
+        Some(found) => table_par_reply(&found, asked.conditions()),
         None => write_spent(),
-    }
-}
-
-/// The text of par of the results of a deal.
-fn write_par_of_deal(asked: &ParOfDeal, found: &Results) -> ReplyText
-    requires { found.now ≡ results asked.now.hands }
-    ensures text { TellsPar (rows_of (results asked.now.hands)) asked.now.conditions result.bytes }
-    ensures bound { array_string_len result ≤ LONGEST_REPLY }
-{
-    match score_results(found) {
-        Some(rows) => par_reply(&rows, asked.conditions()),
-        None => unreachable!(),
     }
 }
 

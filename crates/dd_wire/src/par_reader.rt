@@ -1,11 +1,11 @@
 //! Lines that ask for par.
-ghost use Rattle.std.specs.Prelude.{◌≡◌, ◌⊎◌, nat_le, option_map, length, if◌then◌else◌};
+ghost use Rattle.std.specs.Prelude.{◌≡◌, ◌<◌, ◌↔◌, nat_le, option_map, IsSome, IfSome, if◌then◌else◌};
 ghost use Rattle.std.specs.List.{list_any, list_all};
 ghost use Rattle.std.specs.Str.{bytes_eq};
 ghost use Rattle.serde_json.specs.View.{view, members_view};
-ghost use Rattle.dd_cards.specs.Hands.{AreHands};
+ghost use Rattle.dd_score.specs.Vulnerability.{vulnerable_code};
 ghost use Rattle.dd_wire.specs.Lines.{MeansGiven};
-ghost use Rattle.dd_wire.specs.ParLines.{par_fields, par_keys, given_in, first_in, rows_of_value, row_of_value, order_coded, side_coded, vulnerable_coded, conditions_of, par_of_results, table_par_of, MeansParOfDeal, MeansDealt};
+ghost use Rattle.dd_wire.specs.ParLines.{par_fields, par_keys, given_in, first_in, rows_of_value, row_of_value, order_coded, seat_coded, side_coded, vulnerable_coded, conditions_of, par_of_results, table_par_of, MeansParOfDeal, MeansDealt};
 ghost use Rattle.dd_wire.specs.ReadingPar.{fields_of, given_of};
 ghost use Rattle.dd_wire.specs.Requests.{are_among, keys_of};
 
@@ -15,7 +15,7 @@ use crate::par_request::{Conditions, ParOfDeal, ParOfResults};
 use crate::request_reader::{
     hands_of, member_at, seat_of, table_request, text_at, whole_number_at,
 };
-use dd_cards::{Hands, Side};
+use dd_cards::{Hands, Seat, Side};
 use dd_score::{Order, Results, Vulnerable};
 use serde_json::{Map, Value};
 
@@ -134,28 +134,30 @@ fn row_in(value: &Value) -> Option<[u64; 4]>
 
 // What the fields ask, or their first fault.
 pub(crate) fn par_asked(fields: ParFields<'_>) -> Result<LineAsked, Fault>
-    ensures { MeansGiven (given_of fields.given) (fields_of fields) result }
+    ensures { MeansGiven (given_of fields.entry.given) (fields_of fields.entry) result }
 {
-    match fields.given {
-        Given::Results(rows) => Ok(LineAsked::Par(par_of_results(
-            &rows,
-            fields.first,
-            fields.vulnerable,
-        )?)),
-        Given::Deal(text) => Ok(LineAsked::ParOfDeal(par_of_deal(
-            text,
-            fields.first,
-            fields.vulnerable,
-        )?)),
+    let ParFields {
+        given,
+        first,
+        vulnerable,
+    } = fields;
+    match given {
+        Given::Results(rows) => Ok(LineAsked::Par(par_of_results(&rows, first, vulnerable)?)),
+        Given::Deal(text) => Ok(LineAsked::ParOfDeal(par_of_deal(text, first, vulnerable)?)),
     }
 }
 
 // What the fields ask where par of a deal is not known, or their first fault.
 pub(crate) fn table_par_asked(fields: ParFields<'_>) -> Result<ParOfResults, Fault>
-    ensures { result ≡ table_par_of (given_of fields.given) (fields_of fields) }
+    ensures { result ≡ table_par_of (given_of fields.entry.given) (fields_of fields.entry) }
 {
-    match fields.given {
-        Given::Results(rows) => par_of_results(&rows, fields.first, fields.vulnerable),
+    let ParFields {
+        given,
+        first,
+        vulnerable,
+    } = fields;
+    match given {
+        Given::Results(rows) => par_of_results(&rows, first, vulnerable),
         Given::Deal(_) => Err(Fault::WrongField),
     }
 }
@@ -194,7 +196,7 @@ fn conditions_of(first: FirstCode, vulnerable: u64) -> Result<Conditions, Fault>
     ensures { result ≡ conditions_of first vulnerable }
 {
     let order = order_of(first).ok_or(Fault::WrongOrder)?;
-    let vulnerable = vulnerable_of(vulnerable).ok_or(Fault::WrongVulnerable)?;
+    let vulnerable = vulnerable_coded(vulnerable).ok_or(Fault::WrongVulnerable)?;
     Ok(Conditions { vulnerable, order })
 }
 
@@ -202,7 +204,7 @@ fn order_of(first: FirstCode) -> Option<Order>
     ensures { result ≡ order_coded first }
 {
     match first {
-        FirstCode::Dealer(code) => Some(Order::Dealer(seat_of(code)?)),
+        FirstCode::Dealer(code) => Some(Order::Dealer(seat_coded(code)?)),
         FirstCode::Side(code) => Some(Order::First(side_of(code)?)),
     }
 }
@@ -217,8 +219,21 @@ fn side_of(code: u64) -> Option<Side>
     }
 }
 
-fn vulnerable_of(code: u64) -> Option<Vulnerable>
+fn seat_coded(code: u64) -> Option<Seat>
+    ensures { result ≡ seat_coded code }
+{
+    seat_of(code)
+}
+
+fn vulnerable_coded(code: u64) -> Option<Vulnerable>
     ensures { result ≡ vulnerable_coded code }
+{
+    vulnerable_of(code)
+}
+
+fn vulnerable_of(code: u64) -> Option<Vulnerable>
+    ensures valid { IsSome result ↔ (code < 4) }
+    ensures value { IfSome result (λ sides. vulnerable_code sides ≡ code) }
 {
     Vulnerable::from_code(u8::try_from(code).ok()?)
 }
@@ -255,8 +270,9 @@ fn row_of(row: &[u64; 4]) -> Option<[u8; 4]>
 fn tricks_of(number: u64) -> Option<u8>
     ensures { result ≡ (if nat_le number 13 then Some number else None) }
 {
-    match number {
-        0..=13 => Some(number as u8),
-        _ => None,
+    if number <= 13 {
+        Some(number as u8)
+    } else {
+        None
     }
 }

@@ -1,10 +1,10 @@
 //! The text of par: JSON without spaces, keys in the order of their bytes.
-ghost use Rattle.std.specs.Prelude.{◌≡◌, ◌+◌, ◌<◌, ◌≤◌, ◌*◌, ◌↔◌, ◌++◌, ◌∷◌, [], length, map, IsSome, IfSome};
+ghost use Rattle.std.specs.Prelude.{◌≡◌, ◌+◌, ◌<◌, ◌≤◌, ◌*◌, ◌++◌, ◌∷◌, [], length, map};
 ghost use Rattle.std.specs.List.{join_with_byte};
 ghost use Rattle.arrayvec.specs.ArrayString.{array_string_len};
 ghost use Rattle.dd_cards.specs.Seats.{seat_code};
 ghost use Rattle.dd_score.specs.Tables.{IsTable};
-ghost use Rattle.dd_wire.specs.ParReplies.{TellsPar, par_text, contract_text, declarer_codes, rows_of};
+ghost use Rattle.dd_wire.specs.ParReplies.{TellsPar, par_text, contract_text, declarers_text, rows_of};
 ghost use Rattle.dd_wire.specs.Replies.{list_text, of_strain};
 
 use crate::par_request::{Conditions, ParOfResults};
@@ -24,7 +24,7 @@ pub fn write_par(asked: &ParOfResults) -> ReplyText
 }
 
 // The text of par of these results.
-pub(crate) fn par_reply(results: &Results, conditions: Conditions) -> ReplyText
+fn par_reply(results: &Results, conditions: Conditions) -> ReplyText
     ensures text { TellsPar results.now conditions result.bytes }
     ensures bound { array_string_len result ≤ LONGEST_REPLY }
 {
@@ -80,9 +80,10 @@ fn push_contract(text: &mut ReplyText, contract: &ParContract)
 }
 
 // Appends the list of the seats that declare, rising.
+#[tactic(auto, unfolding(crate::specs::ParReplies::declarers_text))]
 fn push_declarers(text: &mut ReplyText, declarers: Declarers)
     requires { array_string_len text.old + 7 ≤ LONGEST_REPLY }
-    ensures bytes { text.new.bytes ≡ text.old.bytes ++ list_text (declarer_codes declarers) }
+    ensures bytes { text.new.bytes ≡ text.old.bytes ++ declarers_text declarers }
     ensures bound { array_string_len text.new ≤ array_string_len text.old + 7 }
 {
     match declarers {
@@ -103,19 +104,32 @@ fn push_seat(text: &mut ReplyText, seat: Seat)
     text.push_str("]");
 }
 
-// Twenty results as they are scored: None where one is over 13.
-pub(crate) fn score_results(found: &dd_solve::Results) -> Option<Results>
-    ensures valid { IsSome result ↔ IsTable (rows_of found.now) }
-    ensures value { IfSome result (λ r. r ≡ rows_of found.now) }
+// The text of par of twenty results that were found.
+pub(crate) fn table_par_reply(found: &dd_solve::Results, conditions: Conditions) -> ReplyText
+    requires { IsTable (rows_of found.now) }
+    ensures text { TellsPar (rows_of found.now) conditions result.bytes }
+    ensures bound { array_string_len result ≤ LONGEST_REPLY }
+{
+    par_reply(&scored(found), conditions)
+}
+
+// Twenty results as they are scored.
+fn scored(found: &dd_solve::Results) -> Results
+    requires { IsTable (rows_of found.now) }
+    ensures { result ≡ rows_of found.now }
 {
     let tricks = found.as_slice();
-    Results::new([
+    let rows = [
         of_strain(tricks, 0),
         of_strain(tricks, 1),
         of_strain(tricks, 2),
         of_strain(tricks, 3),
         of_strain(tricks, 4),
-    ])
+    ];
+    match Results::new(rows) {
+        Some(results) => results,
+        None => unreachable!(),
+    }
 }
 
 // Of twenty results those of a strain.

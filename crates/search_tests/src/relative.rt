@@ -75,7 +75,9 @@ fn choice(position: &Position, trick: &RelativeTrick, played: u8, pick: u8) -> O
     }
     let those = position.choices();
     let these = trick.choices_at(played);
-    if !same_counts(these, those) || !same_counts(trick.tops_at(played), tops_at(position, played)) {
+    if !same_counts(these, those)
+        || !same_counts(trick.tops_at(played), tops_at(position, played))
+    {
         return None;
     }
     let many = these.len();
@@ -87,7 +89,12 @@ fn choice(position: &Position, trick: &RelativeTrick, played: u8, pick: u8) -> O
 }
 
 // Both after one card more that doesn't complete the trick.
-fn played_on(position: &Position, trick: &RelativeTrick, played: u8, pick: u8) -> Option<(Position, RelativeTrick)>
+fn played_on(
+    position: &Position,
+    trick: &RelativeTrick,
+    played: u8,
+    pick: u8,
+) -> Option<(Position, RelativeTrick)>
     requires turn { length trick.now.trick ≡ played }
     requires open { played < 3 }
 {
@@ -158,6 +165,7 @@ fn tricks_alike(deal: &str, strain: Strain, seed: u32) -> u8 {
 }
 
 const MIXED: &str = "N:QJ6.K652.J85.T98 873.J97.AT764.Q4 K5.T83.KQ9.A7652 AT942.AQ4.32.KJ3";
+
 const LONG: &str = "N:73.QJT.AQ54.T752 QT6.876.KJ9.AQ84 5.A95432.7632.K6 AKJ9842.K.T8.J93";
 
 #[test]

@@ -13,9 +13,46 @@ fn read(alloc: Global, line: &str) -> Result<Args, Error> {
 /// Whether the line asks to solve with this budget and these entries.
 fn asks(alloc: Global, line: &str, budget: Option<u64>, entries: u32) -> bool {
     match read(alloc, line) {
-        Ok(args) => args == Args::Solve { budget, entries },
+        Ok(args) => {
+            args == Args::Solve {
+                budget,
+                entries,
+                workers: 1,
+            }
+        }
         Err(_) => false,
     }
+}
+
+/// Whether the line asks to solve by so many threads, with this budget and these entries.
+fn asks_for(alloc: Global, line: &str, budget: Option<u64>, entries: u32, workers: u32) -> bool {
+    match read(alloc, line) {
+        Ok(args) => {
+            args == Args::Solve {
+                budget,
+                entries,
+                workers,
+            }
+        }
+        Err(_) => false,
+    }
+}
+
+#[test]
+fn the_options_of_solve_stand_in_any_order(rt: HostRuntime) {
+    let alloc = rt.alloc();
+    for line in [
+        "x solve --budget 5 --entries 7 --workers 3",
+        "x solve --budget 5 --workers 3 --entries 7 --",
+        "x solve --entries=7 --budget 5 --workers=3",
+        "x solve --entries 7 --workers 3 --budget=5",
+        "x solve --workers 3 --budget 5 --entries 7",
+        "x solve --workers=3 --entries=7 --budget=5 --",
+    ] {
+        assert!(rt; asks_for(alloc, line, Some(5), 7, 3), "{line}");
+    }
+    assert!(rt; asks_for(alloc, "x solve --workers 64", None, 4_096, 64));
+    assert!(rt; asks_for(alloc, "x solve --workers +1 --budget 0", Some(0), 4_096, 1));
 }
 
 #[test]
@@ -101,11 +138,14 @@ fn a_bad_line_ends_with_status_2(rt: HostRuntime) {
             ddserve solve --budget 1000000000001\n\
             ddserve solve --entries 0\n\
             ddserve solve --entries 65537\n\
-            ddserve solve --entries 4294967297",
+            ddserve solve --entries 4294967297\n\
+            ddserve solve --workers 0\n\
+            ddserve solve --workers 65",
             ErrorKind::ValueValidation,
         ),
         (
-            "ddserve solve --entries 7 --entries 7",
+            "ddserve solve --entries 7 --entries 7\n\
+            ddserve solve --workers 2 --entries 7 --workers 2",
             ErrorKind::ArgumentConflict,
         ),
     ];
@@ -136,6 +176,7 @@ fn the_texts_say_what_is_asked_and_what_is_wrong(rt: HostRuntime) -> Result<(), 
         "Usage: ddserve solve [OPTIONS]",
         "0 to 1000000000000 [default: no limit]",
         "1 to 65536 [default: 4096]",
+        "share a table of 16 shards [default: 1]",
         "{\"do\":\"solve\",\"deal\":\"N:",
     ] {
         assert!(rt; help.contains(part), "{part}");

@@ -1,4 +1,4 @@
-use Rattle.std.proofs.Common.{arith, ◌∙◌, sym, ap}
+use Rattle.std.proofs.Common.{arith, ◌∙◌, ap}
 use Rattle.dd_cards.specs.Cards.{has_card}
 use Rattle.dd_relative.proofs.Moved.{moved-cards, no-bit, up-fits, up-mask}
 use Rattle.dd_relative.proofs.gap.moved_up.Goals as goal

@@ -1,13 +1,9 @@
-use Rattle.std.proofs.Common.{◌≡◌, true, sym, ap, ◌∙◌, subst, List}
-use Rattle.std.specs.Prelude.{filter, ◌||◌}
-use mathlib.Core.Path.{ap₂}
+use Rattle.std.proofs.Common.{◌≡◌, ap, ◌∙◌, subst}
+use Rattle.std.specs.Prelude.{filter}
 use mathlib.Core.Bool.{not}
-use Rattle.dd_cards.specs.PlayingCard.{PlayingCard}
-use Rattle.dd_cards.specs.Cards.{deck, has_card}
-use Rattle.dd_cards.specs.Seats.{next_seat, seat_after}
-use Rattle.dd_play.specs.Board.{Board, cards_at}
+use Rattle.dd_cards.specs.Cards.{has_card}
+use Rattle.dd_play.specs.Board.{Board}
 use Rattle.dd_rank.specs.Alike.{IsAlike}
-use Rattle.dd_relative.specs.Gapped.{IsGapped}
 use Rattle.dd_relative.specs.Relative.{led_by_north}
 use Rattle.dd_relative.specs.Turned.{from_leader}
 use Rattle.dd_relative.proofs.Starts.{start-gapped, start-same}

@@ -1,14 +1,11 @@
-use Rattle.std.proofs.Common.{◌≡◌, refl, sym, ap, ◌∙◌, subst, [], get_or, List}
-use mathlib.Core.Path.{ap₂}
-use Rattle.dd_cards.specs.declared.seat.Seat.TheVariants.{North, East, South, West}
+use Rattle.std.proofs.Common.{◌≡◌, refl, ap, ◌∙◌, subst, [], get_or, List}
 use Rattle.dd_cards.specs.PlayingCard.{PlayingCard}
 use Rattle.dd_cards.specs.Cards.{with_card, without}
 use Rattle.dd_cards.specs.Hands.{dealt}
 use Rattle.dd_play.specs.Board.{Board}
 use Rattle.dd_play.specs.Play.{after}
 use Rattle.dd_rank.specs.Alike.{IsAlike}
-use Rattle.dd_relative.specs.Relative.{led_by_north}
-use Rattle.dd_relative.specs.Turned.{from_seat, from_leader}
+use Rattle.dd_relative.specs.Turned.{from_seat}
 use Rattle.dd_relative.proofs.Turned.{alike-turned}
 use Rattle.dd_relative.proofs.UnderWay.{IsFinish, finish}
 use Rattle.dd_relative.proofs.relative_trick.RelativeTrick.next_start.Goals as goal

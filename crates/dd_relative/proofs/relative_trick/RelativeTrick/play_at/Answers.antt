@@ -1,7 +1,3 @@
-use Rattle.std.proofs.Common.{◌≡◌, sym, ap, ◌∙◌, arith, length, take, subst}
-use Rattle.dd_play.specs.Board.{Board}
-use Rattle.dd_play.specs.Simulations.{IsLegal}
-use Rattle.dd_relative.specs.Relative.{IsRelative}
 use Rattle.dd_relative.proofs.UnderWay.{IsPlayed, played-on}
 use Rattle.dd_relative.proofs.relative_trick.RelativeTrick.play_at.Goals as goal
 use Rattle.dd_relative.proofs.relative_trick.RelativeTrick.play_at.Goals.{After-with_place}

@@ -1,0 +1,72 @@
+#!/usr/bin/env bash
+# `ddserve solve --workers 1`, 2 and 4 over a file of full deals with the scores of all leads, beside DDS's SolveAllBoards, and
+# then over the twenty results of deals, beside DDS's CalcAllTables (package libdds-dev), each with as many threads. The least
+# time of several runs taken in turns, the speed-up over one thread, and whether all replies agree: where some don't it ends
+# with status 1. Words: the number of runs (3), of deals with scores, at most 200 (200), of tables, at most 40 (40), and the
+# seed of the deals (1016).
+set -eu
+here=$(cd -- "$(dirname -- "$0")" && pwd)
+top=$(cd -- "$here/../.." && pwd)
+runs=${1:-3}
+deals=${2:-200}
+tables=${3:-40}
+seed=${4:-1016}
+
+for tool in python3 g++; do
+    command -v "$tool" > /dev/null || { echo "bench/workers: the command $tool is missing" >&2; exit 1; }
+done
+[ -e /usr/include/dds/dll.h ] || { echo 'bench/workers: the package libdds-dev is missing' >&2; exit 1; }
+work=$(mktemp -d)
+trap 'rm -rf "$work"' EXIT
+g++ -O2 -o "$work/scores" "$here/dds.cpp" -ldds
+g++ -O2 -o "$work/tables" "$here/dds_tables.cpp" -ldds
+"$top/ddserve" solve < /dev/null
+python3 "$top/bench/tools/deals.py" 13 "$deals" --seed "$seed" --requests > "$work/scores.jsonl"
+python3 "$top/bench/tools/deals.py" 13 "$tables" --seed "$seed" --requests \
+    | sed 's/"do":"solve"/"do":"table"/; s/,"trump".*}$/}/' > "$work/tables.jsonl"
+
+python3 - "$runs" "$top/crates/ddserve/out/ddserve" "$work" <<'PY'
+import os
+import subprocess
+import sys
+import time
+
+runs, ours, work = int(sys.argv[1]), sys.argv[2], sys.argv[3]
+differing = 0
+
+
+# Seconds: of our program with its start, of DDS its one call.
+def run(name, kind, count, lines):
+    command = [ours, "solve", "--workers", str(count)] if name == "ddserve" else [f"{work}/{kind}", str(count)]
+    start = time.monotonic()
+    done = subprocess.run(command, input=lines, capture_output=True, text=True)
+    taken = time.monotonic() - start
+    if done.returncode != 0:
+        sys.exit(f"bench/workers: {name} with {count} ended with {done.returncode}")
+    if name == "DDS":
+        nanoseconds, number = map(int, done.stderr.split())
+        if number != count:
+            sys.exit(f"bench/workers: DDS has {number} threads in place of {count}")
+        taken = nanoseconds / 1e9
+    return taken, done.stdout
+
+
+for kind in ("scores", "tables"):
+    with open(f"{work}/{kind}.jsonl") as file:
+        lines = file.read()
+    replies, least = None, {}
+    for _ in range(runs):
+        for count in (1, 2, 4):
+            for name in ("ddserve", "DDS"):
+                taken, told = run(name, kind, count, lines)
+                replies = replies or told
+                differing += told != replies
+                least[name, count] = min(least.get((name, count), taken), taken)
+    print(f"{kind} of {lines.count(chr(10))} full deals, least of {runs} runs, {os.cpu_count()} processors, load {os.getloadavg()[0]:.1f}")
+    print("threads  ddserve s  speed-up    DDS s  speed-up  ddserve/DDS")
+    for count in (1, 2, 4):
+        a, b = least["ddserve", count], least["DDS", count]
+        print(f"{count:7}  {a:9.2f}  {least['ddserve', 1] / a:8.2f}  {b:7.2f}  {least['DDS', 1] / b:8.2f}  {a / b:11.2f}")
+print(f"{differing} of {runs * 12} runs with other replies")
+sys.exit(1 if differing else 0)
+PY

@@ -1,0 +1,110 @@
+//! Lines that several threads answer.
+ghost use Rattle.std.specs.Prelude.{◌≡◌, ◌≤◌};
+ghost use Rattle.dd_program.specs.CommandLine.{IsTableSize};
+ghost use Rattle.dd_program.specs.Endings.{state_of, streams, SolvesUntil};
+
+use crate::ending::Ending;
+use crate::run::fail;
+use dd_cache::Cache;
+use dd_lines::{CountedDevice, LineFault};
+use dd_search::Bounds;
+use dd_table::{SharedTable, View};
+use dd_tool::solve_lines_on;
+use std::alloc::{AllocError, Global};
+use std::io::{Read, Write};
+use std::sync::Wait;
+use std::thread::Threads;
+
+/// The most bytes that one read takes, of which the threads answer the lines: some five hundred deals.
+const PIECE: usize = 65_536;
+
+/// The shards of the table that several threads share.
+const SHARDS: u32 = 16;
+
+/// Answers the lines of the input, each within the budget, by so many threads with this one, over a table that they share,
+/// each behind a cache of its own.
+pub(crate) fn solve_ahead<W: Threads + Wait + Sync, R: Read, O: Write, E: Write>(
+    rt: &W,
+    alloc: Global,
+    workers: u32,
+    budget: Option<u64>,
+    entries: u32,
+    reader: &mut CountedDevice<R>,
+    output: &mut CountedDevice<O>,
+    errors: &mut CountedDevice<E>,
+) -> Ending
+    requires { IsTableSize entries }
+    ensures { SolvesUntil budget
+        (streams (state_of R.remaining reader.old) (state_of O.contents output.old)
+        (state_of E.contents errors.old))
+        (streams (state_of R.remaining reader.new) (state_of O.contents output.new)
+        (state_of E.contents errors.new)) result }
+{
+    let Ok(table) = SharedTable::new(alloc, SHARDS, entries) else {
+        return fail(errors, Ending::OutOfMemory);
+    };
+    let Ok(mut cache) = Cache::new(alloc, table.view(rt)) else {
+        return fail(errors, Ending::OutOfMemory);
+    };
+    let Ok(mut others) = caches(rt, alloc, &table, workers.saturating_sub(1)) else {
+        return fail(errors, Ending::OutOfMemory);
+    };
+    solve_on(
+        rt,
+        alloc,
+        budget,
+        reader,
+        output,
+        errors,
+        &mut cache,
+        others.as_mut_slice(),
+    )
+}
+
+/// So many caches that have learned nothing, each before a view of the table. The error says that memory ran out.
+fn caches<'a, W: Wait>(
+    rt: &'a W,
+    alloc: Global,
+    table: &'a SharedTable,
+    count: u32,
+) -> Result<Vec<Cache<View<'a, W>>>, AllocError> {
+    let mut caches = Vec::with_capacity(alloc, count as usize)?;
+    for _ in 0..count {
+        caches.push(Cache::new(alloc, table.view(rt))?)?;
+    }
+    Ok(caches)
+}
+
+/// Answers the lines of the input over a table, each within the budget, with a thread for each of the others.
+fn solve_on<W: Threads + Wait + Sync, B: Bounds, H: Bounds + Send, R: Read, O: Write, E: Write>(
+    rt: &W,
+    alloc: Global,
+    budget: Option<u64>,
+    reader: &mut CountedDevice<R>,
+    output: &mut CountedDevice<O>,
+    errors: &mut CountedDevice<E>,
+    table: &mut B,
+    others: &mut [H],
+) -> Ending
+    ensures { SolvesUntil budget
+        (streams (state_of R.remaining reader.old) (state_of O.contents output.old)
+        (state_of E.contents errors.old))
+        (streams (state_of R.remaining reader.new) (state_of O.contents output.new)
+        (state_of E.contents errors.new)) result }
+{
+    let mut buffer = [0; PIECE];
+    match solve_lines_on(
+        rt,
+        alloc,
+        reader,
+        output,
+        table,
+        others,
+        budget,
+        &mut buffer,
+    ) {
+        Ok(()) => Ending::Answered,
+        Err(LineFault::Read) => fail(errors, Ending::ReadFailed),
+        Err(LineFault::Write) => fail(errors, Ending::WriteFailed),
+    }
+}
