@@ -53,9 +53,15 @@ no-stop-call members =
     (either (bytes_eq task (codes "fetch")) _ _ (of-job Fetch (named_job fetch_keys members) (λ n e. cc))
     (no-leave (bytes_eq task (codes "stop")) (is_alone members))))
 
--- what the book is asked for with this wait
+-- what the book is asked for, if it is
+abbrev wanted : Result SessionAsked Fault → Option Want
+wanted (Ok (Book wish)) = Some wish.want
+wanted (Ok (Par par)) = None
+wanted (Err fault) = None
+
+-- of one meaning it is one want
 asked-want : (wait : ℕ) (wish : Wish) (want : Want) (a : Result SessionAsked Fault) → a ≡ Ok (Book wish) → a ≡ Ok (called wait want) → want ≡ wish.want
-asked-want wait wish want a is_wish is_want = let same : called wait want ≡ Book wish = cc in let wishes : record { want = want; wait = wait } ≡ wish = cc in ap (λ (w : Wish). w.want) wishes
+asked-want wait wish want a is_wish is_want = let same : Some want ≡ Some wish.want = ap wanted (sym is_want ∙ is_wish) in cc
 
 -- a request that is submitted is no stop
 no-stop-submitted : (wait : ℕ) (wish : Wish) (asked : Result Asked Fault) → Ok (Book wish) ≡ asked_as (submitted wait) asked → wish.want ≡ Stop → ⊥
