@@ -1,6 +1,7 @@
 -- What a line of the line tool means: something, and one thing; and each meaning has a reply.
-use Rattle.std.proofs.Common.{◌≡◌, ℕ, refl, sym, ap, ◌∙◌, List, length}
-use Rattle.std.specs.Prelude.{Result, Ok, Err, nat_lt}
+use Rattle.std.proofs.Common.{◌≡◌, ℕ, ◌≤◌, false, refl, sym, ap, ◌∙◌, List, length}
+use Rattle.std.specs.Prelude.{Some, Result, Ok, Err, nat_lt}
+use Rattle.std.proofs.lemmas.Bool.{le-ltb}
 use Rattle.serde_json.specs.Data.{Members}
 use Rattle.dd_lines.specs.Line.{longest_line}
 use Rattle.dd_solve.specs.Results.{results}
@@ -24,6 +25,13 @@ use Rattle.dd_wire.specs.Requests.{MeansObject, object_of, wait_at}
 use Rattle.dd_wire.proofs.Meanings.{SomeMeaning, by-test, by-option, by-fields, some-object, some-way, object-memory, way-memory}
 use Rattle.dd_wire.proofs.OneMeaning.{AtMostOne, both, one-by-test, one-by-option, one-object, one-way}
 use Rattle.dd_wire.proofs.ParMeanings.{some-given, one-given, given-memory}
+
+-- a line that is not too long and whose wait is one means what the members of its object mean
+pub means-members : (line : List ℕ) (object : Members) (wait : ℕ) (meaning : Result LineAsked Fault)
+    → length line ≤ longest_line → object_of line ≡ Some object → wait_at object ≡ Some wait → MeansMembers object meaning → Means line meaning
+means-members line object wait meaning short is waits means =
+    let test : nat_lt longest_line (length line) ≡ false = le-ltb longest_line (length line) short in
+    rw (test, is, waits) means
 
 -- ---- every line has a meaning
 some-cards : (members : Members) → SomeMeaning (MeansOfCards members)
