@@ -1,6 +1,6 @@
 -- Without leave no line wants a stop, so the port is asked for none.
 use Rattle.std.proofs.Common.{◌≡◌, ℕ, List, [], ◌∷◌, Bool, true, false, Option, Ok, Err, inl, inr, refl, sym, ap, subst}
-use Rattle.std.specs.Prelude.{Result, OnOk, OnErr}
+use Rattle.std.specs.Prelude.{Result, IsTrue, OnOk, OnErr}
 use Rattle.dd_wire.specs.declared.want.Want.{Want}
 use Rattle.dd_wire.specs.Wants.{MeansWant}
 use Rattle.dd_wire.proofs.CallerLemmas.{no-stop-line}
@@ -25,8 +25,8 @@ no-stops (line ∷ rest) bytes told refused (text, more, split, way) =
 -- ---- what a session asked for
 
 served-no-stop : (leave : Bool) (before after : PortOf) (lines : List (List ℕ)) (bytes : List ℕ) → leave ≡ false → IsServed leave before lines bytes after → AsksNoStop before.told after.told
-served-no-stop true before after lines bytes no served = cc
-served-no-stop false before after lines bytes no served =
+served-no-stop true before after lines bytes without served = cc
+served-no-stop false before after lines bytes without served =
     record {
       gained = served.told;
       told = ap (λ (p : PortOf). p.told) served.gained;
@@ -37,11 +37,11 @@ served-no-stop false before after lines bytes no served =
 pub lines-no-stop : {E : Type 0} (result : Result (Unit {0}) E) (leave : Bool) (before after : PortOf) (r0 r1 w0 w1 : Option (List ℕ))
     → OnOk result (ServedAll leave before after r0 r1 w0 w1) → OnErr result (ServedBeginning leave before after r0 r1 w0 w1)
     → leave ≡ false → AsksNoStop before.told after.told
-lines-no-stop (Ok x) leave before after r0 r1 w0 w1 all some no = served-no-stop leave before after _ _ no all.served
-lines-no-stop (Err e) leave before after r0 r1 w0 w1 all some no = served-no-stop leave before after _ _ no some.served
+lines-no-stop (Ok x) leave before after r0 r1 w0 w1 all some without = served-no-stop leave before after _ _ without all.served
+lines-no-stop (Err e) leave before after r0 r1 w0 w1 all some without = served-no-stop leave before after _ _ without some.served
 
 -- and over messages
 pub messages-no-stop : (allow_stop : Bool) (before after : PortOf) → ServesMessages allow_stop before after → allow_stop ≡ false → AsksNoStop before.told after.told
-messages-no-stop true before after serves no = cc
-messages-no-stop false before after (true, given, messages, replies, served) no = absurd (given tt)
-messages-no-stop false before after (false, given, messages, replies, served) no = served-no-stop false before after messages replies refl served
+messages-no-stop true before after serves without = cc
+messages-no-stop false before after (true, given, messages, replies, served) without = let lie : IsTrue false = given refl in cc
+messages-no-stop false before after (false, given, messages, replies, served) without = served-no-stop false before after messages replies refl served
