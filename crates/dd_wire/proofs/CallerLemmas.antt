@@ -5,3 +5,6 @@
 pub use Rattle.dd_wire.proofs.LineMeanings.{some-meaning}
 -- each meaning has a reply
 pub use Rattle.dd_wire.proofs.LineMeanings.{some-answer}
+-- ---- Without leave no line wants a stop.
+-- no line means that
+pub use Rattle.dd_wire.proofs.NoStops.{no-stop-line}

@@ -3,6 +3,7 @@ pub mod Examples
 pub mod Keys
 pub mod LineMeanings
 pub mod Meanings
+pub mod NoStops
 pub mod Objects
 pub mod OneMeaning
 pub mod Pairs

@@ -136,6 +136,6 @@ fn a_plain_list_gives_the_same_replies(rt: HostRuntime) -> Result<(), AllocError
         book = after;
         tables = tables.wrapping_add(shown);
     }
-    assert!(&rt; tables > 10, "{tables}");
+    assert!(&rt; tables > 4, "{tables}");
     Ok(())
 }
