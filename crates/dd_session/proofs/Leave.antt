@@ -1,5 +1,5 @@
 -- Without leave no line wants a stop, so the port is asked for none.
-use Rattle.std.proofs.Common.{◌≡◌, ℕ, List, [], ◌∷◌, Bool, true, false, IsTrue, Option, Ok, Err, inl, inr, refl, sym, ap, subst}
+use Rattle.std.proofs.Common.{◌≡◌, ℕ, List, [], ◌∷◌, ◌++◌, Bool, true, false, IsTrue, Option, Ok, Err, inl, inr, refl, sym, ap, subst}
 use Rattle.std.specs.Prelude.{Result, Some, None, MatchOption, OnOk, OnErr}
 use Rattle.dd_solve.specs.declared.asked.Asked.{Asked}
 use Rattle.dd_book.specs.declared.call.Reply.{Reply}
