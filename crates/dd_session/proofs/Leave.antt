@@ -20,7 +20,7 @@ one-no-stop want (Ok reply) news refused none (is, count) = subst AreNoStops (sy
 one-no-stop want (Err fault) news refused none (of_call, is, count) = subst AreNoStops (sym is) tt
 
 state-no-stop : (asked : Asked) (made : Reply) (job : ℕ) (said : Result Reply DeskFault) (news : List Told) (refused : ℕ) → SaysState asked made job said news refused → AreNoStops news
-state-no-stop asked made job said news refused (inl (state, says, is, count)) = subst AreNoStops (sym is) (λ e. cc, λ e. cc, tt)
+state-no-stop asked made job said news refused (inl (state, says, is, count)) = subst AreNoStops (sym is) (λ e. cc, (λ e. cc, tt))
 state-no-stop asked made job said news refused (inr (fault, of_call, says, is, count)) = subst AreNoStops (sym is) (λ e. cc, tt)
 
 after-no-stop : (asked : Asked) (first said : Result Reply DeskFault) (news : List Told) (refused : ℕ) → SaysAfter asked first said news refused → AreNoStops news
