@@ -1,14 +1,16 @@
 #!/usr/bin/env bash
-# `ddserve solve` beside DDS (package libdds-dev; SolveBoard, target -1, mode 1, one thread) over the same request lines,
-# with the scores of all leads. First deals of 6, 8 and 9 cards a hand: the least time of several runs of each over all
+# `ddserve solve` beside DDS 2.9 (SolveBoard, target -1, mode 1, one thread) over the same request lines, with the scores of
+# all leads. DDS is there twice: built from its source at -O3 (`peer.sh`), which is the peer, and as Debian's package libdds-dev
+# has it, which is slower. First deals of 6, 8 and 9 cards a hand: the least time of several runs of each over all
 # lines, taken in turns, and their ratio; and 2,000 lines of 1, 4 and 6 cards a hand at once through a pipe: lines a second
 # with the program's start and without, the most of several runs. Then full deals, as many of each strain, line by line
 # through a pipe to each program in one run, over a table of 65,536 entries: the least time of each reply in as many such runs,
 # of these the mean, the geometric mean and the slowest, and the most memory that each program had. Then in the same way one
 # best lead of each deal, where the replies agree that have one score; one lead that reaches a target, the best score and then
-# one more, which none reaches; and in three runs at most the twenty results, beside DDS's CalcDDtable. Deals are from fixed seeds; it says whether the replies agree, and ends with status 1 where some don't.
+# one more, which none reaches; and in three runs at most the twenty results, beside DDS's CalcDDtable. Ratios are to each of
+# the two. Deals are from fixed seeds; it says whether the replies agree, and ends with status 1 where some don't.
 # Words: the number of runs (5), of full deals (40), the seed of the full deals (1013), and the parts, with commas between them
-# (small,leads,best,targets,tables).
+# (small,leads,best,targets,tables). `DDS_PEER` names a folder in which the built DDS is kept.
 set -eu
 here=$(cd -- "$(dirname -- "$0")" && pwd)
 top=$(cd -- "$here/../.." && pwd)
@@ -24,7 +26,9 @@ done
 
 work=$(mktemp -d)
 trap 'rm -rf "$work"' EXIT
-g++ -O2 -o "$work/dds" "$here/dds.cpp" -ldds
+g++ -O2 -o "$work/debian" "$here/dds.cpp" -ldds
+bash "$here/peer.sh" "${DDS_PEER:-$work/peer}"
+g++ -O3 -march=x86-64-v3 -flto=auto -pthread -I"${DDS_PEER:-$work/peer}/include" -o "$work/dds" "$here/dds.cpp" "${DDS_PEER:-$work/peer}/libdds.a"
 "$top/ddserve" solve < /dev/null
 for cards in 1 4 6; do
     python3 "$top/bench/tools/deals.py" "$cards" 2000 --seed $((2000 + cards)) --requests > "$work/small$cards.jsonl"
@@ -44,20 +48,20 @@ import sys
 import time
 
 runs, ours, work, parts = int(sys.argv[1]), sys.argv[2], sys.argv[3], sys.argv[4].split(",")
-commands = {"ddserve": [ours, "solve", "--entries", "65536"], "DDS": [f"{work}/dds"]}
+commands = {"ddserve": [ours, "solve", "--entries", "65536"], "DDS": [f"{work}/dds"], "Debian": [f"{work}/debian"]}
 differing = 0
 
 
-def both(replies, seen=str):
+def all_of(replies, seen=str):
     global differing
-    same = seen(replies["ddserve"]) == seen(replies["DDS"])
+    same = len({str(seen(reply)) for reply in replies.values()}) == 1
     differing += not same
     return "agree" if same else "DIFFER"
 
 
 if "small" in parts:
     print(f"all lines at once, least of {runs} runs")
-    print("cards a hand  lines  ddserve s    DDS s  ratio  replies")
+    print("cards a hand  lines  ddserve s    DDS s  ratio  Debian s  ratio  replies")
 for cards in (6, 8, 9) if "small" in parts else ():
     with open(f"{work}/{cards}.jsonl") as file:
         lines = file.read()
@@ -68,8 +72,8 @@ for cards in (6, 8, 9) if "small" in parts else ():
             done = subprocess.run(command, input=lines, capture_output=True, text=True, check=True)
             least[name] = min(least[name], time.perf_counter() - start)
             replies[name] = done.stdout
-    a, b = least["ddserve"], least["DDS"]
-    print(f"{cards:>12}  {lines.count(chr(10)):>5}  {a:9.3f}  {b:7.3f}  {a / b:5.2f}  {both(replies)}")
+    a, b, c = least["ddserve"], least["DDS"], least["Debian"]
+    print(f"{cards:>12}  {lines.count(chr(10)):>5}  {a:9.3f}  {b:7.3f}  {a / b:5.2f}  {c:8.3f}  {a / c:5.2f}  {all_of(replies)}")
 
 
 def answer(program, line):
@@ -122,7 +126,7 @@ def rates(command, path):
 
 def small_lines():
     print(f"\nlines at once through a pipe, lines a second, the most of {runs} runs: with the program's start, and without")
-    print("cards a hand  lines   ddserve       DDS  ratio   ddserve       DDS  ratio  replies")
+    print("cards a hand  lines   ddserve       DDS  ratio    Debian  ratio   ddserve       DDS  ratio    Debian  ratio  replies")
     for cards in (1, 4, 6):
         path = f"{work}/small{cards}.jsonl"
         most, replies = {name: [0, 0] for name in commands}, {}
@@ -130,8 +134,8 @@ def small_lines():
             for name, command in commands.items():
                 found, replies[name] = rates(command, path)
                 most[name] = list(map(max, most[name], found))
-        columns = "".join(f"  {a:8.0f}  {b:8.0f}  {a / b:5.2f}" for a, b in zip(most["ddserve"], most["DDS"]))
-        print(f"{cards:>12}  {replies['ddserve'].count(chr(10)):>5}{columns}  {both(replies)}", flush=True)
+        columns = "".join(f"  {a:8.0f}  {b:8.0f}  {a / b:5.2f}  {c:8.0f}  {a / c:5.2f}" for a, b, c in zip(*most.values()))
+        print(f"{cards:>12}  {replies['ddserve'].count(chr(10)):>5}{columns}  {all_of(replies)}", flush=True)
 
 
 def one_run(lines):
@@ -147,23 +151,30 @@ def one_by_one(title, lines, strains, tries, seen=str):
     answers, memories = zip(*[one_run(lines) for _ in range(tries)])
     times, agreed = {name: [] for name in commands}, 0
     print(f"\n{title}: {len(lines)} full deals, one by one, milliseconds, least of {len(answers)} runs")
-    print("deal  strain  ddserve ms    DDS ms  ratio  replies")
+    print("deal  strain  ddserve ms    DDS ms  ratio  Debian ms  replies")
     for number in range(len(lines)):
         for name in commands:
             times[name].append(1000 * min(run[number][name][0] for run in answers))
-        a, b = times["ddserve"][-1], times["DDS"][-1]
-        found = {both({name: run[number][name][1] for name in commands}, seen) for run in answers}
+        a, b, c = (times[name][-1] for name in commands)
+        found = {all_of({name: run[number][name][1] for name in commands}, seen) for run in answers}
         agreed += found == {"agree"}
-        print(f"{number + 1:>4}  {strains[number % len(strains)]:>6}  {a:10.1f}  {b:8.1f}  {a / b:5.2f}  {'agree' if found == {'agree'} else 'DIFFER'}", flush=True)
+        print(f"{number + 1:>4}  {strains[number % len(strains)]:>6}  {a:10.1f}  {b:8.1f}  {a / b:5.2f}  {c:9.1f}  {'agree' if found == {'agree'} else 'DIFFER'}", flush=True)
 
-    ratios = [a / b for a, b in zip(times["ddserve"], times["DDS"])]
-    print(f"\n{'':15}  {'mean':>8}  {'geom. mean':>10}  {'slowest':>8}")
-    for name, list_of in [("ddserve ms", times["ddserve"]), ("DDS ms", times["DDS"]), ("ratio of a deal", ratios)]:
-        print(f"{name:15}  {sum(list_of) / len(list_of):8.2f}  {geometric_mean(list_of):10.2f}  {max(list_of):8.2f}")
-    a, b = times["ddserve"], times["DDS"]
-    print(f"sums {sum(a) / sum(b):.2f}, slowest over slowest {max(a) / max(b):.2f}; {agreed} of {len(lines)} replies agree")
+    print(f"\n{'':24}  {'mean':>8}  {'geom. mean':>10}  {'slowest':>8}")
+    for name, list_of in times.items():
+        print(f"{name + ' ms':24}  {sum(list_of) / len(list_of):8.2f}  {geometric_mean(list_of):10.2f}  {max(list_of):8.2f}")
+    for name in ("DDS", "Debian"):
+        a, b = times["ddserve"], times[name]
+        print(f"{'ddserve / ' + name:24}  {sum(a) / sum(b):8.2f}  {geometric_mean(a) / geometric_mean(b):10.2f}  {max(a) / max(b):8.2f}")
+        ratios = [x / y for x, y in zip(a, b)]
+        print(f"{'the most of a deal':24}  {max(ratios):8.2f}")
+        for strain in strains if len(strains) > 1 else "":
+            of = [ratio for number, ratio in enumerate(ratios) if strains[number % len(strains)] == strain]
+            if of:
+                print(f"{'of strain ' + strain:24}  {'':8}  {geometric_mean(of):10.2f}")
+    print(f"{agreed} of {len(lines)} replies agree")
     memory = {name: max(memory[name] for memory in memories) for name in commands}
-    print(f"the most memory: ddserve {memory['ddserve']:.0f} MB, DDS {memory['DDS']:.0f} MB")
+    print("the most memory: " + ", ".join(f"{name} {most:.0f} MB" for name, most in memory.items()))
 
 
 def scores(reply):
