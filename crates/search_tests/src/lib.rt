@@ -16,8 +16,6 @@ mod quick;
 #[cfg(test)]
 mod rank;
 #[cfg(test)]
-mod relative;
-#[cfg(test)]
 mod rows;
 #[cfg(test)]
 mod search;
