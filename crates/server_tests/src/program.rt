@@ -1,5 +1,4 @@
 //! Tests of the program, by the words of its command line and its streams.
-mod ahead;
 mod asking;
 mod budgets;
 mod devices;

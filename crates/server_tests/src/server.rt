@@ -1,7 +1,6 @@
 //! Runs of the server, with a client of the same process.
 pub mod client;
 mod clients;
-mod descriptors;
 mod gate;
 mod pieces;
 mod rows;
