@@ -1,5 +1,4 @@
 //! Tests of the workers.
-mod budgets;
 mod gate;
 mod lines;
 mod rows;
