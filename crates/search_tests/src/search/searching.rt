@@ -147,7 +147,7 @@ fn a_quick_trick_settles_what_a_look_does_not(rt: HostRuntime) {
 
 // Two tricks are not had. North's 3 and East's 6 have equals below them, so there is one card to try in each hand. South
 // tries the ace, the surest winner, and it wins before West's 4; the king is spared, since the ace takes it too. So a
-// position is come to before each of four cards. Then South has the queen to lead, the fifth position, where quick tricks
+// position is visited before each of four cards. Then South has the queen to lead, the fifth position, where quick tricks
 // settle that West's king takes it; so West's 4 was enough. South tries the queen in the first trick too, which the ace's
 // failure, by the king, doesn't spare: one position more, West's, where the king settles it by counting. That is six.
 #[test]
