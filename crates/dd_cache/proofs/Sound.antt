@@ -11,7 +11,7 @@ use Rattle.dd_play.specs.declared.interval.Interval.{Interval}
 use Rattle.dd_rank.specs.Depths.{FourDepths, all_cards, depth_in, Covers}
 use Rattle.dd_rank.specs.Strings.{Strings, ShapeOf, shape_of, shape_in, strings_of, string_in}
 use Rattle.dd_rank.specs.FirstOwners.{Firsts, AreFirst, first_in}
-use Rattle.dd_cache.specs.Told.{ToldOf, IsSound}
+use Rattle.dd_cache.specs.StoredBounds.{StoredBoundsOf, IsSound}
 
 -- a position covers those of its shape with the same first owners, and no others
 abbrev pub CoversByOwners : Type 0
@@ -40,7 +40,7 @@ noted-sound owners counts p s shape depths f i valid start is same deep firsts w
     shaped = same ∙ ap shape_in is
 
 -- what is sound by first owners holds of each position that one with these owners covers
-pub told-holds : CoversByOwners → (p : Board) (s : Strings) (t : ToldOf) (depths : FourDepths) (i : Interval) → IsBoard p → p.trick ≡ [] → s ≡ strings_of p
+pub told-holds : CoversByOwners → (p : Board) (s : Strings) (t : StoredBoundsOf) (depths : FourDepths) (i : Interval) → IsBoard p → p.trick ≡ [] → s ≡ strings_of p
     → IsSound (shape_in s) t → AreFirst t.firsts s → t.firsts.depths ≡ depths → t.interval ≡ i → (q : Board) → IsBoard q → Covers p (depth_in depths) q → Holds i (leaders_tricks q)
 told-holds owners p s t depths i valid start is sound are deep bounds q valid_q cover =
     subst (λ (x : Interval). Holds x (leaders_tricks q)) bounds
@@ -55,6 +55,6 @@ told-holds owners p s t depths i valid start is sound are deep bounds q valid_q 
     same = (owners p q (depth_in depths) valid valid_q start cover.1.start_q within).0 cover
 
 -- and its depths are there
-pub told-within : (p : Board) (s : Strings) (t : ToldOf) (depths : FourDepths) → IsBoard p → s ≡ strings_of p → IsSound (shape_in s) t → t.firsts.depths ≡ depths
+pub told-within : (p : Board) (s : Strings) (t : StoredBoundsOf) (depths : FourDepths) → IsBoard p → s ≡ strings_of p → IsSound (shape_in s) t → t.firsts.depths ≡ depths
     → (u : Suit) → depth_in depths u ≤ count_of u (all_cards p)
 told-within p s t depths valid is sound deep u = subst (λ (d : FourDepths). depth_in d u ≤ count_of u (all_cards p)) deep (sound.within p valid (sym (ap shape_in is)) u)

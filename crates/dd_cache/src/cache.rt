@@ -8,11 +8,11 @@ ghost use Rattle.dd_play.specs.Intervals.{Holds};
 ghost use Rattle.dd_rank.specs.Depths.{all_cards, depth_in, Covers};
 ghost use Rattle.dd_rank.specs.FirstOwners.{AreFirst};
 ghost use Rattle.dd_rank.specs.Strings.{shape_in, strings_of};
-ghost use Rattle.dd_cache.specs.Told.{ToldOf, IsSound};
+ghost use Rattle.dd_cache.specs.StoredBounds.{StoredBoundsOf, IsSound};
 
 use crate::head::Head;
 use crate::page::Page;
-use crate::told::Told;
+use crate::stored_bounds::StoredBounds;
 use dd_cards::{Seat, Suit};
 use dd_play::{Interval, TrickStart};
 use dd_rank::{Depths, FirstOwners, OwnerStrings, Shape, alike_strings, covered_positions};
@@ -144,7 +144,7 @@ impl<B> Cache<B> {
 
     // What settles the question of the position with these strings.
     fn own(&self, strings: &OwnerStrings, first: ProbeHint, need: u8) -> Option<(Interval, Depths)>
-        ensures told { IfSome result (λ told. (t : ToldOf) × IsSound (shape_in strings.now) t
+        ensures told { IfSome result (λ told. (t : StoredBoundsOf) × IsSound (shape_in strings.now) t
             × AreFirst t.firsts strings.now × (t.firsts.depths ≡ told.1) × (t.interval ≡ told.0)) }
         ensures settles { IfSome result (λ told. (need ≤ told.0.lo) ⊎ (told.0.hi < need)) }
     {
@@ -190,11 +190,11 @@ impl<B> Cache<B> {
         let _ = start.position();
         covered_positions();
         let firsts = FirstOwners::of(strings, depths);
-        self.keep(strings.shape(), Told { firsts, interval });
+        self.keep(strings.shape(), StoredBounds { firsts, interval });
     }
 
     // Keeps bounds of a shape: on the newest page of the shape, or on a new page.
-    fn keep(&mut self, shape: Shape, new: Told)
+    fn keep(&mut self, shape: Shape, new: StoredBounds)
         requires { IsSound shape new }
     {
         let hash = shape.hash_code();

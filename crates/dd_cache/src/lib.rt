@@ -4,6 +4,6 @@
 mod cache;
 mod head;
 mod page;
-mod told;
+mod stored_bounds;
 
 pub use cache::Cache;

@@ -1,9 +1,9 @@
 //! A few bounds of one shape.
 ghost use Rattle.std.specs.Prelude.{◌≡◌, ◌<◌, ◌≤◌, ◌⊎◌, IfSome, Err, length};
 ghost use Rattle.dd_rank.specs.FirstOwners.{AreFirst};
-ghost use Rattle.dd_cache.specs.Told.{ToldOf, IsSound};
+ghost use Rattle.dd_cache.specs.StoredBounds.{StoredBoundsOf, IsSound};
 
-use crate::told::Told;
+use crate::stored_bounds::StoredBounds;
 use arrayvec::ArrayVec;
 use dd_rank::{OwnerStrings, Shape};
 use std::marker::Model;
@@ -15,11 +15,11 @@ pub(crate) const BOUNDS_OF_A_PAGE: usize = 8;
 #[derive(Drop)]
 pub(crate) struct Page {
     shape: Shape,
-    told: ArrayVec<Told, BOUNDS_OF_A_PAGE>,
+    told: ArrayVec<StoredBounds, BOUNDS_OF_A_PAGE>,
 }
 
 impl Model for Page {
-    ghost use Rattle.dd_cache.specs.Told.{PageOf, AreSound};
+    ghost use Rattle.dd_cache.specs.StoredBounds.{PageOf, AreSound};
 
     ghost Value = { PageOf };
 
@@ -30,7 +30,7 @@ impl Model for Page {
 
 impl Page {
     /// A page with one entry.
-    pub(crate) fn new(shape: Shape, first: Told) -> Page
+    pub(crate) fn new(shape: Shape, first: StoredBounds) -> Page
         requires { IsSound shape first }
     {
         let mut told = ArrayVec::new();
@@ -49,7 +49,12 @@ impl Page {
     /// Of the bounds at these places, bit n for place n, the first that hold of the position with these strings, which is of
     /// the shape, and settle the question.
     #[inline]
-    pub(crate) fn settle(&self, likely: u64, strings: &OwnerStrings, need: u8) -> Option<&Told>
+    pub(crate) fn settle(
+        &self,
+        likely: u64,
+        strings: &OwnerStrings,
+        need: u8,
+    ) -> Option<&StoredBounds>
         ensures sound { IfSome result (λ told. IsSound self.now.shape told.now) }
         ensures firsts { IfSome result (λ told. AreFirst told.now.firsts strings.now) }
         ensures settles { IfSome result (λ told. (need ≤ told.now.interval.lo)
@@ -71,10 +76,10 @@ impl Page {
 
     /// Keeps bounds of its shape, in the place of some that they make needless or beside the others, and tells the place;
     /// gives them back where there is no room.
-    pub(crate) fn keep(&mut self, new: Told) -> Result<usize, Told>
+    pub(crate) fn keep(&mut self, new: StoredBounds) -> Result<usize, StoredBounds>
         requires { IsSound self.old.shape new }
         ensures shape { self.new.shape ≡ self.old.shape }
-        ensures back { (told : ToldOf) → result ≡ Err told → told ≡ new }
+        ensures back { (told : StoredBoundsOf) → result ≡ Err told → told ≡ new }
     {
         if let Some(place) = needless(self.told.as_slice(), &new) {
             self.told.as_mut_slice()[place] = new;
@@ -89,7 +94,7 @@ impl Page {
 }
 
 // The place of the first bounds that these make needless.
-fn needless(told: &[Told], new: &Told) -> Option<usize>
+fn needless(told: &[StoredBounds], new: &StoredBounds) -> Option<usize>
     ensures { IfSome result (λ place. place < length told.now) }
 {
     for (place, old) in told.iter().enumerate() {

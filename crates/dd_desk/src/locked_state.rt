@@ -2,12 +2,12 @@
 ghost use Rattle.std.specs.Prelude.{◌≡◌, ◌+◌, ◌<◌, ◌≤◌, true, false, [], length, map, take, vec_len, Some, ◌⊎◌, MatchResult, MatchBool, IfOk};
 ghost use Rattle.dd_book.specs.Calls.{IsIdle};
 ghost use Rattle.dd_book.specs.Jobs.{is_open_job, own_job};
-ghost use Rattle.dd_desk.specs.declared.fault.Fault.TheVariants.{NoPass};
+ghost use Rattle.dd_desk.specs.declared.fault.DeskFault.TheVariants.{NoPass};
 ghost use Rattle.dd_desk.specs.Receipts.{below};
 
 use crate::bells::{Concerns, Rings};
 use crate::event::Event;
-use crate::fault::Fault;
+use crate::fault::DeskFault;
 use crate::history::History;
 use crate::names::{Naming, PlaceSums, ReceiptCounts};
 use crate::receipt_log::{CountedLog, ReceiptLog};
@@ -64,7 +64,7 @@ impl<J: Naming> LockedState<J> {
     }
 
     /// A new pass, under the next number: refused exactly where as many were given as there may be.
-    pub(crate) fn enrol(&mut self, alloc: Global) -> Result<CountedLog<J>, Fault>
+    pub(crate) fn enrol(&mut self, alloc: Global) -> Result<CountedLog<J>, DeskFault>
         ensures pass { IfOk result (λ held. (held.log.number ≡ self.old.given + 1)
             × (held.log.receipts.items ≡ [])) }
         ensures given { MatchResult result (λ _. self.new.given ≡ self.old.given + 1)
@@ -83,7 +83,7 @@ impl<J: Naming> LockedState<J> {
             spare_sum,
         } = self;
         if *given >= history.limits.passes() {
-            return Err(Fault::NoPass);
+            return Err(DeskFault::NoPass);
         }
         let count = spare_count.split_off(1, 0);
         let sum = spare_sum.split_off(1, 0);

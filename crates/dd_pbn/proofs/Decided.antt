@@ -6,7 +6,7 @@ use Rattle.dd_cards.specs.PlayingCard.{PlayingCard}
 use Rattle.dd_cards.specs.Hands.{FourHands, AreHands}
 use Rattle.dd_pbn.specs.declared.fault.PbnFault.{PbnFault}
 use Rattle.dd_pbn.specs.declared.fault.PbnFault.TheVariants.{Grammar, Absent, Twice}
-use Rattle.dd_pbn.specs.declared.seen.Seen.{Seen}
+use Rattle.dd_pbn.specs.declared.hands_so_far.HandsSoFar.{HandsSoFar}
 use Rattle.dd_pbn.specs.Values.{Value, IsValue, IsTag}
 use Rattle.dd_pbn.specs.Deals.{Spells, Fails, DealText, DealFault, TagText, TagFault}
 use Rattle.dd_pbn.specs.Reading.{outcome, value_of, tag_of}
@@ -26,19 +26,19 @@ err-is : (result : Result FourHands PbnFault) (a b : PbnFault) → result ≡ Er
 err-is result a b was is = cc
 
 -- a hand that is left out is the outcome
-outcome-absent : (read : Option Seen) (seen : Seen) → read ≡ Some seen → seen.absent ≡ true → outcome read ≡ Err Absent
+outcome-absent : (read : Option HandsSoFar) (seen : HandsSoFar) → read ≡ Some seen → seen.absent ≡ true → outcome read ≡ Err Absent
 outcome-absent read seen is absent = rw (is, absent) refl
 
 -- else a card seen twice is
-outcome-twice : (read : Option Seen) (seen : Seen) → read ≡ Some seen → seen.absent ≡ false → seen.twice ≡ true → outcome read ≡ Err Twice
+outcome-twice : (read : Option HandsSoFar) (seen : HandsSoFar) → read ≡ Some seen → seen.absent ≡ false → seen.twice ≡ true → outcome read ≡ Err Twice
 outcome-twice read seen is present twice = rw (is, present, twice) refl
 
 -- else the deal is
-outcome-ok : (read : Option Seen) (seen : Seen) → read ≡ Some seen → seen.absent ≡ false → seen.twice ≡ false → outcome read ≡ Ok seen.hands
+outcome-ok : (read : Option HandsSoFar) (seen : HandsSoFar) → read ≡ Some seen → seen.absent ≡ false → seen.twice ≡ false → outcome read ≡ Ok seen.hands
 outcome-ok read seen is present once = rw (is, present, once) refl
 
 -- ---- of a form that is read
-module _ (Form : Value → Type 0) (read : Option Seen) (reads : Reads Form read) where
+module _ (Form : Value → Type 0) (read : Option HandsSoFar) (reads : Reads Form read) where
   -- a deal that a value of the form spells is the outcome
   pub spelled-read : (deal : FourHands) → AreHands deal → Spelled Form deal → outcome read ≡ Ok deal
   spelled-read deal are (value, form, spells) =
@@ -55,7 +55,7 @@ module _ (Form : Value → Type 0) (read : Option Seen) (reads : Reads Form read
   pub failed-read : (fault : PbnFault) → Fails Form fault → outcome read ≡ Err fault
   failed-read Grammar none = go read refl
     where
-      go : (r : Option Seen) → read ≡ r → outcome r ≡ Err Grammar
+      go : (r : Option HandsSoFar) → read ≡ r → outcome r ≡ Err Grammar
       go None e = refl
       go (Some seen) e = absurd (let v = reads.sound seen e in none v.0 v.1)
   failed-read Absent (value, form, out) = outcome-absent read (seen_of value) (reads.complete value form) ((tells value).absent ∙ out)
@@ -72,9 +72,9 @@ module _ (Form : Value → Type 0) (read : Option Seen) (reads : Reads Form read
   pub decided : ((deal : FourHands) × AreHands deal × Spelled Form deal) ⊎ ((fault : PbnFault) × Fails Form fault)
   decided = go read refl
     where
-      of_seen : (seen : Seen) (value : Value) → Form value → seen ≡ seen_of value → ((deal : FourHands) × AreHands deal × Spelled Form deal) ⊎ ((fault : PbnFault) × Fails Form fault)
+      of_seen : (seen : HandsSoFar) (value : Value) → Form value → seen ≡ seen_of value → ((deal : FourHands) × AreHands deal × Spelled Form deal) ⊎ ((fault : PbnFault) × Fails Form fault)
       of_seen seen value form is =
-          let told : Tells value seen = subst (λ (s : Seen). Tells value s) (sym is) (tells value) in
+          let told : Tells value seen = subst (λ (s : HandsSoFar). Tells value s) (sym is) (tells value) in
           elim (cases_Bool seen.absent) [
             | inl absent ↦ inr (Absent, (value, form, sym told.absent ∙ absent))
             | inr present ↦ elim (cases_Bool seen.twice) [
@@ -84,7 +84,7 @@ module _ (Form : Value → Type 0) (read : Option Seen) (reads : Reads Form read
             ]
           ]
 
-      go : (r : Option Seen) → read ≡ r → ((deal : FourHands) × AreHands deal × Spelled Form deal) ⊎ ((fault : PbnFault) × Fails Form fault)
+      go : (r : Option HandsSoFar) → read ≡ r → ((deal : FourHands) × AreHands deal × Spelled Form deal) ⊎ ((fault : PbnFault) × Fails Form fault)
       go None none = inr (Grammar, λ value form. (let some = reads.complete value form in cc))
       go (Some seen) some = let v = reads.sound seen some in of_seen seen v.0 v.1 v.2
 

@@ -12,7 +12,7 @@ use Rattle.dd_cards.specs.Ranks.{IsRank}
 use Rattle.dd_cards.specs.Cards.{has_card}
 use Rattle.dd_cards.specs.Hands.{hand_of, times, AreHands, FourHands, dealt}
 use Rattle.dd_cards.proofs.CallerLemmas.{AreHands-new, real-set, same-members}
-use Rattle.dd_pbn.specs.declared.seen.Seen.{Seen}
+use Rattle.dd_pbn.specs.declared.hands_so_far.HandsSoFar.{HandsSoFar}
 use Rattle.dd_pbn.specs.Letters.{rank_of}
 use Rattle.dd_pbn.specs.Values.{HandText, suits, dash, Value}
 use Rattle.dd_pbn.specs.Deals.{cards_of_suit, cards_of_hand, cards_of_value, is_dash, leaves_out, Holds, Spells}
@@ -55,19 +55,19 @@ same-cards xs ys same x y card =
 
 -- ---- one hand
 -- cards are noted in two parts as they are in one
-note_all-append : (seat : Seat) (xs ys : List PlayingCard) (seen : Seen) → note_all seat (xs ++ ys) seen ≡ note_all seat ys (note_all seat xs seen)
+note_all-append : (seat : Seat) (xs ys : List PlayingCard) (seen : HandsSoFar) → note_all seat (xs ++ ys) seen ≡ note_all seat ys (note_all seat xs seen)
 note_all-append seat [] ys seen = refl
 note_all-append seat (card ∷ xs) ys seen = note_all-append seat xs ys (note seat card seen)
 
 -- a hand is noted card by card
-note_hand-all : (seat : Seat) (a b c d : List ℕ) (seen : Seen) → note_all seat (cards_of_hand (suits a b c d)) seen ≡ note_hand seat (suits a b c d) seen
+note_hand-all : (seat : Seat) (a b c d : List ℕ) (seen : HandsSoFar) → note_all seat (cards_of_hand (suits a b c d)) seen ≡ note_hand seat (suits a b c d) seen
 note_hand-all seat a b c d seen =
     note_all-append seat (cards_of_suit Spades a ++ cards_of_suit Hearts b ++ cards_of_suit Diamonds c) (cards_of_suit Clubs d) seen
     ∙ ap (note_all seat (cards_of_suit Clubs d)) (note_all-append seat (cards_of_suit Spades a ++ cards_of_suit Hearts b) (cards_of_suit Diamonds c) seen
     ∙ ap (note_all seat (cards_of_suit Diamonds c)) (note_all-append seat (cards_of_suit Spades a) (cards_of_suit Hearts b) seen))
 
 -- what noting a hand does
-record Noted (past : List PlayingCard) (seat : Seat) (hand : HandText) (seen new : Seen) : Type 0 where
+record Noted (past : List PlayingCard) (seat : Seat) (hand : HandText) (seen new : HandsSoFar) : Type 0 where
   sees : Sees (pile past (cards_of_hand hand)) new
   absent : new.absent ≡ (seen.absent || is_dash hand)
   others : (s : Seat) → s ≢ seat → hand_of new.hands s ≡ hand_of seen.hands s
@@ -85,7 +85,7 @@ or-false true = refl
 or-false false = refl
 
 -- noting a hand does so
-hand-noted : (past : List PlayingCard) (seat : Seat) (hand : HandText) (seen : Seen) → Sees past seen → Noted past seat hand seen (note_hand seat hand seen)
+hand-noted : (past : List PlayingCard) (seat : Seat) (hand : HandText) (seen : HandsSoFar) → Sees past seen → Noted past seat hand seen (note_hand seat hand seen)
 hand-noted past seat dash seen sees =
     record {
       sees = record { are = sees.are; free = sees.free; twice = sees.twice };
@@ -96,7 +96,7 @@ hand-noted past seat dash seen sees =
 hand-noted past seat (suits a b c d) seen sees =
     let hand = suits a b c d in
     let real = real-hand hand in
-    subst (λ (new : Seen). Noted past seat (suits a b c d) seen new) (note_hand-all seat a b c d seen) (record {
+    subst (λ (new : HandsSoFar). Noted past seat (suits a b c d) seen new) (note_hand-all seat a b c d seen) (record {
       sees = Sees-all past seat (cards_of_hand hand) seen real sees;
       absent = absent-all seat (cards_of_hand hand) seen ∙ or-false seen.absent;
       others = λ s differs. others-all past seat (cards_of_hand hand) seen s real sees differs;
@@ -168,7 +168,7 @@ pub record HoldsAll (value : Value) (deal : FourHands) : Type 0 where
   pub holds4 : Holds (hand_of deal (seat_after value.first 3)) value.hand4
 
 -- what is seen is what the value says
-pub record Tells (value : Value) (seen : Seen) : Type 0 where
+pub record Tells (value : Value) (seen : HandsSoFar) : Type 0 where
   pub are : AreHands seen.hands
   pub absent : seen.absent ≡ leaves_out value
   pub double : seen.twice ≡ true → (card : PlayingCard) × (2 ≤ times (cards_of_value value) card)

@@ -12,7 +12,7 @@ use Rattle.dd_cards.specs.Ranks.{IsRank}
 use Rattle.dd_cards.specs.Cards.{same_card, has_card, with_card}
 use Rattle.dd_cards.specs.Hands.{hand_of, with_hand, times, AreHands, FourHands}
 use Rattle.dd_cards.proofs.CallerLemmas.{AreHands-with_card, hand_of-with_hand, has_card-with_card, same_card-eq, same_card-self, times-cons}
-use Rattle.dd_pbn.specs.declared.seen.Seen.{Seen}
+use Rattle.dd_pbn.specs.declared.hands_so_far.HandsSoFar.{HandsSoFar}
 use Rattle.dd_pbn.specs.Reading.{is_free, note}
 use Rattle.dd_pbn.proofs.Steps.{lacks}
 use Rattle.dd_pbn.proofs.HandTexts.{note_all}
@@ -122,7 +122,7 @@ times-pile past (first ∷ cards) card =
 
 -- ---- noting
 -- the hands have just the cards noted so far, and it is known whether one of them came twice
-pub record Sees (past : List PlayingCard) (seen : Seen) : Type 0 where
+pub record Sees (past : List PlayingCard) (seen : HandsSoFar) : Type 0 where
   pub are : AreHands seen.hands
   pub free : (card : PlayingCard) → IsRank card.rank → is_free seen.hands card ≡ not (has_card past card)
   pub twice : seen.twice ≡ has_double past
@@ -136,7 +136,7 @@ abbrev put : FourHands → Seat → PlayingCard → FourHands
 put hands seat card = with_hand hands seat (with_card (hand_of hands seat) card)
 
 -- what is seen with one more card, where it is free and where it is not
-abbrev seen_with : Bool → Seat → PlayingCard → Seen → Seen
+abbrev seen_with : Bool → Seat → PlayingCard → HandsSoFar → HandsSoFar
 seen_with free seat card seen = cond free (record { hands = put seen.hands seat card; absent = seen.absent; twice = seen.twice }) (record { hands = seen.hands; absent = seen.absent; twice = true })
 
 -- the hand has the card that is put in, and those that it had
@@ -178,7 +178,7 @@ is_free-there hands seat card other are real differs =
     ])
 
 -- one more card
-pub Sees-note : (past : List PlayingCard) (seat : Seat) (card : PlayingCard) (seen : Seen) → IsRank card.rank → Sees past seen → Sees (card ∷ past) (note seat card seen)
+pub Sees-note : (past : List PlayingCard) (seat : Seat) (card : PlayingCard) (seen : HandsSoFar) → IsRank card.rank → Sees past seen → Sees (card ∷ past) (note seat card seen)
 Sees-note past seat card seen real sees = go (is_free seen.hands card) refl
   where
     known : (b : Bool) → is_free seen.hands card ≡ b → has_card past card ≡ not b
@@ -205,12 +205,12 @@ Sees-note past seat card seen real sees = go (is_free seen.hands card) refl
     }
 
 -- cards one after another
-pub Sees-all : (past : List PlayingCard) (seat : Seat) (cards : List PlayingCard) (seen : Seen) → AllReal cards → Sees past seen → Sees (pile past cards) (note_all seat cards seen)
+pub Sees-all : (past : List PlayingCard) (seat : Seat) (cards : List PlayingCard) (seen : HandsSoFar) → AllReal cards → Sees past seen → Sees (pile past cards) (note_all seat cards seen)
 Sees-all past seat [] seen real sees = sees
 Sees-all past seat (card ∷ cards) seen real sees = Sees-all (card ∷ past) seat cards (note seat card seen) real.1 (Sees-note past seat card seen real.0 sees)
 
 -- noting cards leaves out no hand
-pub absent-all : (seat : Seat) (cards : List PlayingCard) (seen : Seen) → (note_all seat cards seen).absent ≡ seen.absent
+pub absent-all : (seat : Seat) (cards : List PlayingCard) (seen : HandsSoFar) → (note_all seat cards seen).absent ≡ seen.absent
 absent-all seat [] seen = refl
 absent-all seat (card ∷ cards) seen = absent-all seat cards (note seat card seen) ∙ (
     elim (is_free seen.hands card) as (λ b. (seen_with b seat card seen).absent ≡ seen.absent) [
@@ -219,7 +219,7 @@ absent-all seat (card ∷ cards) seen = absent-all seat cards (note seat card se
     ])
 
 -- what is put into one hand changes no other
-others-note : (seat : Seat) (card : PlayingCard) (seen : Seen) (s : Seat) → AreHands seen.hands → s ≢ seat → hand_of (note seat card seen).hands s ≡ hand_of seen.hands s
+others-note : (seat : Seat) (card : PlayingCard) (seen : HandsSoFar) (s : Seat) → AreHands seen.hands → s ≢ seat → hand_of (note seat card seen).hands s ≡ hand_of seen.hands s
 others-note seat card seen s are differs =
     elim (is_free seen.hands card) as (λ b. hand_of (seen_with b seat card seen).hands s ≡ hand_of seen.hands s) [
       | true ↦ hand_of-put seen.hands seat card s are differs
@@ -227,7 +227,7 @@ others-note seat card seen s are differs =
     ]
 
 -- what is put into one hand, card by card, changes no other
-pub others-all : (past : List PlayingCard) (seat : Seat) (cards : List PlayingCard) (seen : Seen) (s : Seat) → AllReal cards → Sees past seen → s ≢ seat → hand_of (note_all seat cards seen).hands s ≡ hand_of seen.hands s
+pub others-all : (past : List PlayingCard) (seat : Seat) (cards : List PlayingCard) (seen : HandsSoFar) (s : Seat) → AllReal cards → Sees past seen → s ≢ seat → hand_of (note_all seat cards seen).hands s ≡ hand_of seen.hands s
 others-all past seat [] seen s real sees differs = refl
 others-all past seat (card ∷ cards) seen s real sees differs =
     others-all (card ∷ past) seat cards (note seat card seen) s real.1 (Sees-note past seat card seen real.0 sees) differs ∙ others-note seat card seen s sees.are differs
@@ -238,7 +238,7 @@ doubled-past past [] h = h
 doubled-past past (card ∷ cards) h = (or_parts (has_card past card) (has_double past) (doubled-past (card ∷ past) cards h)).1
 
 -- where no card comes twice, the hand has its cards and those before
-holds-note : (past : List PlayingCard) (seat : Seat) (card : PlayingCard) (seen : Seen) (other : PlayingCard) → IsRank card.rank → IsRank other.rank → Sees past seen → has_card past card ≡ false
+holds-note : (past : List PlayingCard) (seat : Seat) (card : PlayingCard) (seen : HandsSoFar) (other : PlayingCard) → IsRank card.rank → IsRank other.rank → Sees past seen → has_card past card ≡ false
     → has_card (hand_of (note seat card seen).hands seat) other ≡ (same_card card other || has_card (hand_of seen.hands seat) other)
 holds-note past seat card seen other real there sees new =
     let free : is_free seen.hands card ≡ true = sees.free card real ∙ rw new refl in
@@ -256,7 +256,7 @@ or-turn false false true = refl
 or-turn false false false = refl
 
 -- the same of cards one after another
-pub holds-all : (past : List PlayingCard) (seat : Seat) (cards : List PlayingCard) (seen : Seen) (other : PlayingCard) → AllReal cards → IsRank other.rank → Sees past seen → has_double (pile past cards) ≡ false
+pub holds-all : (past : List PlayingCard) (seat : Seat) (cards : List PlayingCard) (seen : HandsSoFar) (other : PlayingCard) → AllReal cards → IsRank other.rank → Sees past seen → has_double (pile past cards) ≡ false
     → has_card (hand_of (note_all seat cards seen).hands seat) other ≡ (has_card cards other || has_card (hand_of seen.hands seat) other)
 holds-all past seat [] seen other real there sees single = refl
 holds-all past seat (card ∷ cards) seen other real there sees single =

@@ -9,7 +9,7 @@ use Rattle.dd_cards.specs.declared.suit.Suit.{Suit}
 use Rattle.dd_cards.specs.PlayingCard.{PlayingCard}
 use Rattle.dd_cards.specs.Cards.{card_of, has_card}
 use Rattle.dd_cards.specs.Hands.{FourHands, hand_of}
-use Rattle.dd_pbn.specs.declared.seen.Seen.{Seen}
+use Rattle.dd_pbn.specs.declared.hands_so_far.HandsSoFar.{HandsSoFar}
 use Rattle.dd_pbn.specs.Letters.{rank_of, is_blank}
 use Rattle.dd_pbn.specs.Reading.{is_free, note, after_blanks, suit_at}
 
@@ -36,7 +36,7 @@ after_blanks-end (byte ∷ text) none_left = absurd (omega arith)
 
 -- ---- a suit
 -- a rank is noted
-pub suit_at-rank : (seat : Seat) (suit : Suit) (seen : Seen) (text : List ℕ) (rank : ℕ) → 1 ≤ length text → rank_of (get_or text 0 0) ≡ Some rank
+pub suit_at-rank : (seat : Seat) (suit : Suit) (seen : HandsSoFar) (text : List ℕ) (rank : ℕ) → 1 ≤ length text → rank_of (get_or text 0 0) ≡ Some rank
     → suit_at seat suit seen text ≡ suit_at seat suit (note seat (card_of suit rank) seen) (take (length text - 1) (drop 1 text))
 unfolding suit_at
 suit_at-rank seat suit seen [] rank some_left some = absurd (omega arith)
@@ -45,13 +45,13 @@ suit_at-rank seat suit seen (byte ∷ text) rank some_left some =
     rw e (rw (some, suit_at) refl)
 
 -- another byte ends the suit
-pub suit_at-other : (seat : Seat) (suit : Suit) (seen : Seen) (text : List ℕ) → rank_of (get_or text 0 0) ≡ None → suit_at seat suit seen text ≡ (seen, text)
+pub suit_at-other : (seat : Seat) (suit : Suit) (seen : HandsSoFar) (text : List ℕ) → rank_of (get_or text 0 0) ≡ None → suit_at seat suit seen text ≡ (seen, text)
 unfolding suit_at
 suit_at-other seat suit seen [] none = refl
 suit_at-other seat suit seen (byte ∷ text) none = rw (none, suit_at) refl
 
 -- and so does the end of the text
-pub suit_at-end : (seat : Seat) (suit : Suit) (seen : Seen) (text : List ℕ) → length text < 1 → suit_at seat suit seen text ≡ (seen, text)
+pub suit_at-end : (seat : Seat) (suit : Suit) (seen : HandsSoFar) (text : List ℕ) → length text < 1 → suit_at seat suit seen text ≡ (seen, text)
 unfolding suit_at
 suit_at-end seat suit seen [] none_left = refl
 suit_at-end seat suit seen (byte ∷ text) none_left = absurd (omega arith)

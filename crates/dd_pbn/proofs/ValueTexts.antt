@@ -7,7 +7,7 @@ use Rattle.std.proofs.lemmas.List.{nil_from_length}
 use Rattle.std.proofs.lemmas.Option.{cond_some}
 use Rattle.dd_cards.specs.declared.seat.Seat.{Seat}
 use Rattle.dd_cards.specs.Seats.{next_seat, seat_after}
-use Rattle.dd_pbn.specs.declared.seen.Seen.{Seen}
+use Rattle.dd_pbn.specs.declared.hands_so_far.HandsSoFar.{HandsSoFar}
 use Rattle.dd_pbn.specs.Letters.{seat_letter, is_blank, AreBlanks}
 use Rattle.dd_pbn.specs.Values.{HandText, IsHand, IsGap, hand_bytes, Value, IsValue, IsTag}
 use Rattle.dd_pbn.specs.Reading.{◌>>=◌, nothing, after_blanks, byte_at, at_end, seat_at, hand_at, next_hand, hands_at, value_at, value_of, name_at, quoted_at, tag_of}
@@ -16,13 +16,13 @@ use Rattle.dd_pbn.proofs.Blanks.{bind-some, byte_at-tells, byte_at-takes, blanks
 use Rattle.dd_pbn.proofs.HandTexts.{note_hand, hand-sound, hand-complete, hand-solid, next_hand-sound, next_hand-complete}
 
 -- the four hands noted, each at its seat
-abbrev pub seen_of : Value → Seen
+abbrev pub seen_of : Value → HandsSoFar
 seen_of value =
     note_hand (seat_after value.first 3) value.hand4 (note_hand (seat_after value.first 2) value.hand3 (note_hand (seat_after value.first 1) value.hand2 (note_hand value.first value.hand1 nothing)))
 
 -- ---- four hands
 -- the text is four hands with gaps between them, and what is left; the hands are noted
-record HandsRead (first : Seat) (text : List ℕ) (read : Seen × List ℕ) : Type 0 where
+record HandsRead (first : Seat) (text : List ℕ) (read : HandsSoFar × List ℕ) : Type 0 where
   hand1 : HandText
   hand2 : HandText
   hand3 : HandText
@@ -41,7 +41,7 @@ four-hands : (h1 g2 h2 g3 h3 g4 h4 text t1 t2 t3 rest : List ℕ) → text ≡ h
 four-hands h1 g2 h2 g3 h3 g4 h4 text t1 t2 t3 rest e0 e1 e2 e3 = rw (e0, e1, e2, e3) refl
 
 -- what is noted hand by hand is the value noted
-hands-noted : (value : Value) (s1 s2 s3 s4 : Seen) → s1 ≡ note_hand value.first value.hand1 nothing → s2 ≡ note_hand (seat_after value.first 1) value.hand2 s1
+hands-noted : (value : Value) (s1 s2 s3 s4 : HandsSoFar) → s1 ≡ note_hand value.first value.hand1 nothing → s2 ≡ note_hand (seat_after value.first 1) value.hand2 s1
     → s3 ≡ note_hand (seat_after value.first 2) value.hand3 s2 → s4 ≡ note_hand (seat_after value.first 3) value.hand4 s3 → s4 ≡ seen_of value
 hands-noted value s1 s2 s3 s4 e1 e2 e3 e4 =
     e4
@@ -50,7 +50,7 @@ hands-noted value s1 s2 s3 s4 e1 e2 e3 e4 =
     ∙ ap (note_hand (seat_after value.first 1) value.hand2) e1))
 
 -- what is read is four hands
-hands-sound : (first : Seat) (text : List ℕ) (read : Seen × List ℕ) → hands_at first text ≡ Some read → HandsRead first text read
+hands-sound : (first : Seat) (text : List ℕ) (read : HandsSoFar × List ℕ) → hands_at first text ≡ Some read → HandsRead first text read
 unfolding hands_at
 hands-sound first text read h =
     let p1 = hand_at first nothing text in
@@ -104,7 +104,7 @@ pub value-right : (before : List ℕ) (letter : ℕ) (after h1 g2 h2 g3 h3 g4 h4
 value-right before letter after h1 g2 h2 g3 h3 g4 h4 trail rest = simp append_assoc
 
 -- the text is a value, and what is left; the value is noted
-record ValueRead (text : List ℕ) (read : Seen × List ℕ) : Type 0 where
+record ValueRead (text : List ℕ) (read : HandsSoFar × List ℕ) : Type 0 where
   value : Value
   front : List ℕ
   is : IsValue front value
@@ -112,8 +112,8 @@ record ValueRead (text : List ℕ) (read : Seen × List ℕ) : Type 0 where
   noted : read.0 ≡ seen_of value
 
 -- the same, of what is equal
-ValueRead-same : (text : List ℕ) (read new : Seen × List ℕ) → read ≡ new → ValueRead text read → ValueRead text new
-ValueRead-same text read new same is = subst (λ (r : Seen × List ℕ). ValueRead text r) same is
+ValueRead-same : (text : List ℕ) (read new : HandsSoFar × List ℕ) → read ≡ new → ValueRead text read → ValueRead text new
+ValueRead-same text read new same is = subst (λ (r : HandsSoFar × List ℕ). ValueRead text r) same is
 
 -- the parts of a value, put together
 value-parts : (before : List ℕ) (letter : ℕ) (after h1 g2 h2 g3 h3 g4 h4 trail text t0 t1 t2 t3 t4 rest : List ℕ) → text ≡ before ++ t0 → t0 ≡ letter ∷ t1 → t1 ≡ 58 ∷ t2 → t2 ≡ after ++ t3
@@ -123,7 +123,7 @@ value-parts before letter after h1 g2 h2 g3 h3 g4 h4 trail text t0 t1 t2 t3 t4 r
     rw (e0, e1, e2, e3, e4, e5) refl ∙ sym (value-right before letter after h1 g2 h2 g3 h3 g4 h4 trail rest)
 
 -- such parts are a value
-value-made : (first : Seat) (letter : ℕ) (before after trail text t0 t1 t2 t3 rest : List ℕ) (read : Seen × List ℕ) → to_ascii_uppercase letter ≡ seat_letter first → AreBlanks before → AreBlanks after → AreBlanks trail
+value-made : (first : Seat) (letter : ℕ) (before after trail text t0 t1 t2 t3 rest : List ℕ) (read : HandsSoFar × List ℕ) → to_ascii_uppercase letter ≡ seat_letter first → AreBlanks before → AreBlanks after → AreBlanks trail
     → HandsRead first t3 read → text ≡ before ++ t0 → t0 ≡ letter ∷ t1 → t1 ≡ 58 ∷ t2 → t2 ≡ after ++ t3 → read.1 ≡ trail ++ rest → ValueRead text (read.0, rest)
 value-made first letter before after trail text t0 t1 t2 t3 rest read seat are_before are_after are_trail hands e0 e1 e2 e3 e5 =
     let h1 = hand_bytes hands.hand1 in
@@ -152,7 +152,7 @@ value-made first letter before after trail text t0 t1 t2 t3 rest read seat are_b
     }
 
 -- what is read of a value is a value, and it is noted
-value-sound : (text : List ℕ) (read : Seen × List ℕ) → value_at text ≡ Some read → ValueRead text read
+value-sound : (text : List ℕ) (read : HandsSoFar × List ℕ) → value_at text ≡ Some read → ValueRead text read
 unfolding value_at
 value-sound text read h =
     let b1 = bind-some (seat_at (after_blanks text)) (λ first. byte_at 58 first.1 >>= (λ rest. hands_at first.0 (after_blanks rest) >>= (λ hands. Some (hands.0, after_blanks hands.1)))) read h in
@@ -189,12 +189,12 @@ value-complete front value rest is ends solid =
 
 -- ---- whole texts
 -- what is read has the form and is noted, and what has the form is read
-pub record Reads (Form : Value → Type 0) (read : Option Seen) : Type 0 where
-  pub sound : (seen : Seen) → read ≡ Some seen → (value : Value) × Form value × (seen ≡ seen_of value)
+pub record Reads (Form : Value → Type 0) (read : Option HandsSoFar) : Type 0 where
+  pub sound : (seen : HandsSoFar) → read ≡ Some seen → (value : Value) × Form value × (seen ≡ seen_of value)
   pub complete : (value : Value) → Form value → read ≡ Some (seen_of value)
 
 -- the end is reached only where nothing is left
-only-at_end : (text : List ℕ) (seen new : Seen) → cond (at_end text) (Some seen) None ≡ Some new → (text ≡ []) × (seen ≡ new)
+only-at_end : (text : List ℕ) (seen new : HandsSoFar) → cond (at_end text) (Some seen) None ≡ Some new → (text ≡ []) × (seen ≡ new)
 unfolding at_end
 only-at_end text seen new h =
     let c = cond_some (length text == 0) seen new h in
@@ -222,7 +222,7 @@ Reads-value text =
 
 -- ---- a tag
 -- the text is a value in quotes, and what is left; the value is noted
-record QuotedRead (text : List ℕ) (read : Seen × List ℕ) : Type 0 where
+record QuotedRead (text : List ℕ) (read : HandsSoFar × List ℕ) : Type 0 where
   value : Value
   inner : List ℕ
   is : IsValue inner value
@@ -230,15 +230,15 @@ record QuotedRead (text : List ℕ) (read : Seen × List ℕ) : Type 0 where
   noted : read.0 ≡ seen_of value
 
 -- the same, of what is equal
-QuotedRead-same : (text : List ℕ) (read new : Seen × List ℕ) → read ≡ new → QuotedRead text read → QuotedRead text new
-QuotedRead-same text read new same is = subst (λ (r : Seen × List ℕ). QuotedRead text r) same is
+QuotedRead-same : (text : List ℕ) (read new : HandsSoFar × List ℕ) → read ≡ new → QuotedRead text read → QuotedRead text new
+QuotedRead-same text read new same is = subst (λ (r : HandsSoFar × List ℕ). QuotedRead text r) same is
 
 -- the parts of a value in quotes, put together
 quoted-parts : (front text t0 t1 rest : List ℕ) → text ≡ 34 ∷ t0 → t0 ≡ front ++ t1 → t1 ≡ 34 ∷ rest → text ≡ 34 ∷ (front ++ (34 ∷ rest))
 quoted-parts front text t0 t1 rest e0 e1 e2 = rw (e0, e1, e2) refl
 
 -- what is read is a value in quotes
-quoted-sound : (text : List ℕ) (read : Seen × List ℕ) → quoted_at text ≡ Some read → QuotedRead text read
+quoted-sound : (text : List ℕ) (read : HandsSoFar × List ℕ) → quoted_at text ≡ Some read → QuotedRead text read
 unfolding quoted_at
 quoted-sound text read h =
     let b1 = bind-some (byte_at 34 text) (λ inner. value_at inner >>= (λ value. byte_at 34 value.1 >>= (λ rest. Some (value.0, rest)))) read h in
@@ -275,14 +275,14 @@ tag-parts before before_name name after_name inner after_value after text t0 t1 
     rw (e0, e1, e2, e3, e4, e5, e6, e7, last) refl ∙ sym (tag-right before before_name name after_name inner after_value after)
 
 -- two that are equal to one are equal
-seen-moved : (a b c : Seen) → a ≡ b → a ≡ c → b ≡ c
+seen-moved : (a b c : HandsSoFar) → a ≡ b → a ≡ c → b ≡ c
 seen-moved a b c same is = sym same ∙ is
 
 -- what is read of a tag is a tag, and its value is noted
-tag-sound : (text : List ℕ) (seen : Seen) → tag_of text ≡ Some seen → (value : Value) × IsTag text value × (seen ≡ seen_of value)
+tag-sound : (text : List ℕ) (seen : HandsSoFar) → tag_of text ≡ Some seen → (value : Value) × IsTag text value × (seen ≡ seen_of value)
 unfolding tag_of
 tag-sound text seen h =
-    let last = λ (value : Seen × List ℕ) (rest : List ℕ). cond (at_end (after_blanks rest)) (Some value.0) None in
+    let last = λ (value : HandsSoFar × List ℕ) (rest : List ℕ). cond (at_end (after_blanks rest)) (Some value.0) None in
     let b1 = bind-some (byte_at 91 (after_blanks text)) (λ bracket. name_at (after_blanks bracket) >>= (λ name. quoted_at (after_blanks name) >>= (λ value. byte_at 93 (after_blanks value.1) >>= last value))) seen h in
     let b2 = bind-some (name_at (after_blanks b1.0)) (λ name. quoted_at (after_blanks name) >>= (λ value. byte_at 93 (after_blanks value.1) >>= last value)) seen b1.2 in
     let b3 = bind-some (quoted_at (after_blanks b2.0)) (λ value. byte_at 93 (after_blanks value.1) >>= last value) seen b2.2 in

@@ -12,7 +12,7 @@ use Rattle.dd_cards.specs.Cards.{card_of, has_card, with_card}
 use Rattle.dd_cards.specs.Hands.{FourHands, dealt, hand_of, with_hand}
 use Rattle.dd_pbn.specs.declared.fault.PbnFault.{PbnFault}
 use Rattle.dd_pbn.specs.declared.fault.PbnFault.TheVariants.{Grammar, Absent, Twice}
-use Rattle.dd_pbn.specs.declared.seen.Seen.{Seen}
+use Rattle.dd_pbn.specs.declared.hands_so_far.HandsSoFar.{HandsSoFar}
 use Rattle.dd_pbn.specs.Letters.{seat_letter, rank_of, is_blank}
 
 -- one step of reading, and the next where the first did not fail
@@ -28,7 +28,7 @@ Gives view (Some x) read = read ≡ Some (view x)
 
 -- ---- what is seen
 -- nothing yet
-abbrev pub nothing : Seen
+abbrev pub nothing : HandsSoFar
 nothing = record { hands = dealt [] [] [] []; absent = false; twice = false }
 
 -- is the card in no hand?
@@ -37,18 +37,18 @@ is_free hands card =
     not (has_card (hand_of hands North) card || has_card (hand_of hands East) card || has_card (hand_of hands South) card || has_card (hand_of hands West) card)
 
 -- one more card: it is put into the hand, or seen twice
-abbrev pub note : Seat → PlayingCard → Seen → Seen
+abbrev pub note : Seat → PlayingCard → HandsSoFar → HandsSoFar
 note seat card seen =
     (if is_free seen.hands card
     then record { hands = with_hand seen.hands seat (with_card (hand_of seen.hands seat) card); absent = seen.absent; twice = seen.twice }
     else record { hands = seen.hands; absent = seen.absent; twice = true })
 
 -- a hand is left out
-abbrev pub leave_out : Seen → Seen
+abbrev pub leave_out : HandsSoFar → HandsSoFar
 leave_out seen = record { hands = seen.hands; absent = true; twice = seen.twice }
 
 -- the deal, or why there is none
-abbrev pub outcome : Option Seen → Result FourHands PbnFault
+abbrev pub outcome : Option HandsSoFar → Result FourHands PbnFault
 outcome None = Err Grammar
 outcome (Some seen) = (if seen.absent then Err Absent else if seen.twice then Err Twice else Ok seen.hands)
 
@@ -87,7 +87,7 @@ seat_at [] = None
 seat_at (byte ∷ text) = seat_of byte >>= (λ seat. Some (seat, text))
 
 -- the letters of a suit, up to the first byte that is none
-unfoldable pub suit_at : Seat → Suit → Seen → List ℕ → Seen × List ℕ
+unfoldable pub suit_at : Seat → Suit → HandsSoFar → List ℕ → HandsSoFar × List ℕ
 suit_at seat suit seen [] = (seen, [])
 suit_at seat suit seen (byte ∷ text) =
     elim (rank_of byte) [
@@ -96,13 +96,13 @@ suit_at seat suit seen (byte ∷ text) =
     ]
 
 -- a point, and the suit after it
-unfoldable pub next_suit : Seat → Suit → Seen × List ℕ → Option (Seen × List ℕ)
+unfoldable pub next_suit : Seat → Suit → HandsSoFar × List ℕ → Option (HandsSoFar × List ℕ)
 next_suit seat suit read = do
   text ← byte_at 46 read.1
   Some (suit_at seat suit read.0 text)
 
 -- four suits with a point between each two, or a dash
-unfoldable pub hand_at : Seat → Seen → List ℕ → Option (Seen × List ℕ)
+unfoldable pub hand_at : Seat → HandsSoFar → List ℕ → Option (HandsSoFar × List ℕ)
 hand_at seat seen text =
     elim (byte_at 45 text) [
       | Some rest ↦ Some (leave_out seen, rest)
@@ -113,18 +113,18 @@ hand_at seat seen text =
     ]
 
 -- one or more blanks, and the hand after them
-unfoldable pub next_hand : Seat → Seen × List ℕ → Option (Seen × List ℕ)
+unfoldable pub next_hand : Seat → HandsSoFar × List ℕ → Option (HandsSoFar × List ℕ)
 next_hand seat read = do
   text ← gap_at read.1
   hand_at seat read.0 text
 
 -- four hands, from this seat clockwise, with one or more blanks between each two
-unfoldable pub hands_at : Seat → List ℕ → Option (Seen × List ℕ)
+unfoldable pub hands_at : Seat → List ℕ → Option (HandsSoFar × List ℕ)
 hands_at first text =
     hand_at first nothing text >>= next_hand (next_seat first) >>= next_hand (next_seat (next_seat first)) >>= next_hand (next_seat (next_seat (next_seat first)))
 
 -- a value, from its first blanks to its last
-unfoldable pub value_at : List ℕ → Option (Seen × List ℕ)
+unfoldable pub value_at : List ℕ → Option (HandsSoFar × List ℕ)
 value_at text = do
   first ← seat_at (after_blanks text)
   rest ← byte_at 58 first.1
@@ -132,7 +132,7 @@ value_at text = do
   Some (hands.0, after_blanks hands.1)
 
 -- a value and nothing after it
-unfoldable pub value_of : List ℕ → Option Seen
+unfoldable pub value_of : List ℕ → Option HandsSoFar
 value_of text = do
   value ← value_at text
   if at_end value.1 then Some value.0 else None
@@ -142,7 +142,7 @@ unfoldable pub name_at : List ℕ → Option (List ℕ)
 name_at text = letter_at 68 text >>= letter_at 69 >>= letter_at 65 >>= letter_at 76
 
 -- a value in quotes
-unfoldable pub quoted_at : List ℕ → Option (Seen × List ℕ)
+unfoldable pub quoted_at : List ℕ → Option (HandsSoFar × List ℕ)
 quoted_at text = do
   inner ← byte_at 34 text
   value ← value_at inner
@@ -150,7 +150,7 @@ quoted_at text = do
   Some (value.0, rest)
 
 -- a tag and nothing after it
-unfoldable pub tag_of : List ℕ → Option Seen
+unfoldable pub tag_of : List ℕ → Option HandsSoFar
 tag_of text = do
   bracket ← byte_at 91 (after_blanks text)
   name ← name_at (after_blanks bracket)

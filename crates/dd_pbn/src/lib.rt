@@ -2,10 +2,10 @@
 #![tactic(auto)]
 
 mod fault;
+mod hands_so_far;
 mod laws;
 mod letters;
 mod reading;
-mod seen;
 mod writing;
 
 pub use fault::PbnFault;

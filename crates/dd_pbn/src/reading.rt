@@ -6,8 +6,8 @@ ghost use Rattle.dd_pbn.specs.Values.{begins_tag};
 ghost use Rattle.dd_pbn.specs.Reading.{Gives, after_blanks, gap_at, byte_at, letter_at, name_at, seat_at, suit_at, next_suit, hand_at, next_hand, hands_at, value_at, value_of, quoted_at, tag_of};
 
 use crate::fault::PbnFault;
+use crate::hands_so_far::{HandsSoFar, outcome};
 use crate::letters::{is_blank, rank_of, seat_of};
-use crate::seen::{Seen, outcome};
 use dd_cards::{Card, Hands, Seat, Suit};
 
 /// The hands that the value of a tag Deal spells (PBN 2.1, tag Deal): blanks, one of W, N, E, S, a colon, blanks, four
@@ -52,7 +52,7 @@ pub fn begins_tag(text: &[u8]) -> bool
 
 // A value and nothing after it.
 #[tactic(auto, unfolding(crate::specs::Reading::value_of, crate::specs::Reading::at_end))]
-fn seen_in_value(text: &[u8]) -> Option<Seen>
+fn seen_in_value(text: &[u8]) -> Option<HandsSoFar>
     ensures { result ≡ value_of text.now }
 {
     let (seen, rest) = read_value(text)?;
@@ -61,7 +61,7 @@ fn seen_in_value(text: &[u8]) -> Option<Seen>
 
 // A tag and nothing after it.
 #[tactic(auto, unfolding(crate::specs::Reading::tag_of, crate::specs::Reading::at_end))]
-fn seen_in_tag(text: &[u8]) -> Option<Seen>
+fn seen_in_tag(text: &[u8]) -> Option<HandsSoFar>
     ensures { result ≡ tag_of text.now }
 {
     let rest = after_byte(b'[', after_blanks(text))?;
@@ -77,7 +77,7 @@ fn seen_in_tag(text: &[u8]) -> Option<Seen>
 
 // A value in quotes.
 #[tactic(auto, unfolding(crate::specs::Reading::quoted_at))]
-fn read_quoted(text: &[u8]) -> Option<(Seen, &[u8])>
+fn read_quoted(text: &[u8]) -> Option<(HandsSoFar, &[u8])>
     ensures { Gives (λ read. (read.0, read.1.now)) result (quoted_at text.now) }
 {
     let rest = after_byte(b'"', text)?;
@@ -88,7 +88,7 @@ fn read_quoted(text: &[u8]) -> Option<(Seen, &[u8])>
 
 // A value, from its first blanks to its last.
 #[tactic(auto, unfolding(crate::specs::Reading::value_at))]
-fn read_value(text: &[u8]) -> Option<(Seen, &[u8])>
+fn read_value(text: &[u8]) -> Option<(HandsSoFar, &[u8])>
     ensures { Gives (λ read. (read.0, read.1.now)) result (value_at text.now) }
 {
     let (first, rest) = read_seat(after_blanks(text))?;
@@ -99,10 +99,10 @@ fn read_value(text: &[u8]) -> Option<(Seen, &[u8])>
 
 // Four hands, from this seat clockwise.
 #[tactic(auto, unfolding(crate::specs::Reading::hands_at))]
-fn read_hands(first: Seat, text: &[u8]) -> Option<(Seen, &[u8])>
+fn read_hands(first: Seat, text: &[u8]) -> Option<(HandsSoFar, &[u8])>
     ensures { Gives (λ read. (read.0, read.1.now)) result (hands_at first text.now) }
 {
-    let mut seen = Seen::new();
+    let mut seen = HandsSoFar::new();
     let rest = read_hand(&mut seen, first, text)?;
     let rest = read_next_hand(&mut seen, first.next(), rest)?;
     let rest = read_next_hand(&mut seen, first.next().next(), rest)?;
@@ -123,7 +123,7 @@ fn read_seat(text: &[u8]) -> Option<(Seat, &[u8])>
 
 // One or more blanks, and a hand.
 #[tactic(auto, unfolding(crate::specs::Reading::next_hand))]
-fn read_next_hand<'a>(seen: &mut Seen, seat: Seat, text: &'a [u8]) -> Option<&'a [u8]>
+fn read_next_hand<'a>(seen: &mut HandsSoFar, seat: Seat, text: &'a [u8]) -> Option<&'a [u8]>
     ensures { Gives (λ rest. (seen.new, rest.now)) result (next_hand seat (seen.old, text.now)) }
 {
     let rest = after_gap(text)?;
@@ -132,7 +132,7 @@ fn read_next_hand<'a>(seen: &mut Seen, seat: Seat, text: &'a [u8]) -> Option<&'a
 
 // A hand: four suits with a point between each two, or a dash.
 #[tactic(auto, unfolding(crate::specs::Reading::hand_at))]
-fn read_hand<'a>(seen: &mut Seen, seat: Seat, text: &'a [u8]) -> Option<&'a [u8]>
+fn read_hand<'a>(seen: &mut HandsSoFar, seat: Seat, text: &'a [u8]) -> Option<&'a [u8]>
     ensures { Gives (λ rest. (seen.new, rest.now)) result (hand_at seat seen.old text.now) }
 {
     if let Some(rest) = after_byte(b'-', text) {
@@ -147,7 +147,12 @@ fn read_hand<'a>(seen: &mut Seen, seat: Seat, text: &'a [u8]) -> Option<&'a [u8]
 
 // A point, and a suit.
 #[tactic(auto, unfolding(crate::specs::Reading::next_suit))]
-fn read_next_suit<'a>(seen: &mut Seen, seat: Seat, suit: Suit, text: &'a [u8]) -> Option<&'a [u8]>
+fn read_next_suit<'a>(
+    seen: &mut HandsSoFar,
+    seat: Seat,
+    suit: Suit,
+    text: &'a [u8],
+) -> Option<&'a [u8]>
     ensures { Gives (λ rest. (seen.new, rest.now))
         result (next_suit seat suit (seen.old, text.now)) }
 {
@@ -156,7 +161,7 @@ fn read_next_suit<'a>(seen: &mut Seen, seat: Seat, suit: Suit, text: &'a [u8]) -
 }
 
 // The ranks of a suit, up to the first byte that is none.
-fn read_suit<'a>(seen: &mut Seen, seat: Seat, suit: Suit, text: &'a [u8]) -> &'a [u8]
+fn read_suit<'a>(seen: &mut HandsSoFar, seat: Seat, suit: Suit, text: &'a [u8]) -> &'a [u8]
     ensures { suit_at seat suit seen.old text.now ≡ (seen.new, result.now) }
 {
     let mut rest = text;

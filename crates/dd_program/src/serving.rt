@@ -125,7 +125,7 @@ fn attend_at<
     match run_server::<J, W, NoGate>(rt, alloc, row, listener, args, &NoGate) {
         Ok(closed) => tell_end(events_of(&closed), output, errors),
         Err(ServeFault::Listen) => fail(errors, Ending::ListenFailed),
-        Err(ServeFault::Memory) => fail(errors, Ending::OutOfMemory),
+        Err(ServeFault::OutOfMemory) => fail(errors, Ending::OutOfMemory),
     }
 }
 

@@ -6,7 +6,7 @@ use crate::args::ServeArgs;
 use crate::server_state::ServerState;
 use crate::session_stream::SessionStream;
 use crate::stop::{Stop, StopPort};
-use dd_desk::{Fault, Naming, Pass};
+use dd_desk::{DeskFault, Naming, Pass};
 use dd_lines::{CountedDevice, write_whole};
 use dd_session::{BookPort, DeskPort, serve_lines, serve_socket, write_refusal};
 use std::alloc::Global;
@@ -71,8 +71,13 @@ fn serve_port<P: BookPort>(
 }
 
 // The one line of a connection that gets no pass.
-fn refuse<J: Naming, R: Eprint>(rt: &R, state: &ServerState<J>, stream: &TcpStream, fault: Fault) {
-    if matches!(fault, Fault::NoPass) && !state.told_full.swap(true, Ordering::SeqCst) {
+fn refuse<J: Naming, R: Eprint>(
+    rt: &R,
+    state: &ServerState<J>,
+    stream: &TcpStream,
+    fault: DeskFault,
+) {
+    if matches!(fault, DeskFault::NoPass) && !state.told_full.swap(true, Ordering::SeqCst) {
         let _ = rt.eprintln(
             "ddserve: as many connections were served as there may be; each more is refused",
         );

@@ -78,7 +78,7 @@ fn new_state<J: Naming>(
         return Err(ServeFault::Listen);
     };
     let Ok(table) = SharedTable::new(alloc, args.shards, args.entries) else {
-        return Err(ServeFault::Memory);
+        return Err(ServeFault::OutOfMemory);
     };
     Ok(ServerState {
         alloc,
@@ -99,7 +99,7 @@ fn close<J: Naming>(desk: Desk<J>, passes: Vec<Pass<J>>) -> Result<Closed<J>, Se
 {
     match desk.close(passes) {
         Ok(closed) => Ok(closed),
-        Err(_) => Err(ServeFault::Memory),
+        Err(_) => Err(ServeFault::OutOfMemory),
     }
 }
 
@@ -112,7 +112,7 @@ fn keep_open<J: Naming + Send + Sync, R: Threads + Wait + Clock + Eprint + Sync,
 ) -> Result<(), ServeFault> {
     // The program's own pass, by which it shuts the book.
     let Ok(mut own) = state.enrol(rt) else {
-        return Err(ServeFault::Memory);
+        return Err(ServeFault::OutOfMemory);
     };
     let (own, ended) = thread::scope(
         thread::scope_env(),

@@ -5,7 +5,7 @@ use crate::args::ServeArgs;
 use crate::returned::Returned;
 use crate::stop::Stop;
 use dd_book::Reply;
-use dd_desk::{Desk, Fault, Naming, Pass};
+use dd_desk::{Desk, DeskFault, Naming, Pass};
 use dd_table::SharedTable;
 use std::alloc::Global;
 use std::sync::atomic::AtomicBool;
@@ -27,9 +27,9 @@ pub(crate) struct ServerState<J: Naming> {
 
 impl<J: Naming> ServerState<J> {
     /// A pass, with room kept for its return.
-    pub(crate) fn enrol<R: Wait>(&self, rt: &R) -> Result<Pass<J>, Fault> {
+    pub(crate) fn enrol<R: Wait>(&self, rt: &R) -> Result<Pass<J>, DeskFault> {
         if self.returned.lock(rt).expect_one().is_err() {
-            return Err(Fault::Memory);
+            return Err(DeskFault::OutOfMemory);
         }
         let pass = self.desk.enrol(rt);
         if pass.is_err() {
@@ -50,12 +50,12 @@ impl<J: Naming> ServerState<J> {
     }
 
     // Shuts the book, however often memory runs out at it: only that may be otherwise at the next try.
-    fn shut_book<R: Wait>(&self, rt: &R, pass: &mut Pass<J>) -> Result<Reply, Fault>
-        ensures { result ≡ Err Fault.Memory → ⊥ }
+    fn shut_book<R: Wait>(&self, rt: &R, pass: &mut Pass<J>) -> Result<Reply, DeskFault>
+        ensures { result ≡ Err DeskFault.OutOfMemory → ⊥ }
     {
         for _ in rt.forever() {
             match self.desk.shut(rt, pass) {
-                Err(Fault::Memory) => thread::yield_now(),
+                Err(DeskFault::OutOfMemory) => thread::yield_now(),
                 told => return told,
             }
         }

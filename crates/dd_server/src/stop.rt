@@ -5,7 +5,7 @@ ghost use Rattle.dd_wire.specs.declared.want.Want.TheVariants.{Stop as StopWant}
 use crate::open_streams::OpenStreams;
 use crate::stop_flag::{FlagIsSet, StopFlag};
 use dd_book::Reply;
-use dd_desk::Fault;
+use dd_desk::DeskFault;
 use dd_session::BookPort;
 use dd_wire::Want;
 use std::alloc::Global;
@@ -36,8 +36,8 @@ impl Stop {
     }
 
     /// Stops the run, once the book was asked to shut: it said this, and not that it found no memory.
-    pub(crate) fn stop<R: Wait>(&self, rt: &R, _said: &Result<Reply, Fault>)
-        requires { _said.now ≡ Err Fault.Memory → ⊥ }
+    pub(crate) fn stop<R: Wait>(&self, rt: &R, _said: &Result<Reply, DeskFault>)
+        requires { _said.now ≡ Err DeskFault.OutOfMemory → ⊥ }
     {
         let is_set = self.flag.set();
         self.shut_listener(is_set);
@@ -98,7 +98,7 @@ impl<'a, P: BookPort, R: Wait> BookPort for StopPort<'a, P, R> {
 
     ghost refusals = { λ s. P.refusals s.port };
 
-    fn ask(&mut self, want: Want) -> Result<Reply, Fault> {
+    fn ask(&mut self, want: Want) -> Result<Reply, DeskFault> {
         let stops = is_stop(&want);
         let reply = self.port.ask(want);
         if stops && !found_no_memory(&reply) {
@@ -107,7 +107,7 @@ impl<'a, P: BookPort, R: Wait> BookPort for StopPort<'a, P, R> {
         reply
     }
 
-    fn fetch_within(&mut self, job: u64, wait: u64) -> Result<Reply, Fault> {
+    fn fetch_within(&mut self, job: u64, wait: u64) -> Result<Reply, DeskFault> {
         self.port.fetch_within(job, wait)
     }
 }
@@ -120,8 +120,8 @@ fn is_stop(want: &Want) -> bool
 }
 
 // Did the call find no memory? Then the book was not shut.
-fn found_no_memory(said: &Result<Reply, Fault>) -> bool
-    ensures { IsTrue result ↔ (said.now ≡ Err Fault.Memory) }
+fn found_no_memory(said: &Result<Reply, DeskFault>) -> bool
+    ensures { IsTrue result ↔ (said.now ≡ Err DeskFault.OutOfMemory) }
 {
-    matches!(said, Err(Fault::Memory))
+    matches!(said, Err(DeskFault::OutOfMemory))
 }

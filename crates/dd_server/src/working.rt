@@ -47,16 +47,16 @@ where
     G: Gate + Sync,
 {
     let Ok(cache) = Cache::new(state.alloc, state.table.view(rt)) else {
-        return Err(ServeFault::Memory);
+        return Err(ServeFault::OutOfMemory);
     };
     let Ok(pass) = state.enrol(rt) else {
-        return Err(ServeFault::Memory);
+        return Err(ServeFault::OutOfMemory);
     };
     if let Err(refused) = scope.spawn(move || work(rt, state, cache, pass, gate)) {
         // After the shut it leaves at once, and its pass comes back.
         state.shut(rt, own);
         (refused.value)();
-        return Err(ServeFault::Memory);
+        return Err(ServeFault::OutOfMemory);
     }
     Ok(())
 }

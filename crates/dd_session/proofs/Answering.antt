@@ -3,12 +3,12 @@ use Rattle.std.proofs.Common.{◌≡◌, ℕ, zero, suc, ◌<◌, List, [], ◌�
 use Rattle.std.specs.Prelude.{Option, None, Some, Result}
 use Rattle.dd_lines.specs.CountedDevices.{one_more}
 use Rattle.dd_book.specs.declared.call.Reply.{Reply}
-use Rattle.dd_desk.specs.declared.fault.Fault.{Fault as DeskFault}
+use Rattle.dd_desk.specs.declared.fault.DeskFault.{DeskFault}
 use Rattle.dd_solve.specs.declared.asked.Asked.{Asked}
 use Rattle.dd_wire.specs.declared.want.Want.{Want}
 use Rattle.dd_wire.specs.declared.want.Want.TheVariants.{Submit, Cancel, Fetch, Stop}
 use Rattle.dd_wire.specs.declared.wish.Wish.{Wish}
-use Rattle.dd_session.specs.Ports.{Told, PortOf, port_of, Tells, Gains}
+use Rattle.dd_session.specs.Ports.{Exchange, PortOf, port_of, Tells, Gains}
 use Rattle.dd_session.specs.Serving.{Answers, SaysOne, awaited, new_job}
 
 -- a want with a wait
@@ -17,10 +17,10 @@ wish_of want wait = record { want = want; wait = wait }
 
 -- one call
 says_one : (before after : PortOf) (want : Want) (said : Result Reply DeskFault) → Tells before want said after
-    → (news : List Told) × (refused : ℕ) × SaysOne want said news refused × Gains before news refused after
+    → (news : List Exchange) × (refused : ℕ) × SaysOne want said news refused × Gains before news refused after
 says_one before after want (Ok reply) tells = ((want, reply) ∷ [], 0, (refl, refl), tells)
 says_one before after want (Err fault) (of_call, tells) =
-    ([], 1, (of_call, refl, refl), tells ∙ ap (λ (l : List Told). port_of l (one_more before.refusals)) (sym (append-nil before.told)))
+    ([], 1, (of_call, refl, refl), tells ∙ ap (λ (l : List Exchange). port_of l (one_more before.refusals)) (sym (append-nil before.told)))
 
 -- a wish whose reply waits for no job of its own is one call
 answers_one : (before after : PortOf) (wish : Wish) (said : Result Reply DeskFault) → awaited wish.wait wish.want ≡ None
@@ -82,7 +82,7 @@ answers_state before between after asked (suc wait) job made state some new subm
   0,
   (Ok made, rw new (inl (state, refl, refl, refl))),
   subst (λ (p : PortOf). after ≡ port_of (p.told ++ (Fetch job, state) ∷ []) p.refusals) submits fetches
-      ∙ ap (λ (l : List Told). port_of l before.refusals) (append_assoc before.told ((Submit asked, made) ∷ []) ((Fetch job, state) ∷ [])),
+      ∙ ap (λ (l : List Exchange). port_of l before.refusals) (append_assoc before.told ((Submit asked, made) ∷ []) ((Fetch job, state) ∷ [])),
 )
 
 -- or is refused

@@ -3,27 +3,27 @@ use Rattle.std.proofs.Common.{◌≡◌, ℕ, List, [], ◌∷◌, ◌++◌, Boo
 use Rattle.std.specs.Prelude.{Result, Some, None, MatchOption, OnOk, OnErr}
 use Rattle.dd_solve.specs.declared.asked.Asked.{Asked}
 use Rattle.dd_book.specs.declared.call.Reply.{Reply}
-use Rattle.dd_desk.specs.declared.fault.Fault.{Fault as DeskFault}
+use Rattle.dd_desk.specs.declared.fault.DeskFault.{DeskFault}
 use Rattle.dd_wire.specs.declared.want.Want.{Want}
 use Rattle.dd_wire.specs.declared.want.Want.TheVariants.{Submit, Stop}
 use Rattle.dd_wire.specs.declared.wish.Wish.{Wish}
 use Rattle.dd_wire.proofs.CallerLemmas.{no-stop-line}
-use Rattle.dd_session.specs.Ports.{AreNoStops, AsksNoStop, PortOf, Told}
+use Rattle.dd_session.specs.Ports.{AreNoStops, AsksNoStop, PortOf, Exchange}
 use Rattle.dd_session.specs.Serving.{Says, SaysAfter, SaysEnd, SaysOne, SaysState, awaited, new_job}
 use Rattle.dd_session.specs.Served.{AreServed, IsServed, ServedAll, ServedBeginning}
 use Rattle.dd_session.specs.Sockets.{ServesMessages}
 
 -- ---- what was told for a line
 
-one-no-stop : (want : Want) (said : Result Reply DeskFault) (news : List Told) (refused : ℕ) → (want ≡ Stop → ⊥) → SaysOne want said news refused → AreNoStops news
+one-no-stop : (want : Want) (said : Result Reply DeskFault) (news : List Exchange) (refused : ℕ) → (want ≡ Stop → ⊥) → SaysOne want said news refused → AreNoStops news
 one-no-stop want (Ok reply) news refused none (is, count) = subst AreNoStops (sym is) (none, tt)
 one-no-stop want (Err fault) news refused none (of_call, is, count) = subst AreNoStops (sym is) tt
 
-state-no-stop : (asked : Asked) (made : Reply) (job : ℕ) (said : Result Reply DeskFault) (news : List Told) (refused : ℕ) → SaysState asked made job said news refused → AreNoStops news
+state-no-stop : (asked : Asked) (made : Reply) (job : ℕ) (said : Result Reply DeskFault) (news : List Exchange) (refused : ℕ) → SaysState asked made job said news refused → AreNoStops news
 state-no-stop asked made job said news refused (inl (state, says, is, count)) = subst AreNoStops (sym is) (λ e. cc, (λ e. cc, tt))
 state-no-stop asked made job said news refused (inr (fault, of_call, says, is, count)) = subst AreNoStops (sym is) (λ e. cc, tt)
 
-after-no-stop : (asked : Asked) (first said : Result Reply DeskFault) (news : List Told) (refused : ℕ) → SaysAfter asked first said news refused → AreNoStops news
+after-no-stop : (asked : Asked) (first said : Result Reply DeskFault) (news : List Exchange) (refused : ℕ) → SaysAfter asked first said news refused → AreNoStops news
 after-no-stop asked (Err fault) said news refused (is, one) = one-no-stop (Submit asked) (Err fault) news refused (λ e. cc) one
 after-no-stop asked (Ok made) said news refused says = go (new_job made) says
   where
@@ -31,7 +31,7 @@ after-no-stop asked (Ok made) said news refused says = go (new_job made) says
     go None (is, one) = one-no-stop (Submit asked) (Ok made) news refused (λ e. cc) one
     go (Some job) state = state-no-stop asked made job said news refused state
 
-says-no-stop : (wish : Wish) (said : Result Reply DeskFault) (news : List Told) (refused : ℕ) → (wish.want ≡ Stop → ⊥) → Says wish said news refused → AreNoStops news
+says-no-stop : (wish : Wish) (said : Result Reply DeskFault) (news : List Exchange) (refused : ℕ) → (wish.want ≡ Stop → ⊥) → Says wish said news refused → AreNoStops news
 says-no-stop wish said news refused none says = go (awaited wish.wait wish.want) says
   where
     go : (asked : Option Asked) → MatchOption asked (SaysOne wish.want said news refused) (λ a. SaysEnd a said news refused) → AreNoStops news
@@ -40,11 +40,11 @@ says-no-stop wish said news refused none says = go (awaited wish.wait wish.want)
 
 -- ---- what was told
 
-both-no-stops : (news later : List Told) → AreNoStops news → AreNoStops later → AreNoStops (news ++ later)
+both-no-stops : (news later : List Exchange) → AreNoStops news → AreNoStops later → AreNoStops (news ++ later)
 both-no-stops [] later none more = more
 both-no-stops (told ∷ news) later (none, rest) more = (none, both-no-stops news later rest more)
 
-no-stops : (lines : List (List ℕ)) (bytes : List ℕ) (told : List Told) (refused : ℕ) → AreServed false lines bytes told refused → AreNoStops told
+no-stops : (lines : List (List ℕ)) (bytes : List ℕ) (told : List Exchange) (refused : ℕ) → AreServed false lines bytes told refused → AreNoStops told
 no-stops [] bytes told refused (no_bytes, none, no_refusals) = subst AreNoStops (sym none) tt
 no-stops (line ∷ rest) bytes told refused (text, more, split, way) =
     elim way [

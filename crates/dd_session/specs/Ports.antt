@@ -2,27 +2,27 @@
 use Rattle.std.specs.Prelude.{◌≡◌, ℕ, zero, suc, List, [], ◌∷◌, ◌++◌, length, drop, Result, Ok, Err}
 use Rattle.dd_book.specs.declared.call.Call.{Call}
 use Rattle.dd_book.specs.declared.call.Reply.{Reply}
-use Rattle.dd_desk.specs.declared.fault.Fault.{Fault}
+use Rattle.dd_desk.specs.declared.fault.DeskFault.{DeskFault}
 use Rattle.dd_desk.specs.Faults.{IsOfCall}
 use Rattle.dd_desk.specs.Receipts.{ReceiptOf, PassOf}
 use Rattle.dd_lines.specs.CountedDevices.{one_more}
 use Rattle.dd_wire.specs.declared.want.Want.{Want}
 
 -- a call that was made over a port, with its reply
-abbrev pub Told : Type 0
-Told = Want × Reply
+abbrev pub Exchange : Type 0
+Exchange = Want × Reply
 
 -- what a port tells: the calls that were made over it, in order, and how many it refused
 pub record PortOf : Type 0 where
-  pub told : List Told
+  pub told : List Exchange
   pub refusals : ℕ
 
-abbrev pub port_of : List Told → ℕ → PortOf
+abbrev pub port_of : List Exchange → ℕ → PortOf
 port_of told refusals = record { told = told; refusals = refusals }
 
 -- The port before and after it is asked: the call was made and its reply is told; or it was refused, since the journal is
 -- full or memory ran out, and that is counted.
-abbrev pub Tells : PortOf → Want → Result Reply Fault → PortOf → Type 0
+abbrev pub Tells : PortOf → Want → Result Reply DeskFault → PortOf → Type 0
 Tells before want (Ok reply) after = after ≡ port_of (before.told ++ (want, reply) ∷ []) before.refusals
 Tells before want (Err fault) after = IsOfCall fault × (after ≡ port_of before.told (one_more before.refusals))
 
@@ -32,19 +32,19 @@ count_more count zero = count
 count_more count (suc more) = count_more (one_more count) more
 
 -- the port before and after these calls were told, in order, and so many were refused
-abbrev pub Gains : PortOf → List Told → ℕ → PortOf → Type 0
+abbrev pub Gains : PortOf → List Exchange → ℕ → PortOf → Type 0
 Gains before news refused after = after ≡ port_of (before.told ++ news) (count_more before.refusals refused)
 
 -- ---- without leave
 
 -- none of these calls wants a stop
-abbrev pub AreNoStops : List Told → Type 0
+abbrev pub AreNoStops : List Exchange → Type 0
 AreNoStops [] = Unit {0}
 AreNoStops (told ∷ rest) = (told.0 ≡ Want.Stop → ⊥) × AreNoStops rest
 
 -- what was told before, and then no call that wants a stop
-pub record AsksNoStop (before after : List Told) : Type 0 where
-  pub gained : List Told
+pub record AsksNoStop (before after : List Exchange) : Type 0 where
+  pub gained : List Exchange
   pub told : after ≡ before ++ gained
   pub no_stops : AreNoStops gained
 
@@ -58,7 +58,7 @@ call_by caller (Want.Fetch job) = Call.Fetch caller job
 call_by caller Want.Stop = Call.Shut
 
 -- what a call with this reply tells: its want, whoever called; a worker's calls make no want known
-abbrev pub told_of : Call → Reply → List Told
+abbrev pub told_of : Call → Reply → List Exchange
 told_of (Call.Submit caller asked) reply = (Want.Submit asked, reply) ∷ []
 told_of (Call.Claim worker) reply = []
 told_of (Call.Finish worker job claim outcome) reply = []
@@ -67,7 +67,7 @@ told_of (Call.Fetch caller job) reply = (Want.Fetch job, reply) ∷ []
 told_of Call.Shut reply = (Want.Stop, reply) ∷ []
 
 -- what receipts tell, in order
-abbrev pub told_in : List ReceiptOf → List Told
+abbrev pub told_in : List ReceiptOf → List Exchange
 told_in [] = []
 told_in (r ∷ rs) = told_of r.call r.reply ++ told_in rs
 
@@ -82,5 +82,5 @@ abbrev pub new_port : PassOf → DeskPortOf
 new_port pass = record { pass = pass; before = length pass.receipts; refusals = 0 }
 
 -- what it tells: the receipts that the pass has gained in the port
-abbrev pub told_at : DeskPortOf → List Told
+abbrev pub told_at : DeskPortOf → List Exchange
 told_at port = told_in (drop port.before port.pass.receipts)

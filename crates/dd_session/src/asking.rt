@@ -5,14 +5,14 @@ ghost use Rattle.dd_session.specs.Serving.{Answers, new_job};
 
 use crate::port::BookPort;
 use dd_book::Reply;
-use dd_desk::Fault;
+use dd_desk::DeskFault;
 use dd_solve::Asked;
 use dd_wire::{Want, Wish};
 
 /// What the port says to a wish. A fetch may wait for the end of its job. A submit that may wait is followed by a fetch of
 /// its job that does, whose reply is told; where that is refused the submit's reply is, so that the job isn't lost.
 #[tactic(auto, using(crate::proofs::Answering::answers_at_once))]
-pub(crate) fn ask_for<P: BookPort>(port: &mut P, wish: Wish) -> Result<Reply, Fault>
+pub(crate) fn ask_for<P: BookPort>(port: &mut P, wish: Wish) -> Result<Reply, DeskFault>
     ensures { Answers (port_of (P.told port.old) (P.refusals port.old)) wish result
         (port_of (P.told port.new) (P.refusals port.new)) }
 {
@@ -25,7 +25,7 @@ pub(crate) fn ask_for<P: BookPort>(port: &mut P, wish: Wish) -> Result<Reply, Fa
 }
 
 // The same, where there is a wait.
-fn ask_and_wait<P: BookPort>(port: &mut P, want: Want, wait: u64) -> Result<Reply, Fault>
+fn ask_and_wait<P: BookPort>(port: &mut P, want: Want, wait: u64) -> Result<Reply, DeskFault>
     requires { 0 < wait }
     ensures { Answers (port_of (P.told port.old) (P.refusals port.old))
         record { want = want; wait = wait } result
@@ -41,7 +41,7 @@ fn ask_and_wait<P: BookPort>(port: &mut P, want: Want, wait: u64) -> Result<Repl
 
 // A submit, and where it made a job, a fetch of it.
 #[tactic(auto, using(crate::proofs::Answering::answers_no_job))]
-fn submit_and_fetch<P: BookPort>(port: &mut P, asked: Asked, wait: u64) -> Result<Reply, Fault>
+fn submit_and_fetch<P: BookPort>(port: &mut P, asked: Asked, wait: u64) -> Result<Reply, DeskFault>
     requires { 0 < wait }
     ensures { Answers (port_of (P.told port.old) (P.refusals port.old))
         record { want = Want.Submit asked; wait = wait } result

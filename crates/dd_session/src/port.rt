@@ -6,7 +6,7 @@ ghost use Rattle.dd_lines.specs.CountedDevices.{one_more};
 ghost use Rattle.dd_session.specs.Ports.{call_by, new_port};
 
 use dd_book::Reply;
-use dd_desk::{Desk, Fault, Naming, Pass};
+use dd_desk::{Desk, DeskFault, Naming, Pass};
 use dd_wire::Want;
 use std::marker::Model;
 use std::sync::Wait;
@@ -15,21 +15,21 @@ use std::time::{Clock, Duration};
 /// The job book as one caller sees it, or what stands for it.
 pub trait BookPort {
     ghost use Rattle.std.specs.Prelude.{ℕ, List};
-    ghost use Rattle.dd_session.specs.Ports.{Told, Tells, port_of};
+    ghost use Rattle.dd_session.specs.Ports.{Exchange, Tells, port_of};
     ghost use Rattle.dd_wire.specs.declared.want.Want.TheVariants.{Fetch};
 
     /// the calls that were made, each with its reply, in order
-    ghost told: { Self → List Told };
+    ghost told: { Self → List Exchange };
     /// how many calls were refused, up to the greatest number, where the count stays
     ghost refusals: { Self → ℕ };
 
-    /// Makes the call, or refuses it and counts that: with `JournalFull` or `Memory`, and nothing else changes.
-    fn ask(&mut self, want: Want) -> Result<Reply, Fault>
+    /// Makes the call, or refuses it and counts that: with `JournalFull` or `OutOfMemory`, and nothing else changes.
+    fn ask(&mut self, want: Want) -> Result<Reply, DeskFault>
         ensures { Tells (port_of (told self.old) (refusals self.old)) want result
             (port_of (told self.new) (refusals self.new)) };
 
     /// The same for a fetch that waits until the job has ended, so many milliseconds at the most.
-    fn fetch_within(&mut self, job: u64, wait: u64) -> Result<Reply, Fault>
+    fn fetch_within(&mut self, job: u64, wait: u64) -> Result<Reply, DeskFault>
         ensures { Tells (port_of (told self.old) (refusals self.old)) (Fetch job) result
             (port_of (told self.new) (refusals self.new)) };
 }
@@ -94,7 +94,7 @@ impl<'a, J: Naming, R: Wait + Clock> BookPort for DeskPort<'a, J, R> {
 
     ghost refusals = { λ p. p.refusals };
 
-    fn ask(&mut self, want: Want) -> Result<Reply, Fault> {
+    fn ask(&mut self, want: Want) -> Result<Reply, DeskFault> {
         match call(self.rt, self.desk, &mut self.pass, want) {
             Ok(reply) => Ok(reply),
             Err(fault) => {
@@ -104,7 +104,7 @@ impl<'a, J: Naming, R: Wait + Clock> BookPort for DeskPort<'a, J, R> {
         }
     }
 
-    fn fetch_within(&mut self, job: u64, wait: u64) -> Result<Reply, Fault> {
+    fn fetch_within(&mut self, job: u64, wait: u64) -> Result<Reply, DeskFault> {
         match fetch_within(self.rt, self.desk, &mut self.pass, job, wait) {
             Ok(reply) => Ok(reply),
             Err(fault) => {
@@ -121,7 +121,7 @@ fn call<J: Naming, R: Wait>(
     desk: &Desk<J>,
     pass: &mut Pass<J>,
     want: Want,
-) -> Result<Reply, Fault>
+) -> Result<Reply, DeskFault>
     ensures { IsTold pass.old (call_by pass.old.number want) result pass.new }
 {
     match want {
@@ -139,7 +139,7 @@ fn fetch_within<J: Naming, R: Wait + Clock>(
     pass: &mut Pass<J>,
     job: u64,
     wait: u64,
-) -> Result<Reply, Fault>
+) -> Result<Reply, DeskFault>
     ensures { IsTold pass.old (Fetch pass.old.number job) result pass.new }
 {
     let (told, _) = desk.fetch_within(rt, pass, job, Duration::from_millis(wait));

@@ -4,7 +4,7 @@ ghost use Rattle.once_cell.specs.Once.{cell_name};
 
 use crate::desk::checked::check;
 use dd_book::{Call, Limits, Reply};
-use dd_desk::{CloseFault, Closed, Desk, Fault, Naming, Pass, Row};
+use dd_desk::{CloseFault, Closed, Desk, DeskFault, Naming, Pass, Row};
 use request_tests::book::words::{call, told};
 use std::alloc::{AllocError, Global};
 use std::marker::Brand;
@@ -17,7 +17,7 @@ pub fn ask<J: Naming, R: Wait>(
     desk: &Desk<J>,
     pass: &mut Pass<J>,
     call: Call,
-) -> Result<Reply, Fault> {
+) -> Result<Reply, DeskFault> {
     match call {
         Call::Submit { asked, .. } => desk.submit(rt, pass, asked),
         Call::Claim { .. } => desk.try_claim(rt, pass),
@@ -40,11 +40,11 @@ fn ask_again<J: Naming, R: Wait + Abort>(
     pass: &mut Pass<J>,
     words: &str,
     refusals: u8,
-) -> Result<Reply, Fault> {
+) -> Result<Reply, DeskFault> {
     let before = pass.receipts().len();
     for _ in 0..refusals {
         let reply = ask_once(rt, desk, pass, words);
-        if !matches!(reply, Err(Fault::Memory)) {
+        if !matches!(reply, Err(DeskFault::OutOfMemory)) {
             return reply;
         }
         assert_eq!(rt; pass.receipts().len(), before);
@@ -57,7 +57,7 @@ fn ask_once<J: Naming, R: Wait + Abort>(
     desk: &Desk<J>,
     pass: &mut Pass<J>,
     words: &str,
-) -> Result<Reply, Fault> {
+) -> Result<Reply, DeskFault> {
     if words.ends_with("waits") {
         return desk.claim(rt, pass);
     }
@@ -122,7 +122,7 @@ fn close<J: Naming>(
 {
     passes.reverse();
     match desk.close(passes) {
-        Err(CloseFault::Memory(desk, passes)) if refusals > 0 => desk.close(passes),
+        Err(CloseFault::OutOfMemory(desk, passes)) if refusals > 0 => desk.close(passes),
         closed => closed,
     }
 }

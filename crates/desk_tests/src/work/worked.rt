@@ -5,7 +5,7 @@ ghost use Rattle.once_cell.specs.Once.{cell_name};
 use crate::desk::worked::counted;
 use crate::work::lines::{call, told};
 use dd_book::{Call, Limits};
-use dd_desk::{Desk, Fault, Naming, Pass, Row};
+use dd_desk::{Desk, DeskFault, Naming, Pass, Row};
 use dd_search::NoTable;
 use dd_work::{NoGate, worker};
 use std::alloc::{AllocError, Global};
@@ -45,7 +45,7 @@ pub(crate) fn ask<J: Naming, R: Wait + Abort>(
         Call::Cancel { job, .. } => desk.cancel(rt, pass, job),
         Call::Fetch { job, .. } => desk.fetch(rt, pass, job),
         Call::Shut => desk.shut(rt, pass),
-        _ => Err(Fault::NoPass),
+        _ => Err(DeskFault::NoPass),
     };
     match reply {
         Ok(reply) => told(alloc, &reply),

@@ -56,7 +56,7 @@ pub enum Shows {
 
 /// A reply; of a refusal its number.
 #[derive(Clone, Copy, Debug, PartialEq, Eq)]
-pub enum Told {
+pub enum MadeReply {
     Job(u64),
     Claimed(u64, u64),
     ClaimedPart(u64, u8, u64),
@@ -253,24 +253,24 @@ pub fn shown(state: &JobState) -> Shows {
 }
 
 /// A reply as a plain value.
-pub fn plain(reply: &Reply) -> Told {
+pub fn plain(reply: &Reply) -> MadeReply {
     match reply {
-        Reply::Submitted(job) => Told::Job(*job),
-        Reply::Claimed { job, claim, .. } => Told::Claimed(*job, *claim),
-        Reply::ClaimedTarget { job, claim, .. } => Told::ClaimedTarget(*job, *claim),
+        Reply::Submitted(job) => MadeReply::Job(*job),
+        Reply::Claimed { job, claim, .. } => MadeReply::Claimed(*job, *claim),
+        Reply::ClaimedTarget { job, claim, .. } => MadeReply::ClaimedTarget(*job, *claim),
         Reply::ClaimedPart {
             job,
             part,
             claim,
             ..
-        } => Told::ClaimedPart(*job, *part, *claim),
-        Reply::NothingWaits => Told::NothingWaits,
-        Reply::Closing => Told::Closing,
-        Reply::Recorded => Told::Recorded,
-        Reply::Stale => Told::Stale,
-        Reply::Cancelled(job) => Told::Cancelled(*job),
-        Reply::State(job, state) => Told::State(*job, shown(state)),
-        Reply::Shut => Told::Shut,
-        Reply::Fault(refusal) => Told::Fault(refusal.number()),
+        } => MadeReply::ClaimedPart(*job, *part, *claim),
+        Reply::NothingWaits => MadeReply::NothingWaits,
+        Reply::Closing => MadeReply::Closing,
+        Reply::Recorded => MadeReply::Recorded,
+        Reply::Stale => MadeReply::Stale,
+        Reply::Cancelled(job) => MadeReply::Cancelled(*job),
+        Reply::State(job, state) => MadeReply::State(*job, shown(state)),
+        Reply::Shut => MadeReply::Shut,
+        Reply::Fault(refusal) => MadeReply::Fault(refusal.number()),
     }
 }

@@ -1,10 +1,10 @@
 //! Many jobs of many callers.
-use crate::book::made::{Asks, Made, Step, Told, make, plain};
+use crate::book::made::{Asks, Made, MadeReply, Step, make, plain};
 use dd_book::{Book, Limits};
 use std::alloc::AllocError;
 
 // Is the submit of this caller told this?
-fn tells(book: &mut Book, made: &Made, caller: u64, wanted: Told) -> bool {
+fn tells(book: &mut Book, made: &Made, caller: u64, wanted: MadeReply) -> bool {
     if book.claims() > 0 {
         return false;
     }
@@ -22,10 +22,10 @@ fn a_caller_has_64_open_jobs_and_a_book_3000_of_all(rt: HostRuntime) -> Result<(
     let mut book = Book::new(alloc, limits);
     let mut told = true;
     for place in 0..3_000u64 {
-        told = told && tells(&mut book, &made, place / 64, Told::Job(place + 1));
+        told = told && tells(&mut book, &made, place / 64, MadeReply::Job(place + 1));
     }
-    told = told && tells(&mut book, &made, 45, Told::Fault(13));
-    told = told && tells(&mut book, &made, 99, Told::Fault(14));
+    told = told && tells(&mut book, &made, 45, MadeReply::Fault(13));
+    told = told && tells(&mut book, &made, 99, MadeReply::Fault(14));
     assert!(rt; told);
     Ok(())
 }

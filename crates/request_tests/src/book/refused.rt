@@ -1,12 +1,12 @@
 //! Calls whose growth is refused, for a run in which each allocation fails in turn.
-use crate::book::made::{Asks, Ends, Made, Shows, Step, Told, make, plain, shown};
-use dd_book::{Book, Limits, Memory};
+use crate::book::made::{Asks, Ends, Made, MadeReply, Shows, Step, make, plain, shown};
+use dd_book::{Book, Limits, OutOfMemory};
 use std::alloc::AllocError;
 use std::process::Abort;
 
 // What is seen of a book: claims, whether it is idle, and the states of the first three jobs.
 #[derive(Clone, Copy, Debug, PartialEq, Eq)]
-struct Seen {
+struct Observed {
     claims: u64,
     idle: bool,
     first: Option<Shows>,
@@ -21,8 +21,8 @@ fn state(book: &Book, job: u64) -> Option<Shows> {
     }
 }
 
-fn look(book: &Book) -> Seen {
-    Seen {
+fn look(book: &Book) -> Observed {
+    Observed {
         claims: book.claims(),
         idle: book.idle(),
         first: state(book, 1),
@@ -32,12 +32,12 @@ fn look(book: &Book) -> Seen {
 }
 
 // The call, again where its growth was refused: then the book is as it was before.
-fn follow(rt: &impl Abort, book: &mut Book, made: &Made, step: Step, wanted: Told) {
+fn follow(rt: &impl Abort, book: &mut Book, made: &Made, step: Step, wanted: MadeReply) {
     let before = look(book);
     assert!(rt; book.claims() < 1_000);
     let reply = match book.apply(made.call(step)) {
         Ok(reply) => reply,
-        Err(Memory(call)) => {
+        Err(OutOfMemory(call)) => {
             assert_eq!(rt; look(book), before);
             assert!(rt; book.claims() < 1_000);
             let Ok(reply) = book.apply(call) else {
@@ -57,23 +57,23 @@ fn a_refused_growth_leaves_the_book(rt: HostRuntime) -> Result<(), AllocError> {
     let made = make(alloc)?.expect(&rt, "hands in their forms");
     let mut book = Book::new(alloc, limits);
     let rows = [
-        (Step::Submit(1, Asks::Ace), Told::Job(1)),
-        (Step::Submit(1, Asks::Table), Told::Job(2)),
-        (Step::Submit(1, Asks::Ace), Told::Fault(13)),
-        (Step::Submit(2, Asks::Pair), Told::Job(3)),
-        (Step::Submit(3, Asks::Pair), Told::Fault(14)),
-        (Step::Claim(9), Told::Claimed(1, 1)),
-        (Step::Finish(9, 1, 1, Ends::Stopped), Told::Recorded),
-        (Step::Fetch(1, 1), Told::State(1, Shows::Waiting)),
-        (Step::Claim(9), Told::Claimed(1, 2)),
-        (Step::Claim(9), Told::ClaimedPart(2, 0, 3)),
-        (Step::Cancel(1, 2), Told::Cancelled(2)),
-        (Step::Claim(9), Told::Claimed(3, 4)),
-        (Step::Finish(9, 1, 2, Ends::Stopped), Told::Recorded),
-        (Step::Finish(9, 3, 4, Ends::Stopped), Told::Recorded),
-        (Step::Claim(9), Told::Claimed(1, 5)),
-        (Step::Claim(9), Told::Claimed(3, 6)),
-        (Step::Claim(9), Told::NothingWaits),
+        (Step::Submit(1, Asks::Ace), MadeReply::Job(1)),
+        (Step::Submit(1, Asks::Table), MadeReply::Job(2)),
+        (Step::Submit(1, Asks::Ace), MadeReply::Fault(13)),
+        (Step::Submit(2, Asks::Pair), MadeReply::Job(3)),
+        (Step::Submit(3, Asks::Pair), MadeReply::Fault(14)),
+        (Step::Claim(9), MadeReply::Claimed(1, 1)),
+        (Step::Finish(9, 1, 1, Ends::Stopped), MadeReply::Recorded),
+        (Step::Fetch(1, 1), MadeReply::State(1, Shows::Waiting)),
+        (Step::Claim(9), MadeReply::Claimed(1, 2)),
+        (Step::Claim(9), MadeReply::ClaimedPart(2, 0, 3)),
+        (Step::Cancel(1, 2), MadeReply::Cancelled(2)),
+        (Step::Claim(9), MadeReply::Claimed(3, 4)),
+        (Step::Finish(9, 1, 2, Ends::Stopped), MadeReply::Recorded),
+        (Step::Finish(9, 3, 4, Ends::Stopped), MadeReply::Recorded),
+        (Step::Claim(9), MadeReply::Claimed(1, 5)),
+        (Step::Claim(9), MadeReply::Claimed(3, 6)),
+        (Step::Claim(9), MadeReply::NothingWaits),
     ];
     for (step, wanted) in rows.iter() {
         follow(&rt, &mut book, &made, *step, *wanted);
@@ -94,14 +94,14 @@ fn a_refused_growth_leaves_a_stopped_job_running(rt: HostRuntime) -> Result<(), 
             &mut book,
             &made,
             Step::Submit(job, Asks::Ace),
-            Told::Job(job),
+            MadeReply::Job(job),
         );
         follow(
             &rt,
             &mut book,
             &made,
             Step::Claim(9),
-            Told::Claimed(job, job),
+            MadeReply::Claimed(job, job),
         );
     }
     for job in 1..61u64 {
@@ -111,15 +111,15 @@ fn a_refused_growth_leaves_a_stopped_job_running(rt: HostRuntime) -> Result<(), 
             &mut book,
             &made,
             Step::Fetch(job, job),
-            Told::State(job, Shows::Running),
+            MadeReply::State(job, Shows::Running),
         );
-        follow(&rt, &mut book, &made, stopped, Told::Recorded);
+        follow(&rt, &mut book, &made, stopped, MadeReply::Recorded);
         follow(
             &rt,
             &mut book,
             &made,
             Step::Fetch(job, job),
-            Told::State(job, Shows::Waiting),
+            MadeReply::State(job, Shows::Waiting),
         );
     }
     Ok(())

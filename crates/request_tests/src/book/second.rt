@@ -1,5 +1,5 @@
 //! A second book: a plain list of jobs, walked along at each call.
-use crate::book::made::{Asks, Ends, Shows, Step, Told};
+use crate::book::made::{Asks, Ends, MadeReply, Shows, Step};
 use std::alloc::{AllocError, Global};
 
 #[derive(Clone, Copy, PartialEq, Eq)]
@@ -20,10 +20,10 @@ struct Job {
 }
 
 impl Job {
-    fn end(&mut self, shows: Shows) -> Told {
+    fn end(&mut self, shows: Shows) -> MadeReply {
         self.parts.clear();
         self.ended = Some(shows);
-        Told::Recorded
+        MadeReply::Recorded
     }
 
     fn shows(&self) -> Shows {
@@ -34,14 +34,14 @@ impl Job {
         }
     }
 
-    fn set(&mut self, place: usize, state: Part) -> Told {
+    fn set(&mut self, place: usize, state: Part) -> MadeReply {
         if let Some(part) = self.parts.get_mut(place) {
             *part = state;
         }
         if self.parts.iter().all(|part| *part == Part::Ended) {
             return self.end(Shows::TableDone);
         }
-        Told::Recorded
+        MadeReply::Recorded
     }
 }
 
@@ -88,19 +88,19 @@ impl Second {
         Some(found.shows())
     }
 
-    pub fn apply(&mut self, step: Step) -> Result<Told, AllocError> {
+    pub fn apply(&mut self, step: Step) -> Result<MadeReply, AllocError> {
         match step {
             Step::Submit(caller, asks) => self.submit(caller, asks),
             Step::Claim(worker) => self.claim(worker),
             Step::Finish(worker, job, claim, ends) => Ok(self.finish(worker, job, claim, ends)),
             Step::Cancel(caller, job) => Ok(self.cancel(caller, job)),
             Step::Fetch(caller, job) => Ok(match self.own(caller, job) {
-                Some(found) => Told::State(job, found.shows()),
-                None => Told::Fault(16),
+                Some(found) => MadeReply::State(job, found.shows()),
+                None => MadeReply::Fault(16),
             }),
             Step::Shut => {
                 self.shut = true;
-                Ok(Told::Shut)
+                Ok(MadeReply::Shut)
             }
         }
     }
@@ -119,19 +119,19 @@ impl Second {
         }
     }
 
-    fn submit(&mut self, owner: u64, asks: Asks) -> Result<Told, AllocError> {
+    fn submit(&mut self, owner: u64, asks: Asks) -> Result<MadeReply, AllocError> {
         let open = self
             .jobs
             .iter()
             .filter(|job| job.owner == owner && job.ended.is_none());
         if self.shut {
-            return Ok(Told::Fault(18));
+            return Ok(MadeReply::Fault(18));
         }
         if self.most_open <= open.count() {
-            return Ok(Told::Fault(13));
+            return Ok(MadeReply::Fault(13));
         }
         if self.most_jobs <= self.jobs.len() {
-            return Ok(Told::Fault(14));
+            return Ok(MadeReply::Fault(14));
         }
         let mut parts = Vec::new(self.alloc);
         for _ in 0..if asks == Asks::Table { 20 } else { 1 } {
@@ -144,22 +144,22 @@ impl Second {
             parts,
             ended,
         })?;
-        Ok(Told::Job(self.jobs.len() as u64))
+        Ok(MadeReply::Job(self.jobs.len() as u64))
     }
 
-    fn claim(&mut self, worker: u64) -> Result<Told, AllocError> {
+    fn claim(&mut self, worker: u64) -> Result<MadeReply, AllocError> {
         let claim = self.given.len() as u64 + 1;
         let waits = |job: &Job| job.parts.iter().any(|part| *part == Part::Waiting);
         let Some(place) = self.jobs.iter().position(waits) else {
             return Ok(if self.shut {
-                Told::Closing
+                MadeReply::Closing
             } else {
-                Told::NothingWaits
+                MadeReply::NothingWaits
             });
         };
         let found = &mut self.jobs[place];
         let Some(part) = found.parts.iter().position(|part| *part == Part::Waiting) else {
-            return Ok(Told::NothingWaits);
+            return Ok(MadeReply::NothingWaits);
         };
         found.set(part, Part::Running(worker, claim));
         let (job, part, asks) = (place as u64 + 1, part.min(19) as u8, found.asks);
@@ -170,19 +170,19 @@ impl Second {
             asks,
         })?;
         Ok(match asks {
-            Asks::Table => Told::ClaimedPart(job, part, claim),
-            Asks::Target => Told::ClaimedTarget(job, claim),
-            _ => Told::Claimed(job, claim),
+            Asks::Table => MadeReply::ClaimedPart(job, part, claim),
+            Asks::Target => MadeReply::ClaimedTarget(job, claim),
+            _ => MadeReply::Claimed(job, claim),
         })
     }
 
-    fn finish(&mut self, worker: u64, job: u64, claim: u64, ends: Ends) -> Told {
+    fn finish(&mut self, worker: u64, job: u64, claim: u64, ends: Ends) -> MadeReply {
         let Some(found) = self.job(job) else {
-            return Told::Stale;
+            return MadeReply::Stale;
         };
         let running = Part::Running(worker, claim);
         let Some(part) = found.parts.iter().position(|part| *part == running) else {
-            return Told::Stale;
+            return MadeReply::Stale;
         };
         match (found.asks, ends) {
             (_, Ends::Spent) => found.end(Shows::Spent),
@@ -193,17 +193,17 @@ impl Second {
             (Asks::Table, Ends::Part(number)) if number as usize == part => {
                 found.set(part, Part::Ended)
             }
-            _ => Told::Stale,
+            _ => MadeReply::Stale,
         }
     }
 
-    fn cancel(&mut self, caller: u64, job: u64) -> Told {
+    fn cancel(&mut self, caller: u64, job: u64) -> MadeReply {
         match self.own(caller, job) {
-            None => Told::Fault(16),
-            Some(found) if found.ended.is_some() => Told::Fault(17),
+            None => MadeReply::Fault(16),
+            Some(found) if found.ended.is_some() => MadeReply::Fault(17),
             Some(found) => {
                 found.end(Shows::Cancelled);
-                Told::Cancelled(job)
+                MadeReply::Cancelled(job)
             }
         }
     }

@@ -1,6 +1,6 @@
 //! 100,000 calls from a fixed seed, through the book and through a second one.
 use crate::book::drawn::draw;
-use crate::book::made::{Asks, Ends, Made, Shows, Step, Told, make, plain};
+use crate::book::made::{Asks, Ends, Made, MadeReply, Shows, Step, make, plain};
 use crate::book::second::Second;
 use dd_book::{Book, Call, Limits, run_calls};
 use std::alloc::{AllocError, Global};
@@ -75,7 +75,7 @@ fn step(seed: &mut u64, second: &Second) -> Step {
 #[derive(Drop)]
 struct Batch {
     calls: Vec<Call>,
-    wanted: Vec<Told>,
+    wanted: Vec<MadeReply>,
 }
 
 fn next_batch(
@@ -110,7 +110,7 @@ fn run_batch(
     let mut tables = 0u64;
     for (reply, wanted) in replies.iter().zip(batch.wanted.iter()) {
         assert_eq!(rt; plain(reply), *wanted);
-        if let Told::State(_, Shows::TableDone) = wanted {
+        if let MadeReply::State(_, Shows::TableDone) = wanted {
             tables = tables.wrapping_add(1);
         }
     }

@@ -11,6 +11,6 @@ returns-in-Ok g c = λ input before address listens. told-end address _ input be
 pub returns-in-Err-Listen : goal.returns-in-Err-Listen
 returns-in-Err-Listen g c = λ input before address listens. listen-failed address input before _ _ _ c.fail.result c.fail.ensures.ending listens c.fail.ensures.says
 
-pub returns-in-Err-Memory : goal.returns-in-Err-Memory
-returns-in-Err-Memory g c =
-    λ input before address listens. memory-failed address input before _ _ _ c.fail-in-Err-Memory.result c.fail-in-Err-Memory.ensures.ending listens c.fail-in-Err-Memory.ensures.says
+pub returns-in-Err-OutOfMemory : goal.returns-in-Err-OutOfMemory
+returns-in-Err-OutOfMemory g c =
+    λ input before address listens. memory-failed address input before _ _ _ c.fail-in-Err-OutOfMemory.result c.fail-in-Err-OutOfMemory.ensures.ending listens c.fail-in-Err-OutOfMemory.ensures.says

@@ -1,5 +1,5 @@
 use Rattle.std.proofs.Common.{sym, ◌∙◌, subst}
-use Rattle.dd_cache.specs.Told.{IsSound}
+use Rattle.dd_cache.specs.StoredBounds.{IsSound}
 use Rattle.dd_cache.proofs.cache.Cache.keep.Goals as goal
 use Rattle.dd_cache.proofs.cache.Cache.keep.Goals.{in-Some-get_mut+in-Err, in_default-get_mut}
 

@@ -1,6 +1,6 @@
 use Rattle.std.proofs.Common.{◌≡◌, sym, ap, ◌∙◌, subst}
 use Rattle.dd_rank.specs.Strings.{ShapeOf, shape_in}
-use Rattle.dd_cache.specs.Told.{ToldOf, IsSound}
+use Rattle.dd_cache.specs.StoredBounds.{StoredBoundsOf, IsSound}
 use Rattle.dd_cache.proofs.cache.Cache.own.Goals as goal
 
 pub returns-in-Some-clause-told : goal.returns-in-Some-clause-told
@@ -10,6 +10,6 @@ returns-in-Some-clause-told g c =
       c.in-Some.told.now,
       subst (λ (s : ShapeOf). IsSound s c.in-Some.told.now) shape c.in-Some.ensures.sound,
       c.in-Some.ensures.firsts,
-      sym (c.depths.ensures ∙ ap (λ (t : ToldOf). t.firsts.depths) c.told.view_is),
-      sym (ap (λ (t : ToldOf). t.interval) c.told.view_is),
+      sym (c.depths.ensures ∙ ap (λ (t : StoredBoundsOf). t.firsts.depths) c.told.view_is),
+      sym (ap (λ (t : StoredBoundsOf). t.interval) c.told.view_is),
     )

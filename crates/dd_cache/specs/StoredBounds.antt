@@ -11,20 +11,20 @@ use Rattle.dd_rank.specs.Strings.{ShapeOf, shape_of, strings_of}
 use Rattle.dd_rank.specs.FirstOwners.{Firsts, AreFirst}
 
 -- bounds, and the owners under which they hold
-pub record ToldOf : Type 0 where
+pub record StoredBoundsOf : Type 0 where
   pub firsts : Firsts
   pub interval : Interval
 
 -- Positions of the shape have so many cards, and the bounds hold of each that has these first owners.
-pub record IsSound (shape : ShapeOf) (told : ToldOf) : Type 0 where
+pub record IsSound (shape : ShapeOf) (told : StoredBoundsOf) : Type 0 where
   pub within : (q : Board) → IsBoard q → shape_of q ≡ shape → (u : Suit) → depth_in told.firsts.depths u ≤ count_of u (all_cards q)
   pub holds : (q : Board) → IsBoard q → q.trick ≡ [] → shape_of q ≡ shape → AreFirst told.firsts (strings_of q) → Holds told.interval (leaders_tricks q)
 
 -- bounds of one shape
 pub record PageOf : Type 0 where
   pub shape : ShapeOf
-  pub told : List ToldOf
+  pub told : List StoredBoundsOf
 
 -- each of a page's bounds is sound
 abbrev pub AreSound : PageOf → Type 0
-AreSound page = (t : ToldOf) → Contains page.told t → IsSound page.shape t
+AreSound page = (t : StoredBoundsOf) → Contains page.told t → IsSound page.shape t

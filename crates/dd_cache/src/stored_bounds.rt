@@ -8,29 +8,29 @@ use std::marker::Model;
 
 /// Bounds of the value of each position of a shape whose highest cards have these owners.
 #[derive(Debug, Drop)]
-pub(crate) struct Told {
+pub(crate) struct StoredBounds {
     pub(crate) firsts: FirstOwners,
     pub(crate) interval: Interval,
 }
 
-impl Model for Told {
-    ghost use Rattle.dd_cache.specs.Told.{ToldOf};
+impl Model for StoredBounds {
+    ghost use Rattle.dd_cache.specs.StoredBounds.{StoredBoundsOf};
 
-    ghost Value = { ToldOf };
+    ghost Value = { StoredBoundsOf };
 
     ghost view = { λ t. record { firsts = t.firsts; interval = t.interval } };
 }
 
-impl Default for Told {
-    fn default() -> Told {
-        Told {
+impl Default for StoredBounds {
+    fn default() -> StoredBounds {
+        StoredBounds {
             firsts: FirstOwners::default(),
             interval: Interval { lo: 0, hi: 13 },
         }
     }
 }
 
-impl Told {
+impl StoredBounds {
     /// Does it hold of the position with these strings, and settle whether the leader's side takes so many tricks?
     #[inline]
     pub(crate) fn answers(&self, strings: &OwnerStrings, need: u8) -> bool
@@ -43,7 +43,7 @@ impl Told {
 
     /// Does it make the other needless, which is of its shape: it says as much of no fewer positions?
     #[inline]
-    pub(crate) fn replaces(&self, other: &Told) -> bool {
+    pub(crate) fn replaces(&self, other: &StoredBounds) -> bool {
         other.interval.lo <= self.interval.lo
             && self.interval.hi <= other.interval.hi
             && self.firsts.include(&other.firsts)

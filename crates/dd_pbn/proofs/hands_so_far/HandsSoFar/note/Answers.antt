@@ -1,6 +1,6 @@
 use Rattle.std.proofs.Common.{◌∙◌, refl}
 use Rattle.dd_pbn.proofs.Steps.{is_free-by}
-use Rattle.dd_pbn.proofs.seen.Seen.note.Goals as goal
+use Rattle.dd_pbn.proofs.hands_so_far.HandsSoFar.note.Goals as goal
 
 pub returns-else-not-insert : goal.returns-else-not-insert
 returns-else-not-insert c =

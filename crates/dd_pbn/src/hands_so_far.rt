@@ -7,17 +7,17 @@ use dd_cards::{Card, Hands, Seat};
 // What the hands of a text hold, as far as it is read. Whether a hand is left out or a card stands twice is noted and
 // not answered at once, since a fault of the grammar may yet come and goes before both.
 #[derive(Drop)]
-pub(crate) struct Seen {
+pub(crate) struct HandsSoFar {
     pub(crate) hands: Hands,
     pub(crate) absent: bool,
     pub(crate) twice: bool,
 }
 
-impl Seen {
-    pub(crate) fn new() -> Seen
+impl HandsSoFar {
+    pub(crate) fn new() -> HandsSoFar
         ensures { result ≡ nothing }
     {
-        Seen {
+        HandsSoFar {
             hands: Hands::new(),
             absent: false,
             twice: false,
@@ -35,7 +35,7 @@ impl Seen {
 }
 
 // The deal, or why there is none.
-pub(crate) fn outcome(seen: Option<Seen>) -> Result<Hands, PbnFault>
+pub(crate) fn outcome(seen: Option<HandsSoFar>) -> Result<Hands, PbnFault>
     ensures { result ≡ outcome seen }
 {
     let Some(seen) = seen else {
