@@ -1,5 +1,5 @@
 #!/usr/bin/env bash
-# Par, by `ddserve solve` and by DDS (package libdds-dev; DealerParBin). First the recorded tables with a dealer, again and
+# Par, by `ddserve solve` and by DDS 2.9 built at -O3 (`peer.sh`; DealerParBin). First the recorded tables with a dealer, again and
 # again until they are 20,000 lines, sent at once through a pipe to each program in turns: microseconds a line without the
 # program's start, the least of several runs; the scores are compared. Then full deals: the line for par of a deal beside the
 # line for its table, by two processes of ddserve in turns, each over a table of 65,536 entries: the sums of the least times
@@ -13,10 +13,10 @@ seed=${3:-1013}
 for tool in python3 g++; do
     command -v "$tool" > /dev/null || { echo "bench/dds: the command $tool is missing" >&2; exit 1; }
 done
-[ -e /usr/include/dds/dll.h ] || { echo 'bench/dds: the package libdds-dev is missing' >&2; exit 1; }
 work=$(mktemp -d)
 trap 'rm -rf "$work"' EXIT
-g++ -O2 -o "$work/dds" "$here/dds.cpp" -ldds
+bash "$here/peer.sh" "${DDS_PEER:-$work/peer}"
+g++ -O3 -march=x86-64-v3 -flto=auto -pthread -I"${DDS_PEER:-$work/peer}/include" -o "$work/dds" "$here/dds.cpp" "${DDS_PEER:-$work/peer}/libdds.a"
 "$top/ddserve" solve < /dev/null
 python3 "$top/bench/tools/deals.py" 13 "$full" --seed "$seed" --requests > "$work/13.jsonl"
 grep '"dealer"' "$top/cases/data/par.jsonl" > "$work/recorded.jsonl"

@@ -1,5 +1,5 @@
 #!/usr/bin/env bash
-# The tricks after each card of whole plays: `ddserve solve` beside DDS (package libdds-dev; AnalysePlayBin, one thread) over the
+# The tricks after each card of whole plays: `ddserve solve` beside DDS 2.9 built at -O3 (`peer.sh`; AnalysePlayBin, one thread) over the
 # same lines, one by one through a pipe to each program, over a table of 65,536 entries. Strains in turn; of three plays the first
 # has random cards, the second best ones, the third a mistake now and then. The least time of each reply in several runs; of
 # these, for each kind and for all, the mean and the geometric mean of both and of the ratio of a play. It says whether the
@@ -15,11 +15,11 @@ seed=${3:-1124}
 for tool in python3 g++; do
     command -v "$tool" > /dev/null || { echo "bench/dds: the command $tool is missing" >&2; exit 1; }
 done
-[ -e /usr/include/dds/dll.h ] || { echo 'bench/dds: the package libdds-dev is missing' >&2; exit 1; }
 
 work=$(mktemp -d)
 trap 'rm -rf "$work"' EXIT
-g++ -O2 -o "$work/dds" "$here/dds.cpp" -ldds
+bash "$here/peer.sh" "${DDS_PEER:-$work/peer}"
+g++ -O3 -march=x86-64-v3 -flto=auto -pthread -I"${DDS_PEER:-$work/peer}/include" -o "$work/dds" "$here/dds.cpp" "${DDS_PEER:-$work/peer}/libdds.a"
 "$top/ddserve" solve < /dev/null
 ours="$top/crates/ddserve/out/ddserve"
 python3 "$top/bench/tools/plays.py" "$ours" "$plays" --seed "$seed" > "$work/plays.jsonl"
