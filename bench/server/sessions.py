@@ -1,0 +1,84 @@
+"""How soon sessions that wait are told: SESSIONS RUNS (1,000 and 3). One worker searches a full deal, and meanwhile each session asks for
+a position of one card, with a wait. Then the worker does these jobs one after the other. Two times are shown: that of the first
+hundred replies after the reply to the deal, by the median; and of each reply the time after its job's end by the median and the most,
+where each job is taken to last as long as the others. The last column is how often a thread of the server waited, for each job: with
+one bell for all, each end would wake everybody who waits."""
+import os
+import select
+import sys
+import time
+
+CASES = os.path.join(os.path.dirname(os.path.abspath(__file__)), "..", "..", "cases")
+sys.path.insert(0, os.path.join(CASES, "server", "clients"))
+from client import CLOSING, ONE_CARD, ONE_CARD_REPLY, STOP, Server, check, more_descriptors, recorded  # noqa: E402
+
+sessions = int(sys.argv[1]) if len(sys.argv) > 1 else 1_000
+runs = int(sys.argv[2]) if len(sys.argv) > 2 else 3
+
+
+def waiting(line):
+    return f'{line[:-1]},"wait":60000}}'
+
+
+def switches(server):
+    """How often the threads of the server have waited."""
+    total = 0
+    for thread in os.listdir(f"/proc/{server.process.pid}/task"):
+        with open(f"/proc/{server.process.pid}/task/{thread}/status") as file:
+            total += sum(int(line.split()[1]) for line in file if line.startswith("voluntary_ctxt_switches"))
+    return total
+
+
+def slowest():
+    """The recorded full deal that takes longest, and its reply."""
+    server, times = Server("--allow-stop", workers=1), []
+    with server.connect() as client:
+        for request, _ in recorded("full"):
+            since = time.perf_counter()
+            client.ask(waiting(request))
+            times.append((time.perf_counter() - since, request))
+        check("a stop", client.ask(STOP), CLOSING)
+    server.end()
+    return max(times)
+
+
+def run(deal):
+    server = Server("--allow-stop", workers=1)
+    first, clients = server.connect(), [server.connect() for _ in range(sessions)]
+    ears = select.epoll()
+    for client in (first, *clients):
+        ears.register(client.stream.fileno(), select.EPOLLIN)
+    places = {client.stream.fileno(): place for place, client in enumerate(clients)}
+    first.send(waiting(deal))
+    # The worker has it before the others ask.
+    time.sleep(0.05)
+    for client in clients:
+        client.send(waiting(ONE_CARD))
+    before, begun, told = switches(server), None, {}
+    while len(told) < sessions:
+        for number, _ in ears.poll(60):
+            now = time.perf_counter()
+            ears.unregister(number)
+            if number in places:
+                told[places[number]] = now
+            else:
+                begun = now
+    after = switches(server)
+    for client in clients:
+        check("the answer", client.line().partition(',"job"')[0] + "}", ONE_CARD_REPLY)
+    check("a stop", clients[0].ask(STOP), CLOSING)
+    server.end()
+    ordered = sorted(told.values())
+    each = (ordered[-1] - begun) / sessions
+    late = sorted(moment - begun - place * each for place, moment in enumerate(ordered))
+    early = sorted(moment - begun for moment in ordered[:100])
+    return early[50], late[sessions // 2], late[-1], each, after - before
+
+
+more_descriptors()
+taken, deal = slowest()
+print(f"{sessions} sessions that wait, 1 worker, behind a deal of {1000 * taken:.0f} ms; {os.cpu_count()} processors, load {os.getloadavg()[0]:.1f}")
+print("median of the first 100, ms  median beside its turn, ms  latest, ms  a job, ms  switches a job")
+for _ in range(runs):
+    early, median, latest, each, count = run(deal)
+    print(f"{1000 * early:27.2f}  {1000 * median:26.2f}  {1000 * latest:10.2f}  {1000 * each:9.3f}  {count / sessions:14.1f}")
