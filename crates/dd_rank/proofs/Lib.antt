@@ -19,6 +19,7 @@ pub mod Suited
 pub mod Seated
 pub mod Packed
 pub mod Alikes
+pub mod Carried
 pub mod BySuit
 pub mod Gaps
 pub mod FourLanes

@@ -74,3 +74,21 @@ pub fn alike_strings()
     ensures hashed { (x y : Strings) → same_strings x y ≡ true → hash_in x
         ≡ hash_in y }
 {}
+
+/// What a side takes at a position by some cards, it takes at each alike one by cards that reach no fewer of each suit.
+/// `leaders`: the leader's side. `others`: the other side, of no more tricks than are left.
+pub fn alike_claims()
+    ensures leaders { (cards here : List PlayingCard) (p q : Board) (n : ℕ)
+        → ((c : PlayingCard) → has_card cards c ≡ true → IsRank c.rank)
+        → ((c : PlayingCard) → has_card here c ≡ true → IsRank c.rank)
+        → IsBoard p → IsBoard q → p.trick ≡ [] → q.trick ≡ [] → AreAlike p q
+        → ((u : Suit) → depths_of (reach cards) q u ≤ depths_of (reach here) p u)
+        → TakesBy (reach cards) (side_of q.first) q n → TakesBy (reach here) (side_of p.first) p n }
+    ensures others { (cards here : List PlayingCard) (p q : Board) (n : ℕ)
+        → ((c : PlayingCard) → has_card cards c ≡ true → IsRank c.rank)
+        → ((c : PlayingCard) → has_card here c ≡ true → IsRank c.rank)
+        → IsBoard p → IsBoard q → p.trick ≡ [] → q.trick ≡ [] → AreAlike p q
+        → ((u : Suit) → depths_of (reach cards) q u ≤ depths_of (reach here) p u) → n ≤ tricks_left q
+        → TakesBy (reach cards) (other_side (side_of q.first)) q n
+        → TakesBy (reach here) (other_side (side_of p.first)) p n }
+{}

@@ -18,7 +18,7 @@ pub use cover::Cover;
 pub use covering::covers;
 pub use depths::Depths;
 pub use first_owners::FirstOwners;
-pub use laws::{alike_positions, alike_strings, covered_positions};
+pub use laws::{alike_claims, alike_positions, alike_strings, covered_positions};
 pub use likeness::are_alike;
 pub use owner_strings::OwnerStrings;
 pub use rank_key::RankKey;
