@@ -173,7 +173,7 @@ reseated jobs jobs' waiting waiting' newest newest' keys keys' owner before now 
 -- ---- the newest claim of an owner
 
 -- another owner's job changes
-last-set_other : (jobs : List JobOf) (place : ℕ) (was job : JobOf) (o : ℕ) → slice_get jobs place ≡ Some was → (was.owner ≡ o → ⊥) → (job.owner ≡ o → ⊥)
+pub last-set_other : (jobs : List JobOf) (place : ℕ) (was job : JobOf) (o : ℕ) → slice_get jobs place ≡ Some was → (was.owner ≡ o → ⊥) → (job.owner ≡ o → ⊥)
     → last_claim_of o (slice_set jobs place job) ≡ last_claim_of o jobs
 last-set_other [] place was job o here a b = refl
 last-set_other (x ∷ jobs) zero was job o here a b =
@@ -185,7 +185,7 @@ last-set_other (x ∷ jobs) zero was job o here a b =
 last-set_other (x ∷ jobs) (suc place) was job o here a b = ap (max (cond (nat_eq x.owner o) x.last_claim 0)) (last-set_other jobs place was job o here a b)
 
 -- a job of the owner is claimed
-last-raised : (jobs : List JobOf) (place claim : ℕ) (was job : JobOf) (o : ℕ) → slice_get jobs place ≡ Some was → was.owner ≡ o → job.owner ≡ o → job.last_claim ≡ max was.last_claim claim
+pub last-raised : (jobs : List JobOf) (place claim : ℕ) (was job : JobOf) (o : ℕ) → slice_get jobs place ≡ Some was → was.owner ≡ o → job.owner ≡ o → job.last_claim ≡ max was.last_claim claim
     → last_claim_of o (slice_set jobs place job) ≡ max (last_claim_of o jobs) claim
 last-raised [] place claim was job o here a b l = absurd (cc)
 last-raised (x ∷ jobs) zero claim was job o here a b l =
@@ -197,7 +197,7 @@ last-raised (x ∷ jobs) (suc place) claim was job o here a b l =
     omega (arith, rest)
 
 -- a job changes, and its newest claim stays
-last-kept : (jobs : List JobOf) (place : ℕ) (was job : JobOf) (o : ℕ) → slice_get jobs place ≡ Some was → job.owner ≡ was.owner → job.last_claim ≡ was.last_claim
+pub last-kept : (jobs : List JobOf) (place : ℕ) (was job : JobOf) (o : ℕ) → slice_get jobs place ≡ Some was → job.owner ≡ was.owner → job.last_claim ≡ was.last_claim
     → last_claim_of o (slice_set jobs place job) ≡ last_claim_of o jobs
 last-kept [] place was job o here own l = refl
 last-kept (x ∷ jobs) zero was job o here own l =
@@ -206,7 +206,7 @@ last-kept (x ∷ jobs) zero was job o here own l =
 last-kept (x ∷ jobs) (suc place) was job o here own l = ap (max (cond (nat_eq x.owner o) x.last_claim 0)) (last-kept jobs place was job o here own l)
 
 -- a new job
-last-pushed : (jobs : List JobOf) (job : JobOf) (o : ℕ) → job.last_claim ≡ 0 → last_claim_of o (jobs ++ job ∷ []) ≡ last_claim_of o jobs
+pub last-pushed : (jobs : List JobOf) (job : JobOf) (o : ℕ) → job.last_claim ≡ 0 → last_claim_of o (jobs ++ job ∷ []) ≡ last_claim_of o jobs
 last-pushed [] job o none = rw none (go (nat_eq job.owner o))
   where
     go : (b : Bool) → max (cond b 0 0) 0 ≡ 0
@@ -380,7 +380,7 @@ all-waiting test (x ∷ jobs) each = go (has_waiting x) refl (all-waiting test j
     go true is rest = rw (is, each 0 x refl is) rest
     go false is rest = rw is rest
 
-one-waiting : (test : JobOf → Bool) (jobs : List JobOf) (j : ℕ) (y : JobOf) → list_all test (filter has_waiting jobs) ≡ true → slice_get jobs j ≡ Some y → has_waiting y ≡ true → test y ≡ true
+pub one-waiting : (test : JobOf → Bool) (jobs : List JobOf) (j : ℕ) (y : JobOf) → list_all test (filter has_waiting jobs) ≡ true → slice_get jobs j ≡ Some y → has_waiting y ≡ true → test y ≡ true
 one-waiting test [] j y all there waits = absurd (cc)
 one-waiting test (x ∷ jobs) zero y all there waits =
     let same : x ≡ y = same_Some x y there in
@@ -396,7 +396,7 @@ one-waiting test (x ∷ jobs) (suc j) y all there waits = one-waiting test jobs 
 le-test : (a b : ℕ) → a ≤ b → nat_le a b ≡ true
 le-test a b h = grind (arith, nat_tests)
 
-le-tested : (a b : ℕ) → nat_le a b ≡ true → a ≤ b
+pub le-tested : (a b : ℕ) → nat_le a b ≡ true → a ≤ b
 le-tested a b h = grind (arith, nat_tests)
 
 -- the first key is that of the job that is due
