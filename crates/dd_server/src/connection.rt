@@ -3,6 +3,7 @@ ghost use Rattle.std.specs.Prelude.{◌≡◌, false};
 ghost use Rattle.dd_session.specs.Ports.{AsksNoStop};
 
 use crate::args::ServeArgs;
+use crate::opening::LineStream;
 use crate::server_state::ServerState;
 use crate::session_stream::SessionStream;
 use crate::stop::{Stop, StopPort};
@@ -64,7 +65,7 @@ fn serve_port<P: BookPort>(
     if args.websocket {
         let _ = serve_socket(alloc, reads, port, args.allow_stop);
     } else {
-        let mut reader = CountedDevice::new(reads);
+        let mut reader = CountedDevice::new(LineStream::new(reads));
         let mut writer = CountedDevice::new(stream);
         let _ = serve_lines(alloc, &mut reader, &mut writer, port, args.allow_stop);
     }

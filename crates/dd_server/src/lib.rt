@@ -5,6 +5,7 @@ mod accepting;
 mod args;
 mod connection;
 mod open_streams;
+mod opening;
 mod returned;
 mod server;
 mod server_state;

@@ -1,4 +1,5 @@
 //! Tests of the workers.
+mod budgets;
 mod gate;
 mod lines;
 mod rows;
