@@ -2,8 +2,9 @@
 ghost use Rattle.std.specs.Prelude.{◌≡◌};
 ghost use Rattle.dd_book.specs.declared.call.Call.TheVariants.{Fetch};
 ghost use Rattle.dd_desk.specs.Replies.{IsTold};
+ghost use Rattle.dd_desk.specs.declared.fault.DeskFault.TheVariants.{JournalFull};
 ghost use Rattle.dd_lines.specs.CountedDevices.{one_more};
-ghost use Rattle.dd_session.specs.Ports.{call_by, new_port};
+ghost use Rattle.dd_session.specs.Ports.{call_by, last_place, new_port, refused};
 
 use dd_book::Reply;
 use dd_desk::{Desk, DeskFault, Naming, Pass};
@@ -69,6 +70,25 @@ impl<'a, J: Naming, R: Wait + Clock> DeskPort<'a, J, R> {
             pass,
             before,
             refusals: 0,
+        }
+    }
+
+    /// Refuses a call as if the journal were full: the desk isn't asked, and the refusal is counted.
+    pub fn refuse(&mut self) -> DeskFault
+        ensures fault { result ≡ JournalFull }
+        ensures port { self.new ≡ refused self.old }
+    {
+        self.refusals = one_more(self.refusals);
+        DeskFault::JournalFull
+    }
+
+    /// The place in the journal of the last event of the pass.
+    pub fn last_place(&self) -> Option<u64>
+        ensures { result ≡ last_place self.now }
+    {
+        match self.pass.receipts().last() {
+            Some(receipt) => Some(receipt.place()),
+            None => None,
         }
     }
 
