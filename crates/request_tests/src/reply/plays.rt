@@ -108,10 +108,18 @@ fn a_play_has_its_parts_and_its_trace(rt: HostRuntime) {
     assert!(rt; solve_play(request, &mut NoTable, Some(0)).is_none());
 }
 
+// The fault of the first card that may not be played.
+fn fault_of(cards: &[Card]) -> Option<CardFault> {
+    match play_of(cards) {
+        Some(Err(fault)) => Some(fault),
+        _ => None,
+    }
+}
+
 #[test]
 fn a_card_that_may_not_be_played_is_a_fault(rt: HostRuntime) {
-    let all = [
-        spade(3),
+    let lead = spade(3);
+    let rest = [
         spade(4),
         spade(12),
         spade(5),
@@ -119,14 +127,13 @@ fn a_card_that_may_not_be_played_is_a_fault(rt: HostRuntime) {
         spade(6),
         spade(2),
         spade(13),
-        spade(13),
     ];
-    for (cards, fault) in [
-        (&all[..8], None),
-        (all.as_slice(), Some(CardFault::AfterLast)),
-        (&all[1..], Some(CardFault::NotInHand)),
-    ] {
-        let play = play_of(cards).expect(&rt, "an opening");
-        assert_eq!(rt; play.err(), fault);
-    }
+    let [second, third, fourth, fifth, sixth, seventh, last] = rest;
+    let whole = [lead, second, third, fourth, fifth, sixth, seventh, last];
+    let longer = [
+        lead, second, third, fourth, fifth, sixth, seventh, last, last,
+    ];
+    assert_eq!(rt; fault_of(&whole), None);
+    assert_eq!(rt; fault_of(&longer), Some(CardFault::AfterLast));
+    assert_eq!(rt; fault_of(&rest), Some(CardFault::NotInHand));
 }
