@@ -17,10 +17,8 @@ GREEDY = 50
 LINES_EACH = 2_000
 WORKERS = 4
 PINGS = 10_000
-# The seconds that a write waits for a client, and how many such writes there may be: the system answers a part of a reply that
-# fits after that time, takes what there is room for by then, and waits once or twice more.
+# The seconds that a reply waits for its client in all, of which two more may pass in the call that waits last.
 WRITE_LIMIT = 60
-WAITS = 3
 
 
 class Account:
@@ -151,7 +149,7 @@ def slow(account, connection, over):
 def never_reads(place, stream, send, taken, ends):
     """Sends until no more is taken, and reads nothing. The connection ends when the program has waited to write; `ends` gains
     how long after the last piece that was taken."""
-    stream.settimeout(WAITS * WRITE_LIMIT + 60)
+    stream.settimeout(WRITE_LIMIT + 60)
     since, taken[place] = time.monotonic(), 0
     try:
         while True:
@@ -165,7 +163,7 @@ def never_reads(place, stream, send, taken, ends):
 
 def cut_off(ends):
     """Waits until one of those who never read is cut off: the limit on writing, without a stop."""
-    for _ in range(WAITS * WRITE_LIMIT + 30):
+    for _ in range(WRITE_LIMIT + 30):
         if ends:
             check(f"cut off after {min(ends):.1f} s", min(ends) > WRITE_LIMIT - 5, True)
             return
