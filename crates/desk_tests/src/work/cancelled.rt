@@ -73,11 +73,7 @@ fn gives_up(call: &Call) -> bool {
 }
 
 // What the worker is told of two jobs, the first of which is cancelled.
-fn rounds<J: Naming, R: Wait + Abort>(
-    rt: &R,
-    alloc: Global,
-    row: Row,
-) -> Result<String, AllocError>
+fn rounds<J: Naming, R: Wait + Abort>(rt: &R, alloc: Global, row: Row) -> Result<String, AllocError>
     requires cells { (map cell_name row.cells.items ≡ J.cells) × (J.all ≡ J.parts) }
     requires limits { row.limits ≡ J.limits }
     requires count { (row.count.name ≡ J.counts) × (row.count.parts ≡ J.parts) }
@@ -120,11 +116,7 @@ fn a_cancelled_search_is_given_up_and_the_worker_goes_on(
 
 // Whether the part of a claim runs: under its claim, under another, of another job, by another
 // pass, and once its job was cancelled. And what a cancel is told that needs no event.
-fn looks<J: Naming, R: Wait + Abort>(
-    rt: &R,
-    alloc: Global,
-    row: Row,
-) -> Result<String, AllocError>
+fn looks<J: Naming, R: Wait + Abort>(rt: &R, alloc: Global, row: Row) -> Result<String, AllocError>
     requires cells { (map cell_name row.cells.items ≡ J.cells) × (J.all ≡ J.parts) }
     requires limits { row.limits ≡ J.limits }
     requires count { (row.count.name ≡ J.counts) × (row.count.parts ≡ J.parts) }
@@ -138,7 +130,12 @@ fn looks<J: Naming, R: Wait + Abort>(
     let _ = desk.try_claim(rt, &mut hand);
     let (owner, worker) = (caller.number(), hand.number());
     let mut told = String::new(alloc);
-    for (number, job, claim) in [(worker, 1, 1), (worker, 1, 2), (worker, 2, 1), (owner, 1, 1)] {
+    for (number, job, claim) in [
+        (worker, 1, 1),
+        (worker, 1, 2),
+        (worker, 2, 1),
+        (owner, 1, 1),
+    ] {
         told.push_str(yes_or_no(desk.still_runs(rt, number, job, claim)))?;
     }
     told.push_str(cancelled(rt, &desk, &mut hand, 1))?;
