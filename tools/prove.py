@@ -215,7 +215,8 @@ class Prover:
         return "now " + ", ".join(it for it in self.order if it in self.running)
 
     def start_ready(self):
-        """Starts what can be, that with the longest way above it first and with what processors the others leave."""
+        """Starts what can be, that with the longest way above it first and with what processors the others leave. On that
+        way, which says how long the whole takes, a crate has two jobs even where others leave one."""
         left = [it for it in self.order if it != PROGRAM and it not in self.done and it not in self.running]
         ready = [it for it in left if self.below[it] <= self.done]
         # What was killed once runs alone.
@@ -226,7 +227,8 @@ class Prover:
             if len(self.running) == self.most:
                 break
             free = self.most - sum(it.jobs for it in self.running.values()) - (len(ready) - place - 1)
-            jobs = 1 if name in self.again else max(1, min(free, MOST_JOBS))
+            least = 2 if name == left[0] and self.most > 2 else 1
+            jobs = 1 if name in self.again else max(least, min(free, MOST_JOBS))
             self.running[name] = Crate(name, self.below[name], jobs, self.guard.pid)
 
     def libraries(self):

@@ -2,7 +2,7 @@
 
 What a journal holds follows from what the clients were replied: `is_event` says which replies are to a call of the book. Each
 solve job that is done adds a claim and a finish, each table twenty of both, and each worker a last claim that finds the book
-shut."""
+shut. Each job that is open when its connection ends adds a cancel."""
 import atexit
 import base64
 import os
@@ -125,6 +125,12 @@ class Server:
     def end_after(self, events, timeout=60):
         """Checks that the program ends well, with these events besides each worker's last claim."""
         check("the end", self.end(timeout), (events + self.workers, 0, ""))
+
+    def end_between(self, least, most, timeout=60):
+        """Checks that the program ends well, with so many events besides each worker's last claim."""
+        events, status, said = self.end(timeout)
+        check("the end", (status, said), (0, ""))
+        check(f"{events} events", least <= events - self.workers <= most, True)
 
 
 class Lines:

@@ -9,7 +9,7 @@ import struct
 import sys
 import threading
 import time
-from client import CLOSING, STOP, Frames, Server, cancel, check, done, fetch, is_event, is_open, more_descriptors, number_of, recorded
+from client import CLOSING, STOP, Frames, Server, cancel, check, done, fetch, is_event, is_open, more_descriptors, number_of, recorded, state
 
 CROWD = 1_000
 IDLE = 900
@@ -17,10 +17,8 @@ GREEDY = 50
 LINES_EACH = 2_000
 WORKERS = 4
 PINGS = 10_000
-# The seconds that a write waits for a client, and how many such writes there may be: the system answers a part of a reply that
-# fits after that time, takes what there is room for by then, and waits once or twice more.
+# The seconds that a reply waits for its client in all, of which two more may pass in the call that waits last.
 WRITE_LIMIT = 60
-WAITS = 3
 
 
 class Account:
@@ -151,7 +149,7 @@ def slow(account, connection, over):
 def never_reads(place, stream, send, taken, ends):
     """Sends until no more is taken, and reads nothing. The connection ends when the program has waited to write; `ends` gains
     how long after the last piece that was taken."""
-    stream.settimeout(WAITS * WRITE_LIMIT + 60)
+    stream.settimeout(WRITE_LIMIT + 60)
     since, taken[place] = time.monotonic(), 0
     try:
         while True:
@@ -165,7 +163,7 @@ def never_reads(place, stream, send, taken, ends):
 
 def cut_off(ends):
     """Waits until one of those who never read is cut off: the limit on writing, without a stop."""
-    for _ in range(WAITS * WRITE_LIMIT + 30):
+    for _ in range(WRITE_LIMIT + 30):
         if ends:
             check(f"cut off after {min(ends):.1f} s", min(ends) > WRITE_LIMIT - 5, True)
             return
@@ -330,7 +328,34 @@ def few_descriptors():
     print(f"few descriptors: 150 clients under a limit of 64, {events + 1 + 2} events, each accounted for")
 
 
+def cancelled_searches():
+    """A client that begins one search after the other and cancels it. If a cancelled search ran on it would hold the one worker
+    as long as one that is wanted."""
+    server = Server("--allow-stop", workers=1)
+    requests = [request for request, _ in recorded("full")]
+    with server.connect() as client:
+        since, events = time.monotonic(), 0
+        for request in requests[::2]:
+            job = number_of(client.ask(request))
+            # The submit, the last fetch and the cancel.
+            events += 3
+            while client.ask(fetch(job)) == state(job, "waiting"):
+                events += 1
+            client.ask(cancel(job))
+        given_up = time.monotonic() - since
+        since = time.monotonic()
+        for request in requests[1::2]:
+            _, fetches = client.until_done(number_of(client.ask(request)))
+            events += 1 + fetches
+        searched = time.monotonic() - since
+        check("a stop", client.ask(STOP), CLOSING)
+    # Each job was claimed and finished.
+    server.end_after(events + 2 * len(requests) + 1)
+    check(f"a cancelled search runs on: {given_up:.2f} s, and {searched:.2f} s for as many that were wanted", given_up < searched / 2, True)
+    print(f"cancelled searches: {len(requests[::2])} are begun and cancelled in {given_up:.2f} s; as many are searched in {searched:.2f} s")
+
+
 more_descriptors()
-kinds = {"lines": lambda: crowd(False), "sockets": lambda: crowd(True), "descriptors": few_descriptors}
+kinds = {"lines": lambda: crowd(False), "sockets": lambda: crowd(True), "descriptors": few_descriptors, "cancelled": cancelled_searches}
 for kind in sys.argv[1:] or kinds:
     kinds[kind]()

@@ -4,6 +4,9 @@ import subprocess
 import time
 from client import CLOSING, ONE_CARD, ONE_CARD_REPLY, PROGRAM, STOP, Frames, Server, check, done, fetch, number_of, recorded, state
 
+# No search for it ends at its first position.
+TWO_CARDS = '{"do":"solve","deal":"N:32... K4... AQ... 65...","trump":4,"first":0,"solutions":3}'
+
 # A second, and the time in which a busy machine lets a process end.
 SOON = 1.0
 
@@ -138,14 +141,14 @@ def out_of_memory():
 
 
 def budgets():
-    server = Server("--allow-stop", "--budget", "0", workers=1)
+    server = Server("--allow-stop", "--budget", "1", workers=1)
     with server.connect() as client:
-        check("a submit", client.ask(ONE_CARD), '{"job":1}')
+        check("a submit", client.ask(TWO_CARDS), '{"job":1}')
         reply, fetches = client.until_done(1)
-        check("a budget of 0", reply, state(1, "spent"))
-        check("a table", client.ask('{"do":"table","deal":"N:A... K... Q... J..."}'), '{"job":2}')
+        check("a budget of 1", reply, state(1, "spent"))
+        check("a table", client.ask('{"do":"table","deal":"N:32... K4... AQ... 65..."}'), '{"job":2}')
         reply, more = client.until_done(2)
-        check("a table of 0", reply, state(2, "spent"))
+        check("a table of 1", reply, state(2, "spent"))
         # One part that is spent ends its table.
         check("a stop", client.ask(STOP), CLOSING)
     server.end_after(3 + fetches + 3 + more + 1)

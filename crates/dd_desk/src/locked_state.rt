@@ -3,6 +3,7 @@ ghost use Rattle.std.specs.Prelude.{◌≡◌, ◌+◌, ◌<◌, ◌≤◌, true
 ghost use Rattle.dd_book.specs.Calls.{IsIdle};
 ghost use Rattle.dd_book.specs.Jobs.{is_open_job, own_job};
 ghost use Rattle.dd_desk.specs.declared.fault.DeskFault.TheVariants.{NoPass};
+ghost use Rattle.dd_desk.specs.Looks.{SeesRunning};
 ghost use Rattle.dd_desk.specs.Receipts.{below};
 
 use crate::bells::{Concerns, Rings};
@@ -104,6 +105,13 @@ impl<J: Naming> LockedState<J> {
             ⊎ (vec_len self.now.history.journal ≡ self.now.history.limits.events)) }
     {
         !self.history.is_full() && !self.history.is_shut() && self.history.is_open(caller, job)
+    }
+
+    /// Has this worker a part of the job of this number under this claim number?
+    pub(crate) fn still_runs(&self, worker: u64, job: u64, claim: u64) -> bool
+        ensures { SeesRunning worker job claim result }
+    {
+        self.history.runs(worker, job, claim)
     }
 
     /// Whose bells are to ring after a call.

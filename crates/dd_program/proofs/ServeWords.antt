@@ -1,5 +1,5 @@
 -- What a line of `serve` asks for.
-use Rattle.std.proofs.Common.{◌≡◌, ◌∙◌, ◌≤◌, ◌<◌, ◌^◌, ◌&&◌, ◌||◌, true≢false, ℕ, Bool, cond, codes, true, false, refl, sym, ap, subst, arith, List, [], ◌∷◌, Option, Some, None, Result, Ok, Err, nat_le}
+use Rattle.std.proofs.Common.{◌≡◌, ◌∙◌, ◌≤◌, ◌<◌, ◌^◌, ◌&&◌, ◌||◌, true≢false, ℕ, zero, suc, Bool, cond, codes, true, false, refl, sym, ap, subst, arith, List, [], ◌∷◌, Option, Some, None, Result, Ok, Err, nat_le}
 use Rattle.std.specs.Prelude.{IfOk, IfSome, option_and_then, option_map, unwrap_or}
 use Rattle.std.specs.List.{find, list_any}
 use Rattle.std.specs.Option.{option_map_or}
@@ -117,12 +117,13 @@ number-fits most default (Some number) low high = go (nat_le 1 number && nat_le 
 
 -- and so does a budget
 pub budget-fits : (given : Option ℕ) → IfSome (budget_in given) (λ positions. positions ≤ 1000000000000)
-budget-fits None = tt
-budget-fits (Some positions) = go (nat_le positions 1000000000000) refl
+budget-fits None = leb-true 50000000 1000000000000 refl
+budget-fits (Some zero) = tt
+budget-fits (Some (suc positions)) = go (nat_le (suc positions) 1000000000000) refl
   where
-    go : (b : Bool) → nat_le positions 1000000000000 ≡ b → IfSome (cond b (Some positions) None) (λ p. p ≤ 1000000000000)
-    go true is = leb-true positions 1000000000000 is
-    go false is = tt
+    go : (b : Bool) → nat_le (suc positions) 1000000000000 ≡ b → IfSome (cond b (Some (suc positions)) (Some 50000000)) (λ p. p ≤ 1000000000000)
+    go true is = leb-true (suc positions) 1000000000000 is
+    go false is = leb-true 50000000 1000000000000 refl
 
 -- ---- what is left out
 

@@ -107,4 +107,4 @@ HasDefaults arguments (Solve budget entries workers) =
     × (IsLeftOut (codes "--workers") arguments → workers ≡ 1)
 HasDefaults arguments (Serve listen workers shards entries budget websocket allow_stop) =
     (IsLeftOut (codes "--workers") arguments → workers ≡ 4) × (IsLeftOut (codes "--shards") arguments → shards ≡ 16)
-    × (IsLeftOut (codes "--entries") arguments → entries ≡ 4096) × (IsLeftOut (codes "--budget") arguments → budget ≡ None)
+    × (IsLeftOut (codes "--entries") arguments → entries ≡ 4096) × (IsLeftOut (codes "--budget") arguments → budget ≡ Some 50000000)

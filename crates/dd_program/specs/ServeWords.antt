@@ -1,5 +1,5 @@
 -- To be believed: what a command line of `serve` asks for.
-use Rattle.std.specs.Prelude.{◌≡◌, ◌<◌, ◌^◌, ◌⊎◌, ◌&&◌, ℕ, List, [], ◌∷◌, Bool, true, false, Option, Some, None, codes, nat_le, option_map, if◌then◌else◌, unwrap_or, string_bytes}
+use Rattle.std.specs.Prelude.{◌≡◌, ◌<◌, ◌^◌, ◌⊎◌, ◌&&◌, ℕ, zero, suc, List, [], ◌∷◌, Bool, true, false, Option, Some, None, codes, nat_le, option_map, if◌then◌else◌, unwrap_or, string_bytes}
 use Rattle.std.specs.Str.Parse.{digits_value, without_leading_plus}
 use Rattle.clap.specs.Words.{App, Row, first_of, one_of, subcommand_of}
 use Rattle.clap.specs.Faults.{fault_of}
@@ -17,10 +17,11 @@ abbrev pub number_in : ℕ → ℕ → Option ℕ → ℕ
 number_in most default None = default
 number_in most default (Some number) = (if nat_le 1 number && nat_le number most then number else default)
 
--- the budget that is given, where it is 0 to 1,000,000,000,000
+-- the budget that is given, where it is 1 to 1,000,000,000,000; none where 0 is given; else fifty million
 abbrev pub budget_in : Option ℕ → Option ℕ
-budget_in None = None
-budget_in (Some positions) = (if nat_le positions 1000000000000 then Some positions else None)
+budget_in None = Some 50000000
+budget_in (Some zero) = None
+budget_in (Some (suc positions)) = (if nat_le (suc positions) 1000000000000 then Some (suc positions) else Some 50000000)
 
 -- what a text gives: the number that it writes, or none, where it writes none of so many bits
 abbrev pub IsGivenBy : ℕ → Option (List ℕ) → Option ℕ → Type 0

@@ -21,8 +21,8 @@ const PIECE: usize = 65_536;
 /// The shards of the table that several threads share.
 const SHARDS: u32 = 16;
 
-/// Answers the lines of the input, each within the budget, by so many threads with this one, over a table that they share,
-/// each behind a cache of its own.
+/// Answers the lines of the input, each within the budget, by so many threads beside this one, which reads, writes and mostly
+/// waits, over a table that they share, each behind a cache of its own.
 pub(crate) fn solve_ahead<W: Threads + Wait + Sync, R: Read, O: Write, E: Write>(
     rt: &W,
     alloc: Global,
@@ -46,7 +46,7 @@ pub(crate) fn solve_ahead<W: Threads + Wait + Sync, R: Read, O: Write, E: Write>
     let Ok(mut cache) = Cache::new(alloc, table.view(rt)) else {
         return fail(errors, Ending::OutOfMemory);
     };
-    let Ok(mut others) = caches(rt, alloc, &table, workers.saturating_sub(1)) else {
+    let Ok(mut others) = caches(rt, alloc, &table, workers) else {
         return fail(errors, Ending::OutOfMemory);
     };
     solve_on(

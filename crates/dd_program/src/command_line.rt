@@ -17,6 +17,9 @@ use std::{env, io};
 /// The most positions of a budget.
 const MOST_POSITIONS: i64 = 1_000_000_000_000;
 
+/// The budget of a job or of a part of one where none is given: full deals don't come near it.
+const JOB_POSITIONS: u64 = 50_000_000;
+
 /// The most workers.
 pub const MOST_WORKERS: u32 = 64;
 
@@ -45,7 +48,7 @@ pub enum Args {
         shards: u32,
         /// The entries of each shard, 1 to `MOST_SHAPES`.
         entries: u32,
-        /// The most positions that the search may come to for each job or part of one, 0 to 1,000,000,000,000. `None` is no
+        /// The most positions that the search may come to for each job or part of one, 1 to 1,000,000,000,000. `None` is no
         /// limit.
         budget: Option<u64>,
         /// Each connection is a WebSocket.
@@ -170,13 +173,14 @@ fn number_in(given: Option<u32>, most: u32, default: u32) -> u32
     }
 }
 
-/// The budget that was given, which the parser of arguments has held to its range, or none.
+/// The budget that was given, which the parser of arguments has held to its range, or the default; 0 is for none.
 fn budget_in(given: Option<u64>) -> Option<u64>
     ensures { result ≡ budget_in given }
 {
     match given {
+        Some(0) => None,
         Some(positions) if positions <= MOST_POSITIONS as u64 => Some(positions),
-        _ => None,
+        _ => Some(JOB_POSITIONS),
     }
 }
 
@@ -319,7 +323,7 @@ fn job_budget_option<'a>(alloc: Global) -> Arg<'a>
         .value_name("N")
         .value_parser(value_parser!(u64).range(0..=MOST_POSITIONS))
         .help(
-            "The most positions for each job and each of a table's twenty results, 0 to 1000000000000 [default: no limit]",
+            "The most positions for each job and each of a table's twenty results, 0 to 1000000000000, 0 for no limit [default: 50000000]",
         )
 }
 

@@ -3,8 +3,11 @@ ghost use Rattle.std.specs.Prelude.{◌≡◌, false};
 ghost use Rattle.dd_session.specs.Ports.{AsksNoStop};
 
 use crate::args::ServeArgs;
+use crate::opening::LineStream;
+use crate::reply_stream::{CALL_WAIT, ReplyStream};
 use crate::server_state::ServerState;
 use crate::session_stream::SessionStream;
+use crate::socket_stream::SocketStream;
 use crate::stop::{Stop, StopPort};
 use dd_desk::{DeskFault, Naming, Pass};
 use dd_lines::{CountedDevice, write_whole};
@@ -15,9 +18,6 @@ use std::sync::Wait;
 use std::sync::atomic::Ordering;
 use std::time::{Clock, Duration};
 
-// For how many seconds a client may take no byte of a reply.
-const WRITE_LIMIT: u64 = 60;
-
 /// Serves a connection to its end, by a pass of its own. Where none can be had the client is told why, unless it is to shake
 /// hands first.
 pub(crate) fn serve_connection<J: Naming, R: Wait + Clock + Eprint>(
@@ -27,7 +27,7 @@ pub(crate) fn serve_connection<J: Naming, R: Wait + Clock + Eprint>(
 ) {
     // Without these it is served too.
     let _ = stream.set_nodelay(true);
-    let _ = stream.set_write_timeout(Some(Duration::from_secs(WRITE_LIMIT)));
+    let _ = stream.set_write_timeout(Some(Duration::from_secs(CALL_WAIT)));
     match state.enrol(rt) {
         Ok(pass) => {
             let pass = serve_session(rt, state, stream, pass);
@@ -46,12 +46,13 @@ fn serve_session<J: Naming, R: Wait + Clock>(
 ) -> Pass<J> {
     let port = DeskPort::new(rt, &state.desk, pass);
     let mut port = StopPort::new(rt, port, &state.stop);
-    serve_port(state.alloc, state.args, stream, &state.stop, &mut port);
+    serve_port(rt, state.alloc, state.args, stream, &state.stop, &mut port);
     port.into_inner().into_pass()
 }
 
 // The session over a port, as the run was asked for: by lines or by messages, with leave to stop or without.
-fn serve_port<P: BookPort>(
+fn serve_port<R: Clock, P: BookPort>(
+    rt: &R,
     alloc: Global,
     args: ServeArgs,
     stream: &TcpStream,
@@ -60,12 +61,12 @@ fn serve_port<P: BookPort>(
 )
     ensures leave { args.allow_stop ≡ false → AsksNoStop (P.told port.old) (P.told port.new) }
 {
-    let reads = SessionStream::new(stream, stop);
     if args.websocket {
-        let _ = serve_socket(alloc, reads, port, args.allow_stop);
+        let stream = SocketStream::new(rt, stream, stop);
+        let _ = serve_socket(alloc, stream, port, args.allow_stop);
     } else {
-        let mut reader = CountedDevice::new(reads);
-        let mut writer = CountedDevice::new(stream);
+        let mut reader = CountedDevice::new(LineStream::new(SessionStream::new(stream, stop)));
+        let mut writer = CountedDevice::new(ReplyStream::new(rt, stream, stop));
         let _ = serve_lines(alloc, &mut reader, &mut writer, port, args.allow_stop);
     }
 }

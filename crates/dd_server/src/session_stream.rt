@@ -4,7 +4,7 @@ ghost use Rattle.std.specs.Io.{ReadsAtMost};
 
 use crate::stop::Stop;
 use std::io;
-use std::io::{Error, ErrorKind, Read, Write};
+use std::io::Read;
 use std::net::TcpStream;
 
 // The most bytes that are read after a stop, more than Linux keeps for a stream: what was received before the stop is
@@ -50,22 +50,4 @@ fn read_last<S: Read>(stream: &mut S, buf: &mut [u8], left: &mut usize) -> io::R
     let count = stream.read(&mut buf[..most])?;
     *left -= count;
     Ok(count)
-}
-
-impl Write for SessionStream<'_> {
-    // A write whose time ran out is no `WouldBlock` here: after one, a WebSocket reads on, and a client that sends pings and
-    // reads nothing would never be cut off.
-    fn write(&mut self, buf: &[u8]) -> io::Result<usize> {
-        let mut stream = self.stream;
-        match stream.write(buf) {
-            Err(error) if error.kind() == ErrorKind::WouldBlock => {
-                Err(Error::from(ErrorKind::TimedOut))
-            }
-            result => result,
-        }
-    }
-
-    fn flush(&mut self) -> io::Result<()> {
-        Ok(())
-    }
 }

@@ -98,6 +98,8 @@ impl<'a, P: BookPort, R: Wait> BookPort for StopPort<'a, P, R> {
 
     ghost refusals = { λ s. P.refusals s.port };
 
+    ghost ended = { λ s job. P.ended s.port job };
+
     fn ask(&mut self, want: Want) -> Result<Reply, DeskFault> {
         let stops = is_stop(&want);
         let reply = self.port.ask(want);
@@ -109,6 +111,10 @@ impl<'a, P: BookPort, R: Wait> BookPort for StopPort<'a, P, R> {
 
     fn fetch_within(&mut self, job: u64, wait: u64) -> Result<Reply, DeskFault> {
         self.port.fetch_within(job, wait)
+    }
+
+    fn leave(&mut self) {
+        self.port.leave()
     }
 }
 

@@ -1,5 +1,5 @@
 -- Without leave no line wants a stop, so the port is asked for none.
-use Rattle.std.proofs.Common.{◌≡◌, ℕ, List, [], ◌∷◌, ◌++◌, Bool, true, false, IsTrue, Option, Ok, Err, inl, inr, refl, sym, ap, subst}
+use Rattle.std.proofs.Common.{◌≡◌, ℕ, List, [], ◌∷◌, ◌++◌, Bool, true, false, IsTrue, Option, Ok, Err, inl, inr, refl, sym, ap, ◌∙◌, subst, append_assoc}
 use Rattle.std.specs.Prelude.{Result, Some, None, MatchOption, OnOk, OnErr}
 use Rattle.dd_solve.specs.declared.asked.Asked.{Asked}
 use Rattle.dd_book.specs.declared.call.Reply.{Reply}
@@ -8,6 +8,7 @@ use Rattle.dd_wire.specs.declared.want.Want.{Want}
 use Rattle.dd_wire.specs.declared.want.Want.TheVariants.{Submit, Stop}
 use Rattle.dd_wire.specs.declared.wish.Wish.{Wish}
 use Rattle.dd_wire.proofs.CallerLemmas.{no-stop-line}
+use Rattle.dd_session.specs.Leaving.{GivesUp, Leaves, own_jobs}
 use Rattle.dd_session.specs.Ports.{AreNoStops, AsksNoStop, PortOf, Exchange}
 use Rattle.dd_session.specs.Serving.{Says, SaysAfter, SaysEnd, SaysOne, SaysState, awaited, new_job}
 use Rattle.dd_session.specs.Served.{AreServed, IsServed, ServedAll, ServedBeginning}
@@ -79,3 +80,21 @@ pub messages-no-stop : (allow_stop : Bool) (before after : PortOf) → ServesMes
 messages-no-stop true before after serves without = cc
 messages-no-stop false before after (true, given, messages, replies, served) without = let lie : IsTrue false = given refl in cc
 messages-no-stop false before after (false, given, messages, replies, served) without = served-no-stop false before after messages replies refl served
+
+-- ---- when the session leaves
+
+-- it cancels, and asks for nothing else
+gives-no-stop : (ended : ℕ → Type 0) (jobs : List ℕ) (news : List Exchange) (refused : ℕ) → GivesUp ended jobs news refused → AreNoStops news
+gives-no-stop ended [] news refused (none, count) = subst AreNoStops (sym none) tt
+gives-no-stop ended (job ∷ jobs) news refused (inl (has, gives)) = gives-no-stop ended jobs news refused gives
+gives-no-stop ended (job ∷ jobs) news refused (inr (inl (reply, later, finds, told, gives))) = subst AreNoStops (sym told) (λ e. cc, gives-no-stop ended jobs later refused gives)
+gives-no-stop ended (job ∷ jobs) news refused (inr (inr (others, count, gives))) = gives-no-stop ended jobs news others gives
+
+-- so the port was asked for no stop before, and isn't then
+pub leaves-no-stop : (ended : ℕ → Type 0) (before : List Exchange) (between after : PortOf) → AsksNoStop before between.told → Leaves ended between after → AsksNoStop before after.told
+leaves-no-stop ended before between after asks (news, refused, gives, gained) =
+    record {
+      gained = asks.gained ++ news;
+      told = ap (λ (p : PortOf). p.told) gained ∙ ap (λ (l : List Exchange). l ++ news) asks.told ∙ append_assoc before asks.gained news;
+      no_stops = both-no-stops asks.gained news asks.no_stops (gives-no-stop ended (own_jobs between.told) news refused gives);
+    }

@@ -1,5 +1,5 @@
 -- To be believed: what a port tells of the book behind it.
-use Rattle.std.specs.Prelude.{◌≡◌, ℕ, zero, suc, List, [], ◌∷◌, ◌++◌, length, drop, Result, Ok, Err}
+use Rattle.std.specs.Prelude.{◌≡◌, ℕ, zero, suc, List, [], ◌∷◌, ◌++◌, length, drop, ◌-◌, Option, option_map, slice_get, Result, Ok, Err}
 use Rattle.dd_book.specs.declared.call.Call.{Call}
 use Rattle.dd_book.specs.declared.call.Reply.{Reply}
 use Rattle.dd_desk.specs.declared.fault.DeskFault.{DeskFault}
@@ -84,3 +84,11 @@ new_port pass = record { pass = pass; before = length pass.receipts; refusals = 
 -- what it tells: the receipts that the pass has gained in the port
 abbrev pub told_at : DeskPortOf → List Exchange
 told_at port = told_in (drop port.before port.pass.receipts)
+
+-- such a port when it has refused one call more
+abbrev pub refused : DeskPortOf → DeskPortOf
+refused port = record port { refusals = one_more port.refusals }
+
+-- the place in the journal of the last event of its pass
+abbrev pub last_place : DeskPortOf → Option ℕ
+last_place port = option_map (λ (r : ReceiptOf). r.place) (slice_get port.pass.receipts (length port.pass.receipts - 1))

@@ -60,8 +60,8 @@ fn submit_and_fetch<P: BookPort>(port: &mut P, asked: Asked, wait: u64) -> Resul
     }
 }
 
-// The job that a reply tells of as new.
-fn new_job(reply: &Reply) -> Option<u64>
+/// The job that a reply tells of as new.
+pub(crate) fn new_job(reply: &Reply) -> Option<u64>
     ensures { result ≡ new_job reply.now }
 {
     match reply {

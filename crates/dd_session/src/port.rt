@@ -2,9 +2,11 @@
 ghost use Rattle.std.specs.Prelude.{◌≡◌};
 ghost use Rattle.dd_book.specs.declared.call.Call.TheVariants.{Fetch};
 ghost use Rattle.dd_desk.specs.Replies.{IsTold};
+ghost use Rattle.dd_desk.specs.declared.fault.DeskFault.TheVariants.{JournalFull};
 ghost use Rattle.dd_lines.specs.CountedDevices.{one_more};
-ghost use Rattle.dd_session.specs.Ports.{call_by, new_port};
+ghost use Rattle.dd_session.specs.Ports.{call_by, last_place, new_port, refused};
 
+use crate::leaving::give_up_jobs;
 use dd_book::Reply;
 use dd_desk::{Desk, DeskFault, Naming, Pass};
 use dd_wire::Want;
@@ -15,6 +17,7 @@ use std::time::{Clock, Duration};
 /// The job book as one caller sees it, or what stands for it.
 pub trait BookPort {
     ghost use Rattle.std.specs.Prelude.{ℕ, List};
+    ghost use Rattle.dd_session.specs.Leaving.{Leaves};
     ghost use Rattle.dd_session.specs.Ports.{Exchange, Tells, port_of};
     ghost use Rattle.dd_wire.specs.declared.want.Want.TheVariants.{Fetch};
 
@@ -22,6 +25,8 @@ pub trait BookPort {
     ghost told: { Self → List Exchange };
     /// how many calls were refused, up to the greatest number, where the count stays
     ghost refusals: { Self → ℕ };
+    /// what the port has seen of a job that it made: the job has ended
+    ghost ended: { Self → ℕ → Type 0 };
 
     /// Makes the call, or refuses it and counts that: with `JournalFull` or `OutOfMemory`, and nothing else changes.
     fn ask(&mut self, want: Want) -> Result<Reply, DeskFault>
@@ -31,6 +36,12 @@ pub trait BookPort {
     /// The same for a fetch that waits until the job has ended, so many milliseconds at the most.
     fn fetch_within(&mut self, job: u64, wait: u64) -> Result<Reply, DeskFault>
         ensures { Tells (port_of (told self.old) (refusals self.old)) (Fetch job) result
+            (port_of (told self.new) (refusals self.new)) };
+
+    /// Cancels the jobs that were made over the port, each that has not ended: nobody is left who
+    /// could fetch them.
+    fn leave(&mut self)
+        ensures { Leaves (ended self.new) (port_of (told self.old) (refusals self.old))
             (port_of (told self.new) (refusals self.new)) };
 }
 
@@ -72,6 +83,25 @@ impl<'a, J: Naming, R: Wait + Clock> DeskPort<'a, J, R> {
         }
     }
 
+    /// Refuses a call as if the journal were full: the desk isn't asked, and the refusal is counted.
+    pub fn refuse(&mut self) -> DeskFault
+        ensures fault { result ≡ JournalFull }
+        ensures port { self.new ≡ refused self.old }
+    {
+        self.refusals = one_more(self.refusals);
+        DeskFault::JournalFull
+    }
+
+    /// The place in the journal of the last event of the pass.
+    pub fn last_place(&self) -> Option<u64>
+        ensures { result ≡ last_place self.now }
+    {
+        match self.pass.receipts().last() {
+            Some(receipt) => Some(receipt.place()),
+            None => None,
+        }
+    }
+
     /// The pass, with a receipt for each call that was made.
     pub fn into_pass(self) -> Pass<J>
         ensures { result ≡ self.entry.pass }
@@ -88,11 +118,14 @@ impl<'a, J: Naming, R: Wait + Clock> DeskPort<'a, J, R> {
 }
 
 impl<'a, J: Naming, R: Wait + Clock> BookPort for DeskPort<'a, J, R> {
+    ghost use Rattle.dd_desk.specs.Looks.{SeesEnd};
     ghost use Rattle.dd_session.specs.Ports.{told_at};
 
     ghost told = { λ p. told_at p };
 
     ghost refusals = { λ p. p.refusals };
+
+    ghost ended = { λ p job. SeesEnd p.pass.number job };
 
     fn ask(&mut self, want: Want) -> Result<Reply, DeskFault> {
         match call(self.rt, self.desk, &mut self.pass, want) {
@@ -112,6 +145,16 @@ impl<'a, J: Naming, R: Wait + Clock> BookPort for DeskPort<'a, J, R> {
                 Err(fault)
             }
         }
+    }
+
+    fn leave(&mut self) {
+        self.refusals = give_up_jobs(
+            self.rt,
+            self.desk,
+            &mut self.pass,
+            self.before,
+            self.refusals,
+        );
     }
 }
 
@@ -147,7 +190,7 @@ fn fetch_within<J: Naming, R: Wait + Clock>(
 }
 
 /// The count of one refusal more.
-fn one_more(refusals: u64) -> u64
+pub(crate) fn one_more(refusals: u64) -> u64
     ensures { result ≡ one_more refusals }
 {
     refusals.saturating_add(1)

@@ -1,4 +1,6 @@
 //! Tests of the workers.
+mod budgets;
+mod cancelled;
 mod gate;
 mod lines;
 mod rows;

@@ -2,6 +2,7 @@
 //! row, nor that a text is UTF-8.
 mod meanings;
 mod par;
+mod plays;
 mod recorded;
 mod solving;
 mod spelled;

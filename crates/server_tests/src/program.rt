@@ -1,4 +1,5 @@
 //! Tests of the program, by the words of its command line and its streams.
+mod ahead;
 mod asking;
 mod budgets;
 mod devices;

@@ -1,7 +1,9 @@
 //! Runs of the server, with a client of the same process.
 pub mod client;
 mod clients;
+mod descriptors;
 mod gate;
+mod pages;
 mod pieces;
 mod rows;
 mod serving;

@@ -1,5 +1,6 @@
 //! Tests of sessions.
 mod faults;
+mod leaving;
 mod lines;
 mod messages;
 mod replies;

@@ -19,6 +19,10 @@ const TURNS: u32 = 60_000;
 const LAST_CARD: &str =
     r#"{"do":"solve","deal":"N:A... ... ... ...","trump":4,"first":1,"solutions":3,"played":[[0,13],[0,12],[0,11]]}"#;
 
+// No search for it ends at its first position.
+const TWO_CARDS: &str =
+    r#"{"do":"solve","deal":"N:32... K4... AQ... 65...","trump":4,"first":0,"solutions":3}"#;
+
 const FETCH: &str = r#"{"do":"fetch","job":1}"#;
 
 // What the program writes, which its clients read while it runs.
@@ -85,6 +89,7 @@ fn converse<R: Wait + Clock + Net<Stream = TcpStream>>(
     rt: &R,
     alloc: Global,
     way: Way,
+    request: &str,
     text: &Mutex<Vec<u8>>,
 ) -> io::Result<Option<Talk>> {
     let Some(address) = told_address(rt, text) else {
@@ -96,7 +101,7 @@ fn converse<R: Wait + Clock + Net<Stream = TcpStream>>(
     );
     let mut first = Client::new(alloc, way, &streams.0)?;
     let mut second = Client::new(alloc, way, &streams.1)?;
-    let submitted = first.ask(LAST_CARD)?;
+    let submitted = first.ask(request)?;
     let fetched = first.fetch(FETCH)?;
     let refused = second.ask(FETCH)?;
     let stopped = first.ask(r#"{"do":"stop"}"#)?;
@@ -122,12 +127,19 @@ fn has_told(alloc: Global, text: &[u8], talk: &Talk, workers: u32) -> Result<boo
 // A run of this line: what its clients were told, where the program ended well and told what it had to.
 fn serve_line<
     W: Threads + Wait + Clock + Eprint + Net<Listener = TcpListener, Stream = TcpStream> + Sync,
->(rt: &W, alloc: Global, line: &str, way: Way, workers: u32) -> Result<Option<String>, AllocError> {
+>(
+    rt: &W,
+    alloc: Global,
+    line: &str,
+    way: Way,
+    request: &str,
+    workers: u32,
+) -> Result<Option<String>, AllocError> {
     let text = Mutex::new(Vec::new(alloc));
     let (ending, talk) = thread::join(
         rt,
         || run(rt, alloc, line, &text),
-        || converse(rt, alloc, way, &text).ok(),
+        || converse(rt, alloc, way, request, &text).ok(),
     );
     let Some(Some(talk)) = talk else {
         return Ok(None);
@@ -147,30 +159,35 @@ fn replies(alloc: Global, state: &str) -> Result<String, AllocError> {
 #[test]
 fn clients_are_served_as_the_words_ask(rt: HostRuntime) -> Result<(), Fail> {
     let alloc = rt.alloc();
-    let done =
+    let last =
         "\"cards\":[{\"equals\":0,\"rank\":14,\"score\":1,\"suit\":0}],\"job\":1,\"state\":\"done\"";
+    let two =
+        "\"cards\":[{\"equals\":4,\"rank\":3,\"score\":2,\"suit\":0}],\"job\":1,\"state\":\"done\"";
     let rows = [
         (
-            "ddserve serve --listen 127.0.0.1:0 --workers 2 --budget 0 --allow-stop",
+            "ddserve serve --listen 127.0.0.1:0 --workers 2 --budget 1 --allow-stop",
             Way::Lines,
+            TWO_CARDS,
             2,
             "\"job\":1,\"state\":\"spent\"",
         ),
         (
             "ddserve serve --listen 127.0.0.1:0 --workers 1 --budget 1 --shards 2 --entries 16 --websocket --allow-stop",
             Way::Messages,
+            LAST_CARD,
             1,
-            done,
+            last,
         ),
         (
-            "ddserve serve --listen 127.0.0.1:0 --allow-stop",
+            "ddserve serve --listen 127.0.0.1:0 --budget 0 --allow-stop",
             Way::Lines,
+            TWO_CARDS,
             4,
-            done,
+            two,
         ),
     ];
-    for (line, way, workers, state) in rows {
-        let told = serve_line(&rt, alloc, line, way, workers)?;
+    for (line, way, request, workers, state) in rows {
+        let told = serve_line(&rt, alloc, line, way, request, workers)?;
         let told = told.expect(&rt, "clients that were served");
         assert_eq!(rt; told.as_str(), replies(alloc, state)?.as_str());
     }

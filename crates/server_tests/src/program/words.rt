@@ -94,7 +94,7 @@ fn a_line_of_serve_has_its_options_and_the_defaults_of_the_others(rt: HostRuntim
                 workers: 2,
                 shards: 16,
                 entries: 4_096,
-                budget: None,
+                budget: Some(50_000_000),
                 websocket: false,
                 allow_stop: true,
             },

@@ -163,7 +163,8 @@ fn converse_and_release<R: Net<Stream = TcpStream>>(
     told.ok()
 }
 
-// Beside seven calls of clients the claim of the first job and its finish, which was stopped: the worker makes no other.
+// Beside seven calls of clients there are the claim of the first job, its finish, which was stopped, and its cancel, since it
+// is open when its client is cut off. Where the cancel comes before the finish the worker claims once more.
 #[test]
 fn a_stop_ends_the_search_and_a_cancel_ends_its_job_alone(rt: HostRuntime) -> Result<(), Fail> {
     let listener = TcpListener::bind(&rt, "127.0.0.1:0")?;
@@ -178,6 +179,6 @@ fn a_stop_ends_the_search_and_a_cancel_ends_its_job_alone(rt: HostRuntime) -> Re
     let wanted =
         "{\"job\":1}\n{\"fault\":16}\n{\"fault\":16}\n{\"job\":2}\n{\"job\":2,\"state\":\"cancelled\"}\n{\"fault\":16}\n{\"closing\":true}\n";
     assert_eq!(rt; told.as_str(), wanted);
-    assert!(rt; ended == Some(Ok(9)));
+    assert!(rt; matches!(ended, Some(Ok(10 | 11))));
     Ok(())
 }

@@ -24,6 +24,17 @@ fn answered(served: &Served) -> usize {
     served.written.iter().filter(|byte| **byte == b'\n').count()
 }
 
+// The lines whose calls were made: those answered, and one whose reply was not written whole.
+fn asked(served: &Served) -> usize {
+    answered(served).saturating_add(1)
+}
+
+// How many jobs are open after so many of the lines: one is submitted by the first and cancelled by the
+// third, and where it is open at the end its cancel is an event.
+fn left_open(lines: usize) -> usize {
+    if lines == 1 || lines == 2 { 1 } else { 0 }
+}
+
 #[test]
 fn a_read_that_fails_ends_the_session_after_a_beginning(rt: HostRuntime) -> Result<(), Fail> {
     let mut client = client(rt.alloc(), lines())?;
@@ -33,7 +44,7 @@ fn a_read_that_fails_ends_the_session_after_a_beginning(rt: HostRuntime) -> Resu
         let served = serve(&rt, rt.alloc(), &client).expect(&rt, "memory");
         let whole = served.end == End::Lines(Err(LineFault::Read))
             && replies().starts_with(&served.written)
-            && served.events == answered(&served);
+            && served.events == answered(&served) + left_open(answered(&served));
         assert!(rt; whole, "at read {reads}");
     }
     Ok(())
@@ -48,7 +59,7 @@ fn a_write_that_fails_ends_the_session_after_a_beginning(rt: HostRuntime) -> Res
         let begun = served.end == End::Lines(Err(LineFault::Write))
             && replies().starts_with(&served.written)
             && served.written.len() == room
-            && served.events == answered(&served).saturating_add(1);
+            && served.events == asked(&served) + left_open(asked(&served));
         assert!(rt; begun, "after {room} bytes");
     }
     Ok(())
@@ -66,8 +77,9 @@ fn a_refused_line_leaves_no_event(rt: HostRuntime) -> Result<(), Fail> {
         return Ok(());
     };
     let told = match served.written.as_slice() {
-        b"{\"job\":1}\n{\"job\":2}\n" => served.events == 2,
-        b"{\"fault\":19}\n{\"job\":1}\n" | b"{\"job\":1}\n{\"fault\":19}\n" => served.events == 1,
+        // The cancels at the end may find no memory either.
+        b"{\"job\":1}\n{\"job\":2}\n" => (3..=4).contains(&served.events),
+        b"{\"fault\":19}\n{\"job\":1}\n" | b"{\"job\":1}\n{\"fault\":19}\n" => served.events == 2,
         _ => served.end == End::Lines(Err(LineFault::Write)),
     };
     assert!(rt; told);

@@ -50,8 +50,8 @@ pub struct Served {
     pub events: usize,
 }
 
-// A session over this port.
-fn serve_port<P: BookPort>(alloc: Global, client: &Client, port: &mut P) -> (End, Vec<u8>) {
+/// A session over this port.
+pub fn serve_port<P: BookPort>(alloc: Global, client: &Client, port: &mut P) -> (End, Vec<u8>) {
     let pieces = Pieces {
         bytes: &client.sent,
         most: client.most,

@@ -39,7 +39,8 @@ fn a_wait_is_a_whole_number_of_milliseconds(rt: HostRuntime) -> Result<(), Fail>
     Ok(())
 }
 
-// Were all lines read, these replies written, and so many events journaled?
+// Were all lines read, these replies written, and so many events journaled? A job that is open at the
+// end is cancelled, which is an event too.
 fn has_served(served: &Option<Served>, written: &[u8], events: usize) -> bool {
     match served {
         Some(served) => {
@@ -82,7 +83,7 @@ fn a_wait_ends_with_its_time_or_with_the_job(rt: HostRuntime) -> Result<(), Fail
 {"fault":16}
 {"job":2}
 "#;
-    assert!(rt; serves(&rt, rt.alloc(), lines, replies, 8)?);
+    assert!(rt; serves(&rt, rt.alloc(), lines, replies, 9)?);
     Ok(())
 }
 
@@ -98,7 +99,7 @@ fn after_a_shut_nothing_is_waited_for(rt: HostRuntime) -> Result<(), Fail> {
 {"job":1,"state":"waiting"}
 {"fault":18}
 "#;
-    assert!(rt; serves(&rt, rt.alloc(), lines, replies, 4)?);
+    assert!(rt; serves(&rt, rt.alloc(), lines, replies, 5)?);
     Ok(())
 }
 
@@ -119,6 +120,7 @@ fn a_job_whose_fetch_is_refused_is_not_lost(rt: HostRuntime) -> Result<(), Fail>
 // So many submits, and one more that waits.
 fn full_hands(alloc: Global) -> Result<Client, AllocError> {
     let mut client = client(alloc, b"")?;
+    client.events = 1_000;
     for _ in 0..64 {
         client
             .sent
@@ -135,6 +137,7 @@ fn a_submit_that_is_refused_waits_for_nothing(rt: HostRuntime) -> Result<(), Fai
     let client = full_hands(rt.alloc())?;
     let served = serve(&rt, rt.alloc(), &client).expect(&rt, "memory");
     let refused = served.written.ends_with(b"{\"job\":64}\n{\"fault\":13}\n");
-    assert!(rt; refused && served.events == 65);
+    // Each of the jobs is cancelled at the end.
+    assert!(rt; refused && served.events == 129);
     Ok(())
 }

@@ -18,7 +18,8 @@ pub fn client(alloc: Global, lines: &[u8]) -> Result<Client, AllocError> {
     })
 }
 
-// Were all lines read, these replies written, and so many events journaled?
+// Were all lines read, these replies written, and so many events journaled? A job that is open at the
+// end is cancelled, which is an event too.
 fn has_served(served: &Option<Served>, written: &[u8], events: usize) -> bool {
     match served {
         Some(served) => {
@@ -73,7 +74,7 @@ fn par_is_told_at_once_and_leaves_no_event(rt: HostRuntime) -> Result<(), Fail> 
 {"contracts":[{"declarers":[1,3],"level":1,"tricks":7,"trump":4}],"score":-90}
 {"job":1,"state":"waiting"}
 "#;
-    assert!(rt; serves(&rt, rt.alloc(), lines, replies, 2)?);
+    assert!(rt; serves(&rt, rt.alloc(), lines, replies, 3)?);
     Ok(())
 }
 
@@ -99,7 +100,7 @@ fn lines_with_a_fault_ask_nothing(rt: HostRuntime) -> Result<(), Fail> {
 {"fault":3}
 {"job":1}
 "#;
-    assert!(rt; serves(&rt, rt.alloc(), &lines, replies, 1)?);
+    assert!(rt; serves(&rt, rt.alloc(), &lines, replies, 2)?);
     Ok(())
 }
 
@@ -111,14 +112,14 @@ fn the_last_line_may_lack_its_end(rt: HostRuntime) -> Result<(), Fail> {
         rt.alloc(),
         br#"{"do":"solve","deal":"N:A... K... Q... J...","trump":4,"first":0,"solutions":3}"#,
         b"{\"job\":1}\n",
-        1,
+        2,
     )?;
     let returned = serves(
         &rt,
         rt.alloc(),
         b"{\"do\":\"table\",\"deal\":\"N:A... K... Q... J...\"}\r\n",
         b"{\"job\":1}\n",
-        1,
+        2,
     )?;
     assert_eq!(rt; (broken, whole, returned), (true, true, true));
     Ok(())
@@ -141,7 +142,7 @@ fn nothing_is_submitted_after_a_stop(rt: HostRuntime) -> Result<(), Fail> {
     );
     client.allow_stop = false;
     let none = serve(&rt, rt.alloc(), &client);
-    assert!(rt; has_served(&none, b"{\"fault\":3}\n{\"job\":1}\n{\"fault\":3}\n", 1));
+    assert!(rt; has_served(&none, b"{\"fault\":3}\n{\"job\":1}\n{\"fault\":3}\n", 2));
     Ok(())
 }
 

@@ -1,0 +1,127 @@
+"""Clients that go: the jobs that they leave open are cancelled and their searches given up, and none of another's."""
+import socket
+import struct
+import threading
+import time
+from client import CLOSING, ONE_CARD, ONE_CARD_REPLY, STOP, Frames, Server, check, done, fetch, more_descriptors, number_of, recorded
+
+CONNECTIONS = 200
+WORKERS = 2
+# The seconds within which a job of one card is done.
+SOON = 2.0
+
+
+class Messages:
+    """Lines as messages, for those who speak in lines."""
+
+    def __init__(self, stream):
+        self.frames = Frames(stream)
+
+    def ask(self, line):
+        return self.frames.ask(line)
+
+    def close(self):
+        self.frames.close()
+
+
+def one_card(client, since):
+    """A job of one card is done soon; how many fetches it took."""
+    job = number_of(client.ask(ONE_CARD))
+    fetches = 0
+    reply = None
+    while reply != done(ONE_CARD_REPLY, job):
+        reply = client.ask(fetch(job))
+        fetches += 1
+        taken = time.monotonic() - since
+        check(f"a job of one card after {taken:.2f} s, {reply}", taken < SOON, True)
+        time.sleep(0.001)
+    return fetches
+
+
+def end(server, client, known, open_jobs):
+    """Stops the program. Besides what is known each job that was left open has its cancel, and workers have claimed and finished."""
+    check("a stop", client.ask(STOP), CLOSING)
+    client.close()
+    events, status, said = server.end()
+    check("the end", (status, said), (0, ""))
+    rounds = events - server.workers - known - 1 - open_jobs
+    check(f"{rounds} events of workers", rounds >= 0 and rounds % 2 == 0, True)
+    return rounds // 2
+
+
+def closed(websocket):
+    """Clients submit tables of full deals and close. The next client needn't wait for them."""
+    server = Server("--allow-stop", *(["--websocket"] if websocket else []), workers=WORKERS)
+    connect = (lambda: Messages(server.stream())) if websocket else server.connect
+    requests = [request for request, _ in recorded("tables")]
+    last = connect()
+    for place in range(CONNECTIONS):
+        client = connect()
+        number_of(client.ask(requests[place % len(requests)]))
+        client.close()
+    since = time.monotonic()
+    fetches = one_card(last, since)
+    taken = time.monotonic() - since
+    rounds = end(server, last, CONNECTIONS + 1 + fetches, CONNECTIONS)
+    kind = "WebSockets" if websocket else "lines"
+    print(f"closed {kind}: {CONNECTIONS} clients submit a table and close; a job of one card is done {taken:.3f} s later, after {rounds} rounds of workers")
+
+
+def many_jobs():
+    """Clients leave with as many jobs as they may have, by an end and by a reset, and before they have read a reply."""
+    server = Server("--allow-stop", workers=WORKERS)
+    requests = [request for request, _ in recorded("tables")]
+    last = server.connect()
+    for place in range(10):
+        client = server.connect()
+        client.send(*[requests[(place + more) % len(requests)] for more in range(64)])
+        if place % 2:
+            for _ in range(64):
+                number_of(client.line())
+        if place % 3:
+            client.stream.setsockopt(socket.SOL_SOCKET, socket.SO_LINGER, struct.pack("ii", 1, 0))
+        client.close()
+    # Those who had not read may still be read.
+    time.sleep(0.5)
+    since = time.monotonic()
+    one_card(last, since)
+    taken = time.monotonic() - since
+    check("a stop", last.ask(STOP), CLOSING)
+    last.close()
+    _, status, said = server.end()
+    check("the end", (status, said), (0, ""))
+    print(f"many jobs: ten clients with 64 tables each are gone; a job of one card is done {taken:.3f} s later")
+
+
+def who_stays():
+    """While others come and go, the job of one who stays is worked on to its end, and is right."""
+    server = Server("--allow-stop", workers=WORKERS)
+    rows = recorded("tables", 4)
+    over = threading.Event()
+    left = []
+
+    def come_and_go():
+        while not over.is_set():
+            with server.connect() as client:
+                left.append(number_of(client.ask(rows[len(left) % 3][0])))
+
+    with server.connect() as client:
+        job = number_of(client.ask(rows[3][0]))
+        others = threading.Thread(target=come_and_go)
+        others.start()
+        reply, fetches = client.until_done(job)
+        check("the table of one who stays", reply, done(rows[3][1], job))
+        since = time.monotonic()
+        over.set()
+        others.join()
+        more = one_card(client, since)
+        rounds = end(server, client, 1 + fetches + 1 + more + len(left), len(left))
+    check("the rounds of its twenty parts", rounds >= 20, True)
+    print(f"who stays: one table is done and right while {len(left)} clients come, submit a table and go")
+
+
+more_descriptors()
+closed(False)
+closed(True)
+many_jobs()
+who_stays()

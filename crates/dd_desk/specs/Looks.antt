@@ -1,0 +1,45 @@
+-- To be believed: what a look at the desk sees, which makes no event, and what a cancel tells that may need none.
+use Rattle.std.specs.Prelude.{◌≡◌, ◌⊎◌, ℕ, Bool, true, false, not, Option, None, Some, Result, Ok, Err, List}
+use Rattle.dd_book.specs.declared.call.Call.TheVariants.{Cancel}
+use Rattle.dd_book.specs.declared.call.Refusal.TheVariants.{UnknownJob}
+use Rattle.dd_book.specs.declared.call.Reply.{Reply}
+use Rattle.dd_book.specs.declared.call.Reply.TheVariants.{Cancelled, Fault}
+use Rattle.dd_book.specs.Limits.{LimitsOf}
+use Rattle.dd_book.specs.Jobs.{JobOf, is_open, own_job}
+use Rattle.dd_book.specs.Running.{runs_at}
+use Rattle.dd_desk.specs.declared.fault.DeskFault.{DeskFault}
+use Rattle.dd_desk.specs.Events.{EventOf, IsLegal, replay}
+use Rattle.dd_desk.specs.Faults.{IsOfCall}
+use Rattle.dd_desk.specs.Receipts.{PassOf}
+use Rattle.dd_desk.specs.Replies.{IsAnswered}
+
+-- a worker has a part under this claim or has none, as this tells, after a journal that one thread could have made
+pub record SeesRunning (worker job claim : ℕ) (runs : Bool) : Type 0 where
+  pub limits : LimitsOf
+  pub journal : List EventOf
+  pub legal : IsLegal limits journal
+  pub sees : runs ≡ runs_at (replay limits journal).jobs worker job claim
+
+-- is the job there, and no longer open?
+abbrev pub is_ended_job : Option JobOf → Bool
+is_ended_job None = false
+is_ended_job (Some job) = not (is_open job)
+
+-- this caller's job of this number has ended, after a journal that one thread could have made
+pub record SeesEnd (caller job : ℕ) : Type 0 where
+  pub limits : LimitsOf
+  pub journal : List EventOf
+  pub legal : IsLegal limits journal
+  pub sees : is_ended_job (own_job (replay limits journal).jobs caller job) ≡ true
+
+-- what a cancel is told that finds no job which has ended: it is cancelled, or is none of the caller's
+abbrev pub FindsNoEnd : ℕ → Reply → Type 0
+FindsNoEnd job reply = (reply ≡ Cancelled job) ⊎ (reply ≡ Fault UnknownJob)
+
+-- The pass before and after a job of its is cancelled if need be: the job has ended, and the pass is as it was; or the cancel
+-- is answered, by one receipt; or it is refused, and the pass is as it was.
+abbrev pub IsToldIfOpen : PassOf → ℕ → Result (Option Reply) DeskFault → PassOf → Type 0
+IsToldIfOpen before job (Ok None) after = SeesEnd before.number job × (after ≡ before)
+IsToldIfOpen before job (Ok (Some reply)) after =
+    IsAnswered before (Cancel before.number job) reply after × FindsNoEnd job reply
+IsToldIfOpen before job (Err fault) after = IsOfCall fault × (after ≡ before)

@@ -1,0 +1,171 @@
+-- The jobs of a pass are given up, one after the other.
+use Rattle.std.proofs.Common.{◌≡◌, ℕ, zero, suc, ◌+◌, ◌<◌, ◌≤◌, List, [], ◌∷◌, ◌++◌, length, drop, Option, None, Some, Ok, Err, inl, inr, refl, sym, ap, ◌∙◌, subst, arith, append_assoc, append-nil}
+use Rattle.std.specs.Prelude.{MatchOption, slice_get}
+use Rattle.std.proofs.lemmas.List.{drop-append-le}
+use Rattle.dd_book.specs.declared.call.Call.TheVariants as call
+use Rattle.dd_book.specs.declared.call.Reply.{Reply}
+use Rattle.dd_desk.specs.declared.fault.DeskFault.{DeskFault}
+use Rattle.dd_desk.specs.Looks.{IsToldIfOpen, SeesEnd}
+use Rattle.dd_desk.specs.Receipts.{PassOf, ReceiptOf, receipt}
+use Rattle.dd_lines.specs.CountedDevices.{one_more}
+use Rattle.dd_session.specs.GivingUp.{GivesUpAt}
+use Rattle.dd_session.specs.Leaving.{GivesUp, Leaves, made_by, own_jobs}
+use Rattle.dd_session.specs.Ports.{Exchange, port_of, count_more, told_in, told_of}
+use Rattle.dd_session.proofs.Gaining.{count_more-add}
+use Rattle.dd_session.proofs.Telling.{told_in-append}
+
+-- ---- the jobs that calls made
+
+own_jobs-append : (told more : List Exchange) → own_jobs (told ++ more) ≡ own_jobs told ++ own_jobs more
+own_jobs-append [] more = refl
+own_jobs-append (t ∷ told) more =
+    ap (λ (l : List ℕ). made_by t.0 t.1 ++ l) (own_jobs-append told more) ∙ sym (append_assoc (made_by t.0 t.1) (own_jobs told) (own_jobs more))
+
+-- those from a receipt on: of this receipt, and of those behind it
+abbrev pub Splits : List ReceiptOf → ℕ → ReceiptOf → Type 0
+Splits rs place r = own_jobs (told_in (drop place rs)) ≡ own_jobs (told_of r.call r.reply) ++ own_jobs (told_in (drop (suc place) rs))
+
+splits-at : (rs gained : List ReceiptOf) (place : ℕ) → place < length rs → MatchOption (slice_get (rs ++ gained) place) ⊥ (λ r. Splits rs place r)
+splits-at [] gained place within = absurd (omega (arith, within))
+splits-at (r ∷ rs) gained zero within = own_jobs-append (told_of r.call r.reply) (told_in rs)
+splits-at (r ∷ rs) gained (suc place) within = splits-at rs gained place (omega (arith, within))
+
+-- ---- over a port
+
+-- some jobs are given up, and then more
+gives-up-more : (ended : ℕ → Type 0) (jobs more : List ℕ) (news later : List Exchange) (refused others : ℕ) → GivesUp ended jobs news refused → GivesUp ended more later others
+    → GivesUp ended (jobs ++ more) (news ++ later) (refused + others)
+gives-up-more ended [] more news later refused others (none, count) rest =
+    let sum : others ≡ refused + others = omega (arith, count) in
+    subst (λ (l : List Exchange). GivesUp ended more (l ++ later) (refused + others)) (sym none) (subst (λ (n : ℕ). GivesUp ended more later n) sum rest)
+gives-up-more ended (job ∷ jobs) more news later refused others (inl (has, gives)) rest =
+    inl (has, gives-up-more ended jobs more news later refused others gives rest)
+gives-up-more ended (job ∷ jobs) more news later refused others (inr (inl (reply, after, finds, told, gives))) rest =
+    inr (inl (reply, after ++ later, finds, ap (λ (l : List Exchange). l ++ later) told, gives-up-more ended jobs more after later refused others gives rest))
+gives-up-more ended (job ∷ jobs) more news later refused others (inr (inr (fewer, count, gives))) rest =
+    inr (inr (fewer + others, omega (arith, count), gives-up-more ended jobs more news later fewer others gives rest))
+
+-- ---- by a pass
+
+-- no job
+pub gives-none : (pass : PassOf) (count : ℕ) → GivesUpAt [] pass count pass count
+gives-none pass count =
+    record { number = refl; gained = []; receipts = sym (append-nil pass.receipts); refused = 0; gives_up = (refl, refl); counts = refl }
+
+-- a receipt that made none
+pub gives-nothing : (found : Option ReceiptOf) (pass : PassOf) (count : ℕ) → MatchOption found ⊥ (λ r. own_jobs (told_of r.call r.reply) ≡ [])
+    → MatchOption found ⊥ (λ r. GivesUpAt (own_jobs (told_of r.call r.reply)) pass count pass count)
+gives-nothing None pass count none = absurd none
+gives-nothing (Some r) pass count none = subst (λ (jobs : List ℕ). GivesUpAt jobs pass count pass count) (sym none) (gives-none pass count)
+
+-- one job that has ended, or whose cancel was told
+pub gives-one : (before after : PassOf) (job count : ℕ) (told : Option Reply) → IsToldIfOpen before job (Ok told) after → GivesUpAt (job ∷ []) before count after count
+gives-one before after job count None (ends, same) =
+    record {
+      number = ap (λ (p : PassOf). p.number) same;
+      gained = [];
+      receipts = ap (λ (p : PassOf). p.receipts) same ∙ sym (append-nil before.receipts);
+      refused = 0;
+      gives_up = inl (ends, (refl, refl));
+      counts = refl;
+    }
+gives-one before after job count (Some reply) (answered, finds) =
+    record {
+      number = ap (λ (p : PassOf). p.number) answered.gained;
+      gained = receipt (length answered.journal) (call.Cancel before.number job) reply ∷ [];
+      receipts = ap (λ (p : PassOf). p.receipts) answered.gained;
+      refused = 0;
+      gives_up = inr (inl (reply, [], finds, refl, (refl, refl)));
+      counts = refl;
+    }
+
+-- one whose cancel was refused
+pub refuses-one : (before after : PassOf) (job count counted : ℕ) (fault : DeskFault) → IsToldIfOpen before job (Err fault) after → counted ≡ one_more count
+    → GivesUpAt (job ∷ []) before count after counted
+refuses-one before after job count counted fault (of_call, same) more =
+    record {
+      number = ap (λ (p : PassOf). p.number) same;
+      gained = [];
+      receipts = ap (λ (p : PassOf). p.receipts) same ∙ sym (append-nil before.receipts);
+      refused = 1;
+      gives_up = inr (inr (0, refl, (refl, refl)));
+      counts = more;
+    }
+
+-- some jobs, and then more
+gives-more : (jobs more : List ℕ) (before mid after : PassOf) (count between counted : ℕ) → GivesUpAt jobs before count mid between → GivesUpAt more mid between after counted
+    → GivesUpAt (jobs ++ more) before count after counted
+gives-more jobs more before mid after count between counted first then =
+    record {
+      number = then.number ∙ first.number;
+      gained = first.gained ++ then.gained;
+      receipts = then.receipts ∙ ap (λ (l : List ReceiptOf). l ++ then.gained) first.receipts ∙ append_assoc before.receipts first.gained then.gained;
+      refused = first.refused + then.refused;
+      gives_up = subst (λ (t : List Exchange). GivesUp (SeesEnd before.number) (jobs ++ more) t (first.refused + then.refused)) (sym (told_in-append first.gained then.gained))
+          (gives-up-more (SeesEnd before.number) jobs more (told_in first.gained) (told_in then.gained) first.refused then.refused first.gives_up
+          (subst (λ (n : ℕ). GivesUp (SeesEnd n) more (told_in then.gained) then.refused) first.number then.gives_up));
+      counts = then.counts ∙ ap (λ (n : ℕ). count_more n then.refused) first.counts ∙ count_more-add count first.refused then.refused;
+    }
+
+-- ---- one receipt after the other
+
+-- the jobs of the receipts before this place are given up: whatever gives up the others, gives up all from the first on
+pub record GoesOver (start : PassOf) (first count place : ℕ) (now : PassOf) (counted : ℕ) : Type 0 where
+  pub gained : List ReceiptOf
+  pub receipts : now.receipts ≡ start.receipts ++ gained
+  pub more : (after : PassOf) (total : ℕ) → GivesUpAt (own_jobs (told_in (drop place start.receipts))) now counted after total
+      → GivesUpAt (own_jobs (told_in (drop first start.receipts))) start count after total
+
+-- at the first place
+pub goes-start : (start : PassOf) (first count : ℕ) → GoesOver start first count first start count
+goes-start start first count = record { gained = []; receipts = sym (append-nil start.receipts); more = λ after total gives. gives }
+
+-- one place further
+goes-step : (start : PassOf) (first count place : ℕ) (now after : PassOf) (counted total : ℕ) (r : ReceiptOf) → GoesOver start first count place now counted → Splits start.receipts place r
+    → GivesUpAt (own_jobs (told_of r.call r.reply)) now counted after total → GoesOver start first count (place + 1) after total
+goes-step start first count place now after counted total r over splits gives =
+    let next : suc place ≡ place + 1 = omega arith in
+    record {
+      gained = over.gained ++ gives.gained;
+      receipts = gives.receipts ∙ ap (λ (l : List ReceiptOf). l ++ gives.gained) over.receipts ∙ append_assoc start.receipts over.gained gives.gained;
+      more = λ later sum rest. over.more later sum (subst (λ (jobs : List ℕ). GivesUpAt jobs now counted later sum) (sym splits)
+          (gives-more (own_jobs (told_of r.call r.reply)) (own_jobs (told_in (drop (suc place) start.receipts))) now after later counted total sum gives
+          (subst (λ (n : ℕ). GivesUpAt (own_jobs (told_in (drop n start.receipts))) after total later sum) (sym next) rest)));
+    }
+
+pub goes-further : (start : PassOf) (first count place : ℕ) (now after : PassOf) (counted total : ℕ) → place < length start.receipts → GoesOver start first count place now counted
+    → MatchOption (slice_get now.receipts place) ⊥ (λ r. GivesUpAt (own_jobs (told_of r.call r.reply)) now counted after total) → GoesOver start first count (place + 1) after total
+goes-further start first count place now after counted total within over gives =
+    go (slice_get now.receipts place) (subst (λ (rs : List ReceiptOf). MatchOption (slice_get rs place) ⊥ (λ r. Splits start.receipts place r)) (sym over.receipts) (splits-at start.receipts over.gained place within)) gives
+  where
+    go : (found : Option ReceiptOf) → MatchOption found ⊥ (λ r. Splits start.receipts place r) → MatchOption found ⊥ (λ r. GivesUpAt (own_jobs (told_of r.call r.reply)) now counted after total)
+        → GoesOver start first count (place + 1) after total
+    go None none some = absurd none
+    go (Some r) splits some = goes-step start first count place now after counted total r over splits some
+
+-- at the end
+drop-whole : (rs : List ReceiptOf) (n : ℕ) → n ≡ length rs → drop n rs ≡ []
+drop-whole [] zero is = refl
+drop-whole [] (suc n) is = absurd (omega (arith, is))
+drop-whole (r ∷ rs) zero is = absurd (omega (arith, is))
+drop-whole (r ∷ rs) (suc n) is = drop-whole rs n (omega (arith, is))
+
+pub goes-end : (start : PassOf) (first count place : ℕ) (now : PassOf) (counted : ℕ) → place ≡ length start.receipts → GoesOver start first count place now counted
+    → GivesUpAt (own_jobs (told_in (drop first start.receipts))) start count now counted
+goes-end start first count place now counted end over =
+    over.more now counted (subst (λ (rs : List ReceiptOf). GivesUpAt (own_jobs (told_in rs)) now counted now counted) (sym (drop-whole start.receipts place end)) (gives-none now counted))
+
+-- ---- and what the port then tells
+
+pub Leaves-desk : (before after : PassOf) (n count counted : ℕ) → n ≤ length before.receipts → GivesUpAt (own_jobs (told_in (drop n before.receipts))) before count after counted
+    → Leaves (SeesEnd after.number) (port_of (told_in (drop n before.receipts)) count) (port_of (told_in (drop n after.receipts)) counted)
+Leaves-desk before after n count counted within gives = (
+  told_in gives.gained,
+  gives.refused,
+  subst (λ (k : ℕ). GivesUp (SeesEnd k) (own_jobs (told_in (drop n before.receipts))) (told_in gives.gained) gives.refused) (sym gives.number) gives.gives_up,
+  ap (λ (l : List Exchange). port_of l counted)
+      (ap (λ (rs : List ReceiptOf). told_in (drop n rs)) gives.receipts
+      ∙ ap told_in (drop-append-le n before.receipts gives.gained within)
+      ∙ told_in-append (drop n before.receipts) gives.gained)
+      ∙ ap (λ (k : ℕ). port_of (told_in (drop n before.receipts) ++ told_in gives.gained) k) gives.counts,
+)

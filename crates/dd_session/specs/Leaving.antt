@@ -1,0 +1,43 @@
+-- To be believed: what a session that ends leaves behind: no job of its own that is still worked on.
+use Rattle.std.specs.Prelude.{◌≡◌, ◌⊎◌, ℕ, suc, List, [], ◌∷◌, ◌++◌, Option, None, Some}
+use Rattle.dd_book.specs.declared.call.Reply.{Reply}
+use Rattle.dd_desk.specs.Looks.{FindsNoEnd}
+use Rattle.dd_wire.specs.declared.want.Want.{Want}
+use Rattle.dd_wire.specs.declared.want.Want.TheVariants.{Submit, Cancel, Fetch, Stop}
+use Rattle.dd_session.specs.Ports.{Exchange, PortOf, Gains}
+use Rattle.dd_session.specs.Serving.{new_job}
+
+-- a job that may be there, as a list
+abbrev pub listed : Option ℕ → List ℕ
+listed None = []
+listed (Some job) = job ∷ []
+
+-- the job that a call made, if it made one
+abbrev pub made_by : Want → Reply → List ℕ
+made_by (Submit asked) reply = listed (new_job reply)
+made_by (Cancel job) reply = []
+made_by (Fetch job) reply = []
+made_by Stop reply = []
+
+-- the jobs that these calls made, in order
+abbrev pub own_jobs : List Exchange → List ℕ
+own_jobs [] = []
+own_jobs (told ∷ rest) = made_by told.0 told.1 ++ own_jobs rest
+
+-- These jobs are given up, in order: each has ended, and no call is made; or it is cancelled, which is told; or its cancel is
+-- refused, which is counted. No other call is made.
+abbrev pub GivesUp : (ℕ → Type 0) → List ℕ → List Exchange → ℕ → Type 0
+GivesUp ended [] news refused = (news ≡ []) × (refused ≡ 0)
+GivesUp ended (job ∷ jobs) news refused =
+    (ended job × GivesUp ended jobs news refused)
+    ⊎ ((reply : Reply) × (later : List Exchange) × FindsNoEnd job reply × (news ≡ (Cancel job, reply) ∷ later) × GivesUp ended jobs later refused)
+    ⊎ ((others : ℕ) × (refused ≡ suc others) × GivesUp ended jobs news others)
+
+-- a session leaves: the jobs that its port made are given up, and nothing else is asked
+abbrev pub Leaves : (ℕ → Type 0) → PortOf → PortOf → Type 0
+Leaves ended before after =
+    (news : List Exchange) × (refused : ℕ) × GivesUp ended (own_jobs before.told) news refused × Gains before news refused after
+
+-- the port comes to a state of which this holds, and then the session leaves
+abbrev pub ThenLeaves : (PortOf → Type 0) → (ℕ → Type 0) → PortOf → Type 0
+ThenLeaves serves ended after = (between : PortOf) × serves between × Leaves ended between after

@@ -1,0 +1,105 @@
+//! Budgets of a worker: one just suffices, and one fewer does not.
+ghost use Rattle.std.specs.Prelude.{◌≡◌, map};
+ghost use Rattle.once_cell.specs.Once.{cell_name};
+
+use crate::work::worked::{ask, enrol};
+use dd_book::Limits;
+use dd_desk::{Desk, Naming, Row};
+use dd_search::{Budget, NoTable};
+use dd_solve::{Asked, PARTS, Request, TableRequest, solve, solve_part};
+use dd_wire::{LineAsked, read_request};
+use dd_work::{NoGate, worker};
+use std::alloc::{AllocError, Global};
+use std::marker::Brand;
+use std::process::Abort;
+use std::sync::Wait;
+use std::sync::atomic::AtomicBool;
+
+// Nine cards a hand: 42,638 positions were visited.
+const LEADS: &str =
+    r#"{"do":"solve","deal":"N:T74.JT.8.AKQ AK2.7.T74.T9 QJ63..653.83 98.Q96.AK.J7","trump":0,"first":1,"solutions":3}"#;
+
+// The table of eight cards a hand.
+const TABLE: &str = r#"{"do":"table","deal":"N:8.73.Q.AT97 954.A.974.8 AK.62.3.J32 T7.94.T85.Q"}"#;
+
+// The most positions that one search is given here.
+const MOST: u64 = 5_000_000;
+
+// How many positions the search for all leads visits, over no table.
+fn positions_of_leads(request: Request) -> Option<u64> {
+    let mut budget = Budget::new(MOST);
+    solve(request, &mut NoTable, &mut budget).ok()?;
+    Some(budget.ticks())
+}
+
+// How many the longest search for one of the twenty results visits.
+fn positions_of_table(request: &TableRequest) -> Option<u64> {
+    let mut most = 0u64;
+    for part in 0..PARTS {
+        let mut budget = Budget::new(MOST);
+        solve_part(request, part, &mut NoTable, &mut budget).ok()?;
+        most = most.max(budget.ticks());
+    }
+    Some(most)
+}
+
+// The least budget within which a worker answers the line, where that is over `least`.
+fn least_budget(alloc: Global, line: &str, least: u64) -> Option<u64> {
+    let count = match read_request(alloc, line.as_bytes()).ok()? {
+        LineAsked::Cards(Asked::Solve(request)) => positions_of_leads(request)?,
+        LineAsked::Cards(Asked::Table(request)) => positions_of_table(&request)?,
+        _ => return None,
+    };
+    Some(count).filter(|count| *count > least)
+}
+
+// The state of the line's job once a worker with this budget has left.
+fn state_at_a_row<J: Naming, R: Wait + Abort>(
+    rt: &R,
+    alloc: Global,
+    row: Row,
+    line: &str,
+    budget: u64,
+) -> Result<String, AllocError>
+    requires cells { (map cell_name row.cells.items ≡ J.cells) × (J.all ≡ J.parts) }
+    requires limits { row.limits ≡ J.limits }
+    requires count { (row.count.name ≡ J.counts) × (row.count.parts ≡ J.parts) }
+    requires sum { (row.sum.name ≡ J.places) × (row.sum.parts ≡ J.parts) }
+{
+    let desk = Desk::<J>::new(row);
+    let mut caller = enrol(rt, &desk);
+    let hand = enrol(rt, &desk);
+    let submits = format!(in alloc; "submits {line}")?;
+    let _ = ask(rt, alloc, &desk, &mut caller, submits.as_str())?;
+    let _ = ask(rt, alloc, &desk, &mut caller, "shuts")?;
+    let stop = AtomicBool::new(false);
+    let _ = worker(rt, &desk, &mut NoTable, hand, &NoGate, Some(budget), &stop);
+    ask(rt, alloc, &desk, &mut caller, "fetches 1")
+}
+
+// The same at a desk of its own: is the job spent?
+fn is_spent<R: Wait + Abort>(
+    rt: &R,
+    alloc: Global,
+    line: &str,
+    budget: u64,
+) -> Result<bool, AllocError> {
+    let limits = Limits::new(64, 1_000, 8, 1_000).expect(rt, "limits in their ranges");
+    let row = Row::new(alloc, limits)?;
+    let state = state_at_a_row::<Brand, R>(rt, alloc, row, line, budget)?;
+    Ok(state.as_str() == "spent")
+}
+
+#[test]
+fn a_large_budget_and_one_of_a_table_suffice_or_lack_one_position(
+    rt: HostRuntime,
+) -> Result<(), AllocError> {
+    let alloc = rt.alloc();
+    for (line, least) in [(LEADS, 30_000), (TABLE, 1_000)] {
+        let count = least_budget(alloc, line, least).expect(&rt, "so many positions");
+        let suffices = !is_spent(&rt, alloc, line, count)?;
+        let lacks_one = is_spent(&rt, alloc, line, count.saturating_sub(1))?;
+        assert!(rt; suffices && lacks_one, "{line}");
+    }
+    Ok(())
+}
