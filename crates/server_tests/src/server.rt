@@ -1,8 +1,9 @@
-//! Runs of the server, with a client of the same process.
+//! The server, with a client of the same process.
 pub mod client;
 mod clients;
 mod gate;
 mod pieces;
 mod rows;
+mod runs;
 mod serving;
 mod waits;
