@@ -112,15 +112,21 @@ class Server:
     def runs(self):
         return self.process.poll() is None
 
-    def end(self, timeout=60):
-        """What the program told as its number of events, its status, and what it said on the standard error."""
+    def end_of_runs(self, timeout=60):
+        """What the program told as the numbers of events of its runs, its status, and what it said on the standard error."""
         try:
             told, said = self.process.communicate(timeout=timeout)
         except subprocess.TimeoutExpired:
             self.process.kill()
             sys.exit(f"cases/server: the program did not end within {timeout} seconds")
-        found = re.fullmatch(r"closed after (\d+) events\n", told)
-        return int(found.group(1)) if found else told, self.process.returncode, said
+        if not re.fullmatch(r"(closed after \d+ events\n)*", told):
+            sys.exit(f"cases/server: at the end the program told {told!r}")
+        return [int(number) for number in re.findall(r"\d+", told)], self.process.returncode, said
+
+    def end(self, timeout=60):
+        """The same of one run: its number of events."""
+        runs, status, said = self.end_of_runs(timeout)
+        return runs[0] if len(runs) == 1 else runs, status, said
 
     def end_after(self, events, timeout=60):
         """Checks that the program ends well, with these events besides each worker's last claim."""

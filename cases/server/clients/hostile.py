@@ -351,7 +351,7 @@ def cancelled_searches():
         check("a stop", client.ask(STOP), CLOSING)
     # Each job was claimed and finished.
     server.end_after(events + 2 * len(requests) + 1)
-    check(f"a cancelled search runs on: {given_up:.2f} s, and {searched:.2f} s for as many that were wanted", given_up < searched / 2, True)
+    check(f"a cancelled search runs on: {given_up:.2f} s, and {searched:.2f} s for as many that were wanted", given_up < searched / 10, True)
     print(f"cancelled searches: {len(requests[::2])} are begun and cancelled in {given_up:.2f} s; as many are searched in {searched:.2f} s")
 
 

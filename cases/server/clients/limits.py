@@ -1,4 +1,4 @@
-"""What one run has: 65,536 connections, workers and the program's own pass among them, and 1,048,576 events."""
+"""What one run has: 65,536 connections, workers and the run's own pass among them, and 1,048,576 events."""
 import sys
 import threading
 import time
@@ -7,17 +7,16 @@ from client import STOP, ONE_CARD, Server, check, fetch, more_descriptors
 PASSES = 65_536
 EVENTS = 1_048_576
 WORKERS = 2
-NO_PASS = '{"fault":14}'
-FULL = "ddserve: as many connections were served as there may be; each more is refused\n"
 
 
 def passes():
-    """Each connection more than there are passes is refused; one that has a pass goes on, and may stop the program."""
+    """Past fifteen sixteenths of the passes the next connection begins the next run; one that is there goes on, and may stop the
+    program."""
     server = Server("--allow-stop", workers=WORKERS)
     first = server.connect()
     check("the first", first.ask(fetch(0)), '{"fault":16}')
     since = time.monotonic()
-    left = PASSES - 1 - WORKERS - 1
+    left = PASSES
     share = [left // 8 + (place < left % 8) for place in range(8)]
     odd = []
 
@@ -35,35 +34,34 @@ def passes():
         thread.join()
     check("those who come and go", odd, [])
     taken = time.monotonic() - since
-    for _ in range(3):
-        with server.connect() as client:
-            check("one more", client.lines(), [NO_PASS])
+    check("a submit of the first", first.ask(ONE_CARD), '{"fault":15}')
     check("the first", first.ask(fetch(0)), '{"fault":16}')
     check("a stop by the first", first.ask(STOP), '{"closing":true}')
     since = time.monotonic()
-    events, status, said = server.end()
-    check("the end", (events, status, said), (1 + left + 1 + 1 + WORKERS, 0, FULL))
-    print(f"passes: {left + 1} connections in {taken:.0f} s, each more is refused, and the one that was there first stops the program, which ends within {time.monotonic() - since:.2f} s")
+    runs, status, said = server.end_of_runs()
+    # The run that was stopped has the stop, the other one a shut of its own.
+    check("the end", (len(runs), sum(runs), status, said), (2, 2 + left + 2 + 2 * WORKERS, 0, ""))
+    print(f"passes: {left + 1} connections in {taken:.0f} s by two runs, and the one that was there first stops the program, which ends within {time.monotonic() - since:.2f} s")
 
 
 def events():
-    """A full journal: each line of the book's is refused, the workers leave, and a stop ends the program."""
+    """A full journal: each line of the book's is refused, the workers leave; the next connection begins the next run."""
     server = Server("--allow-stop", workers=WORKERS)
     with server.connect() as client:
         check("a submit", client.ask(ONE_CARD), '{"job":1}')
         client.until_done(1)
     since = time.monotonic()
     full = [0] * 8
+    clients = [server.connect() for _ in range(8)]
 
     def fill(place):
-        client = server.connect()
+        client = clients[place]
         while not full[place]:
             client.send(*[fetch(0)] * 1_000)
             replies = [client.line() for _ in range(1_000)]
             full[place] = replies.count('{"fault":15}')
             # What is full stays full.
             check("the replies", replies, ['{"fault":16}'] * (1_000 - full[place]) + ['{"fault":15}'] * full[place])
-        client.close()
 
     threads = [threading.Thread(target=fill, args=[place]) for place in range(8)]
     for thread in threads:
@@ -72,14 +70,18 @@ def events():
         thread.join()
     taken = time.monotonic() - since
     resident = server.resident()
-    client = server.connect()
+    client = clients[0]
     for line in (ONE_CARD, fetch(0), '{"do":"cancel","job":1}'):
         check(line, client.ask(line), '{"fault":15}')
     check("a bad line", client.ask("{}"), '{"fault":3}')
+    with server.connect() as other:
+        check("the next run", other.ask(ONE_CARD), '{"job":1}')
+        other.until_done(1)
     check("a stop", client.ask(STOP), '{"fault":15}')
     since = time.monotonic()
-    check("the end", server.end(), (EVENTS, 0, ""))
-    print(f"events: a journal of {EVENTS} is full after {taken:.0f} s, with {resident:.0f} MB; each call is refused, and a stop ends the program within {time.monotonic() - since:.2f} s")
+    runs, status, said = server.end_of_runs()
+    check("the end", (len(runs), max(runs), status, said), (2, EVENTS, 0, ""))
+    print(f"events: a journal of {EVENTS} is full after {taken:.0f} s, with {resident:.0f} MB; each call is refused, another run takes new clients, and a stop ends the program within {time.monotonic() - since:.2f} s")
 
 
 more_descriptors()

@@ -1,61 +1,118 @@
--- How the serving of clients ends.
-use Rattle.std.proofs.Common.{◌≡◌, ◌⊎◌, ℕ, refl, sym, subst, inl, inr, Bool, List, length, Option, String, Global}
+-- What is told of runs, and how the serving of clients ends.
+use Rattle.std.proofs.Common.{◌≡◌, ◌∙◌, ◌<◌, ℕ, refl, sym, ap, subst, inl, inr, Bool, true, false, List, [], ◌∷◌, ◌++◌, append_assoc, length, Option, String, Global}
+use Rattle.std.specs.Prelude.{IsOk, Result, Ok, Err}
+use Rattle.std.proofs.KnownBytes.{Appends-nil, Appends-trans}
+use Rattle.dd_lines.specs.CountedDevices.{FailedOnce}
 use Rattle.dd_program.specs.declared.command_line.Args.{Args}
 use Rattle.dd_program.specs.declared.command_line.Args.TheVariants.{Serve}
-use Rattle.dd_book.specs.Limits.{LimitsOf}
-use Rattle.dd_desk.specs.Events.{EventOf, IsLegal}
-use Rattle.dd_desk.specs.Receipts.{PassOf}
-use Rattle.dd_server.specs.Histories.{IsHistory}
-use Rattle.dd_server.specs.Journals.{IsLengthOfJournal}
+use Rattle.dd_server.specs.declared.args.ServeFault.{ServeFault}
+use Rattle.dd_server.specs.declared.args.ServeFault.TheVariants.{Listen, OutOfMemory as NoMemoryLeft}
+use Rattle.dd_server.specs.Runs.{AreTold}
 use Rattle.dd_program.specs.declared.ending.Ending.{Ending}
-use Rattle.dd_program.specs.declared.ending.Ending.TheVariants.{Answered, Shown, Closed, BadLine, ReadFailed, WriteFailed, ListenFailed, OutOfMemory}
-use Rattle.dd_program.specs.Endings.{AnswersUntil, Device, ServesUntil, Streams, TellsEnd, Writes, WritesAll, WritesBeginning, greatest_limits, line_of, listening_text, streams}
+use Rattle.dd_program.specs.declared.ending.Ending.TheVariants.{WriteFailed}
+use Rattle.dd_program.specs.Endings.{AnswersUntil, AreRuns, Device, EndsSo, ServesUntil, Streams, TellingOf, TellsNext, TellsRun, TellsText, Writes, WritesAll, WritesBeginning, closed_text, closed_texts, line_of, listening_text, streams}
 
--- the length of a history is that of a journal of its limits
-pub length-of : {limits greatest : LimitsOf} {journal : List EventOf} {passes : List PassOf} → limits ≡ greatest → IsHistory limits journal passes → IsLengthOfJournal greatest (length journal)
-length-of {journal = journal} same h = record { journal = journal; legal = subst (λ l. IsLegal l journal) same h.legal; answers = h.answers; count = refl }
+-- ---- texts, one after another
 
--- after the service the number of events is told
-pub told-end : (address : List ℕ) (events : ℕ) (input before output output2 errors errors2 : Device) (ending : Ending) → WritesAll (listening_text address) before output
-    → IsLengthOfJournal greatest_limits events → TellsEnd events output output2 errors errors2 ending → ServesUntil (streams input before errors) (streams input output2 errors2) ending
-told-end address events input before output output2 errors errors2 Closed listens journal tells = record {
-  input = refl;
-  address = address;
-  between = output;
-  listens = listens;
-  events = events;
-  journal = journal;
-  closes = tells.0;
-  errors = tells.1;
-}
-told-end address events input before output output2 errors errors2 WriteFailed listens journal tells =
-    record { input = refl; output = inr (address, output, listens, events, tells.0); said = tells.1 }
-told-end address events input before output output2 errors errors2 Answered listens journal tells = absurd tells
-told-end address events input before output output2 errors errors2 Shown listens journal tells = absurd tells
-told-end address events input before output output2 errors errors2 BadLine listens journal tells = absurd tells
-told-end address events input before output output2 errors errors2 ReadFailed listens journal tells = absurd tells
-told-end address events input before output output2 errors errors2 ListenFailed listens journal tells = absurd tells
-told-end address events input before output output2 errors errors2 OutOfMemory listens journal tells = absurd tells
+-- a text told whole, and then another
+whole-more : (a b : List ℕ) (old mid new : Device) → WritesAll a old mid → WritesAll b mid new → WritesAll (a ++ b) old new
+whole-more a b old mid new one other = (Appends-trans old.bytes mid.bytes new.bytes a b one.0 other.0, other.1 ∙ one.1)
+
+-- a text told whole, and then a beginning of another
+begun-after : (a b : List ℕ) (old mid new : Device) → WritesAll a old mid → WritesBeginning b mid new → WritesBeginning (a ++ b) old new
+begun-after a b old mid new one other = (
+  record {
+    written = a ++ other.0.written;
+    unwritten = other.0.unwritten;
+    split = ap (λ l. a ++ l) other.0.split ∙ sym (append_assoc a other.0.written other.0.unwritten);
+    appended = Appends-trans old.bytes mid.bytes new.bytes a other.0.written one.0 other.0.appended;
+  },
+  subst (λ f. FailedOnce f new.failures) one.1 other.1,
+)
+
+-- a beginning of the first of two texts
+begun-more : (a b : List ℕ) (old new : Device) → WritesBeginning a old new → WritesBeginning (a ++ b) old new
+begun-more a b old new begun = (
+  record {
+    written = begun.0.written;
+    unwritten = begun.0.unwritten ++ b;
+    split = ap (λ l. l ++ b) begun.0.split ∙ append_assoc begun.0.written begun.0.unwritten b;
+    appended = begun.0.appended;
+  },
+  begun.1,
+)
+
+-- a text told whole, and then another as far as the device took it
+text-more : (a b : List ℕ) (failed : Bool) (old mid new : Device) → WritesAll a old mid → TellsText b failed mid new → TellsText (a ++ b) failed old new
+text-more a b false old mid new one other = whole-more a b old mid new one other
+text-more a b true old mid new one other = begun-after a b old mid new one other
+
+-- ---- runs
+
+-- the reference stays
+pub told-reference : (runs : List ℕ) (before after : TellingOf) → AreTold TellsRun before runs after → after.reference ≡ before.reference
+told-reference [] before after is = ap (λ (t : TellingOf). t.reference) is
+told-reference (run ∷ runs) before after (between, step, told) = told-reference runs between after told ∙ step.0
+
+-- after a failed write nothing is told
+told-nothing : (runs : List ℕ) (before after : TellingOf) → before.has_failed ≡ true → AreTold TellsRun before runs after → after ≡ before
+told-nothing [] before after failed is = is
+told-nothing (run ∷ runs) before after failed (between, step, told) =
+    let same : between ≡ before = subst (λ b. TellsNext b run before between) failed step.1 in
+    told-nothing runs between after (ap (λ (t : TellingOf). t.has_failed) same ∙ failed) told ∙ same
+
+-- the lines of runs were told, up to where a write failed
+pub told-runs : (runs : List ℕ) (before after : TellingOf) → before.has_failed ≡ false → AreTold TellsRun before runs after
+    → TellsText (closed_texts runs) after.has_failed before.output after.output
+told-runs [] before after fresh is =
+    subst (λ (t : TellingOf). TellsText [] t.has_failed before.output t.output) (sym is)
+    (subst (λ b. TellsText [] b before.output before.output) (sym fresh) (Appends-nil before.output.bytes, refl))
+told-runs (run ∷ runs) before after fresh (between, step, told) =
+    go between.has_failed refl (subst (λ b. TellsNext b run before between) fresh step.1) (λ is. told-runs runs between after is told)
+  where
+    go : (b : Bool) → between.has_failed ≡ b → TellsText (closed_text run) between.has_failed before.output between.output
+        → (between.has_failed ≡ false → TellsText (closed_texts runs) after.has_failed between.output after.output)
+        → TellsText (closed_text run ++ closed_texts runs) after.has_failed before.output after.output
+    go true is here later =
+        let begun : WritesBeginning (closed_text run) before.output between.output = subst (λ f. TellsText (closed_text run) f before.output between.output) is here in
+        let both = begun-more (closed_text run) (closed_texts runs) before.output between.output begun in
+        subst (λ (t : TellingOf). TellsText (closed_text run ++ closed_texts runs) t.has_failed before.output t.output) (sym (told-nothing runs between after is told))
+        (subst (λ f. TellsText (closed_text run ++ closed_texts runs) f before.output between.output) (sym is) both)
+    go false is here later =
+        let whole : WritesAll (closed_text run) before.output between.output = subst (λ f. TellsText (closed_text run) f before.output between.output) is here in
+        text-more (closed_text run) (closed_texts runs) after.has_failed before.output between.output after.output whole (later is)
+
+-- ---- the end
+
+as-writes : (text : List ℕ) (failed : Bool) (old new : Device) → TellsText text failed old new → Writes text old new
+as-writes text false old new told = inl told
+as-writes text true old new told = inr told
+
+-- so the serving ends, after the address was told
+pub ends-so : (events : ℕ) (address runs : List ℕ) (input before output output2 errors errors2 : Device) (result : Result (Unit {0}) ServeFault) (failed : Bool) (ending : Ending)
+    → WritesAll (listening_text address) before output → AreRuns events runs → (IsOk result → 0 < length runs) → TellsText (closed_texts runs) failed output output2
+    → EndsSo result failed errors errors2 ending → ServesUntil events (streams input before errors) (streams input output2 errors2) ending
+ends-so events address runs input before output output2 errors errors2 (Ok done) false ending listens are_runs some told (is, same) =
+    subst (ServesUntil events (streams input before errors) (streams input output2 errors2)) (sym is)
+    (record { input = refl; address = address; between = output; listens = listens; runs = runs; are_runs = are_runs; some = some refl; closes = told; errors = same })
+ends-so events address runs input before output output2 errors errors2 (Ok done) true ending listens are_runs some told (is, said) =
+    subst (ServesUntil events (streams input before errors) (streams input output2 errors2)) (sym is)
+    (record { input = refl; output = inr (address, output, listens, runs, are_runs, told); said = said })
+ends-so events address runs input before output output2 errors errors2 (Err Listen) failed ending listens are_runs some told (is, said) =
+    subst (ServesUntil events (streams input before errors) (streams input output2 errors2)) (sym is)
+    (record { input = refl; output = inr (address, output, listens, runs, are_runs, as-writes (closed_texts runs) failed output output2 told); said = said })
+ends-so events address runs input before output output2 errors errors2 (Err NoMemoryLeft) failed ending listens are_runs some told (is, said) =
+    subst (ServesUntil events (streams input before errors) (streams input output2 errors2)) (sym is)
+    (record { input = refl; output = inr (address, output, listens, runs, are_runs, as-writes (closed_texts runs) failed output output2 told); said = said })
 
 -- the address could not be told whole
-pub untold-start : (address line : List ℕ) (input before output errors errors2 : Device) (ending : Ending) → line ≡ listening_text address → ending ≡ WriteFailed
-    → WritesBeginning line before output → Writes (line_of WriteFailed) errors errors2 → ServesUntil (streams input before errors) (streams input output errors2) ending
-untold-start address line input before output errors errors2 ending line-is ending-is begins said =
-    subst (ServesUntil (streams input before errors) (streams input output errors2)) (sym ending-is)
+pub untold-start : (events : ℕ) (address line : List ℕ) (input before output errors errors2 : Device) (ending : Ending) → line ≡ listening_text address → ending ≡ WriteFailed
+    → WritesBeginning line before output → Writes (line_of WriteFailed) errors errors2 → ServesUntil events (streams input before errors) (streams input output errors2) ending
+untold-start events address line input before output errors errors2 ending line-is ending-is begins said =
+    subst (ServesUntil events (streams input before errors) (streams input output errors2)) (sym ending-is)
     (record { input = refl; output = inl (address, subst (λ l. WritesBeginning l before output) line-is begins); said = said })
 
--- the service ended badly, after the address was told
-pub listen-failed : (address : List ℕ) (input before output errors errors2 : Device) (ending : Ending) → ending ≡ ListenFailed → WritesAll (listening_text address) before output
-    → Writes (line_of ListenFailed) errors errors2 → ServesUntil (streams input before errors) (streams input output errors2) ending
-listen-failed address input before output errors errors2 ending is listens said =
-    subst (ServesUntil (streams input before errors) (streams input output errors2)) (sym is) (record { input = refl; output = inr (address, listens); said = said })
-
-pub memory-failed : (address : List ℕ) (input before output errors errors2 : Device) (ending : Ending) → ending ≡ OutOfMemory → WritesAll (listening_text address) before output
-    → Writes (line_of OutOfMemory) errors errors2 → ServesUntil (streams input before errors) (streams input output errors2) ending
-memory-failed address input before output errors errors2 ending is listens said =
-    subst (ServesUntil (streams input before errors) (streams input output errors2)) (sym is) (record { input = refl; output = inr (address, listens); said = said })
-
 -- so what arguments of `serve` ask for is done
-pub as-serve : (args : Args) (listen : String Global) (workers shards entries : ℕ) (budget : Option ℕ) (websocket allow_stop : Bool) (old new : Streams) (ending : Ending)
-    → args ≡ Serve listen workers shards entries budget websocket allow_stop → ServesUntil old new ending → AnswersUntil args old new ending
-as-serve args listen workers shards entries budget websocket allow_stop old new ending is serves = subst (λ a. AnswersUntil a old new ending) (sym is) serves
+pub as-serve : (args : Args) (listen : String Global) (workers shards entries : ℕ) (budget : Option ℕ) (events : ℕ) (websocket allow_stop : Bool) (old new : Streams) (ending : Ending)
+    → args ≡ Serve listen workers shards entries budget events websocket allow_stop → ServesUntil events old new ending → AnswersUntil args old new ending
+as-serve args listen workers shards entries budget events websocket allow_stop old new ending is serves = subst (λ a. AnswersUntil a old new ending) (sym is) serves

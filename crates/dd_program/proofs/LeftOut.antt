@@ -1,7 +1,7 @@
 -- An option that no word names gets no row.
 use Rattle.std.proofs.Common.{◌≡◌, ◌∙◌, ◌⊎◌, ℕ, zero, suc, Bool, cond, true, false, ◌||◌, refl, sym, subst, inl, inr, true≢false, List, [], ◌∷◌, ◌++◌, Option, Some, None}
 use Rattle.std.specs.Prelude.{⊤, ◌+◌, min, IfSome, unwrap_or, fold, slice_get, drop, length, encode_utf8, nat_lt}
-use Rattle.std.specs.List.{find, list_any}
+use Rattle.std.specs.List.{find}
 use Rattle.std.specs.Str.{bytes_eq, chars}
 use Rattle.std.proofs.lemmas.List.Folds.{list_any-append}
 use Rattle.std.proofs.lemmas.Slice.Eq.{bytes_eq-Decides}

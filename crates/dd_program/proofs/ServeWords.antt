@@ -1,21 +1,21 @@
 -- What a line of `serve` asks for.
-use Rattle.std.proofs.Common.{◌≡◌, ◌∙◌, ◌≤◌, ◌<◌, ◌^◌, ◌&&◌, ◌||◌, true≢false, ℕ, zero, suc, Bool, cond, codes, true, false, refl, sym, ap, subst, arith, List, [], ◌∷◌, Option, Some, None, Result, Ok, Err, nat_le}
+use Rattle.std.proofs.Common.{◌≡◌, ◌∙◌, ◌≤◌, ◌&&◌, ◌||◌, true≢false, ℕ, zero, suc, Bool, cond, codes, true, false, refl, sym, ap, List, [], ◌∷◌, Option, Some, None, Result, Ok, Err, nat_le}
 use Rattle.std.specs.Prelude.{IfOk, IfSome, option_and_then, option_map, unwrap_or}
 use Rattle.std.specs.List.{find, list_any}
 use Rattle.std.specs.Option.{option_map_or}
 use Rattle.std.specs.Str.{bytes_eq}
-use Rattle.std.specs.Str.Parse.{ParsesUnsigned, digits_value, without_leading_plus}
+use Rattle.std.specs.Str.Parse.{ParsesUnsigned}
 use Rattle.std.specs.Borrow.{Bor}
 use Rattle.std.proofs.lemmas.Bool.{leb-true}
 use Rattle.clap.specs.Matches.{ReadsOne}
-use Rattle.clap.specs.Walk.{Row, Rule, Text, first_of, has_row, one_of, row_text, rule_of}
+use Rattle.clap.specs.Walk.{Row, Rule, Text, has_row, one_of, row_text, rule_of}
 use Rattle.clap.specs.Words.{AddsArg, App, app_of, with_rule}
 use Rattle.clap.specs.declared.builder.arg.Arg.{Arg}
 use Rattle.clap.specs.declared.builder.command.Command.{Command}
 use Rattle.clap.specs.declared.builder.command.Command.TheViews.{out-Command}
 use Rattle.std.specs.declared.alloc.AllocError.{AllocError}
-use Rattle.dd_program.specs.Program.{FitsBits, IsOption, IsSubcommand}
-use Rattle.dd_program.specs.ServeWords.{IsGiven, IsGivenBy, HasNumber, budget_in, is_set, number_in}
+use Rattle.dd_program.specs.Program.{IsOption, IsSubcommand}
+use Rattle.dd_program.specs.ServeWords.{IsGivenBy, HasNumber, budget_in, number_in}
 use Rattle.dd_program.proofs.Numbers.{value_of}
 
 -- a test that no element passes finds none
@@ -93,9 +93,9 @@ given-one bits text None (Some n) one other = absurd (one other.0 other.1 other.
 given-one bits text None None one other = refl
 
 -- rows have one number of an option
-pub number-one : (option : Text) (rows : List Row) (most default a b : ℕ) → HasNumber option rows most default a → HasNumber option rows most default b → a ≡ b
-number-one option rows most default a b one other =
-    one.2 ∙ ap (number_in most default) (given-one 32 (one_of option rows) one.0 other.0 one.1 other.1) ∙ sym other.2
+pub number-one : (option : Text) (rows : List Row) (least most default a b : ℕ) → HasNumber option rows least most default a → HasNumber option rows least most default b → a ≡ b
+number-one option rows least most default a b one other =
+    one.2 ∙ ap (number_in least most default) (given-one 32 (one_of option rows) one.0 other.0 one.1 other.1) ∙ sym other.2
 
 -- ---- ranges
 
@@ -105,14 +105,15 @@ both-pass true b e = (refl, e)
 both-pass false b e = absurd (true≢false (sym e))
 
 -- a number lies in its range where its default does
-pub number-fits : (most default : ℕ) (given : Option ℕ) → 1 ≤ default → default ≤ most → (1 ≤ number_in most default given) × (number_in most default given ≤ most)
-number-fits most default None low high = (low, high)
-number-fits most default (Some number) low high = go (nat_le 1 number && nat_le number most) refl
+pub number-fits : (least most default : ℕ) (given : Option ℕ) → least ≤ default → default ≤ most
+    → (least ≤ number_in least most default given) × (number_in least most default given ≤ most)
+number-fits least most default None low high = (low, high)
+number-fits least most default (Some number) low high = go (nat_le least number && nat_le number most) refl
   where
-    go : (b : Bool) → (nat_le 1 number && nat_le number most) ≡ b → (1 ≤ cond b number default) × (cond b number default ≤ most)
+    go : (b : Bool) → (nat_le least number && nat_le number most) ≡ b → (least ≤ cond b number default) × (cond b number default ≤ most)
     go true is =
-        let parts = both-pass (nat_le 1 number) (nat_le number most) is in
-        (leb-true 1 number parts.0, leb-true number most parts.1)
+        let parts = both-pass (nat_le least number) (nat_le number most) is in
+        (leb-true least number parts.0, leb-true number most parts.1)
     go false is = (low, high)
 
 -- and so does a budget
@@ -133,8 +134,8 @@ none-given bits text None none is = refl
 none-given bits text (Some n) none is = let bad : None ≡ Some is.0 = sym none ∙ is.1 in cc
 
 -- so its number is the default
-pub number-default : (option : Text) (rows : List Row) (most default number : ℕ) → one_of option rows ≡ None → HasNumber option rows most default number → number ≡ default
-number-default option rows most default number none is = is.2 ∙ ap (number_in most default) (none-given 32 (one_of option rows) is.0 none is.1)
+pub number-default : (option : Text) (rows : List Row) (least most default number : ℕ) → one_of option rows ≡ None → HasNumber option rows least most default number → number ≡ default
+number-default option rows least most default number none is = is.2 ∙ ap (number_in least most default) (none-given 32 (one_of option rows) is.0 none is.1)
 
 -- no row of an option has no text of it
 pub no-row : (option : Text) (rows : List Row) → has_row option rows ≡ false → one_of option rows ≡ None

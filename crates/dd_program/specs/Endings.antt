@@ -1,5 +1,5 @@
 -- To be believed: how the program ends, and what it leaves of its streams.
-use Rattle.std.specs.Prelude.{◌≡◌, ◌⊎◌, ℕ, List, [], Option, Result, Ok, Err, Vec, String, codes, map, string_bytes, decimal, ◌++◌}
+use Rattle.std.specs.Prelude.{◌≡◌, ◌<◌, ◌⊎◌, ℕ, List, [], ◌∷◌, All, Bool, true, false, length, Option, Result, Ok, Err, Vec, String, codes, map, string_bytes, decimal, ◌++◌}
 use Rattle.std.specs.Io.KnownBytes.{Appends}
 use Rattle.clap.specs.Kinds.{IsAmong}
 use Rattle.clap.specs.Faults.{fault_of}
@@ -17,9 +17,11 @@ use Rattle.dd_program.specs.declared.ending.Ending.{Ending}
 use Rattle.dd_program.specs.declared.ending.Ending.TheVariants.{Answered, Shown, Closed, BadLine, ReadFailed, WriteFailed, ListenFailed, OutOfMemory}
 use Rattle.dd_program.specs.CommandLine.{Text, Asks}
 use Rattle.dd_program.specs.Program.{program_app}
-use Rattle.dd_server.specs.Journals.{IsLengthOfJournal}
+use Rattle.dd_server.specs.Histories.{IsLengthOfHistory}
+use Rattle.dd_server.specs.declared.args.ServeFault.{ServeFault}
+use Rattle.dd_server.specs.declared.args.ServeFault.TheVariants.{Listen, OutOfMemory as NoMemoryLeft}
 use Rattle.dd_book.specs.Limits.{LimitsOf, limits_of}
-use Rattle.dd_book.specs.declared.limits.TheConstants.{MOST_OPEN_JOBS, MOST_JOBS, MOST_PASSES, MOST_EVENTS}
+use Rattle.dd_book.specs.declared.limits.TheConstants.{MOST_OPEN_JOBS, MOST_JOBS, MOST_PASSES}
 
 -- the program's status after this ending
 abbrev pub status_of : Ending → ℕ
@@ -161,54 +163,85 @@ listening_text address = codes "listening on " ++ address ++ codes "\n"
 abbrev pub closed_text : ℕ → List ℕ
 closed_text events = codes "closed after " ++ decimal events ++ codes " events\n"
 
--- the most that a book and its callers may hold
-abbrev pub greatest_limits : LimitsOf
-greatest_limits = limits_of MOST_OPEN_JOBS MOST_JOBS MOST_PASSES MOST_EVENTS
+-- the same of runs, one line after another
+abbrev pub closed_texts : List ℕ → List ℕ
+closed_texts [] = []
+closed_texts (run ∷ runs) = closed_text run ++ closed_texts runs
 
--- the address was told, and at the end how many events the journal has
-pub record Serves (old new : Streams) : Type 0 where
+-- the most that the book of a run and its callers may hold, with so many events
+abbrev pub limits_for : ℕ → LimitsOf
+limits_for events = limits_of MOST_OPEN_JOBS MOST_JOBS MOST_PASSES events
+
+-- the text was told whole, or up to where a write failed
+abbrev pub TellsText : List ℕ → Bool → Device → Device → Type 0
+TellsText text false old new = WritesAll text old new
+TellsText text true old new = WritesBeginning text old new
+
+-- what is known of who tells of runs: the name of the reference to its output, the output, and whether a write failed
+pub record TellingOf : Type 0 where
+  pub reference : ℕ
+  pub output : Device
+  pub has_failed : Bool
+
+-- after a write that failed nothing more is told; else the line of the run is
+abbrev pub TellsNext : Bool → ℕ → TellingOf → TellingOf → Type 0
+TellsNext true run before after = after ≡ before
+TellsNext false run before after = TellsText (closed_text run) after.has_failed before.output after.output
+
+-- a run of so many events is told
+abbrev pub TellsRun : TellingOf → ℕ → TellingOf → Type 0
+TellsRun before run after = (after.reference ≡ before.reference) × TellsNext before.has_failed run before after
+
+-- runs with so many events at most, each with the number of events of a history of its own
+abbrev pub AreRuns : ℕ → List ℕ → Type 0
+AreRuns events runs = All (IsLengthOfHistory (limits_for events)) runs
+
+-- the address was told, and of each run, at its end, how many events its journal has: of one at least
+pub record Serves (events : ℕ) (old new : Streams) : Type 0 where
   pub input : new.input ≡ old.input
   pub address : List ℕ
   pub between : Device
   pub listens : WritesAll (listening_text address) old.output between
-  pub events : ℕ
-  pub journal : IsLengthOfJournal greatest_limits events
-  pub closes : WritesAll (closed_text events) between new.output
+  pub runs : List ℕ
+  pub are_runs : AreRuns events runs
+  pub some : 0 < length runs
+  pub closes : WritesAll (closed_texts runs) between new.output
   pub errors : new.errors ≡ old.errors
 
--- one of the two could not be told whole
-pub record FailsToTell (old new : Streams) : Type 0 where
+-- one of these could not be told whole, and none after it was told
+pub record FailsToTell (events : ℕ) (old new : Streams) : Type 0 where
   pub input : new.input ≡ old.input
   pub output : ((address : List ℕ) × WritesBeginning (listening_text address) old.output new.output)
       ⊎ ((address : List ℕ) × (between : Device) × WritesAll (listening_text address) old.output between
-      × (events : ℕ) × WritesBeginning (closed_text events) between new.output)
+      × (runs : List ℕ) × AreRuns events runs × WritesBeginning (closed_texts runs) between new.output)
   pub said : Writes (line_of WriteFailed) old.errors new.errors
 
--- the number of events was told, up to this ending
-abbrev pub TellsEnd : ℕ → Device → Device → Device → Device → Ending → Type 0
-TellsEnd events output output2 errors errors2 Closed = WritesAll (closed_text events) output output2 × (errors2 ≡ errors)
-TellsEnd events output output2 errors errors2 WriteFailed =
-    WritesBeginning (closed_text events) output output2 × Writes (line_of WriteFailed) errors errors2
-TellsEnd events output output2 errors errors2 _ = ⊥
-
--- it ended badly, perhaps after the address was told, and that was said
-pub record FailsToServe (ending : Ending) (old new : Streams) : Type 0 where
+-- it ended badly, perhaps after the address and runs were told, these as far as the device took them, and that was said
+pub record FailsToServe (events : ℕ) (ending : Ending) (old new : Streams) : Type 0 where
   pub input : new.input ≡ old.input
-  pub output : (new.output ≡ old.output) ⊎ ((address : List ℕ) × WritesAll (listening_text address) old.output new.output)
+  pub output : (new.output ≡ old.output) ⊎ ((address : List ℕ) × (between : Device) × WritesAll (listening_text address) old.output between
+      × (runs : List ℕ) × AreRuns events runs × Writes (closed_texts runs) between new.output)
   pub said : Writes (line_of ending) old.errors new.errors
 
--- clients are served, up to this ending
-abbrev pub ServesUntil : Streams → Streams → Ending → Type 0
-ServesUntil old new Closed = Serves old new
-ServesUntil old new WriteFailed = FailsToTell old new
-ServesUntil old new ListenFailed = FailsToServe ListenFailed old new
-ServesUntil old new OutOfMemory = FailsToServe OutOfMemory old new
-ServesUntil old new _ = ⊥
+-- clients are served by runs of so many events, up to this ending
+abbrev pub ServesUntil : ℕ → Streams → Streams → Ending → Type 0
+ServesUntil events old new Closed = Serves events old new
+ServesUntil events old new WriteFailed = FailsToTell events old new
+ServesUntil events old new ListenFailed = FailsToServe events ListenFailed old new
+ServesUntil events old new OutOfMemory = FailsToServe events OutOfMemory old new
+ServesUntil events old new _ = ⊥
+
+-- how it ends where the server ended so, and where telling of its runs failed or not; a failure is said
+abbrev pub EndsSo : Result (Unit {0}) ServeFault → Bool → Device → Device → Ending → Type 0
+EndsSo (Ok done) false errors errors2 ending = (ending ≡ Closed) × (errors2 ≡ errors)
+EndsSo (Ok done) true errors errors2 ending = (ending ≡ WriteFailed) × Writes (line_of WriteFailed) errors errors2
+EndsSo (Err Listen) failed errors errors2 ending = (ending ≡ ListenFailed) × Writes (line_of ListenFailed) errors errors2
+EndsSo (Err NoMemoryLeft) failed errors errors2 ending = (ending ≡ OutOfMemory) × Writes (line_of OutOfMemory) errors errors2
 
 -- what the arguments ask for is done, up to this ending
 abbrev pub AnswersUntil : Args → Streams → Streams → Ending → Type 0
 AnswersUntil (Solve budget entries workers) old new ending = SolvesUntil budget old new ending
-AnswersUntil (Serve listen workers shards entries budget websocket allow_stop) old new ending = ServesUntil old new ending
+AnswersUntil (Serve listen workers shards entries budget events websocket allow_stop) old new ending = ServesUntil events old new ending
 
 -- ---- an error is shown
 

@@ -1,6 +1,7 @@
 -- To be believed: the program's command, as `clap` sees it.
 use Rattle.std.specs.Prelude.{◌≡◌, ◌<◌, ◌^◌, ℕ, true, false, pos, List, [], ◌∷◌, Option, Some, IfSome, IsSome, option_map, codes}
 use Rattle.std.specs.Str.Parse.{IsNumeral, digits_value, without_leading_plus}
+use Rattle.dd_book.specs.declared.limits.TheConstants.{MOST_EVENTS}
 use Rattle.dd_shard.specs.declared.shard.TheConstants.{MOST_SHAPES}
 use Rattle.clap.specs.Words.{App, Row, Rule, Shape, new_app, new_rule, one_of, rule_of, shape_of, with_rule, with_subcommand}
 use Rattle.clap.specs.declared.builder.arg.Arg.{Arg}
@@ -8,7 +9,7 @@ use Rattle.clap.specs.declared.builder.command.Command.{Command}
 use Rattle.clap.specs.declared.builder.command.Command.TheViews.{out-Command}
 use Rattle.clap.specs.declared.builder.value_parser.ValueParser.TheVariants.{Signed, Unsigned}
 use Rattle.clap.specs.declared.builder.action.ArgAction.TheVariants.{SetTrue}
-use Rattle.dd_program.specs.declared.command_line.TheConstants.{MOST_WORKERS}
+use Rattle.dd_program.specs.declared.command_line.TheConstants.{LEAST_EVENTS, MOST_WORKERS}
 use Rattle.dd_table.specs.declared.shared_table.TheConstants.{MOST_SHARDS}
 
 -- `--budget N`
@@ -69,6 +70,14 @@ shard_entries_rule = record (new_rule (codes "entries")) {
   parser = Some (Signed (pos 1) (pos MOST_SHAPES));
 }
 
+-- `--events N`
+abbrev pub events_rule : Rule
+events_rule = record (new_rule (codes "events")) {
+  long = Some (codes "events");
+  value_names = 1;
+  parser = Some (Signed (pos LEAST_EVENTS) (pos MOST_EVENTS));
+}
+
 -- `--websocket`
 abbrev pub websocket_rule : Rule
 websocket_rule = record (new_rule (codes "websocket")) { long = Some (codes "websocket"); action = Some SetTrue }
@@ -80,7 +89,7 @@ allow_stop_rule = record (new_rule (codes "allow-stop")) { long = Some (codes "a
 -- `serve` with its options
 abbrev pub serve_app : App
 serve_app =
-    with_rule (with_rule (with_rule (with_rule (with_rule (with_rule (with_rule (new_app (codes "serve")) listen_rule) workers_rule) shards_rule) shard_entries_rule) budget_rule) websocket_rule) allow_stop_rule
+    with_rule (with_rule (with_rule (with_rule (with_rule (with_rule (with_rule (with_rule (new_app (codes "serve")) listen_rule) workers_rule) shards_rule) shard_entries_rule) budget_rule) events_rule) websocket_rule) allow_stop_rule
 
 -- the program without a subcommand, which it wants
 abbrev pub bare_app : App

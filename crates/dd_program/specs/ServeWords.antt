@@ -1,21 +1,22 @@
 -- To be believed: what a command line of `serve` asks for.
-use Rattle.std.specs.Prelude.{◌≡◌, ◌<◌, ◌^◌, ◌⊎◌, ◌&&◌, ℕ, zero, suc, List, [], ◌∷◌, Bool, true, false, Option, Some, None, codes, nat_le, option_map, if◌then◌else◌, unwrap_or, string_bytes}
+use Rattle.std.specs.Prelude.{◌≡◌, ◌&&◌, ℕ, zero, suc, List, [], Bool, false, Option, Some, None, codes, nat_le, if◌then◌else◌, unwrap_or, string_bytes}
 use Rattle.std.specs.Str.Parse.{digits_value, without_leading_plus}
-use Rattle.clap.specs.Words.{App, Row, first_of, one_of, subcommand_of}
+use Rattle.clap.specs.Words.{Row, first_of, one_of, subcommand_of}
 use Rattle.clap.specs.Faults.{fault_of}
+use Rattle.dd_book.specs.declared.limits.TheConstants.{MOST_EVENTS}
 use Rattle.dd_shard.specs.declared.shard.TheConstants.{MOST_SHAPES}
 use Rattle.dd_program.specs.declared.command_line.Args.{Args}
 use Rattle.dd_program.specs.declared.command_line.Args.TheVariants.{Serve, Solve}
-use Rattle.dd_program.specs.declared.command_line.TheConstants.{MOST_WORKERS}
+use Rattle.dd_program.specs.declared.command_line.TheConstants.{LEAST_EVENTS, MOST_WORKERS}
 use Rattle.dd_table.specs.declared.shared_table.TheConstants.{MOST_SHARDS}
 use Rattle.dd_program.specs.Program.{program_app, FitsBits}
 use Rattle.std.specs.Option.{option_map_or}
 use Rattle.std.specs.Str.{bytes_eq}
 
--- the number that is given, where it is 1 to so many; else the default
-abbrev pub number_in : ℕ → ℕ → Option ℕ → ℕ
-number_in most default None = default
-number_in most default (Some number) = (if nat_le 1 number && nat_le number most then number else default)
+-- the number that is given, where it lies in this range; else the default
+abbrev pub number_in : ℕ → ℕ → ℕ → Option ℕ → ℕ
+number_in least most default None = default
+number_in least most default (Some number) = (if nat_le least number && nat_le number most then number else default)
 
 -- the budget that is given, where it is 1 to 1,000,000,000,000; none where 0 is given; else fifty million
 abbrev pub budget_in : Option ℕ → Option ℕ
@@ -32,9 +33,9 @@ IsGivenBy bits text None = (t : List ℕ) → text ≡ Some t → ¬ FitsBits bi
 abbrev pub IsGiven : ℕ → List ℕ → List Row → Option ℕ → Type 0
 IsGiven bits option rows given = IsGivenBy bits (one_of option rows) given
 
--- the same of a number of 1 to so many, with its default
-abbrev pub HasNumber : List ℕ → List Row → ℕ → ℕ → ℕ → Type 0
-HasNumber option rows most default number = (given : Option ℕ) × IsGiven 32 option rows given × (number ≡ number_in most default given)
+-- the same of a number in a range, with its default
+abbrev pub HasNumber : List ℕ → List Row → ℕ → ℕ → ℕ → ℕ → Type 0
+HasNumber option rows least most default number = (given : Option ℕ) × IsGiven 32 option rows given × (number ≡ number_in least most default given)
 
 -- the flag's text
 abbrev pub is_set : List ℕ → List Row → Bool
@@ -43,12 +44,13 @@ is_set flag rows = option_map_or (λ text. bytes_eq text (codes "true")) (first_
 -- what the options of `serve` ask for, by the rows that the parser of arguments gave them
 abbrev pub AsksToServeBy : List Row → Args → Type 0
 AsksToServeBy rows (Solve budget entries workers) = ⊥
-AsksToServeBy rows (Serve listen workers shards entries budget websocket allow_stop) =
+AsksToServeBy rows (Serve listen workers shards entries budget events websocket allow_stop) =
     (string_bytes listen ≡ unwrap_or (first_of (codes "listen") rows) [])
-    × HasNumber (codes "workers") rows MOST_WORKERS 4 workers
-    × HasNumber (codes "shards") rows MOST_SHARDS 16 shards
-    × HasNumber (codes "entries") rows MOST_SHAPES 4096 entries
+    × HasNumber (codes "workers") rows 1 MOST_WORKERS 4 workers
+    × HasNumber (codes "shards") rows 1 MOST_SHARDS 16 shards
+    × HasNumber (codes "entries") rows 1 MOST_SHAPES 4096 entries
     × ((given : Option ℕ) × IsGiven 64 (codes "budget") rows given × (budget ≡ budget_in given))
+    × HasNumber (codes "events") rows LEAST_EVENTS MOST_EVENTS MOST_EVENTS events
     × (websocket ≡ is_set (codes "websocket") rows)
     × (allow_stop ≡ is_set (codes "allow-stop") rows)
 

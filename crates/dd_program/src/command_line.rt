@@ -2,12 +2,13 @@
 ghost use Rattle.std.specs.Prelude.{◌≡◌, ◌⊎◌, ◌≤◌, IfOk, IfErr, Some, codes, map, string_bytes};
 ghost use Rattle.clap.specs.Words.{app_of, fault_of, found_of, kind_of, rows_of, HasKind};
 ghost use Rattle.dd_program.specs.CommandLine.{Asks, HasDefaults, IsInRange, IsSame};
-ghost use Rattle.dd_program.specs.Program.{allow_stop_rule, budget_rule, entries_rule, line_workers_rule, listen_rule, program_app, serve_app, shard_entries_rule, shards_rule, solve_app, websocket_rule, workers_rule, number_of, HasNumbers, IsOption, IsSubcommand};
+ghost use Rattle.dd_program.specs.Program.{allow_stop_rule, budget_rule, entries_rule, events_rule, line_workers_rule, listen_rule, program_app, serve_app, shard_entries_rule, shards_rule, solve_app, websocket_rule, workers_rule, number_of, HasNumbers, IsOption, IsSubcommand};
 ghost use Rattle.dd_program.specs.ServeWords.{budget_in, is_set, number_in, AsksToServeBy, IsGiven};
 
 use crate::help::requests;
 use clap::error::ErrorKind;
 use clap::{Arg, ArgAction, ArgMatches, Command, Error, value_parser};
+use dd_book::MOST_EVENTS;
 use dd_shard::MOST_SHAPES;
 use dd_table::MOST_SHARDS;
 use std::alloc::{AllocError, Global};
@@ -22,6 +23,9 @@ const JOB_POSITIONS: u64 = 50_000_000;
 
 /// The most workers.
 pub const MOST_WORKERS: u32 = 64;
+
+/// The least that the most events of a run may be.
+pub const LEAST_EVENTS: u32 = 1_024;
 
 /// The program's version, as `CHANGELOG.md` has it.
 pub const VERSION: &str = "0.2.0";
@@ -51,6 +55,8 @@ pub enum Args {
         /// The most positions that the search may come to for each job or part of one, 1 to 1,000,000,000,000. `None` is no
         /// limit.
         budget: Option<u64>,
+        /// The most events of each run, 1,024 to 1,048,576.
+        events: u32,
         /// Each connection is a WebSocket.
         websocket: bool,
         /// A client may stop the program.
@@ -164,11 +170,11 @@ fn is_set(options: &ArgMatches, flag: &str) -> bool
 }
 
 /// The number that was given, which the parser of arguments has held to its range, or the default.
-fn number_in(given: Option<u32>, most: u32, default: u32) -> u32
-    ensures { result ≡ number_in most default given }
+fn number_in(given: Option<u32>, least: u32, most: u32, default: u32) -> u32
+    ensures { result ≡ number_in least most default given }
 {
     match given {
-        Some(number) if 1 <= number && number <= most => number,
+        Some(number) if least <= number && number <= most => number,
         _ => default,
     }
 }
@@ -190,10 +196,16 @@ fn serve_args(alloc: Global, options: &ArgMatches) -> Result<Args, AllocError>
 {
     Ok(Args::Serve {
         listen: String::from_str(alloc, options.get_str("listen").unwrap_or(""))?,
-        workers: number_in(number_of(options, "workers"), MOST_WORKERS, 4),
-        shards: number_in(number_of(options, "shards"), MOST_SHARDS, 16),
-        entries: number_in(number_of(options, "entries"), MOST_SHAPES, 4_096),
+        workers: number_in(number_of(options, "workers"), 1, MOST_WORKERS, 4),
+        shards: number_in(number_of(options, "shards"), 1, MOST_SHARDS, 16),
+        entries: number_in(number_of(options, "entries"), 1, MOST_SHAPES, 4_096),
         budget: budget_in(positions_of(options, "budget")),
+        events: number_in(
+            number_of(options, "events"),
+            LEAST_EVENTS,
+            MOST_EVENTS as u32,
+            MOST_EVENTS as u32,
+        ),
         websocket: is_set(options, "websocket"),
         allow_stop: is_set(options, "allow-stop"),
     })
@@ -238,6 +250,7 @@ fn serve_command<'a>(alloc: Global) -> Result<Command<'a>, AllocError>
         .arg(shards_option(alloc))?
         .arg(shard_entries_option(alloc))?
         .arg(job_budget_option(alloc))?
+        .arg(events_option(alloc))?
         .arg(websocket_flag(alloc))?
         .arg(allow_stop_flag(alloc))
 }
@@ -325,6 +338,16 @@ fn job_budget_option<'a>(alloc: Global) -> Arg<'a>
         .help(
             "The most positions for each job and each of a table's twenty results, 0 to 1000000000000, 0 for no limit [default: 50000000]",
         )
+}
+
+fn events_option<'a>(alloc: Global) -> Arg<'a>
+    ensures { IsOption result events_rule }
+{
+    Arg::new(alloc, "events")
+        .long("events")
+        .value_name("N")
+        .value_parser(value_parser!(u32).range(LEAST_EVENTS as i64..=MOST_EVENTS as i64))
+        .help("The most events of a run, 1024 to 1048576 [default: 1048576]; the next run follows")
 }
 
 fn websocket_flag<'a>(alloc: Global) -> Arg<'a>

@@ -7,9 +7,10 @@ mod ending;
 mod help;
 mod run;
 mod serving;
+mod telling;
 
 pub use command_line::{
-    Args, ArgumentsFault, MOST_WORKERS, VERSION, given_arguments, not_text, read_args,
+    Args, ArgumentsFault, LEAST_EVENTS, MOST_WORKERS, VERSION, given_arguments, not_text, read_args,
 };
 pub use ending::Ending;
 pub use run::run_program;

@@ -23,6 +23,9 @@ use std::sync::Wait;
 use std::thread::Threads;
 use std::time::Clock;
 
+/// How many milliseconds a run that is worn waits for its sessions: ten minutes.
+const GRACE: u64 = 600_000;
+
 /// The most bytes that one read takes.
 const PIECE: usize = 4_096;
 
@@ -69,6 +72,7 @@ pub fn run_program<
                 shards,
                 entries,
                 budget,
+                events,
                 websocket,
                 allow_stop,
             },
@@ -80,8 +84,9 @@ pub fn run_program<
                 budget,
                 websocket,
                 allow_stop,
+                grace: GRACE,
             };
-            serve(rt, alloc, listen.as_str(), args, output, errors)
+            serve(rt, alloc, listen.as_str(), events, args, output, errors)
         }
         Err(error) => match error.kind() {
             ErrorKind::OutOfMemory => fail(errors, Ending::OutOfMemory),

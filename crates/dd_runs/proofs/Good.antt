@@ -69,17 +69,17 @@ open-unfinal : (b : Bool) → IsFinal (cond b shown.Waiting shown.Running) → �
 open-unfinal true h = h
 open-unfinal false h = h
 
-final-stage : (owner : ℕ) (asked : Asked) (stage : Stage) → IsFinal (shown_stage stage) → (let job : JobOf = record { owner = owner; asked = asked; stage = stage } in is_open job) ≡ false
-final-stage owner asked (Open parts) h = absurd (open-unfinal (list_all is_waiting parts) h)
-final-stage owner asked (Done solved) h = refl
-final-stage owner asked (TableDone table) h = refl
-final-stage owner asked (TargetDone solved) h = refl
-final-stage owner asked Cancelled h = refl
-final-stage owner asked Spent h = refl
+final-stage : (owner : ℕ) (asked : Asked) (last : ℕ) (stage : Stage) → IsFinal (shown_stage stage) → (let job : JobOf = record { owner = owner; asked = asked; stage = stage; last_claim = last } in is_open job) ≡ false
+final-stage owner asked last (Open parts) h = absurd (open-unfinal (list_all is_waiting parts) h)
+final-stage owner asked last (Done solved) h = refl
+final-stage owner asked last (TableDone table) h = refl
+final-stage owner asked last (TargetDone solved) h = refl
+final-stage owner asked last Cancelled h = refl
+final-stage owner asked last Spent h = refl
 
 -- a job that shows a final state has ended
 final-closed : (job : JobOf) (state : JobState) → IsFinal state → state ≡ shown_stage job.stage → is_open job ≡ false
-final-closed job state final is = final-stage job.owner job.asked job.stage (subst IsFinal is final)
+final-closed job state final is = final-stage job.owner job.asked job.last_claim job.stage (subst IsFinal is final)
 
 -- the event of a submit by its caller
 the-submit : (k : ℕ) (c : Call) (reply : Reply) (owner number : ℕ) (asked : Asked) → c ≡ Submit owner asked → IsBy k c → reply ≡ Submitted number → event k c reply ≡ event owner (Submit owner asked) (Submitted number)

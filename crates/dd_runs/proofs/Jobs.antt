@@ -22,10 +22,10 @@ use Rattle.dd_book.specs.declared.call.Reply.TheVariants.{Submitted, Claimed, Cl
 use Rattle.dd_book.specs.declared.job.Stage.{Stage}
 use Rattle.dd_book.specs.declared.job.Stage.TheVariants.{Open, Done, TableDone, TargetDone, Cancelled as CancelledStage, Spent}
 use Rattle.dd_book.specs.declared.parts.Part.{Part}
-use Rattle.dd_book.specs.declared.parts.Part.TheVariants.{Waiting, Running, Ended}
+use Rattle.dd_book.specs.declared.parts.Part.TheVariants.{Waiting, Ended}
 use Rattle.dd_book.specs.Parts.{is_waiting, is_ended, runs_by}
 use Rattle.dd_book.specs.Same.{same_question, same_target, same_hands}
-use Rattle.dd_book.specs.Jobs.{JobOf, Turn, has_waiting, if_owned, is_open, job_after, job_at, job_with, new_job, next_turn, own_job, parts_of, shown_stage, stage_after, table_stage, turn, turn_at, turn_of, with_job, with_part, with_stage}
+use Rattle.dd_book.specs.Jobs.{JobOf, Turn, if_owned, is_due, is_open, job_after, job_at, job_with, new_job, next_turn, own_job, parts_of, shown_stage, stage_after, table_stage, turn, turn_at, turn_of, with_claim, with_job, with_stage}
 use Rattle.dd_book.specs.Calls.{BookOf, after, book_claimed, cancel_told, claim_told, claimed, fetch_told, jobs_after_finish, jobs_cancelled, reply_of, with_jobs}
 use Rattle.dd_book.proofs.CallerLemmas.{job_at-place, refused, same_question-is, same_target-is}
 use Rattle.dd_runs.specs.Steps.{CarriesRight, IsRight}
@@ -80,18 +80,18 @@ moves : (x y : JobOf) → is_open x ≡ true → y.owner ≡ x.owner → y.asked
 moves x y opened owner asked right = record { owner = owner; asked = asked; ended = λ closed. absurd (let e : true ≡ false = sym opened ∙ closed in cc); right = λ r. right }
 
 -- a stage with a part is open
-open-stage : (test : Part → Bool) (owner : ℕ) (asked : Asked) (stage : Stage) (part : ℕ) → position test (parts_of stage) ≡ Some part
-    → (let job : JobOf = record { owner = owner; asked = asked; stage = stage } in is_open job) ≡ true
-open-stage test owner asked (Open parts) part h = refl
-open-stage test owner asked (Done solved) part h = absurd (cc)
-open-stage test owner asked (TableDone table) part h = absurd (cc)
-open-stage test owner asked (TargetDone solved) part h = absurd (cc)
-open-stage test owner asked CancelledStage part h = absurd (cc)
-open-stage test owner asked Spent part h = absurd (cc)
+open-stage : (test : Part → Bool) (owner : ℕ) (asked : Asked) (last : ℕ) (stage : Stage) (part : ℕ) → position test (parts_of stage) ≡ Some part
+    → (let job : JobOf = record { owner = owner; asked = asked; stage = stage; last_claim = last } in is_open job) ≡ true
+open-stage test owner asked last (Open parts) part h = refl
+open-stage test owner asked last (Done solved) part h = absurd (cc)
+open-stage test owner asked last (TableDone table) part h = absurd (cc)
+open-stage test owner asked last (TargetDone solved) part h = absurd (cc)
+open-stage test owner asked last CancelledStage part h = absurd (cc)
+open-stage test owner asked last Spent part h = absurd (cc)
 
 -- so is a job with a part
 has-part : (test : Part → Bool) (job : JobOf) (part : ℕ) → position test (parts_of job.stage) ≡ Some part → is_open job ≡ true
-has-part test job part h = open-stage test job.owner job.asked job.stage part h
+has-part test job part h = open-stage test job.owner job.asked job.last_claim job.stage part h
 
 -- ---- jobs by their numbers
 
@@ -129,7 +129,7 @@ own-is jobs caller number job h = owned-is caller (job_at jobs number) job h
 
 -- the job whose turn is next, with a part that waits
 turn-there : (jobs : List JobOf) (t : Turn) → next_turn jobs ≡ Some t → (slice_get jobs (t.number - 1) ≡ Some t.job) × (position is_waiting (parts_of t.job.stage) ≡ Some t.part)
-turn-there jobs t h = first (position has_waiting jobs) h
+turn-there jobs t h = first (position (is_due jobs) jobs) h
   where
     of_job : (place : ℕ) (job : JobOf) (o : Option ℕ) → slice_get jobs place ≡ Some job → position is_waiting (parts_of job.stage) ≡ o → option_map (turn place job) o ≡ Some t
         → (slice_get jobs (t.number - 1) ≡ Some t.job) × (position is_waiting (parts_of t.job.stage) ≡ Some t.part)
@@ -212,7 +212,7 @@ claim-changes book worker = go (next_turn book.jobs) refl
     go None is = same-changes book.jobs (Claim worker) _ (idle-tells book.jobs (Claim worker) book.shut)
     go (Some t) is =
         let there = turn-there book.jobs t is in
-        let now = with_part t.job t.part (Running worker (book.claims + 1)) in
+        let now = with_claim t.job t.part worker (book.claims + 1) in
         set-changes book.jobs (t.number - 1) t.job now (Claim worker) _ there.0 (moves t.job now (has-part is_waiting t.job t.part there.1) refl refl tt)
         (claimed-tells (Claim worker) t.number t.part (book.claims + 1) t.job.asked)
 

@@ -1,5 +1,5 @@
 -- To be believed: what a run leaves.
-use Rattle.std.specs.Prelude.{◌≡◌, List, true}
+use Rattle.std.specs.Prelude.{◌≡◌, ℕ, List, length, true}
 use Rattle.dd_book.specs.Limits.{LimitsOf}
 use Rattle.dd_desk.specs.Events.{AnswersAreOwn, EventOf, IsLegal}
 use Rattle.dd_desk.specs.Receipts.{PassOf}
@@ -13,3 +13,10 @@ pub record IsHistory (limits : LimitsOf) (journal : List EventOf) (passes : List
   pub answers : AnswersAreOwn journal
   pub theirs : AllTheirs journal passes
   pub callers : by_these (numbers_of passes) journal ≡ true
+
+-- so many events has such a journal, of some passes
+pub record IsLengthOfHistory (limits : LimitsOf) (events : ℕ) : Type 0 where
+  pub journal : List EventOf
+  pub passes : List PassOf
+  pub history : IsHistory limits journal passes
+  pub count : events ≡ length journal

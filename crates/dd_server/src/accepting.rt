@@ -1,10 +1,13 @@
 //! Connections as they come.
 use crate::args::ServeFault;
 use crate::connection::serve_connection;
-use crate::server_state::ServerState;
+use crate::roster::Opening;
+use crate::run_end::RunLimits;
+use crate::run_state::RunState;
+use crate::runs::Runs;
 use dd_desk::{Naming, Pass};
 use std::io::Error;
-use std::net::{TcpListener, TcpStream};
+use std::net::TcpStream;
 use std::sync::{Arc, Wait};
 use std::thread;
 use std::thread::{Scope, Threads};
@@ -14,38 +17,83 @@ use std::time::{Clock, Duration};
 // process (EMFILE) and in the system (ENFILE), of room for sockets (ENOBUFS) and of memory (ENOMEM).
 const PASSING: [i32; 5] = [103, 24, 23, 105, 12];
 
-// How many milliseconds a listener that lacks something rests.
+// How many milliseconds a listener that lacks something rests, and a run that ends until it looks again.
 const REST: u64 = 100;
 
-/// Accepts connections, each served on a thread of its own, until the run is stopped. An accept that fails shuts the book and
-/// stops the run; one that may do better when a session ends is tried again while a session is open.
-pub(crate) fn accept_connections<'s, E, J, R>(
+/// Accepts connections, each served on a thread of its own, until the server is stopped, or the run is worn and the next one
+/// begins with the connection that came last. An accept that fails shuts the book and stops the server; one that may do better
+/// when a session ends is tried again while a session is open.
+pub(crate) fn accept_connections<'s, E, J, L, R>(
     rt: &'s R,
     scope: &Scope<'s, E>,
-    state: &'s ServerState<J>,
+    state: &'s RunState<'s, J>,
+    runs: &Runs<L>,
     own: &mut Pass<J>,
-    listener: TcpListener,
+    first: Option<TcpStream>,
 ) -> Result<(), ServeFault>
 where
     J: Naming + Send + Sync,
+    L: RunLimits + Send + Sync,
     R: Threads + Wait + Clock + Eprint + Sync,
 {
-    for stream in listener.incoming() {
-        if state.stop.is_stopped() {
+    if let Some(stream) = first {
+        start_connection(rt, scope, state, stream);
+    }
+    for stream in state.server.listener.incoming() {
+        if state.server.stop.is_stopped() {
             break;
         }
         match stream {
+            Ok(stream) if state.is_worn() => match hand_over(rt, state, runs, stream) {
+                Some(stream) => start_connection(rt, scope, state, stream),
+                None => break,
+            },
             Ok(stream) => start_connection(rt, scope, state, stream),
-            Err(error) if passes(&error) && state.stop.streams().lock(rt).is_any_open() => {
+            Err(error) if passes(&error) && may_do_better(rt, state, runs) => {
                 thread::sleep(rt, Duration::from_millis(REST))
             }
             Err(_) => {
-                state.shut(rt, own);
+                let ended = state.shut(rt, own);
+                state.server.stop.stop(ended);
                 return Err(ServeFault::Listen);
             }
         }
     }
     Ok(())
+}
+
+// The next run begins with this connection, unless the server was stopped meanwhile. Where there is no memory for its row the
+// connection comes back.
+fn hand_over<J: Naming, L: RunLimits, R: Wait>(
+    rt: &R,
+    state: &RunState<'_, J>,
+    runs: &Runs<L>,
+    stream: TcpStream,
+) -> Option<TcpStream> {
+    runs.make_room(rt, state.number);
+    if state.server.stop.is_stopped() {
+        return None;
+    }
+    let Ok(row) = runs.row() else {
+        return Some(stream);
+    };
+    runs.open_next(rt, Opening::new(row, Some(stream)));
+    None
+}
+
+/// Waits until no session of the run is open, its time is over, or it is to end at once.
+pub(crate) fn wait_for_sessions<J: Naming, L: RunLimits, R: Wait + Clock>(
+    rt: &R,
+    state: &RunState<'_, J>,
+    runs: &Runs<L>,
+) {
+    for _ in 0..state.server.args.grace / REST {
+        let is_hurried = state.server.stop.is_stopped() || runs.is_hurried(rt, state.number);
+        if is_hurried || !state.stop.streams().lock(rt).is_any_open() {
+            return;
+        }
+        thread::sleep(rt, Duration::from_millis(REST));
+    }
 }
 
 fn passes(error: &Error) -> bool {
@@ -55,18 +103,27 @@ fn passes(error: &Error) -> bool {
     }
 }
 
+// May an accept that lacked something find it later? A session may end meanwhile, of this run or of another.
+fn may_do_better<J: Naming, L: RunLimits, R: Wait>(
+    rt: &R,
+    state: &RunState<'_, J>,
+    runs: &Runs<L>,
+) -> bool {
+    state.stop.streams().lock(rt).is_any_open() || runs.has_others(rt)
+}
+
 // One connection, on a thread of its own. Where memory or a thread can't be had, or a stop came before it, it is closed.
 fn start_connection<'s, E, J, R>(
     rt: &'s R,
     scope: &Scope<'s, E>,
-    state: &'s ServerState<J>,
+    state: &'s RunState<'s, J>,
     stream: TcpStream,
 )
 where
     J: Naming + Send + Sync,
     R: Threads + Wait + Clock + Eprint + Sync,
 {
-    let Ok(stream) = Arc::new(state.alloc, stream) else {
+    let Ok(stream) = Arc::new(state.server.alloc, stream) else {
         return;
     };
     let Ok(kept) = Arc::try_clone(&stream) else {

@@ -5,13 +5,14 @@ ghost use Rattle.dd_session.specs.Ports.{AsksNoStop};
 use crate::args::ServeArgs;
 use crate::opening::LineStream;
 use crate::reply_stream::{CALL_WAIT, ReplyStream};
-use crate::server_state::ServerState;
+use crate::run_port::RunPort;
+use crate::run_state::RunState;
 use crate::session_stream::SessionStream;
 use crate::socket_stream::SocketStream;
-use crate::stop::{Stop, StopPort};
+use crate::stop::RunStop;
 use dd_desk::{DeskFault, Naming, Pass};
 use dd_lines::{CountedDevice, write_whole};
-use dd_session::{BookPort, DeskPort, serve_lines, serve_socket, write_refusal};
+use dd_session::{BookPort, serve_lines, serve_socket, write_refusal};
 use std::alloc::Global;
 use std::net::TcpStream;
 use std::sync::Wait;
@@ -22,7 +23,7 @@ use std::time::{Clock, Duration};
 /// hands first.
 pub(crate) fn serve_connection<J: Naming, R: Wait + Clock + Eprint>(
     rt: &R,
-    state: &ServerState<J>,
+    state: &RunState<'_, J>,
     stream: &TcpStream,
 ) {
     // Without these it is served too.
@@ -30,6 +31,7 @@ pub(crate) fn serve_connection<J: Naming, R: Wait + Clock + Eprint>(
     let _ = stream.set_write_timeout(Some(Duration::from_secs(CALL_WAIT)));
     match state.enrol(rt) {
         Ok(pass) => {
+            state.note_passes(pass.number());
             let pass = serve_session(rt, state, stream, pass);
             state.take_back(rt, pass)
         }
@@ -40,14 +42,20 @@ pub(crate) fn serve_connection<J: Naming, R: Wait + Clock + Eprint>(
 // The session of a pass, which comes back.
 fn serve_session<J: Naming, R: Wait + Clock>(
     rt: &R,
-    state: &ServerState<J>,
+    state: &RunState<'_, J>,
     stream: &TcpStream,
     pass: Pass<J>,
 ) -> Pass<J> {
-    let port = DeskPort::new(rt, &state.desk, pass);
-    let mut port = StopPort::new(rt, port, &state.stop);
-    serve_port(rt, state.alloc, state.args, stream, &state.stop, &mut port);
-    port.into_inner().into_pass()
+    let mut port = RunPort::new(rt, state, pass);
+    serve_port(
+        rt,
+        state.server.alloc,
+        state.server.args,
+        stream,
+        &state.stop,
+        &mut port,
+    );
+    port.into_pass()
 }
 
 // The session over a port, as the run was asked for: by lines or by messages, with leave to stop or without.
@@ -56,7 +64,7 @@ fn serve_port<R: Clock, P: BookPort>(
     alloc: Global,
     args: ServeArgs,
     stream: &TcpStream,
-    stop: &Stop,
+    stop: &RunStop,
     port: &mut P,
 )
     ensures leave { args.allow_stop ≡ false → AsksNoStop (P.told port.old) (P.told port.new) }
@@ -74,7 +82,7 @@ fn serve_port<R: Clock, P: BookPort>(
 // The one line of a connection that gets no pass.
 fn refuse<J: Naming, R: Eprint>(
     rt: &R,
-    state: &ServerState<J>,
+    state: &RunState<'_, J>,
     stream: &TcpStream,
     fault: DeskFault,
 ) {
@@ -83,7 +91,7 @@ fn refuse<J: Naming, R: Eprint>(
             "ddserve: as many connections were served as there may be; each more is refused",
         );
     }
-    if !state.args.websocket {
+    if !state.server.args.websocket {
         let mut line = write_refusal(fault);
         line.push_str("\n");
         let _ = write_whole(&mut CountedDevice::new(stream), line.as_bytes());

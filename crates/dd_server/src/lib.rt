@@ -1,4 +1,4 @@
-//! The server: connections and workers, each on a thread of its own, over one desk.
+//! The server: runs that follow one another, each with connections and workers on threads of their own, over one desk.
 #![tactic(auto)]
 
 mod accepting;
@@ -8,13 +8,24 @@ mod open_streams;
 mod opening;
 mod reply_stream;
 mod returned;
+mod roster;
+mod run;
+mod run_end;
+mod run_port;
+mod run_state;
+mod runs;
 mod server;
 mod server_state;
 mod session_stream;
 mod socket_stream;
 mod stop;
 mod stop_flag;
+mod telling;
+mod wear;
+mod worker_gate;
 mod working;
 
 pub use args::{ServeArgs, ServeFault};
+pub use run_end::{RunEnd, RunLimits};
 pub use server::run_server;
+pub use telling::TellsRuns;

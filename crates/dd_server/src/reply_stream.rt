@@ -3,7 +3,7 @@ ghost use Rattle.std.specs.Prelude.{◌≡◌, ◌≤◌, IfOk, IfSome, length};
 ghost use Rattle.std.specs.Duration.{as_nanos};
 ghost use Rattle.dd_server.specs.ReplyWaits.{held, left_after};
 
-use crate::stop::Stop;
+use crate::stop::RunStop;
 use std::io;
 use std::io::{Error, ErrorKind, Write};
 use std::net::TcpStream;
@@ -26,13 +26,13 @@ const MOST_CALLS: u32 = 64;
 pub(crate) struct ReplyStream<'a, R> {
     rt: &'a R,
     stream: &'a TcpStream,
-    stop: &'a Stop,
+    stop: &'a RunStop,
     // How long the reply that is written may still wait.
     left: Duration,
 }
 
 impl<'a, R> ReplyStream<'a, R> {
-    pub(crate) fn new(rt: &'a R, stream: &'a TcpStream, stop: &'a Stop) -> ReplyStream<'a, R> {
+    pub(crate) fn new(rt: &'a R, stream: &'a TcpStream, stop: &'a RunStop) -> ReplyStream<'a, R> {
         ReplyStream {
             rt,
             stream,
@@ -52,7 +52,7 @@ impl<R: Clock> ReplyStream<'_, R> {
         let sent = stream.write(buf);
         let waited = Instant::now(self.rt)?.saturating_duration_since(began);
         let is_out = matches!(sent, Ok(count) if count == buf.len());
-        self.left = left_after(self.stop.is_stopped(), is_out, self.left, waited);
+        self.left = left_after(self.stop.is_ended(), is_out, self.left, waited);
         match sent {
             Ok(count) if is_out || !self.left.is_zero() => Ok(Some(count)),
             Err(error) if error.kind() != ErrorKind::WouldBlock => Err(error),

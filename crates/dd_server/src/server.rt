@@ -1,131 +1,143 @@
-//! The server over a bound listener.
-ghost use Rattle.std.specs.Prelude.{◌≡◌, ◌<◌, map, IfOk};
-ghost use Rattle.once_cell.specs.Once.{cell_name};
-ghost use Rattle.dd_server.specs.Histories.{IsHistory};
+//! The server over a bound listener: runs that follow one another.
+ghost use Rattle.std.specs.Prelude.{◌≡◌, ◌<◌, IsOk, IsTrue};
+ghost use Rattle.dd_server.specs.Runs.{TellsEach};
 ghost use Rattle.dd_server.specs.ServeArgs.{HasTableSize};
 
-use crate::accepting::accept_connections;
 use crate::args::{ServeArgs, ServeFault};
-use crate::returned::Returned;
+use crate::roster::{News, Opening};
+use crate::run::run;
+use crate::run_end::RunLimits;
+use crate::runs::Runs;
 use crate::server_state::ServerState;
-use crate::stop::Stop;
-use crate::working::start_workers;
-use dd_desk::{Closed, Desk, Naming, Pass, Row};
-use dd_table::SharedTable;
+use crate::telling::TellsRuns;
+use dd_book::Limits;
 use dd_work::Gate;
 use std::alloc::Global;
+use std::marker::Brand;
 use std::net::TcpListener;
-use std::sync::atomic::AtomicBool;
-use std::sync::{Mutex, Wait};
+use std::sync::Wait;
 use std::thread;
-use std::thread::Threads;
+use std::thread::{Scope, Threads};
 use std::time::Clock;
 
-/// Serves the connections of the listener at a desk on this row until a client stops it, and answers the desk when it is
-/// closed, with the passes of the program, of the workers and of the clients.
-pub fn run_server<
-    J: Naming + Send + Sync,
-    R: Threads + Wait + Clock + Eprint + Sync,
-    G: Gate + Sync,
->(
+/// Serves the connections of the listener until a client stops it, by runs of these limits that follow one another. Each run
+/// that has ended is told, by who tells and comes back at the end.
+pub fn run_server<T: TellsRuns + Drop, R: Threads + Wait + Clock + Eprint + Sync, G: Gate + Sync>(
     rt: &R,
     alloc: Global,
-    row: Row,
     listener: TcpListener,
+    limits: Limits,
     args: ServeArgs,
     gate: &G,
-) -> Result<Closed<J>, ServeFault>
-    requires cells { (map cell_name row.cells.items ≡ J.cells) × (J.all ≡ J.parts) }
-    requires limits { row.limits ≡ J.limits }
-    requires count { (row.count.name ≡ J.counts) × (row.count.parts ≡ J.parts) }
-    requires sum { (row.sum.name ≡ J.places) × (row.sum.parts ≡ J.parts) }
-    requires passes { args.workers < row.limits.passes }
+    teller: T,
+) -> (T, Result<(), ServeFault>)
+    requires passes { args.workers < limits.passes }
     requires table { HasTableSize args }
-    ensures history { IfOk result (λ closed.
-        IsHistory J.limits closed.history.journal.items closed.passes.items) }
+    ensures { TellsEach limits T.way (T.state teller) (T.state result.0) (IsOk result.1) }
 {
-    let state = new_state::<J>(alloc, row, &listener, args)?;
-    let ended = keep_open(rt, &state, listener, gate);
-    let ServerState {
-        alloc: _,
-        args: _,
-        desk,
-        table: _,
-        returned,
-        stop: _,
-        told_full: _,
-    } = state;
-    let closed = close(desk, returned.into_inner().into_passes())?;
-    ended?;
-    Ok(closed)
-}
-
-// What the threads of a run are to share, which works as it is asked to.
-fn new_state<J: Naming>(
-    alloc: Global,
-    row: Row,
-    listener: &TcpListener,
-    args: ServeArgs,
-) -> Result<ServerState<J>, ServeFault>
-    requires cells { (map cell_name row.cells.items ≡ J.cells) × (J.all ≡ J.parts) }
-    requires limits { row.limits ≡ J.limits }
-    requires count { (row.count.name ≡ J.counts) × (row.count.parts ≡ J.parts) }
-    requires sum { (row.sum.name ≡ J.places) × (row.sum.parts ≡ J.parts) }
-    requires table { HasTableSize args }
-    ensures args { IfOk result (λ state. state.args ≡ args) }
-{
-    let Ok(stop) = Stop::new(alloc, listener) else {
-        return Err(ServeFault::Listen);
-    };
-    let Ok(table) = SharedTable::new(alloc, args.shards, args.entries) else {
-        return Err(ServeFault::OutOfMemory);
-    };
-    Ok(ServerState {
-        alloc,
-        args,
-        desk: Desk::<J>::new(row),
-        table,
-        returned: Mutex::new(Returned::new(alloc)),
-        stop,
-        told_full: AtomicBool::new(false),
-    })
-}
-
-// The desk is closed, and its passes are compared with its journal.
-fn close<J: Naming>(desk: Desk<J>, passes: Vec<Pass<J>>) -> Result<Closed<J>, ServeFault>
-    requires { J.all ≡ J.parts }
-    ensures history { IfOk result (λ closed.
-        IsHistory J.limits closed.history.journal.items closed.passes.items) }
-{
-    match desk.close(passes) {
-        Ok(closed) => Ok(closed),
-        Err(_) => Err(ServeFault::OutOfMemory),
+    match ServerState::new(alloc, listener, limits, args) {
+        Ok(state) => serve_runs::<Brand, T, R, G>(rt, &state, gate, teller),
+        Err(fault) => (teller, Err(fault)),
     }
 }
 
-// Workers and connections, until all have ended.
-fn keep_open<J: Naming + Send + Sync, R: Threads + Wait + Clock + Eprint + Sync, G: Gate + Sync>(
-    rt: &R,
-    state: &ServerState<J>,
-    listener: TcpListener,
-    gate: &G,
-) -> Result<(), ServeFault> {
-    // The program's own pass, by which it shuts the book.
-    let Ok(mut own) = state.enrol(rt) else {
-        return Err(ServeFault::OutOfMemory);
+// The same by runs whose limits have this name.
+fn serve_runs<
+    L: RunLimits + Send + Sync,
+    T: TellsRuns + Drop,
+    R: Threads + Wait + Clock + Eprint + Sync,
+    G: Gate + Sync,
+>(rt: &R, server: &ServerState, gate: &G, teller: T) -> (T, Result<(), ServeFault>)
+    requires limits { server.now.limits ≡ L.limits }
+    ensures { TellsEach L.limits T.way (T.state teller) (T.state result.0) (IsOk result.1) }
+{
+    let runs = Runs::<L>::new(server.alloc, server.limits);
+    let Ok(row) = runs.row() else {
+        return (teller, Err(ServeFault::OutOfMemory));
     };
-    let (own, ended) = thread::scope(
+    let (teller, some) = keep_serving(rt, server, &runs, Opening::new(row, None), gate, teller);
+    let ended = match runs.into_fault() {
+        Some(fault) => Err(fault),
+        None if some => Ok(()),
+        None => Err(ServeFault::OutOfMemory),
+    };
+    (teller, ended)
+}
+
+// Runs, until all have ended. Has one?
+fn keep_serving<
+    L: RunLimits + Send + Sync,
+    T: TellsRuns + Drop,
+    R: Threads + Wait + Clock + Eprint + Sync,
+    G: Gate + Sync,
+>(rt: &R, server: &ServerState, runs: &Runs<L>, first: Opening<L>, gate: &G, teller: T) -> (T, bool)
+    ensures { TellsEach L.limits T.way (T.state teller) (T.state result.0) (IsTrue result.1) }
+{
+    thread::scope(
         thread::scope_env(),
         rt,
-        move |scope| -> (Pass<J>, Result<(), ServeFault>) {
-            let started = start_workers(rt, scope, state, &mut own, gate);
-            if started.is_err() {
-                return (own, started);
-            }
-            let accepted = accept_connections(rt, scope, state, &mut own, listener);
-            (own, accepted)
+        move |scope| -> (T, bool)
+            ensures { TellsEach L.limits T.way (T.state teller) (T.state result.0)
+                (IsTrue result.1) }
+        {
+            start_run(rt, scope, server, runs, first, gate);
+            follow_runs(rt, scope, server, runs, gate, teller)
         },
-    );
-    state.take_back(rt, own);
-    ended
+    )
+}
+
+// Begins each run that the one before it opens, and tells each that has ended.
+fn follow_runs<'s, E, L, T, R, G>(
+    rt: &'s R,
+    scope: &Scope<'s, E>,
+    server: &'s ServerState,
+    runs: &'s Runs<L>,
+    gate: &'s G,
+    teller: T,
+) -> (T, bool)
+where
+    L: RunLimits + Send + Sync,
+    T: TellsRuns + Drop,
+    R: Threads + Wait + Clock + Eprint + Sync,
+    G: Gate + Sync,
+    ensures { TellsEach L.limits T.way (T.state teller) (T.state result.0) (IsTrue result.1) }
+{
+    let mut teller = teller;
+    let mut some = false;
+    for _ in rt.forever() {
+        match runs.next(rt) {
+            News::Opens(opening) => start_run(rt, scope, server, runs, opening, gate),
+            News::Ended(end) => {
+                end.tell_to(&mut teller);
+                some = true;
+            }
+            News::Over => break,
+        }
+    }
+    (teller, some)
+}
+
+// A run, on a thread of its own.
+fn start_run<'s, E, L, R, G>(
+    rt: &'s R,
+    scope: &Scope<'s, E>,
+    server: &'s ServerState,
+    runs: &'s Runs<L>,
+    opening: Opening<L>,
+    gate: &'s G,
+)
+where
+    L: RunLimits + Send + Sync,
+    R: Threads + Wait + Clock + Eprint + Sync,
+    G: Gate + Sync,
+{
+    let Some(begun) = runs.begin(rt) else {
+        server.stop.fail(ServeFault::OutOfMemory);
+        return;
+    };
+    let serve = move || run(rt, server, runs, begun, opening, gate);
+    if let Err(refused) = scope.spawn(serve) {
+        // No other run begins before this one has ended.
+        (refused.value)();
+    }
 }

@@ -1,64 +1,55 @@
-//! What the threads of a run share.
-ghost use Rattle.std.specs.Prelude.{◌≡◌, Err};
+//! What all runs of a server share.
+ghost use Rattle.std.specs.Prelude.{◌≡◌, IfOk};
+ghost use Rattle.dd_server.specs.ServeArgs.{HasTableSize};
 
-use crate::args::ServeArgs;
-use crate::returned::Returned;
+use crate::args::{ServeArgs, ServeFault};
 use crate::stop::Stop;
-use dd_book::Reply;
-use dd_desk::{Desk, DeskFault, Naming, Pass};
+use dd_book::Limits;
 use dd_table::SharedTable;
 use std::alloc::Global;
+use std::net::TcpListener;
 use std::sync::atomic::AtomicBool;
-use std::sync::{Mutex, Wait};
-use std::thread;
 
-/// What the threads of a run share.
+/// What all runs of a server share.
 #[derive(Drop)]
-pub(crate) struct ServerState<J: Naming> {
+pub(crate) struct ServerState {
     pub(crate) alloc: Global,
     pub(crate) args: ServeArgs,
-    pub(crate) desk: Desk<J>,
+    // Those of each run.
+    pub(crate) limits: Limits,
+    pub(crate) listener: TcpListener,
     pub(crate) table: SharedTable,
-    pub(crate) returned: Mutex<Returned<J>>,
     pub(crate) stop: Stop,
-    // It was said that no pass is left.
-    pub(crate) told_full: AtomicBool,
+    // It was said that memory is short.
+    pub(crate) told_short: AtomicBool,
 }
 
-impl<J: Naming> ServerState<J> {
-    /// A pass, with room kept for its return.
-    pub(crate) fn enrol<R: Wait>(&self, rt: &R) -> Result<Pass<J>, DeskFault> {
-        if self.returned.lock(rt).expect_one().is_err() {
-            return Err(DeskFault::OutOfMemory);
-        }
-        let pass = self.desk.enrol(rt);
-        if pass.is_err() {
-            self.returned.lock(rt).expect_one_less();
-        }
-        pass
-    }
-
-    /// The pass comes back.
-    pub(crate) fn take_back<R: Wait>(&self, rt: &R, pass: Pass<J>) {
-        self.returned.lock(rt).take_back(pass);
-    }
-
-    /// Shuts the book and stops the run.
-    pub(crate) fn shut<R: Wait>(&self, rt: &R, pass: &mut Pass<J>) {
-        let said = self.shut_book(rt, pass);
-        self.stop.stop(rt, &said);
-    }
-
-    // Shuts the book, however often memory runs out at it: only that may be otherwise at the next try.
-    fn shut_book<R: Wait>(&self, rt: &R, pass: &mut Pass<J>) -> Result<Reply, DeskFault>
-        ensures { result ≡ Err DeskFault.OutOfMemory → ⊥ }
+impl ServerState {
+    /// Works as it is asked to.
+    pub(crate) fn new(
+        alloc: Global,
+        listener: TcpListener,
+        limits: Limits,
+        args: ServeArgs,
+    ) -> Result<ServerState, ServeFault>
+        requires table { HasTableSize args }
+        ensures args { IfOk result (λ state. state.args ≡ args) }
+        ensures limits { IfOk result (λ state. state.limits ≡ limits) }
     {
-        for _ in rt.forever() {
-            match self.desk.shut(rt, pass) {
-                Err(DeskFault::OutOfMemory) => thread::yield_now(),
-                told => return told,
-            }
-        }
-        unreachable!()
+        let Ok(stop) = Stop::new(&listener) else {
+            return Err(ServeFault::Listen);
+        };
+        let Ok(table) = SharedTable::new(alloc, args.shards, args.entries) else {
+            return Err(ServeFault::OutOfMemory);
+        };
+        Ok(ServerState {
+            alloc,
+            args,
+            limits,
+            listener,
+            table,
+            stop,
+            told_short: AtomicBool::new(false),
+        })
     }
 }

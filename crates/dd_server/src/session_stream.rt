@@ -2,7 +2,7 @@
 ghost use Rattle.std.specs.Prelude.{◌≡◌, ◌+◌, MatchResult};
 ghost use Rattle.std.specs.Io.{ReadsAtMost};
 
-use crate::stop::Stop;
+use crate::stop::RunStop;
 use std::io;
 use std::io::Read;
 use std::net::TcpStream;
@@ -11,17 +11,17 @@ use std::net::TcpStream;
 // answered, and a client that goes on sending holds nothing up.
 const READ_AFTER_STOP: usize = 16_777_216;
 
-/// A stream that ends soon after a stop, whatever its client still sends.
+/// A stream that ends soon after its run, whatever its client still sends.
 #[derive(Drop)]
 pub(crate) struct SessionStream<'a> {
     stream: &'a TcpStream,
-    stop: &'a Stop,
+    stop: &'a RunStop,
     // The bytes that may be read after a stop.
     left: usize,
 }
 
 impl<'a> SessionStream<'a> {
-    pub(crate) fn new(stream: &'a TcpStream, stop: &'a Stop) -> SessionStream<'a> {
+    pub(crate) fn new(stream: &'a TcpStream, stop: &'a RunStop) -> SessionStream<'a> {
         SessionStream {
             stream,
             stop,
@@ -33,7 +33,7 @@ impl<'a> SessionStream<'a> {
 impl Read for SessionStream<'_> {
     fn read(&mut self, buf: &mut [u8]) -> io::Result<usize> {
         let mut stream = self.stream;
-        if !self.stop.is_stopped() {
+        if !self.stop.is_ended() {
             return stream.read(buf);
         }
         read_last(&mut stream, buf, &mut self.left)

@@ -1,7 +1,7 @@
 //! A connection's stream, as its session over a WebSocket sees it.
 use crate::reply_stream::ReplyStream;
 use crate::session_stream::SessionStream;
-use crate::stop::Stop;
+use crate::stop::RunStop;
 use std::io;
 use std::io::{Error, ErrorKind, Read, Write};
 use std::net::TcpStream;
@@ -22,7 +22,7 @@ pub(crate) struct SocketStream<'a, R> {
 }
 
 impl<'a, R> SocketStream<'a, R> {
-    pub(crate) fn new(rt: &'a R, stream: &'a TcpStream, stop: &'a Stop) -> SocketStream<'a, R> {
+    pub(crate) fn new(rt: &'a R, stream: &'a TcpStream, stop: &'a RunStop) -> SocketStream<'a, R> {
         SocketStream {
             rt,
             stream,

@@ -2,7 +2,8 @@
 ghost use Rattle.dd_work.specs.Rounds.{Works};
 
 use crate::args::ServeFault;
-use crate::server_state::ServerState;
+use crate::run_state::RunState;
+use crate::worker_gate::WorkerGate;
 use dd_cache::Cache;
 use dd_desk::{Naming, Pass};
 use dd_search::Bounds;
@@ -10,23 +11,24 @@ use dd_table::View;
 use dd_work::{Gate, worker};
 use std::sync::Wait;
 use std::thread::{Scope, Threads};
+use std::time::Clock;
 
 /// Starts a worker for each that is asked for. Where one can't be had the book is shut, so that those before it leave.
 pub(crate) fn start_workers<'s, E, J, R, G>(
     rt: &'s R,
     scope: &Scope<'s, E>,
-    state: &'s ServerState<J>,
+    state: &'s RunState<'s, J>,
     own: &mut Pass<J>,
     gate: &'s G,
 ) -> Result<(), ServeFault>
 where
     J: Naming + Send + Sync,
-    R: Threads + Wait + Sync,
+    R: Threads + Wait + Clock + Eprint + Sync,
     G: Gate + Sync,
 {
-    for _ in 0..state.args.workers {
+    for _ in 0..state.server.args.workers {
         if let Err(fault) = start_worker(rt, scope, state, own, gate) {
-            state.shut(rt, own);
+            let _ = state.shut(rt, own);
             return Err(fault);
         }
     }
@@ -37,16 +39,16 @@ where
 fn start_worker<'s, E, J, R, G>(
     rt: &'s R,
     scope: &Scope<'s, E>,
-    state: &'s ServerState<J>,
+    state: &'s RunState<'s, J>,
     own: &mut Pass<J>,
     gate: &'s G,
 ) -> Result<(), ServeFault>
 where
     J: Naming + Send + Sync,
-    R: Threads + Wait + Sync,
+    R: Threads + Wait + Clock + Eprint + Sync,
     G: Gate + Sync,
 {
-    let Ok(cache) = Cache::new(state.alloc, state.table.view(rt)) else {
+    let Ok(cache) = Cache::new(state.server.alloc, state.server.table.view(rt)) else {
         return Err(ServeFault::OutOfMemory);
     };
     let Ok(pass) = state.enrol(rt) else {
@@ -54,7 +56,7 @@ where
     };
     if let Err(refused) = scope.spawn(move || work(rt, state, cache, pass, gate)) {
         // After the shut it leaves at once, and its pass comes back.
-        state.shut(rt, own);
+        let _ = state.shut(rt, own);
         (refused.value)();
         return Err(ServeFault::OutOfMemory);
     }
@@ -62,28 +64,29 @@ where
 }
 
 // The rounds of a worker, until it leaves and its pass comes back.
-fn work<J: Naming, R: Wait, G: Gate>(
+fn work<J: Naming, R: Wait + Clock + Eprint, G: Gate>(
     rt: &R,
-    state: &ServerState<J>,
+    state: &RunState<'_, J>,
     mut cache: Cache<View<'_, R>>,
     pass: Pass<J>,
     gate: &G,
 ) {
-    let pass = rounds(rt, state, &mut cache, pass, gate);
+    let gate = WorkerGate { rt, state, gate };
+    let pass = rounds(rt, state, &mut cache, pass, &gate);
     state.take_back(rt, pass)
 }
 
 // The same, and the pass with what it gained, within the budget of the run.
-fn rounds<J: Naming, R: Wait, B: Bounds, G: Gate>(
+fn rounds<J: Naming, R: Wait + Clock, B: Bounds, G: Gate>(
     rt: &R,
-    state: &ServerState<J>,
+    state: &RunState<'_, J>,
     table: &mut B,
     pass: Pass<J>,
     gate: &G,
 ) -> Pass<J>
-    ensures { Works state.now.args.budget pass result }
+    ensures { Works state.now.server.now.args.budget pass result }
 {
-    let budget = state.args.budget;
+    let budget = state.server.args.budget;
     let stop = state.stop.flag();
     worker(rt, &state.desk, table, pass, gate, budget, stop)
 }

@@ -1,4 +1,4 @@
-//! Runs of the server, with a client of the same process.
+//! The server, with a client of the same process.
 pub mod client;
 mod clients;
 mod descriptors;
@@ -6,5 +6,6 @@ mod gate;
 mod pages;
 mod pieces;
 mod rows;
+mod runs;
 mod serving;
 mod waits;

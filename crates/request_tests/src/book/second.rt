@@ -34,6 +34,10 @@ impl Job {
         }
     }
 
+    fn waits(&self) -> bool {
+        self.parts.iter().any(|part| *part == Part::Waiting)
+    }
+
     fn set(&mut self, place: usize, state: Part) -> MadeReply {
         if let Some(part) = self.parts.get_mut(place) {
             *part = state;
@@ -45,10 +49,11 @@ impl Job {
     }
 }
 
-/// A claim that was given: to a worker, of a part of a job.
+/// A claim that was given: to a worker, of a part of an owner's job.
 #[derive(Clone, Copy)]
 pub struct Given {
     pub worker: u64,
+    pub owner: u64,
     pub job: u64,
     pub part: u8,
     pub asks: Asks,
@@ -147,24 +152,54 @@ impl Second {
         Ok(MadeReply::Job(self.jobs.len() as u64))
     }
 
+    // How many claims ago this owner was claimed for: the number of all where it never was.
+    fn claims_ago(&self, owner: u64) -> usize {
+        let found = self
+            .given
+            .iter()
+            .rev()
+            .position(|given| given.owner == owner);
+        found.unwrap_or(self.given.len())
+    }
+
+    // The place of the first job that waits whose owner was claimed for longest ago.
+    fn due(&self) -> Option<usize> {
+        let mut due = None;
+        let mut most = 0;
+        for (place, job) in self.jobs.iter().enumerate() {
+            if job.waits() {
+                let ago = self.claims_ago(job.owner);
+                if due.is_none() || ago > most {
+                    due = Some(place);
+                    most = ago;
+                }
+            }
+        }
+        due
+    }
+
     fn claim(&mut self, worker: u64) -> Result<MadeReply, AllocError> {
         let claim = self.given.len() as u64 + 1;
-        let waits = |job: &Job| job.parts.iter().any(|part| *part == Part::Waiting);
-        let Some(place) = self.jobs.iter().position(waits) else {
-            return Ok(if self.shut {
-                MadeReply::Closing
-            } else {
-                MadeReply::NothingWaits
-            });
+        let idle = if self.shut {
+            MadeReply::Closing
+        } else {
+            MadeReply::NothingWaits
         };
-        let found = &mut self.jobs[place];
+        let Some(place) = self.due() else {
+            return Ok(idle);
+        };
+        let Some(found) = self.jobs.get_mut(place) else {
+            return Ok(idle);
+        };
         let Some(part) = found.parts.iter().position(|part| *part == Part::Waiting) else {
             return Ok(MadeReply::NothingWaits);
         };
         found.set(part, Part::Running(worker, claim));
-        let (job, part, asks) = (place as u64 + 1, part.min(19) as u8, found.asks);
+        let (owner, asks) = (found.owner, found.asks);
+        let (job, part) = (place as u64 + 1, part.min(19) as u8);
         self.given.push(Given {
             worker,
+            owner,
             job,
             part,
             asks,

@@ -91,7 +91,7 @@ fn limits_and_a_shut_refuse_in_their_order(rt: HostRuntime) -> Result<(), AllocE
 }
 
 #[test]
-fn a_stopped_job_waits_before_the_others_under_a_new_claim(
+fn a_stopped_job_waits_before_the_others_of_its_owner_under_a_new_claim(
     rt: HostRuntime,
 ) -> Result<(), AllocError> {
     let rows = "1 submits A: job 1
@@ -106,6 +106,58 @@ fn a_stopped_job_waits_before_the_others_under_a_new_claim(
 1 fetches 1: spent
 9 finishes 1 2 spent: stale";
     follow(&rt, rt.alloc(), ample(&rt), rows)
+}
+
+#[test]
+fn three_owners_are_claimed_for_in_turn(rt: HostRuntime) -> Result<(), AllocError> {
+    let rows = "1 submits A: job 1
+1 submits A: job 2
+2 submits A: job 3
+3 submits B: job 4
+3 submits B: job 5
+9 claims: job 1 claim 1
+9 claims: job 3 claim 2
+9 claims: job 4 claim 3
+9 claims: job 2 claim 4
+2 submits A: job 6
+9 claims: job 6 claim 5
+9 claims: job 5 claim 6
+9 claims: nothing waits
+9 finishes 2 4 stopped: recorded
+9 finishes 6 5 A: recorded
+3 submits A: job 7
+2 submits A: job 8
+4 submits A: job 9
+9 claims: job 9 claim 7
+9 claims: job 2 claim 8
+9 claims: job 8 claim 9
+9 claims: job 7 claim 10
+9 claims: nothing waits";
+    follow(&rt, rt.alloc(), ample(&rt), rows)
+}
+
+#[test]
+fn an_owner_of_64_tables_and_one_of_a_job_are_claimed_for_in_turn(
+    rt: HostRuntime,
+) -> Result<(), AllocError> {
+    let alloc = rt.alloc();
+    let mut rows = String::from_str(alloc, "2 submits A: job 1")?;
+    for table in 2..66u8 {
+        let row = format!(in alloc; "\n1 submits T: job {table}")?;
+        rows.push_str(row.as_str())?;
+    }
+    let claims = "
+9 claims: job 1 claim 1
+9 claims: job 2 part 0 claim 2
+2 submits B: job 66
+9 claims: job 66 claim 3
+9 claims: job 2 part 1 claim 4
+9 claims: job 2 part 2 claim 5
+2 submits A: job 67
+9 claims: job 67 claim 6
+9 claims: job 2 part 3 claim 7";
+    rows.push_str(claims)?;
+    follow(&rt, alloc, ample(&rt), rows.as_str())
 }
 
 #[test]
@@ -129,7 +181,7 @@ fn a_target_is_one_part_and_ends_with_its_own_answer(rt: HostRuntime) -> Result<
     let rows = "1 submits G: job 1
 1 submits U: job 2
 1 submits V: job 3
-2 submits B: job 4
+1 submits B: job 4
 1 fetches 1: waiting
 9 claims: job 1 target claim 1
 1 fetches 1: running
@@ -152,7 +204,7 @@ fn a_target_is_one_part_and_ends_with_its_own_answer(rt: HostRuntime) -> Result<
 9 claims: job 4 claim 5
 9 finishes 4 5 G: stale
 9 finishes 4 5 B: recorded
-2 fetches 4: done with 2
+1 fetches 4: done with 2
 9 claims: nothing waits";
     follow(&rt, rt.alloc(), ample(&rt), rows)
 }

@@ -95,6 +95,7 @@ fn a_line_of_serve_has_its_options_and_the_defaults_of_the_others(rt: HostRuntim
                 shards: 16,
                 entries: 4_096,
                 budget: Some(50_000_000),
+                events: 1_048_576,
                 websocket: false,
                 allow_stop: true,
             },
@@ -102,6 +103,16 @@ fn a_line_of_serve_has_its_options_and_the_defaults_of_the_others(rt: HostRuntim
         _ => false,
     };
     assert!(rt; found);
+}
+
+#[test]
+fn the_events_of_a_run_are_those_that_were_asked_for(rt: HostRuntime) {
+    let line = "ddserve serve --listen 127.0.0.1:0 --events 1024";
+    let found = match read(rt.alloc(), line) {
+        Ok(Args::Serve { events, .. }) => events,
+        _ => 0,
+    };
+    assert_eq!(rt; found, 1_024);
 }
 
 // Does each of these lines, one a row, have an error of this kind, which ends with this status?
@@ -140,7 +151,9 @@ fn a_bad_line_ends_with_status_2(rt: HostRuntime) {
             ddserve solve --entries 65537\n\
             ddserve solve --entries 4294967297\n\
             ddserve solve --workers 0\n\
-            ddserve solve --workers 65",
+            ddserve solve --workers 65\n\
+            ddserve serve --listen a --events 1023\n\
+            ddserve serve --listen a --events 1048577",
             ErrorKind::ValueValidation,
         ),
         (

@@ -31,7 +31,7 @@ fn note(told: &mut String, reply: &str) -> io::Result<()> {
     Ok(())
 }
 
-// One client asks for a job and for a stop. Another comes meanwhile, for which there is no pass.
+// One client asks for a job and for a stop. Another comes meanwhile and takes the last pass.
 fn converse<R: Net<Stream = TcpStream>>(
     rt: &R,
     alloc: Global,
@@ -44,7 +44,7 @@ fn converse<R: Net<Stream = TcpStream>>(
     note(&mut told, client.fetch(FETCH)?.reply.as_str())?;
     let late = TcpStream::connect(rt, address)?;
     let mut other = Client::new(alloc, Way::Lines, &late)?;
-    note(&mut told, other.hear()?.as_str())?;
+    note(&mut told, other.ask(FETCH)?.as_str())?;
     note(&mut told, client.ask(STOP)?.as_str())?;
     note(
         &mut told,
@@ -70,9 +70,9 @@ fn without_leave_no_client_stops_the_server(rt: HostRuntime) -> Result<(), Fail>
     let listener = TcpListener::bind(&rt, "127.0.0.1:0")?;
     let address = listener.local_addr()?;
     let handle = TcpStream::from(OwnedFd::from(listener.try_clone()?));
-    // One pass is the program's own, one the worker's and one the first client's.
+    // One pass is the run's own, one the worker's, and one each client's.
     let run = Run {
-        passes: 3,
+        passes: 4,
         budget: Some(0),
         allow_stop: false,
         ..LINES
@@ -84,7 +84,7 @@ fn without_leave_no_client_stops_the_server(rt: HostRuntime) -> Result<(), Fail>
     );
     let told = told.expect(&rt, "the clients have their replies");
     let wanted =
-        "{\"job\":1}\n{\"job\":1,\"state\":\"spent\"}\n{\"fault\":14}\n{\"fault\":3}\n{\"fault\":17}\n";
+        "{\"job\":1}\n{\"job\":1,\"state\":\"spent\"}\n{\"fault\":16}\n{\"fault\":3}\n{\"fault\":17}\n";
     assert_eq!(rt; told.as_str(), wanted);
     assert!(rt; ended == Some(Err(ServeFault::Listen)));
     Ok(())

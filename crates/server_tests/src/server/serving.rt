@@ -1,31 +1,27 @@
 //! A server in a thread of its own.
-ghost use Rattle.std.specs.Prelude.{◌≡◌, ◌<◌, map};
-ghost use Rattle.once_cell.specs.Once.{cell_name};
-ghost use Rattle.dd_server.specs.ServeArgs.{HasTableSize};
-
 use dd_book::Limits;
-use dd_desk::{Naming, Row};
-use dd_server::{ServeArgs, ServeFault, run_server};
+use dd_server::{RunEnd, RunLimits, ServeArgs, ServeFault, TellsRuns, run_server};
 use dd_work::Gate;
 use std::alloc::Global;
-use std::marker::Brand;
 use std::net::TcpListener;
 use std::sync::Wait;
 use std::thread::Threads;
 use std::time::Clock;
 
-/// What a run of the server is asked for.
+/// What a server is asked for.
 #[derive(Clone, Copy)]
 pub struct Run {
     /// 1 or 2.
     pub workers: u32,
-    /// The most passes, more than there are workers.
+    /// The most passes of each run, more than there are workers.
     pub passes: u64,
-    /// The most events of the journal, at least 1.
+    /// The most events of the journal of each run, at least 1.
     pub events: u64,
     pub budget: Option<u64>,
     pub websocket: bool,
     pub allow_stop: bool,
+    /// For how many milliseconds a run that is worn waits for its sessions.
+    pub grace: u64,
 }
 
 /// One worker, lines, and a stop by any client.
@@ -36,17 +32,40 @@ pub const LINES: Run = Run {
     budget: None,
     websocket: false,
     allow_stop: true,
+    grace: 60_000,
 };
 
-/// Serves until a client stops the server or no more connections can be accepted: the number of events at the end, or why it
-/// ended badly. `None` where the run is none that a server may be asked for.
-pub fn serve<R: Threads + Wait + Clock + Eprint + Sync, G: Gate + Sync>(
+/// The runs that were told, and the events of all.
+#[derive(Debug, Drop, PartialEq, Eq)]
+pub struct Told {
+    pub runs: u64,
+    pub events: u64,
+}
+
+impl TellsRuns for Told {
+    ghost use Rattle.std.specs.Prelude.{◌≡◌};
+
+    ghost State = { Unit {0} };
+
+    ghost state = { λ _. tt {0} };
+
+    ghost way = { λ before _ after. after ≡ before };
+
+    fn tell<L: RunLimits>(&mut self, end: RunEnd<L>) {
+        self.runs = self.runs.saturating_add(1);
+        self.events = self.events.saturating_add(end.events());
+    }
+}
+
+/// Serves until a client stops the server or no more connections can be accepted: what was told, and why it ended badly. `None`
+/// where the run is none that a server may be asked for.
+pub fn serve_runs<R: Threads + Wait + Clock + Eprint + Sync, G: Gate + Sync>(
     rt: &R,
     alloc: Global,
     listener: TcpListener,
     run: Run,
     gate: &G,
-) -> Option<Result<u64, ServeFault>> {
+) -> Option<(Told, Result<(), ServeFault>)> {
     if run.workers > 2 || run.passes <= u64::from(run.workers) {
         return None;
     }
@@ -58,27 +77,23 @@ pub fn serve<R: Threads + Wait + Clock + Eprint + Sync, G: Gate + Sync>(
         budget: run.budget,
         websocket: run.websocket,
         allow_stop: run.allow_stop,
+        grace: run.grace,
     };
-    let row = Row::new(alloc, limits).ok()?;
-    Some(serve_row::<Brand, R, G>(rt, alloc, row, listener, args, gate))
+    let told = Told { runs: 0, events: 0 };
+    Some(run_server(rt, alloc, listener, limits, args, gate, told))
 }
 
-// The same at a desk on this row.
-fn serve_row<J: Naming + Send + Sync, R: Threads + Wait + Clock + Eprint + Sync, G: Gate + Sync>(
+/// The same of one run: the number of its events at the end.
+pub fn serve<R: Threads + Wait + Clock + Eprint + Sync, G: Gate + Sync>(
     rt: &R,
     alloc: Global,
-    row: Row,
     listener: TcpListener,
-    args: ServeArgs,
+    run: Run,
     gate: &G,
-) -> Result<u64, ServeFault>
-    requires cells { (map cell_name row.cells.items ≡ J.cells) × (J.all ≡ J.parts) }
-    requires limits { row.limits ≡ J.limits }
-    requires count { (row.count.name ≡ J.counts) × (row.count.parts ≡ J.parts) }
-    requires sum { (row.sum.name ≡ J.places) × (row.sum.parts ≡ J.parts) }
-    requires passes { args.workers < row.limits.passes }
-    requires table { HasTableSize args }
-{
-    let closed = run_server::<J, R, G>(rt, alloc, row, listener, args, gate)?;
-    Ok(closed.journal().len() as u64)
+) -> Option<Result<u64, ServeFault>> {
+    match serve_runs(rt, alloc, listener, run, gate)? {
+        (Told { runs: 1, events }, Ok(())) => Some(Ok(events)),
+        (_, Ok(())) => None,
+        (_, Err(fault)) => Some(Err(fault)),
+    }
 }

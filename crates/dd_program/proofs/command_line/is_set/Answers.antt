@@ -1,5 +1,5 @@
 use Rattle.std.proofs.Common.{◌∙◌}
-use Rattle.clap.specs.Words.{found_of, rows_of}
+use Rattle.clap.specs.Words.{found_of}
 use Rattle.clap.proofs.WalkLemmas.{first_value-rows}
 use Rattle.dd_program.proofs.ServeWords.{set-by, unset-by}
 use Rattle.dd_program.proofs.command_line.is_set.Goals as goal

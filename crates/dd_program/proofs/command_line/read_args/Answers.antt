@@ -7,7 +7,7 @@ use Rattle.dd_program.specs.CommandLine.{Asks}
 use Rattle.dd_program.proofs.Lines.{Asked}
 use Rattle.dd_program.proofs.Asked.{asked-rows, asks-args, asks-one, asks-serve, has-defaults, in-range, meets, serve-has, passed-up, refusal, some-same}
 use Rattle.dd_program.proofs.Programs.{program_is_simple}
-use Rattle.std.proofs.Common.{◌⊎◌, inl, inr, subst}
+use Rattle.std.proofs.Common.{inl, inr, subst}
 use Rattle.clap.specs.Kinds.{HasKind}
 use Rattle.dd_program.proofs.command_line.read_args.Goals as goal
 use Rattle.dd_program.proofs.command_line.read_args.Goals.{After-unwrap, After-solve_args}

@@ -1,5 +1,5 @@
 use Rattle.std.proofs.Common.{◌∙◌, refl}
-use Rattle.clap.specs.Words.{found_of, rows_of}
+use Rattle.clap.specs.Words.{found_of}
 use Rattle.clap.proofs.WalkLemmas.{first_value-rows}
 use Rattle.std.proofs.Common.{codes}
 use Rattle.dd_program.proofs.ServeWords.{text-or}
@@ -12,6 +12,7 @@ returns c = (
   (c.number_of-2.result, c.number_of-2.ensures, c.number_in-2.ensures),
   (c.number_of-3.result, c.number_of-3.ensures, c.number_in-3.ensures),
   (c.positions_of.result, c.positions_of.ensures, c.budget_in.ensures),
+  (c.number_of-4.result, c.number_of-4.ensures, c.number_in-4.ensures),
   c.is_set.ensures,
   c.is_set-2.ensures,
 )

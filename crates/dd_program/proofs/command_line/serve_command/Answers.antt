@@ -1,7 +1,6 @@
-use Rattle.std.proofs.Common.{◌≡◌, codes, rules}
-use Rattle.clap.specs.Words.{App, app_of, new_app, with_rule}
-use Rattle.clap.specs.declared.builder.command.Command.{Command}
-use Rattle.dd_program.specs.Program.{listen_rule, workers_rule, shards_rule, shard_entries_rule, budget_rule, websocket_rule, allow_stop_rule}
+use Rattle.std.proofs.Common.{codes, rules}
+use Rattle.clap.specs.Words.{new_app}
+use Rattle.dd_program.specs.Program.{listen_rule, workers_rule, shards_rule, shard_entries_rule, budget_rule, events_rule, websocket_rule, allow_stop_rule}
 use Rattle.dd_program.proofs.ServeWords.{Holds, adds, adds-last}
 use Rattle.dd_program.proofs.command_line.serve_command.Goals as goal
 
@@ -13,5 +12,6 @@ returns c =
     let three = adds _ shards_rule _ c.shards_option.result c.in_ok-arg-3.field-0 c.in_ok-arg-3.ensures c.shards_option.ensures two in
     let four = adds _ shard_entries_rule _ c.shard_entries_option.result c.in_ok-arg-4.field-0 c.in_ok-arg-4.ensures c.shard_entries_option.ensures three in
     let five = adds _ budget_rule _ c.job_budget_option.result c.in_ok-arg-5.field-0 c.in_ok-arg-5.ensures c.job_budget_option.ensures four in
-    let six = adds _ websocket_rule _ c.websocket_flag.result c.in_ok-arg-6.field-0 c.in_ok-arg-6.ensures c.websocket_flag.ensures five in
-    adds-last _ allow_stop_rule _ c.allow_stop_flag.result c.arg-7.result c.arg-7.ensures c.allow_stop_flag.ensures six
+    let six = adds _ events_rule _ c.events_option.result c.in_ok-arg-6.field-0 c.in_ok-arg-6.ensures c.events_option.ensures five in
+    let seven = adds _ websocket_rule _ c.websocket_flag.result c.in_ok-arg-7.field-0 c.in_ok-arg-7.ensures c.websocket_flag.ensures six in
+    adds-last _ allow_stop_rule _ c.allow_stop_flag.result c.arg-8.result c.arg-8.ensures c.allow_stop_flag.ensures seven

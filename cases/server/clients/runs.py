@@ -1,0 +1,112 @@
+"""Runs that follow one another: small ones, with clients that connect anew when a submit is replied 15."""
+import threading
+import time
+from client import CLOSING, ONE_CARD, ONE_CARD_REPLY, STOP, Server, check, done, fetch, is_event, is_open, number_of
+
+EVENTS = 1_024
+WORN = EVENTS - EVENTS // 4
+CLIENTS = 4
+JOBS_EACH = 1_500
+WORKERS = 2
+FULL = '{"fault":15}'
+
+
+class Client:
+    """A client that submits, fetches until the job is done, and connects anew at 15. It counts what it was replied."""
+
+    def __init__(self, server):
+        self.server, self.events, self.jobs, self.anew = server, 0, 0, 0
+
+    def ask(self, connection, line):
+        reply = connection.ask(line)
+        self.events += is_event(reply)
+        return reply
+
+    def work(self):
+        connection = self.server.connect()
+        while self.jobs < JOBS_EACH:
+            reply = self.ask(connection, ONE_CARD)
+            if reply == FULL:
+                # All its jobs were fetched.
+                connection.close()
+                connection = self.server.connect()
+                self.anew += 1
+                continue
+            job = number_of(reply)
+            while is_open(reply := self.ask(connection, fetch(job)), job):
+                time.sleep(0.001)
+            check(f"job {job}", reply, done(ONE_CARD_REPLY, job))
+            self.jobs += 1
+        connection.close()
+
+
+def many():
+    """Every event is a client's, a claim or a finish of a job, or of a run's end: its shut, and each worker's last claim."""
+    server = Server("--allow-stop", "--events", str(EVENTS), workers=WORKERS)
+    clients = [Client(server) for _ in range(CLIENTS)]
+    failed = []
+
+    def guarded(client):
+        try:
+            client.work()
+        except SystemExit as end:
+            failed.append(str(end.code))
+        except Exception as fault:
+            failed.append(repr(fault))
+
+    since = time.monotonic()
+    threads = [threading.Thread(target=guarded, args=[client], daemon=True) for client in clients]
+    for thread in threads:
+        thread.start()
+    for thread in threads:
+        thread.join()
+    taken = time.monotonic() - since
+    check("the clients", failed, [])
+    with server.connect() as client:
+        check("a stop", client.ask(STOP), CLOSING)
+    runs, status, said = server.end_of_runs()
+    check("the end", (status, said), (0, ""))
+    jobs = CLIENTS * JOBS_EACH
+    # The run that was stopped has the stop in place of a shut of its own.
+    check("the events", sum(runs), sum(client.events for client in clients) + 2 * jobs + len(runs) * (1 + WORKERS))
+    check("worn runs", [run for run in runs[:-1] if not WORN <= run <= EVENTS], [])
+    check("each run is followed by another", len(runs) >= jobs * 4 // EVENTS, True)
+    anew = sum(client.anew for client in clients)
+    print(f"runs: {jobs} jobs in {taken:.0f} s by {len(runs)} runs of {EVENTS} events, {anew} times connected anew, {sum(runs)} events accounted for")
+
+
+def wear(client):
+    """Uses up the run of the client by calls that make no job."""
+    for _ in range(WORN):
+        check("a fetch", client.ask(fetch(0)), '{"fault":16}')
+
+
+def crowded():
+    """Whoever stays in a worn run goes on there, until three runs are there and a fourth is to begin."""
+    server = Server("--allow-stop", "--events", str(EVENTS), workers=1)
+    stays = []
+    for _ in range(3):
+        client = server.connect()
+        check("a submit", client.ask(ONE_CARD), '{"job":1}')
+        client.until_done(1)
+        wear(client)
+        check("a submit to a worn run", client.ask(ONE_CARD), FULL)
+        stays.append(client)
+    for client in stays:
+        check("its job", client.ask(fetch(1)), done(ONE_CARD_REPLY, 1))
+    since = time.monotonic()
+    fourth = server.connect()
+    check("a submit to the fourth run", fourth.ask(ONE_CARD), '{"job":1}')
+    taken = time.monotonic() - since
+    check(f"the fourth run begins at once, after {taken:.2f} s", taken < 10, True)
+    check("the first run has ended", stays[0].line(), None)
+    check("the third goes on", stays[2].ask(fetch(1)), done(ONE_CARD_REPLY, 1))
+    check("a stop", fourth.ask(STOP), CLOSING)
+    check("the third run ends", stays[2].line(), None)
+    runs, status, said = server.end_of_runs()
+    check("the end", (len(runs), status, said), (4, 0, ""))
+    print(f"runs: three are there, and the fourth begins within {taken:.2f} s")
+
+
+many()
+crowded()

@@ -1,0 +1,46 @@
+-- Which job is due, in rows.
+use Rattle.std.proofs.Common.{◌≡◌, ℕ, refl, List, [], ◌∷◌, Some, None}
+use Rattle.std.specs.Prelude.{Option, option_map}
+use Rattle.dd_solve.specs.declared.asked.Asked.{Asked}
+use Rattle.dd_book.specs.declared.job.Stage.TheVariants.{Open}
+use Rattle.dd_book.specs.declared.parts.Part.{Part}
+use Rattle.dd_book.specs.declared.parts.Part.TheVariants.{Waiting, Running}
+use Rattle.dd_book.specs.Jobs.{JobOf, Turn, next_turn}
+
+-- the owner of a job, its newest claim and its parts, whatever was asked
+abbrev row : Asked → ℕ → ℕ → List Part → JobOf
+row asked owner last parts = record { owner = owner; asked = asked; stage = Open parts; last_claim = last }
+
+-- the number of the job that is due, and of its part
+abbrev due : List JobOf → Option (ℕ × ℕ)
+due jobs = option_map (λ (t : Turn). (t.number, t.part)) (next_turn jobs)
+
+module _ (asked : Asked) where
+  -- no owner was claimed for: the first job
+  first-of_all : due (row asked 7 0 (Waiting ∷ []) ∷ row asked 5 0 (Waiting ∷ []) ∷ []) ≡ Some (1, 0)
+  first-of_all = refl
+
+  -- owner 7 was claimed for: its parts that wait come after owner 5's
+  other-owner : due (row asked 7 1 (Running 9 1 ∷ Waiting ∷ []) ∷ row asked 5 0 (Waiting ∷ []) ∷ []) ≡ Some (2, 0)
+  other-owner = refl
+
+  -- nobody else waits: the first waiting part of the same job
+  same-owner : due (row asked 7 1 (Running 9 1 ∷ Waiting ∷ Waiting ∷ []) ∷ row asked 5 2 (Running 9 2 ∷ []) ∷ []) ≡ Some (1, 1)
+  same-owner = refl
+
+  -- three owners: the one whose newest claim is the oldest, though another job of it was claimed
+  oldest-claim : due (row asked 7 5 (Running 9 5 ∷ Waiting ∷ []) ∷ row asked 5 3 (Running 9 3 ∷ []) ∷ row asked 6 4 (Running 9 4 ∷ Waiting ∷ [])
+      ∷ row asked 5 0 (Running 9 2 ∷ Waiting ∷ []) ∷ []) ≡ Some (4, 1)
+  oldest-claim = refl
+
+  -- a new job of an owner that was claimed for lately waits for the others
+  new-job_of_last : due (row asked 7 2 (Waiting ∷ []) ∷ row asked 5 3 (Running 9 3 ∷ []) ∷ row asked 5 0 (Waiting ∷ []) ∷ []) ≡ Some (1, 0)
+  new-job_of_last = refl
+
+  -- an owner that was never claimed for comes first, and of two such the one whose waiting job is first
+  never-claimed : due (row asked 7 2 (Waiting ∷ []) ∷ row asked 5 0 (Waiting ∷ []) ∷ row asked 6 0 (Waiting ∷ []) ∷ []) ≡ Some (2, 0)
+  never-claimed = refl
+
+  -- nothing waits
+  nothing-waits : due (row asked 7 2 (Running 9 2 ∷ []) ∷ row asked 5 0 [] ∷ []) ≡ None
+  nothing-waits = refl

@@ -1,0 +1,179 @@
+//! One run: a desk of its own, its workers and its connections.
+ghost use Rattle.std.specs.Prelude.{◌≡◌, map, IfOk};
+ghost use Rattle.once_cell.specs.Once.{cell_name};
+ghost use Rattle.dd_server.specs.Histories.{IsHistory};
+
+use crate::accepting::{accept_connections, wait_for_sessions};
+use crate::args::ServeFault;
+use crate::returned::Returned;
+use crate::roster::{Begun, Opening};
+use crate::run_end::{RunEnd, RunLimits};
+use crate::run_state::RunState;
+use crate::runs::Runs;
+use crate::server_state::ServerState;
+use crate::stop::RunStop;
+use crate::working::start_workers;
+use dd_desk::{Closed, Desk, Naming, Pass, Row};
+use dd_work::Gate;
+use std::marker::Brand;
+use std::net::TcpStream;
+use std::sync::atomic::AtomicBool;
+use std::sync::{Mutex, Wait};
+use std::thread;
+use std::thread::{Scope, Threads};
+use std::time::Clock;
+
+/// A run from its beginning to its end. Where it ends badly the server is stopped.
+pub(crate) fn run<
+    L: RunLimits + Send + Sync,
+    R: Threads + Wait + Clock + Eprint + Sync,
+    G: Gate + Sync,
+>(rt: &R, server: &ServerState, runs: &Runs<L>, begun: Begun, opening: Opening<L>, gate: &G) {
+    let (row, stream) = opening.into_parts();
+    let end = end_of_run::<Brand, L, R, G>(rt, server, runs, begun.number(), row, stream, gate);
+    if let Err(fault) = &end {
+        server.stop.fail(*fault);
+    }
+    runs.end(rt, begun, end)
+}
+
+// The same at a desk on this row: how it ended.
+fn end_of_run<
+    J: Naming + Send + Sync,
+    L: RunLimits + Send + Sync,
+    R: Threads + Wait + Clock + Eprint + Sync,
+    G: Gate + Sync,
+>(
+    rt: &R,
+    server: &ServerState,
+    runs: &Runs<L>,
+    number: u64,
+    row: Row,
+    stream: Option<TcpStream>,
+    gate: &G,
+) -> Result<RunEnd<L>, ServeFault>
+    requires cells { (map cell_name row.cells.items ≡ J.cells) × (J.all ≡ J.parts) }
+    requires limits { (row.limits ≡ J.limits) × (J.limits ≡ L.limits) }
+    requires count { (row.count.name ≡ J.counts) × (row.count.parts ≡ J.parts) }
+    requires sum { (row.sum.name ≡ J.places) × (row.sum.parts ≡ J.parts) }
+{
+    let closed = serve_row::<J, L, R, G>(rt, server, runs, number, row, stream, gate)?;
+    Ok(RunEnd::of(&closed))
+}
+
+// The desk of the run when it is closed, with the passes of the run, of its workers and of its clients.
+fn serve_row<
+    J: Naming + Send + Sync,
+    L: RunLimits + Send + Sync,
+    R: Threads + Wait + Clock + Eprint + Sync,
+    G: Gate + Sync,
+>(
+    rt: &R,
+    server: &ServerState,
+    runs: &Runs<L>,
+    number: u64,
+    row: Row,
+    stream: Option<TcpStream>,
+    gate: &G,
+) -> Result<Closed<J>, ServeFault>
+    requires cells { (map cell_name row.cells.items ≡ J.cells) × (J.all ≡ J.parts) }
+    requires limits { row.limits ≡ J.limits }
+    requires count { (row.count.name ≡ J.counts) × (row.count.parts ≡ J.parts) }
+    requires sum { (row.sum.name ≡ J.places) × (row.sum.parts ≡ J.parts) }
+    ensures history { IfOk result (λ closed.
+        IsHistory J.limits closed.history.journal.items closed.passes.items) }
+{
+    let state = RunState {
+        server,
+        number,
+        desk: Desk::<J>::new(row),
+        returned: Mutex::new(Returned::new(server.alloc)),
+        stop: RunStop::new(server.alloc),
+        worn: AtomicBool::new(false),
+        told_full: AtomicBool::new(false),
+        lacks_memory: AtomicBool::new(false),
+    };
+    let ended = keep_open(rt, &state, runs, stream, gate);
+    let RunState {
+        server: _,
+        number: _,
+        desk,
+        returned,
+        stop: _,
+        worn: _,
+        told_full: _,
+        lacks_memory,
+    } = state;
+    let closed = close(desk, returned.into_inner().into_passes())?;
+    ended?;
+    if lacks_memory.into_inner() {
+        return Err(ServeFault::OutOfMemory);
+    }
+    Ok(closed)
+}
+
+// The desk is closed, and its passes are compared with its journal.
+fn close<J: Naming>(desk: Desk<J>, passes: Vec<Pass<J>>) -> Result<Closed<J>, ServeFault>
+    requires { J.all ≡ J.parts }
+    ensures history { IfOk result (λ closed.
+        IsHistory J.limits closed.history.journal.items closed.passes.items) }
+{
+    match desk.close(passes) {
+        Ok(closed) => Ok(closed),
+        Err(_) => Err(ServeFault::OutOfMemory),
+    }
+}
+
+// Workers and connections, until all have ended.
+fn keep_open<
+    J: Naming + Send + Sync,
+    L: RunLimits + Send + Sync,
+    R: Threads + Wait + Clock + Eprint + Sync,
+    G: Gate + Sync,
+>(
+    rt: &R,
+    state: &RunState<'_, J>,
+    runs: &Runs<L>,
+    stream: Option<TcpStream>,
+    gate: &G,
+) -> Result<(), ServeFault> {
+    // The run's own pass, by which it shuts the book.
+    let Ok(mut own) = state.enrol(rt) else {
+        return Err(ServeFault::OutOfMemory);
+    };
+    let (own, ended) = thread::scope(
+        thread::scope_env(),
+        rt,
+        move |scope| -> (Pass<J>, Result<(), ServeFault>) {
+            let ended = serve_clients(rt, scope, state, runs, &mut own, stream, gate);
+            (own, ended)
+        },
+    );
+    state.take_back(rt, own);
+    ended
+}
+
+// Workers, and connections until the run is worn or stopped. Then its book is shut, where no client did that.
+fn serve_clients<'s, E, J, L, R, G>(
+    rt: &'s R,
+    scope: &Scope<'s, E>,
+    state: &'s RunState<'s, J>,
+    runs: &Runs<L>,
+    own: &mut Pass<J>,
+    stream: Option<TcpStream>,
+    gate: &'s G,
+) -> Result<(), ServeFault>
+where
+    J: Naming + Send + Sync,
+    L: RunLimits + Send + Sync,
+    R: Threads + Wait + Clock + Eprint + Sync,
+    G: Gate + Sync,
+{
+    start_workers(rt, scope, state, own, gate)?;
+    accept_connections(rt, scope, state, runs, own, stream)?;
+    wait_for_sessions(rt, state, runs);
+    if !state.stop.is_ended() {
+        let _ = state.shut(rt, own);
+    }
+    Ok(())
+}

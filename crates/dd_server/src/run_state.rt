@@ -1,0 +1,86 @@
+//! What the threads of a run share.
+ghost use Rattle.std.specs.Prelude.{◌≡◌, Err};
+
+use crate::returned::Returned;
+use crate::server_state::ServerState;
+use crate::stop::RunStop;
+use crate::stop_flag::FlagIsSet;
+use crate::wear::{are_events_used, are_passes_used};
+use dd_book::Reply;
+use dd_desk::{Desk, DeskFault, Naming, Pass};
+use std::sync::atomic::{AtomicBool, Ordering};
+use std::sync::{Mutex, Wait};
+use std::thread;
+
+/// What the threads of a run share.
+#[derive(Drop)]
+pub(crate) struct RunState<'a, J: Naming> {
+    pub(crate) server: &'a ServerState,
+    pub(crate) number: u64,
+    pub(crate) desk: Desk<J>,
+    pub(crate) returned: Mutex<Returned<J>>,
+    pub(crate) stop: RunStop,
+    // The run is used up: it takes no more jobs, nor connections.
+    pub(crate) worn: AtomicBool,
+    // It was said that no pass is left.
+    pub(crate) told_full: AtomicBool,
+    // A worker left since memory stays out.
+    pub(crate) lacks_memory: AtomicBool,
+}
+
+impl<'a, J: Naming> RunState<'a, J> {
+    /// A pass, with room kept for its return.
+    pub(crate) fn enrol<R: Wait>(&self, rt: &R) -> Result<Pass<J>, DeskFault> {
+        if self.returned.lock(rt).expect_one().is_err() {
+            return Err(DeskFault::OutOfMemory);
+        }
+        let pass = self.desk.enrol(rt);
+        if pass.is_err() {
+            self.returned.lock(rt).expect_one_less();
+        }
+        pass
+    }
+
+    /// The pass comes back.
+    pub(crate) fn take_back<R: Wait>(&self, rt: &R, pass: Pass<J>) {
+        self.returned.lock(rt).take_back(pass);
+    }
+
+    /// Shuts the book and ends the run.
+    pub(crate) fn shut<R: Wait>(&self, rt: &R, pass: &mut Pass<J>) -> FlagIsSet {
+        let said = self.shut_book(rt, pass);
+        self.stop.end(rt, &said)
+    }
+
+    // Shuts the book, however often memory runs out at it: only that may be otherwise at the next try.
+    fn shut_book<R: Wait>(&self, rt: &R, pass: &mut Pass<J>) -> Result<Reply, DeskFault>
+        ensures { result ≡ Err DeskFault.OutOfMemory → ⊥ }
+    {
+        for _ in rt.forever() {
+            match self.desk.shut(rt, pass) {
+                Err(DeskFault::OutOfMemory) => thread::yield_now(),
+                told => return told,
+            }
+        }
+        unreachable!()
+    }
+
+    /// Whether the run takes no more jobs, nor connections.
+    pub(crate) fn is_worn(&self) -> bool {
+        self.worn.load(Ordering::SeqCst)
+    }
+
+    /// An event stands at this place of the journal.
+    pub(crate) fn note_place(&self, place: u64) {
+        if are_events_used(self.server.limits, place) {
+            self.worn.store(true, Ordering::SeqCst);
+        }
+    }
+
+    /// So many passes were given.
+    pub(crate) fn note_passes(&self, passes: u64) {
+        if are_passes_used(self.server.limits, passes) {
+            self.worn.store(true, Ordering::SeqCst);
+        }
+    }
+}

@@ -1,0 +1,107 @@
+//! The runs of a server, as all threads see them.
+ghost use Rattle.std.specs.Prelude.{◌≡◌, IfOk};
+
+use crate::args::ServeFault;
+use crate::roster::{Begun, News, Opening, Roster};
+use crate::run_end::{RunEnd, RunLimits};
+use dd_book::Limits;
+use dd_desk::Row;
+use std::alloc::{AllocError, Global};
+use std::sync::{Condvar, Mutex, Wait};
+
+/// The runs of a server under a lock, and the limits that each of them has.
+#[derive(Drop)]
+pub(crate) struct Runs<L: RunLimits> {
+    alloc: Global,
+    limits: Limits,
+    roster: Mutex<Roster<L>>,
+    // A run has ended, or the next one is to begin.
+    changed: Condvar,
+    ghost same: { limits ≡ L.limits },
+}
+
+impl<L: RunLimits> Runs<L> {
+    /// No run has begun.
+    pub(crate) fn new(alloc: Global, limits: Limits) -> Runs<L>
+        requires { limits ≡ L.limits }
+    {
+        Runs {
+            alloc,
+            limits,
+            roster: Mutex::new(Roster::new(alloc)),
+            changed: Condvar::new(),
+        }
+    }
+
+    /// A row for the desk of a run.
+    pub(crate) fn row(&self) -> Result<Row, AllocError>
+        ensures { IfOk result (λ row. row.limits ≡ L.limits) }
+    {
+        Row::new(self.alloc, self.limits)
+    }
+
+    /// One run more. Where there is no room for its end the server ends badly.
+    pub(crate) fn begin<R: Wait>(&self, rt: &R) -> Option<Begun> {
+        let mut roster = self.roster.lock(rt);
+        let begun = roster.begin();
+        if begun.is_err() {
+            roster.fail(ServeFault::OutOfMemory);
+        }
+        begun.ok()
+    }
+
+    /// Waits until the run that accepts opens the next one, a run has ended, or none serves any more.
+    pub(crate) fn next<R: Wait>(&self, rt: &R) -> News<L> {
+        let mut roster = self.changed.wait_while(
+            rt,
+            self.roster.lock(rt),
+            |roster: &mut Roster<L>| roster.is_quiet(),
+        );
+        roster.take_news()
+    }
+
+    /// Waits until fewer runs serve than may. Those before this one are to end soon where it has to wait.
+    pub(crate) fn make_room<R: Wait>(&self, rt: &R, number: u64) {
+        let mut roster = self.roster.lock(rt);
+        if roster.is_crowded() {
+            roster.hurry(number);
+            let roster = self
+                .changed
+                .wait_while(rt, roster, |roster: &mut Roster<L>| roster.is_crowded());
+            drop(roster);
+        }
+    }
+
+    /// The run that accepts is worn, and another is to begin so.
+    pub(crate) fn open_next<R: Wait>(&self, rt: &R, opening: Opening<L>) {
+        self.roster.lock(rt).open_next(opening);
+        self.changed.notify_all();
+    }
+
+    /// Is this run to end soon, since others have no room?
+    pub(crate) fn is_hurried<R: Wait>(&self, rt: &R, number: u64) -> bool {
+        self.roster.lock(rt).is_hurried(number)
+    }
+
+    /// Does another run serve beside one that does?
+    pub(crate) fn has_others<R: Wait>(&self, rt: &R) -> bool {
+        self.roster.lock(rt).has_others()
+    }
+
+    /// A run has ended.
+    pub(crate) fn end<R: Wait>(&self, rt: &R, begun: Begun, end: Result<RunEnd<L>, ServeFault>) {
+        self.roster.lock(rt).end(begun, end);
+        self.changed.notify_all();
+    }
+
+    /// Why the server ended badly, if it did.
+    pub(crate) fn into_fault(self) -> Option<ServeFault> {
+        let Runs {
+            alloc: _,
+            limits: _,
+            roster,
+            changed: _,
+        } = self;
+        roster.into_inner().into_fault()
+    }
+}

@@ -1,0 +1,21 @@
+//! When a run is used up.
+ghost use Rattle.std.specs.Prelude.{◌≡◌};
+ghost use Rattle.dd_server.specs.Worn.{are_events_used, are_passes_used};
+
+use dd_book::Limits;
+
+/// Are three quarters of the events used, where one stands at this place? The last quarter is kept for fetches and cancels.
+pub(crate) fn are_events_used(limits: Limits, place: u64) -> bool
+    ensures { result ≡ are_events_used limits place }
+{
+    let most = limits.events();
+    most - most / 4 - 1 <= place
+}
+
+/// Are fifteen sixteenths of the passes given, where so many are?
+pub(crate) fn are_passes_used(limits: Limits, passes: u64) -> bool
+    ensures { result ≡ are_passes_used limits passes }
+{
+    let most = limits.passes();
+    most - most / 16 <= passes
+}

@@ -1,0 +1,39 @@
+//! What a run does when memory is short for its workers.
+use crate::args::ServeFault;
+use crate::run_state::RunState;
+use dd_desk::Naming;
+use dd_work::Gate;
+use std::sync::atomic::Ordering;
+
+/// A worker's gate, which says once that memory is short, and stops the server where it stays out.
+#[derive(Drop)]
+pub(crate) struct WorkerGate<'a, J: Naming, R, G> {
+    pub(crate) rt: &'a R,
+    pub(crate) state: &'a RunState<'a, J>,
+    pub(crate) gate: &'a G,
+}
+
+impl<J: Naming, R: Eprint, G: Gate> Gate for WorkerGate<'_, J, R, G> {
+    fn before(&self, job: u64) {
+        self.gate.before(job)
+    }
+
+    fn after(&self, job: u64) {
+        self.gate.after(job)
+    }
+
+    fn short(&self) {
+        if !self.state.server.told_short.swap(true, Ordering::SeqCst) {
+            let _ = self
+                .rt
+                .eprintln("ddserve: memory is short: a worker waits for it");
+        }
+        self.gate.short()
+    }
+
+    fn give_up(&self) {
+        self.state.lacks_memory.store(true, Ordering::SeqCst);
+        self.state.server.stop.fail(ServeFault::OutOfMemory);
+        self.gate.give_up()
+    }
+}

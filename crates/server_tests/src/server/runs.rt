@@ -1,0 +1,187 @@
+//! Runs that follow one another. Each has twenty events, and is worn after fifteen.
+use crate::server::client::{Client, Way};
+use crate::server::serving::{LINES, Run, Told, serve_runs};
+use dd_work::NoGate;
+use std::alloc::Global;
+use std::net::{Net, SocketAddr, TcpListener, TcpStream};
+use std::test::Fail;
+use std::{io, thread};
+
+const SMALL: Run = Run {
+    events: 20,
+    ..LINES
+};
+
+// How many events wear a run.
+const WEARS: u32 = 15;
+
+// Three cards are on the trick, and the ace is left: the search comes to one position.
+const SOLVE: &str =
+    r#"{"do":"solve","deal":"N:A... ... ... ...","trump":4,"first":1,"solutions":3,"played":[[0,13],[0,12],[0,11]],"wait":60000}"#;
+
+const FETCH: &str = r#"{"do":"fetch","job":2}"#;
+
+const STOP: &str = r#"{"do":"stop"}"#;
+
+// Writes a reply down, in a line.
+fn note(told: &mut String, reply: &str) -> io::Result<()> {
+    told.push_str(reply)?;
+    told.push_str("\n")?;
+    Ok(())
+}
+
+// Wears the run of the client, by fetches of no job.
+fn wear(client: &mut Client<'_>) -> io::Result<()> {
+    for _ in 0..WEARS {
+        client.ask(FETCH)?;
+    }
+    Ok(())
+}
+
+// One client wears its run and has its submit refused; another is served by the next run, and stops both.
+fn converse_in_two<R: Net<Stream = TcpStream>>(
+    rt: &R,
+    alloc: Global,
+    address: SocketAddr,
+) -> io::Result<String> {
+    let mut told = String::new(alloc);
+    let stream = TcpStream::connect(rt, address)?;
+    let mut first = Client::new(alloc, Way::Lines, &stream)?;
+    wear(&mut first)?;
+    note(&mut told, first.ask(SOLVE)?.as_str())?;
+    note(&mut told, first.ask(FETCH)?.as_str())?;
+    let next = TcpStream::connect(rt, address)?;
+    let mut second = Client::new(alloc, Way::Lines, &next)?;
+    note(&mut told, second.ask(SOLVE)?.as_str())?;
+    note(&mut told, first.ask(FETCH)?.as_str())?;
+    note(&mut told, second.ask(STOP)?.as_str())?;
+    Ok(told)
+}
+
+// The fetches of the first run; the submit, the fetch and the stop of the second one, with a claim and a finish; the shut of the
+// first, whose client did not stop it; and the last claim of each worker.
+#[test]
+fn a_worn_run_takes_no_submit_and_the_next_connection_begins_the_next_run(
+    rt: HostRuntime,
+) -> Result<(), Fail> {
+    let listener = TcpListener::bind(&rt, "127.0.0.1:0")?;
+    let address = listener.local_addr()?;
+    let (served, told) = thread::join(
+        &rt,
+        || serve_runs(&rt, rt.alloc(), listener, SMALL, &NoGate),
+        || converse_in_two(&rt, rt.alloc(), address).ok(),
+    );
+    let told = told.expect(&rt, "the clients have their replies");
+    let wanted =
+        "{\"fault\":15}\n{\"fault\":16}\n{\"cards\":[{\"equals\":0,\"rank\":14,\"score\":1,\"suit\":0}],\"job\":1,\"state\":\"done\"}\n{\"fault\":16}\n{\"closing\":true}\n";
+    assert_eq!(rt; told.as_str(), wanted);
+    assert!(rt;
+        served
+            == Some((
+                Told {
+                    runs: 2,
+                    events: 25
+                },
+                Ok(())
+            ))
+    );
+    Ok(())
+}
+
+// The first client does nothing more, and hears the end of its run when the time of this is over.
+fn converse_past_the_grace<R: Net<Stream = TcpStream>>(
+    rt: &R,
+    alloc: Global,
+    address: SocketAddr,
+) -> io::Result<String> {
+    let mut told = String::new(alloc);
+    let stream = TcpStream::connect(rt, address)?;
+    let mut first = Client::new(alloc, Way::Lines, &stream)?;
+    wear(&mut first)?;
+    let next = TcpStream::connect(rt, address)?;
+    let mut second = Client::new(alloc, Way::Lines, &next)?;
+    note(&mut told, second.ask(FETCH)?.as_str())?;
+    note(&mut told, first.hear()?.as_str())?;
+    note(&mut told, second.ask(STOP)?.as_str())?;
+    Ok(told)
+}
+
+#[test]
+fn a_worn_run_ends_when_its_time_is_over(rt: HostRuntime) -> Result<(), Fail> {
+    let listener = TcpListener::bind(&rt, "127.0.0.1:0")?;
+    let address = listener.local_addr()?;
+    let run = Run {
+        grace: 300,
+        ..SMALL
+    };
+    let (served, told) = thread::join(
+        &rt,
+        || serve_runs(&rt, rt.alloc(), listener, run, &NoGate),
+        || converse_past_the_grace(&rt, rt.alloc(), address).ok(),
+    );
+    let told = told.expect(&rt, "the clients have their replies");
+    assert_eq!(rt; told.as_str(), "{\"fault\":16}\n\n{\"closing\":true}\n");
+    assert!(rt;
+        served
+            == Some((
+                Told {
+                    runs: 2,
+                    events: 20
+                },
+                Ok(())
+            ))
+    );
+    Ok(())
+}
+
+// Three clients wear a run each and stay. For the fourth the first run has to end, whose client hears that.
+fn converse_in_a_crowd<R: Net<Stream = TcpStream>>(
+    rt: &R,
+    alloc: Global,
+    address: SocketAddr,
+) -> io::Result<String> {
+    let mut told = String::new(alloc);
+    let one = TcpStream::connect(rt, address)?;
+    let mut first = Client::new(alloc, Way::Lines, &one)?;
+    wear(&mut first)?;
+    let two = TcpStream::connect(rt, address)?;
+    let mut second = Client::new(alloc, Way::Lines, &two)?;
+    wear(&mut second)?;
+    let three = TcpStream::connect(rt, address)?;
+    let mut third = Client::new(alloc, Way::Lines, &three)?;
+    wear(&mut third)?;
+    let four = TcpStream::connect(rt, address)?;
+    let mut fourth = Client::new(alloc, Way::Lines, &four)?;
+    note(&mut told, fourth.ask(FETCH)?.as_str())?;
+    note(&mut told, first.hear()?.as_str())?;
+    note(&mut told, third.ask(FETCH)?.as_str())?;
+    note(&mut told, fourth.ask(STOP)?.as_str())?;
+    Ok(told)
+}
+
+#[test]
+fn older_runs_end_at_once_where_three_are_there(rt: HostRuntime) -> Result<(), Fail> {
+    let listener = TcpListener::bind(&rt, "127.0.0.1:0")?;
+    let address = listener.local_addr()?;
+    let (served, told) = thread::join(
+        &rt,
+        || serve_runs(&rt, rt.alloc(), listener, SMALL, &NoGate),
+        || converse_in_a_crowd(&rt, rt.alloc(), address).ok(),
+    );
+    let told = told.expect(&rt, "the clients have their replies");
+    assert_eq!(rt;
+        told.as_str(),
+        "{\"fault\":16}\n\n{\"fault\":16}\n{\"closing\":true}\n"
+    );
+    assert!(rt;
+        served
+            == Some((
+                Told {
+                    runs: 4,
+                    events: 55
+                },
+                Ok(())
+            ))
+    );
+    Ok(())
+}
