@@ -124,9 +124,9 @@ class Server:
         return [int(number) for number in re.findall(r"\d+", told)], self.process.returncode, said
 
     def end(self, timeout=60):
-        """The same of one run: its number of events."""
+        """The same of one run: its number of events, or nothing where none was told."""
         runs, status, said = self.end_of_runs(timeout)
-        return runs[0] if len(runs) == 1 else runs, status, said
+        return runs[0] if len(runs) == 1 else runs or "", status, said
 
     def end_after(self, events, timeout=60):
         """Checks that the program ends well, with these events besides each worker's last claim."""
