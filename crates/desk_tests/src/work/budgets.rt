@@ -58,7 +58,7 @@ fn state_at_a_row<J: Naming, R: Wait + Abort>(
     rt: &R,
     alloc: Global,
     row: Row,
-    line: &str,
+    submits: &String,
     budget: u64,
 ) -> Result<String, AllocError>
     requires cells { (map cell_name row.cells.items ≡ J.cells) × (J.all ≡ J.parts) }
@@ -69,7 +69,6 @@ fn state_at_a_row<J: Naming, R: Wait + Abort>(
     let desk = Desk::<J>::new(row);
     let mut caller = enrol(rt, &desk);
     let hand = enrol(rt, &desk);
-    let submits = format!(in alloc; "submits {line}")?;
     let _ = ask(rt, alloc, &desk, &mut caller, submits.as_str())?;
     let _ = ask(rt, alloc, &desk, &mut caller, "shuts")?;
     let stop = AtomicBool::new(false);
@@ -77,16 +76,27 @@ fn state_at_a_row<J: Naming, R: Wait + Abort>(
     ask(rt, alloc, &desk, &mut caller, "fetches 1")
 }
 
-// The same at a desk of its own: is the job spent?
+// The same at a desk of its own.
+fn state_of<R: Wait + Abort>(
+    rt: &R,
+    alloc: Global,
+    submits: &String,
+    budget: u64,
+) -> Result<String, AllocError> {
+    let limits = Limits::new(64, 1_000, 8, 1_000).expect(rt, "limits in their ranges");
+    let row = Row::new(alloc, limits)?;
+    state_at_a_row::<Brand, R>(rt, alloc, row, submits, budget)
+}
+
+// Is the line's job spent?
 fn is_spent<R: Wait + Abort>(
     rt: &R,
     alloc: Global,
     line: &str,
     budget: u64,
 ) -> Result<bool, AllocError> {
-    let limits = Limits::new(64, 1_000, 8, 1_000).expect(rt, "limits in their ranges");
-    let row = Row::new(alloc, limits)?;
-    let state = state_at_a_row::<Brand, R>(rt, alloc, row, line, budget)?;
+    let submits = format!(in alloc; "submits {line}")?;
+    let state = state_of(rt, alloc, &submits, budget)?;
     Ok(state.as_str() == "spent")
 }
 
