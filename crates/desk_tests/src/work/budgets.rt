@@ -14,6 +14,7 @@ use std::marker::Brand;
 use std::process::Abort;
 use std::sync::Wait;
 use std::sync::atomic::AtomicBool;
+use std::time::Clock;
 
 // Nine cards a hand: 42,638 positions were visited.
 const LEADS: &str =
@@ -54,7 +55,7 @@ fn least_budget(alloc: Global, line: &str, least: u64) -> Option<u64> {
 }
 
 // The state of the line's job once a worker with this budget has left.
-fn state_at_a_row<J: Naming, R: Wait + Abort>(
+fn state_at_a_row<J: Naming, R: Wait + Clock + Abort>(
     rt: &R,
     alloc: Global,
     row: Row,
@@ -77,7 +78,7 @@ fn state_at_a_row<J: Naming, R: Wait + Abort>(
 }
 
 // The same at a desk of its own.
-fn state_of<R: Wait + Abort>(
+fn state_of<R: Wait + Clock + Abort>(
     rt: &R,
     alloc: Global,
     submits: &String,
@@ -89,7 +90,7 @@ fn state_of<R: Wait + Abort>(
 }
 
 // Is the line's job spent?
-fn is_spent<R: Wait + Abort>(
+fn is_spent<R: Wait + Clock + Abort>(
     rt: &R,
     alloc: Global,
     line: &str,

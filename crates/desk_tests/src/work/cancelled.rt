@@ -13,6 +13,7 @@ use std::marker::Brand;
 use std::process::Abort;
 use std::sync::atomic::AtomicBool;
 use std::sync::{Mutex, Wait};
+use std::time::Clock;
 
 // Nine cards a hand: over no table the search comes to more than 40,000 positions.
 const LEADS: &str =
@@ -41,7 +42,7 @@ impl<'a, J: Naming, R: Wait> Gate for CancelsFirst<'a, J, R> {
 }
 
 // The rounds of the worker at this gate.
-fn works<J: Naming, R: Wait>(
+fn works<J: Naming, R: Wait + Clock>(
     rt: &R,
     desk: &Desk<J>,
     hand: Pass<J>,
@@ -73,7 +74,11 @@ fn gives_up(call: &Call) -> bool {
 }
 
 // What the worker is told of two jobs, the first of which is cancelled.
-fn rounds<J: Naming, R: Wait + Abort>(rt: &R, alloc: Global, row: Row) -> Result<String, AllocError>
+fn rounds<J: Naming, R: Wait + Clock + Abort>(
+    rt: &R,
+    alloc: Global,
+    row: Row,
+) -> Result<String, AllocError>
     requires cells { (map cell_name row.cells.items ≡ J.cells) × (J.all ≡ J.parts) }
     requires limits { row.limits ≡ J.limits }
     requires count { (row.count.name ≡ J.counts) × (row.count.parts ≡ J.parts) }
@@ -99,7 +104,7 @@ fn rounds<J: Naming, R: Wait + Abort>(rt: &R, alloc: Global, row: Row) -> Result
 }
 
 // The same at a desk of its own.
-fn rounds_at_a_row<R: Wait + Abort>(rt: &R, alloc: Global) -> Result<String, AllocError> {
+fn rounds_at_a_row<R: Wait + Clock + Abort>(rt: &R, alloc: Global) -> Result<String, AllocError> {
     let limits = Limits::new(64, 1_000, 8, 1_000).expect(rt, "limits in their ranges");
     let row = Row::new(alloc, limits)?;
     rounds::<Brand, R>(rt, alloc, row)

@@ -13,6 +13,7 @@ use std::marker::Brand;
 use std::process::Abort;
 use std::sync::Wait;
 use std::sync::atomic::AtomicBool;
+use std::time::Clock;
 
 /// The rows are what the caller does, each with what it is told, a row a line; in a row `works` the
 /// worker works until it leaves, and tells how many receipts its pass has. The ending says how many
@@ -56,7 +57,7 @@ pub(crate) fn ask<J: Naming, R: Wait + Abort>(
     }
 }
 
-fn run<J: Naming, R: Wait + Abort>(
+fn run<J: Naming, R: Wait + Clock + Abort>(
     rt: &R,
     alloc: Global,
     row: Row,
@@ -96,7 +97,7 @@ fn run<J: Naming, R: Wait + Abort>(
 }
 
 /// The script at a desk of its own.
-pub(crate) fn follow<R: Wait + Abort>(
+pub(crate) fn follow<R: Wait + Clock + Abort>(
     rt: &R,
     alloc: Global,
     script: &Script,
