@@ -29,10 +29,14 @@ fn asked(served: &Served) -> usize {
     answered(served).saturating_add(1)
 }
 
-// How many jobs are open after so many of the lines: one is submitted by the first and cancelled by the
-// third, and where it is open at the end its cancel is an event.
-fn left_open(lines: usize) -> usize {
-    if lines == 1 || lines == 2 { 1 } else { 0 }
+// How many events so many of the lines make: one each; the job that the first submits and the third cancels is cancelled at the
+// end where it is open then.
+fn events_of(lines: usize) -> usize {
+    match lines {
+        1 => 2,
+        2 => 3,
+        others => others,
+    }
 }
 
 #[test]
@@ -44,7 +48,7 @@ fn a_read_that_fails_ends_the_session_after_a_beginning(rt: HostRuntime) -> Resu
         let served = serve(&rt, rt.alloc(), &client).expect(&rt, "memory");
         let whole = served.end == End::Lines(Err(LineFault::Read))
             && replies().starts_with(&served.written)
-            && served.events == answered(&served) + left_open(answered(&served));
+            && served.events == events_of(answered(&served));
         assert!(rt; whole, "at read {reads}");
     }
     Ok(())
@@ -59,7 +63,7 @@ fn a_write_that_fails_ends_the_session_after_a_beginning(rt: HostRuntime) -> Res
         let begun = served.end == End::Lines(Err(LineFault::Write))
             && replies().starts_with(&served.written)
             && served.written.len() == room
-            && served.events == asked(&served) + left_open(asked(&served));
+            && served.events == events_of(asked(&served));
         assert!(rt; begun, "after {room} bytes");
     }
     Ok(())
