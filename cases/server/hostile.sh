@@ -3,10 +3,10 @@
 # silent or slow; clients that never read, that break off inside a line or a frame, that send 4,097 bytes, what is no text,
 # fragments, 10,000 pings; 100,000 lines by 50 clients. Meanwhile an honest client gets each answer right, and at the end the
 # program tells as many events as the clients can account for. Then 150 clients under a limit of 64 descriptors; strangers: a page,
-# a client that takes its replies slowly, handshakes without an end; allocations refused (`memory`, which wants a C compiler); searches that are cancelled and must not run on; and what one
-# run has: its connections and its events, to the last one. Words: which of `lines`, `sockets`, `descriptors`, `strangers`,
-# `memory`, `cancelled`, `passes`, `events` to run (all). It takes some five minutes, most of which it waits until those who never read are
-# cut off.
+# a client that takes its replies slowly, handshakes without an end; allocations that are refused (`memory`, which wants a C
+# compiler); searches that are cancelled and must not run on; and what one run has: its connections and its events, to the last
+# one. Words: which of `lines`, `sockets`, `descriptors`, `strangers`, `memory`, `cancelled`, `passes`, `events` to run (all). It
+# takes some five minutes, most of which it waits until those who never read are cut off.
 set -eu
 here=$(cd -- "$(dirname -- "$0")" && pwd)
 . "$here/needs.sh"
