@@ -34,7 +34,7 @@ OTHERS = {
     "plant",
 }
 # A piece that begins with one of these words is a command of another program, of which only paths are looked at.
-COMMANDS = "apt-get curl git nc openssl perf printf python3 rt rustc systemctl systemd-analyze ulimit".split()
+COMMANDS = "apt-get curl dpkg git nc openssl perf printf python3 rt rustc systemctl systemd-analyze ulimit".split()
 
 
 def read(path):

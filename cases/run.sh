@@ -3,7 +3,7 @@
 # to four cards a hand in the written form, `small` 600 positions of up to five, 0 to 3 cards on the trick, solutions 1 to
 # 3, `full` 40 opening leads of full deals, 8 of each strain, `tables` the twenty results of 20 full deals, `targets` 334 positions
 # of up to thirteen cards with a target, solutions 1 and 2, `target_faults` what is wrong with a target, `plays` the tricks after
-# each card of 100 plays of 1 to 13 cards a hand. Exhaustive play (`tools/play.rs`) answers `written` and `small` too.
+# each card of 100 plays of 1 to 13 cards a hand, `play_faults` what is wrong with a play. Exhaustive play (`tools/play.rs`) answers `written` and `small` too.
 set -eu
 here=$(cd -- "$(dirname -- "$0")" && pwd)
 data=$here/data
@@ -12,7 +12,7 @@ for tool in cmp rustc; do
 done
 work=$(mktemp -d)
 trap 'rm -rf "$work"' EXIT
-for name in written small full tables targets target_faults plays; do
+for name in written small full tables targets target_faults plays play_faults; do
     "$here/../ddserve" solve < "$data/$name.jsonl" > "$work/replies"
     cmp "$work/replies" "$data/$name.expected"
     echo "$name: $(wc -l < "$data/$name.jsonl") replies agree with DDS"

@@ -20,6 +20,8 @@ TOP = os.path.dirname(os.path.dirname(os.path.realpath(__file__)))
 PROGRAM = "ddserve"
 OUT = f"{TOP}/crates/{PROGRAM}/out"
 TREES = f"{OUT}/prove"
+# What each crate of the last start took.
+TIMES = f"{OUT}/log/times.tsv"
 # What a crate is made from, and what rt keeps of it.
 PARTS = ("src", "specs", "proofs")
 KEPT = ("incremental", "rlib")
@@ -169,9 +171,21 @@ class Crate:
             file.writelines(line for line in read(f"{TOP}/crates.txt").splitlines(True) if listed(line)[0] in {name} | below)
         os.makedirs(f"{self.tree}/crates/{name}/out")
         move_kept(self.own, f"{self.tree}/crates/{name}/out")
+        self.begin = time.time()
         with open(self.log, "wb") as log:
             words = ["rt", "lib", "--jobs", str(jobs)]
             self.run = subprocess.Popen(words, cwd=f"{self.tree}/crates/{name}", **how_started(log, group))
+
+    def has_ended(self):
+        """Tells whether rt ended, and then notes what it took: the crate, its jobs, seconds of wall and processor time."""
+        run, status, used = os.wait4(self.run.pid, os.WNOHANG)
+        if run == 0:
+            return False
+        self.run.returncode = os.waitstatus_to_exitcode(status)
+        took, worked = time.time() - self.begin, used.ru_utime + used.ru_stime
+        with open(TIMES, "a", encoding="utf-8") as file:
+            file.write(f"{self.name}\t{self.jobs}\t{took:.0f}\t{worked:.0f}\n")
+        return True
 
     def lay(self, name, parts):
         source, target = f"{TOP}/crates/{name}", f"{self.tree}/crates/{name}"
@@ -234,7 +248,7 @@ class Prover:
     def libraries(self):
         while len(self.done) < len(self.uses) - 1:
             self.start_ready()
-            ended = [it for it in self.running.values() if it.run.poll() is not None]
+            ended = [it for it in self.running.values() if it.has_ended()]
             for it in ended:
                 del self.running[it.name]
                 it.end()
@@ -297,6 +311,7 @@ class Prover:
 
 def main(form):
     os.makedirs(f"{OUT}/log", exist_ok=True)
+    open(TIMES, "w", encoding="utf-8").close()
     tidy()
     prover = Prover(form)
     for it in (signal.SIGINT, signal.SIGTERM, signal.SIGHUP):

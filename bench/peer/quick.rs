@@ -1,6 +1,6 @@
 //! The quick tricks of `dd_quick` in plain Rust. `RULES` says which are counted, so that `cases/tools/rules.rs` can try each alone: a
 //! search counts `ALL`. What is left out or added is known when it is compiled, and costs nothing.
-use super::{Card, Interval, Position, SEATS, SUITS, Seat, Strain, Suit, above, below, highest, with};
+use super::{Interval, Position, SEATS, SUITS, Seat, Strain, Suit, above, below, highest, with};
 
 /// A side suit's highest cards, while the leader holds them without a gap.
 pub const RUNS: u32 = 1;
@@ -37,8 +37,6 @@ pub const NOBODY_RUFFS: u32 = 16;
 pub const TRUMPS_ARE_DRAWN: u32 = 32;
 /// The suit that is led gives a trick though third hand ruffs it.
 pub const THE_LEAD_IS_NOT_RUFFED: u32 = 64;
-/// Third hand counts as second hand does, a card that its opponent's partner has played too.
-pub const AT_THIRD_HAND: u32 = 128;
 /// No winner of the partner's falls under the leader's.
 pub const NO_WINNER_FALLS: u32 = 256;
 /// The leader crosses without a card to lead to its partner.
@@ -543,15 +541,15 @@ fn later_cards(position: &Position) -> u64 {
     cards
 }
 
-// The opponent of the leader with the highest card left of the suit led, where an opponent has it.
-fn heading(position: &Position, led: Card) -> Option<Seat> {
+// The opponent of the leader with the highest card left of the suit, where an opponent has it.
+fn heading(position: &Position, suit: Suit) -> Option<Seat> {
     let [left, partner, right] = others(position.first);
-    let best = |seat| match position.holding(seat, led.suit) {
+    let best = |seat| match position.holding(seat, suit) {
         0 => 0,
         holding => highest(holding),
     };
     let (second, fourth) = (best(left), best(right));
-    let others = best(position.first).max(best(partner)).max(led.rank);
+    let others = best(position.first).max(best(partner));
     if second > others.max(fourth) {
         Some(left)
     } else if fourth > others.max(second) {
@@ -561,23 +559,16 @@ fn heading(position: &Position, led: Card) -> Option<Seat> {
     }
 }
 
-/// After the lead: the cards on which it rests that the opponents of its leader take at least `need` tricks: their winners,
-/// that of the suit led the first of them, counted in the position before it.
-pub fn for_second_hand<const RULES: u32>(position: &Position, need: u8) -> Option<u64> {
-    if position.played != if RULES & AT_THIRD_HAND == 0 { 1 } else { 2 } {
+/// At a start of a trick: the cards on which it rests that after each lead of the suit the opponents of the leader take at least
+/// `need` tricks: the winners of one of them, that of the suit the first of them.
+pub fn for_second_hand<const RULES: u32>(position: &Position, suit: Suit, need: u8) -> Option<u64> {
+    if position.played != 0 {
         return None;
     }
-    let led = position.trick[0];
-    let seat = heading(position, led)?;
-    let mut hands = position.hands;
-    hands[position.first as usize] |= 1 << led.place();
-    if RULES & AT_THIRD_HAND != 0 {
-        hands[position.first.next() as usize] |= 1 << position.trick[1].place();
-    }
-    let before = Position { hands, strain: position.strain, first: seat, trick: position.trick, played: 0 };
+    let before = Position { hands: position.hands, strain: position.strain, first: heading(position, suit)?, trick: position.trick, played: 0 };
     match position.strain {
-        Strain::Trump(trump) if trump == led.suit => after_a_trump::<RULES>(&before, led.suit, need),
-        _ => after_a_side_suit::<RULES>(&before, led.suit, need),
+        Strain::Trump(trump) if trump == suit => after_a_trump::<RULES>(&before, suit, need),
+        _ => after_a_side_suit::<RULES>(&before, suit, need),
     }
 }
 

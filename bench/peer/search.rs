@@ -340,9 +340,10 @@ pub trait Bounds {
         self.look(position).filter(|told| need <= told.0.lo || told.0.hi < need)
     }
 
-    // The suits of leads that settled a start of the same shape, and one of the same outline.
-    fn settling_leads(&self, _position: &Position) -> [Option<Suit>; 2] {
-        [None; 2]
+    // The suits of leads that settled a start of the same shape, one of the same outline, and one of the same leader with as many
+    // tricks left.
+    fn settling_leads(&self, _position: &Position) -> [Option<Suit>; 3] {
+        [None; 3]
     }
 
     fn note_lead(&mut self, _position: &Position, _lead: Suit) {}
@@ -408,11 +409,11 @@ fn quick(position: &Position, leaders: u8) -> Option<Answer> {
     Some(Answer { yes: !leads, cards })
 }
 
-// The answer after the lead by second hand's winners.
-fn seconds_answer(position: &Position, need: u8) -> Option<Answer> {
+// The answer of each lead of the suit by second hand's winners.
+fn seconds_answer(position: &Position, suit: Suit, need: u8) -> Option<Answer> {
     let leads = position.first.is_north_south();
     let others = if leads { position.tricks_left() + 1 - need } else { need };
-    let cards = for_second_hand::<ALL>(position, others)?;
+    let cards = for_second_hand::<ALL>(position, suit, others)?;
     Some(Answer { yes: !leads, cards })
 }
 
@@ -441,28 +442,17 @@ impl<B: Bounds> Search<B> {
             if let Some(answer) = self.known(position, need) {
                 return answer;
             }
-        } else if let Some(answer) = seconds_answer(position, need) {
-            return answer;
         }
         let ours = position.mover().is_north_south();
         let (mut found, mut cards) = (None, 0);
         let choices = position.tops_mask();
         let mut untried = choices;
-        let plan = if self.legal {
-            Plan::Listed
-        } else {
-            let settling = if position.played == 0 { self.bounds.settling_leads(position) } else { [None; 2] };
-            Plan::of(position, untried, settling)
-        };
+        let settling = if position.played == 0 { self.bounds.settling_leads(position) } else { [None; 3] };
+        let mut plan = if self.legal { Plan::Listed } else { Plan::of(position, untried, settling) };
         while untried != 0 {
             let card = plan.next(untried);
-            let (next, winner) = position.play(card);
-            let rest = need - trick_of(winner);
-            let later = match counted(&next, rest) {
-                Some(yes) => Answer { yes, cards: 0 },
-                None => self.takes(&next, rest),
-            };
-            let by = settled_by(position, card, winner, later.cards);
+            let later = self.after(position, card, need);
+            let by = later.cards;
             if later.yes == ours {
                 if position.played == 0 && choices & choices - 1 != 0 {
                     self.bounds.note_lead(position, card.suit);
@@ -472,6 +462,7 @@ impl<B: Bounds> Search<B> {
             }
             cards |= by;
             untried &= !(1 << card.place()) & !told_too(card, by);
+            plan.go_on(position, card.suit, untried, settling);
         }
         let answer = match found {
             Some(cards) => Answer { yes: ours, cards },
@@ -481,6 +472,22 @@ impl<B: Bounds> Search<B> {
             self.teach(position, need, answer);
         }
         answer
+    }
+
+    // The answer when this card is played, and the cards on which that rests before it is.
+    fn after(&mut self, position: &Position, card: Card, need: u8) -> Answer {
+        if position.played == 0 {
+            if let Some(answer) = seconds_answer(position, card.suit, need) {
+                return answer;
+            }
+        }
+        let (next, winner) = position.play(card);
+        let rest = need - trick_of(winner);
+        let later = match counted(&next, rest) {
+            Some(yes) => Answer { yes, cards: 0 },
+            None => self.takes(&next, rest),
+        };
+        Answer { yes: later.yes, cards: settled_by(position, card, winner, later.cards) }
     }
 
     fn window(&mut self, position: &Position) -> Interval {

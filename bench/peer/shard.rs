@@ -67,9 +67,10 @@ pub struct Shard {
     limit: usize,
     places: HashMap<Shape, u32, BuildHasherDefault<Mix>>,
     entries: Vec<Entry>,
-    // the suits of leads, by shape and by outline
+    // the suits of leads, by shape, by outline, and by leader and number of tricks
     of_shapes: HashMap<Shape, Suit, BuildHasherDefault<Mix>>,
     of_outlines: HashMap<(u8, u64, [u32; 4]), Suit>,
+    of_leaders: [Option<Suit>; 56],
     first: u32,
     last: u32,
     pub looks: u64,
@@ -145,7 +146,7 @@ impl Shard {
     pub fn new(limit: usize) -> Shard {
         let places = HashMap::with_capacity_and_hasher(limit, Default::default());
         let entries = Vec::with_capacity(limit);
-        Shard { limit, places, entries, of_shapes: HashMap::default(), of_outlines: HashMap::new(), first: NONE, last: NONE, looks: 0, found: 0, told: 0, notes: 0, dropped: 0 }
+        Shard { limit, places, entries, of_shapes: HashMap::default(), of_outlines: HashMap::new(), of_leaders: [None; 56], first: NONE, last: NONE, looks: 0, found: 0, told: 0, notes: 0, dropped: 0 }
     }
 
     pub fn clear(&mut self) {
@@ -155,6 +156,7 @@ impl Shard {
         }
         self.of_shapes.clear();
         self.of_outlines.clear();
+        self.of_leaders = [None; 56];
         (self.first, self.last) = (NONE, NONE);
         (self.looks, self.found, self.told, self.notes, self.dropped) = (0, 0, 0, 0, 0);
     }
@@ -221,12 +223,12 @@ impl Bounds for &mut Shard {
     }
 
     // The program's cache remembers leads, a shared table doesn't.
-    fn settling_leads(&self, position: &Position) -> [Option<Suit>; 2] {
+    fn settling_leads(&self, position: &Position) -> [Option<Suit>; 3] {
         if !cfg!(pages) {
-            return [None; 2];
+            return [None; 3];
         }
         let owners = owners(position);
-        [self.of_shapes.get(&owners.shape).copied(), self.of_outlines.get(&outline(&owners)).copied()]
+        [self.of_shapes.get(&owners.shape).copied(), self.of_outlines.get(&outline(&owners)).copied(), self.of_leaders[leader(position)]]
     }
 
     fn note_lead(&mut self, position: &Position, lead: Suit) {
@@ -234,6 +236,7 @@ impl Bounds for &mut Shard {
             let owners = owners(position);
             self.of_shapes.insert(owners.shape, lead);
             self.of_outlines.insert(outline(&owners), lead);
+            self.of_leaders[leader(position)] = Some(lead);
         }
     }
 
@@ -249,6 +252,11 @@ impl Bounds for &mut Shard {
             None => self.add(owners.shape, pair),
         }
     }
+}
+
+// The place of a leader with so many tricks left.
+fn leader(position: &Position) -> usize {
+    4 * position.tricks_left() as usize + position.first as usize
 }
 
 // The strain, the leader's lengths and the owners of the highest cards.

@@ -1,4 +1,4 @@
-"""Measures the server: RUNS REQUESTS FOLDER, with the built client and its positions in the folder (`run.sh`)."""
+"""Measures the server: RUNS REQUESTS FOLDER PARTS.., with the built client and its positions in the folder (`run.sh`)."""
 import os
 import subprocess
 import sys
@@ -68,29 +68,56 @@ def memory():
             client.close()
 
 
-def deals():
-    lines, expected = text(f"{CASES}/data/full.jsonl"), text(f"{CASES}/data/full.expected")
+def sizes():
+    """What the events of a run take, with their jobs, and what workers and the table take that have solved much."""
+    lines = text(f"{work}/1.jsonl")
+    print("\nevents of a run  made  resident MB before  after  bytes an event")
+    for events in (65_536, 262_144, 1_048_576):
+        server = Server("--allow-stop", "--events", str(events), workers=WORKERS)
+        before, count = server.resident(), events // 16 * 3 - 100
+        load(server, "wait", 64, count, lines)
+        after = server.resident()
+        stop(server)
+        print(f"{events:15}  {4 * count:6}  {before:18.1f}  {after:5.0f}  {(after - before) * 2**20 / (4 * count):14.0f}", flush=True)
+    lines = text(f"{work}/deals.jsonl") + text(f"{CASES}/data/full.jsonl")
+    print(f"\nworkers  entries  resident MB before  after {lines.count(chr(10))} full deals")
+    for workers, entries in ((1, 4_096), (4, 4_096), (16, 4_096), (4, 65_536)):
+        server = Server("--allow-stop", "--entries", str(entries), workers=workers)
+        before = server.resident()
+        load(server, "deals", 64, lines.count("\n"), lines)
+        print(f"{workers:7}  {entries:7}  {before:18.1f}  {server.resident():5.0f}", flush=True)
+        stop(server)
+
+
+def deals(lines, expected):
+    """By the server and the line tool, each with 1 and 4 workers. Where no replies are recorded those of the first run are."""
     count = lines.count("\n")
     least, differing = {}, 0
     for _ in range(runs):
         for workers in (1, 4):
             server = Server("--allow-stop", workers=workers)
-            answers, told = load(server, "deals", 1, count, lines)
+            answers, told = load(server, "deals", 4, count, lines)
             stop(server)
-            differing += answers != expected
-            least[workers] = min(least.get(workers, told[0] / 1e9), told[0] / 1e9)
-        start = time.perf_counter()
-        tool = subprocess.run([PROGRAM, "solve", "--entries", "65536"], input=lines, capture_output=True, text=True, check=True)
-        taken = time.perf_counter() - start
-        differing += tool.stdout != expected
-        least["tool"] = min(least.get("tool", taken), taken)
-    print(f"\n{count} full deals, least of {runs} runs, seconds\nline tool  server, 1 worker  server, 4 workers  tool/4 workers")
-    print(f"{least['tool']:9.2f}  {least[1]:16.2f}  {least[4]:17.2f}  {least['tool'] / least[4]:14.2f}")
-    print(f"{differing} of {3 * runs} runs with other replies")
+            start = time.perf_counter()
+            tool = subprocess.run([PROGRAM, "solve", "--workers", str(workers)], input=lines, capture_output=True, text=True, check=True)
+            taken = time.perf_counter() - start
+            expected = expected or tool.stdout
+            differing += (answers != expected) + (tool.stdout != expected)
+            for name, seconds in (("server", told[0] / 1e9), ("tool", taken)):
+                least[name, workers] = min(least.get((name, workers), seconds), seconds)
+    print(f"\n{count} full deals, least of {runs} runs, seconds, load {os.getloadavg()[0]:.1f}\n           1 worker  4 workers  times as fast")
+    for name, shown in (("server", "server"), ("tool", "line tool")):
+        one, four = least[name, 1], least[name, 4]
+        print(f"{shown:9}  {one:8.2f}  {four:9.2f}  {one / four:13.2f}")
+    print(f"{differing} of {4 * runs} runs with other replies")
     return differing
 
 
+def full_deals():
+    differing = deals(text(f"{CASES}/data/full.jsonl"), text(f"{CASES}/data/full.expected"))
+    return differing + deals(text(f"{work}/deals.jsonl"), None)
+
+
 more_descriptors()
-rates()
-memory()
-sys.exit(1 if deals() else 0)
+parts = {"rates": rates, "memory": memory, "sizes": sizes, "deals": full_deals}
+sys.exit(1 if any([parts[name]() for name in sys.argv[4:]]) else 0)

@@ -1,32 +1,22 @@
 """How soon sessions that wait are told: SESSIONS RUNS (1,000 and 3). One worker searches a full deal, and meanwhile each session asks for
 a position of one card, with a wait. Then the worker does these jobs one after the other. Two times are shown: that of the first
 hundred replies after the reply to the deal, by the median; and of each reply the time after its job's end by the median and the most,
-where each job is taken to last as long as the others. The last column is how often a thread of the server waited, for each job: with
-one bell for all, each end would wake everybody who waits."""
+where each job is taken to last as long as the others. The last column is how often a thread of the server waited, for each job. Then
+the same without the server, in plain Rust: one bell for all, and a bell for each (`bells.rs`)."""
 import os
 import select
+import subprocess
 import sys
+import tempfile
 import time
 
-CASES = os.path.join(os.path.dirname(os.path.abspath(__file__)), "..", "..", "cases")
+HERE = os.path.dirname(os.path.abspath(__file__))
+CASES = os.path.join(HERE, "..", "..", "cases")
 sys.path.insert(0, os.path.join(CASES, "server", "clients"))
-from client import CLOSING, ONE_CARD, ONE_CARD_REPLY, STOP, Server, check, more_descriptors, recorded  # noqa: E402
+from client import CLOSING, ONE_CARD, ONE_CARD_REPLY, STOP, Server, check, more_descriptors, recorded, waiting  # noqa: E402
 
 sessions = int(sys.argv[1]) if len(sys.argv) > 1 else 1_000
 runs = int(sys.argv[2]) if len(sys.argv) > 2 else 3
-
-
-def waiting(line):
-    return f'{line[:-1]},"wait":60000}}'
-
-
-def switches(server):
-    """How often the threads of the server have waited."""
-    total = 0
-    for thread in os.listdir(f"/proc/{server.process.pid}/task"):
-        with open(f"/proc/{server.process.pid}/task/{thread}/status") as file:
-            total += sum(int(line.split()[1]) for line in file if line.startswith("voluntary_ctxt_switches"))
-    return total
 
 
 def slowest():
@@ -54,7 +44,7 @@ def run(deal):
     time.sleep(0.05)
     for client in clients:
         client.send(waiting(ONE_CARD))
-    before, begun, told = switches(server), None, {}
+    before, begun, told = server.switches(), None, {}
     while len(told) < sessions:
         for number, _ in ears.poll(60):
             now = time.perf_counter()
@@ -63,7 +53,7 @@ def run(deal):
                 told[places[number]] = now
             else:
                 begun = now
-    after = switches(server)
+    after = server.switches()
     for client in clients:
         check("the answer", client.line().partition(',"job"')[0] + "}", ONE_CARD_REPLY)
     check("a stop", clients[0].ask(STOP), CLOSING)
@@ -82,3 +72,7 @@ print("median of the first 100, ms  median beside its turn, ms  latest, ms  a jo
 for _ in range(runs):
     early, median, latest, each, count = run(deal)
     print(f"{1000 * early:27.2f}  {1000 * median:26.2f}  {1000 * latest:10.2f}  {1000 * each:9.3f}  {count / sessions:14.1f}")
+with tempfile.TemporaryDirectory() as folder:
+    subprocess.run(["rustc", "-O", "--edition", "2021", "-o", f"{folder}/bells", f"{HERE}/bells.rs"], check=True)
+    print(f"\n{sessions} threads that wait at one lock, without the server", flush=True)
+    subprocess.run([f"{folder}/bells", str(sessions)], check=True)

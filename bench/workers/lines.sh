@@ -1,9 +1,10 @@
 #!/usr/bin/env bash
 # `ddserve solve --workers 1`, 2 and 4 over a file of full deals with the scores of all leads, beside DDS's SolveAllBoards, and
-# then over the twenty results of deals, beside DDS's CalcAllTables (package libdds-dev), each with as many threads. The least
-# time of several runs taken in turns, the speed-up over one thread, and whether all replies agree: where some don't it ends
-# with status 1. Words: the number of runs (3), of deals with scores, at most 200 (200), of tables, at most 40 (40), and the
-# seed of the deals (1016).
+# then over the twenty results of deals, beside DDS's CalcAllTables, each with as many threads, of DDS 2.9 built at -O3
+# (`bench/dds/peer.sh`); and beside as many processes of one worker each, with the lines dealt out in turn, which is what the
+# machine gives. The least time of several runs taken in turns, the speed-up over one thread, and whether all replies agree: where
+# some don't it ends with status 1. Words: the number of runs (3), of deals with scores, at most 200 (200), of tables, at most 40
+# (40), and the seed of the deals (1016). `DDSERVE` names another built program, `DDS_PEER` the folder of a peer that is built.
 set -eu
 here=$(cd -- "$(dirname -- "$0")" && pwd)
 top=$(cd -- "$here/../.." && pwd)
@@ -15,17 +16,22 @@ seed=${4:-1016}
 for tool in python3 g++; do
     command -v "$tool" > /dev/null || { echo "bench/workers: the command $tool is missing" >&2; exit 1; }
 done
-[ -e /usr/include/dds/dll.h ] || { echo 'bench/workers: the package libdds-dev is missing' >&2; exit 1; }
 work=$(mktemp -d)
 trap 'rm -rf "$work"' EXIT
-g++ -O2 -o "$work/scores" "$here/dds.cpp" -ldds
-g++ -O2 -o "$work/tables" "$here/dds_tables.cpp" -ldds
-"$top/ddserve" solve < /dev/null
+peer=${DDS_PEER:-$work/peer}
+bash "$top/bench/dds/peer.sh" "$peer"
+for kind in scores tables; do
+    source=$here/dds.cpp
+    [ "$kind" = scores ] || source=$here/dds_tables.cpp
+    g++ -O3 -march=x86-64-v3 -flto=auto -pthread -I"$peer/include" -o "$work/$kind" "$source" "$peer/libdds.a"
+done
+"${DDSERVE:-$top/ddserve}" solve < /dev/null
 python3 "$top/bench/tools/deals.py" 13 "$deals" --seed "$seed" --requests > "$work/scores.jsonl"
 python3 "$top/bench/tools/deals.py" 13 "$tables" --seed "$seed" --requests \
     | sed 's/"do":"solve"/"do":"table"/; s/,"trump".*}$/}/' > "$work/tables.jsonl"
 
-python3 - "$runs" "$top/crates/ddserve/out/ddserve" "$work" <<'PY'
+python3 - "$runs" "${DDSERVE:-$top/crates/ddserve/out/ddserve}" "$work" <<'PY'
+import concurrent.futures
 import os
 import subprocess
 import sys
@@ -35,8 +41,22 @@ runs, ours, work = int(sys.argv[1]), sys.argv[2], sys.argv[3]
 differing = 0
 
 
+# Seconds of so many processes, each with each so manyth line, and their replies in the lines' order.
+def run_apart(count, lines):
+    rows = lines.splitlines(keepends=True)
+    start = time.monotonic()
+    processes = [subprocess.Popen([ours, "solve"], stdin=subprocess.PIPE, stdout=subprocess.PIPE, text=True) for _ in range(count)]
+    with concurrent.futures.ThreadPoolExecutor(count) as pool:
+        told = list(pool.map(lambda place: processes[place].communicate("".join(rows[place::count]))[0], range(count)))
+    taken = time.monotonic() - start
+    shares = [text.splitlines(keepends=True) for text in told]
+    return taken, "".join(shares[place % count][place // count] for place in range(len(rows)))
+
+
 # Seconds: of our program with its start, of DDS its one call.
 def run(name, kind, count, lines):
+    if name == "apart":
+        return run_apart(count, lines)
     command = [ours, "solve", "--workers", str(count)] if name == "ddserve" else [f"{work}/{kind}", str(count)]
     start = time.monotonic()
     done = subprocess.run(command, input=lines, capture_output=True, text=True)
@@ -57,16 +77,17 @@ for kind in ("scores", "tables"):
     replies, least = None, {}
     for _ in range(runs):
         for count in (1, 2, 4):
-            for name in ("ddserve", "DDS"):
+            for name in ("ddserve", "apart", "DDS"):
                 taken, told = run(name, kind, count, lines)
                 replies = replies or told
                 differing += told != replies
                 least[name, count] = min(least.get((name, count), taken), taken)
     print(f"{kind} of {lines.count(chr(10))} full deals, least of {runs} runs, {os.cpu_count()} processors, load {os.getloadavg()[0]:.1f}")
-    print("threads  ddserve s  speed-up    DDS s  speed-up  ddserve/DDS")
+    print("threads  ddserve s  speed-up  processes s  speed-up    DDS s  speed-up  ddserve/DDS")
     for count in (1, 2, 4):
-        a, b = least["ddserve", count], least["DDS", count]
-        print(f"{count:7}  {a:9.2f}  {least['ddserve', 1] / a:8.2f}  {b:7.2f}  {least['DDS', 1] / b:8.2f}  {a / b:11.2f}")
-print(f"{differing} of {runs * 12} runs with other replies")
+        a, b, c = (least[name, count] for name in ("ddserve", "apart", "DDS"))
+        ups = [least[name, 1] / least[name, count] for name in ("ddserve", "apart", "DDS")]
+        print(f"{count:7}  {a:9.2f}  {ups[0]:8.2f}  {b:11.2f}  {ups[1]:8.2f}  {c:7.2f}  {ups[2]:8.2f}  {a / c:11.2f}")
+print(f"{differing} of {runs * 18} runs with other replies")
 sys.exit(1 if differing else 0)
 PY

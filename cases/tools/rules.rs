@@ -12,7 +12,7 @@ mod deals;
 use deals::{Chance, Played, code, dealt_anew, random_deal, start, turned, written};
 use search::quick::{ALL, CROSSING, JOINT_TRUMPS, LATER_TRICK, LONG_SUITS, LOWER_TRUMPS, PARTNERS_LONG_SUITS, RUNS};
 use search::quick::{against_leader, for_leader, for_second_hand, others as other_seats};
-use search::quick::{AT_THIRD_HAND, CROSSES_WITHOUT_A_CARD, LONG_BEFORE_THE_LEADER, LONG_BEFORE_THE_OPPONENTS};
+use search::quick::{CROSSES_WITHOUT_A_CARD, LONG_BEFORE_THE_LEADER, LONG_BEFORE_THE_OPPONENTS};
 use search::quick::{A_ROUND_FOR_EACH_TRICK, ROUNDS_OF_THE_SHORTER};
 use search::quick::{CROSSING_WITHOUT_TRUMPS, NOBODY_HAS_FOLLOWED, NOBODY_RUFFS_THE_PARTNER};
 use search::quick::{KEEPS_EACH_WINNER, KEEPS_OVER_THE_SHORTER, KEPT_WINNERS};
@@ -198,8 +198,17 @@ fn is_trump(position: &Position, card: Card) -> bool {
     position.strain == Strain::Trump(card.suit)
 }
 
+// What second hand takes after the lead on the trick: counted in the position before it, with all cards of the trick put back.
+fn after_lead<const RULES: u32>(position: &Position, need: u8) -> Option<u64> {
+    let mut hands = position.hands;
+    for (place, card) in position.trick[..position.played as usize].iter().enumerate() {
+        hands[(position.first as usize + place) % 4] |= 1 << card.place();
+    }
+    for_second_hand::<RULES>(&start(hands, position.strain, position.first), position.trick[0].suit, need)
+}
+
 fn side_suit_led<const RULES: u32>(position: &Position, need: u8) -> Option<u64> {
-    if is_trump(position, position.trick[0]) { None } else { for_second_hand::<RULES>(position, need) }
+    if is_trump(position, position.trick[0]) { None } else { after_lead::<RULES>(position, need) }
 }
 
 // Only what second hand's own tricks don't answer.
@@ -211,13 +220,13 @@ fn second_crossed<const RULES: u32>(position: &Position, need: u8) -> Option<u64
 }
 
 fn trump_led<const RULES: u32>(position: &Position, need: u8) -> Option<u64> {
-    if is_trump(position, position.trick[0]) { for_second_hand::<RULES>(position, need) } else { None }
+    if is_trump(position, position.trick[0]) { after_lead::<RULES>(position, need) } else { None }
 }
 
 // Where second hand has not followed suit: so it is fourth hand that has the highest card of it.
 fn third_hand(position: &Position, need: u8) -> Option<u64> {
     let [led, second, _] = position.trick;
-    if led.suit == second.suit { None } else { for_second_hand::<{ ALL | AT_THIRD_HAND }>(position, need) }
+    if led.suit == second.suit { None } else { after_lead::<ALL>(position, need) }
 }
 
 // ------------------------------------------------------------------ positions

@@ -2,8 +2,8 @@
 //!
 //! KIND `done`: each client sends one request, fetches its job until it is done, and goes on with the next. `wait`: the same in one
 //! line, whose reply waits for the job's end. `submit`: it sends submits alone, each after the reply to the last. `deals`: the
-//! clients take the lines in turn, submit theirs at once, up to 64, and fetch each until it is done; the answers go to the standard
-//! output, as the line tool writes them, in the lines' order.
+//! clients take the lines in turn, submit theirs at once, up to 64, and fetch each by a line that waits; the answers go to the
+//! standard output, as the line tool writes them, in the lines' order.
 //! REQUESTS is the number of all clients together. On the standard error: nanoseconds, requests, fetches, refused submits, and the
 //! median and the greatest nanoseconds of one request.
 use std::io::{BufRead, BufReader, Read, Write};
@@ -53,9 +53,9 @@ impl Client {
         reply.strip_prefix("{\"job\":")?.strip_suffix('}')?.parse().ok()
     }
 
-    /// The reply to the last fetch.
-    fn until_done(&mut self, job: u64, mut pause: Duration) -> String {
-        let line = format!("{{\"do\":\"fetch\",\"job\":{job}}}\n");
+    /// The answer of a job, by fetches that wait so many milliseconds, with pauses between them.
+    fn until_done(&mut self, job: u64, wait: u64, mut pause: Duration) -> String {
+        let line = format!("{{\"do\":\"fetch\",\"job\":{job},\"wait\":{wait}}}\n");
         let open = [format!("{{\"job\":{job},\"state\":\"waiting\"}}"), format!("{{\"job\":{job},\"state\":\"running\"}}")];
         loop {
             self.fetches += 1;
@@ -92,7 +92,7 @@ fn main() {
                         for piece in own.chunks(64) {
                             let jobs: Vec<u64> = piece.iter().map(|&number| Client::job(client.ask(&lines[number])).expect("no job")).collect();
                             for (&number, job) in piece.iter().zip(jobs) {
-                                answers.push((number, client.until_done(job, GREATEST_PAUSE)));
+                                answers.push((number, client.until_done(job, 60_000, Duration::ZERO)));
                             }
                         }
                     } else {
@@ -104,7 +104,7 @@ fn main() {
                                 continue;
                             }
                             match Client::job(client.ask(&lines[number % lines.len()])) {
-                                Some(job) if kind == "done" => drop(client.until_done(job, PAUSE)),
+                                Some(job) if kind == "done" => drop(client.until_done(job, 0, PAUSE)),
                                 Some(_) => {}
                                 None => client.refused += 1,
                             }

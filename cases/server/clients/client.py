@@ -1,8 +1,9 @@
 """The built program as a process, and its clients: by lines over TCP, and by the frames of a WebSocket, written by hand.
 
 What a journal holds follows from what the clients were replied: `is_event` says which replies are to a call of the book. Each
-solve job that is done adds a claim and a finish, each table twenty of both, and each worker a last claim that finds the book
-shut. Each job that is open when its connection ends adds a cancel."""
+solve job that is done adds a claim and a finish, each table twenty of both, each play one of both for each of its numbers but
+that after the last card, and each worker a last claim that finds the book shut. Each job that is open when its connection ends
+adds a cancel."""
 import atexit
 import base64
 import os
@@ -21,7 +22,7 @@ ONE_CARD_REPLY = '{"cards":[{"equals":0,"rank":14,"score":1,"suit":0}]}'
 STOP = '{"do":"stop"}'
 CLOSING = '{"closing":true}'
 # The faults of lines that made no call of the book, and of calls that left no event.
-NO_EVENT = {f'{{"fault":{number}}}' for number in (*range(1, 13), 15, *range(19, 24))}
+NO_EVENT = {f'{{"fault":{number}}}' for number in (*range(1, 13), 15, *range(19, 28))}
 
 
 def is_event(reply):
@@ -42,13 +43,18 @@ def recorded(name, count=None):
 
 def done(expected, job):
     """The reply to a fetch of a job that is done, where the line tool replies so to its request."""
-    if expected.startswith('{"table"'):
+    if expected.startswith(('{"table"', '{"tricks"')):
         return f'{{"job":{job},"state":"done",{expected[1:]}'
     return f'{expected[:-1]},"job":{job},"state":"done"}}'
 
 
 def fetch(job):
     return f'{{"do":"fetch","job":{job}}}'
+
+
+def waiting(line, wait=60_000):
+    """The line with a wait."""
+    return f'{line[:-1]},"wait":{wait}}}'
 
 
 def cancel(job):
@@ -62,6 +68,15 @@ def state(job, name):
 def is_open(reply, job):
     """The job waits or runs."""
     return reply in (state(job, "waiting"), state(job, "running"))
+
+
+def full_deal(drawn):
+    """A deal of all cards, by a random generator."""
+    pack = list(range(52))
+    drawn.shuffle(pack)
+    hands = [sorted(pack[13 * seat:13 * seat + 13], reverse=True) for seat in range(4)]
+    suits = [[[card % 13 for card in hand if card // 13 == suit] for suit in range(4)] for hand in hands]
+    return "N:" + " ".join(".".join("".join("23456789TJQKA"[rank] for rank in suit) for suit in hand) for hand in suits)
 
 
 def number_of(reply):
@@ -104,10 +119,24 @@ class Server:
     def stream(self, timeout=60):
         return socket.create_connection(("127.0.0.1", self.port), timeout=timeout)
 
-    def resident(self):
-        """The memory in use, in MB."""
+    def resident(self, which="VmRSS"):
+        """The memory in use, in MB; of `VmHWM` the most that ever was."""
         with open(f"/proc/{self.process.pid}/status") as file:
-            return int(re.search(r"VmRSS:\s+(\d+) kB", file.read()).group(1)) / 1024
+            return int(re.search(rf"{which}:\s+(\d+) kB", file.read()).group(1)) / 1024
+
+    def descriptors(self):
+        return len(os.listdir(f"/proc/{self.process.pid}/fd"))
+
+    def threads(self):
+        return os.listdir(f"/proc/{self.process.pid}/task")
+
+    def switches(self):
+        """How often the threads that are there have waited."""
+        total = 0
+        for thread in self.threads():
+            with open(f"/proc/{self.process.pid}/task/{thread}/status") as file:
+                total += sum(int(line.split()[1]) for line in file if line.startswith("voluntary_ctxt_switches"))
+        return total
 
     def runs(self):
         return self.process.poll() is None

@@ -239,11 +239,12 @@ def broken_lines(account, server):
 def silent(server, websocket):
     """Those who say nothing, or stop in the midst of a line, a handshake or a frame."""
     parts = [b"", b"", b"GET / HT", b"\x81\xff"] if websocket else [b"", b'{"do":"fet', b" "]
-    streams = [server.stream(120) for _ in range(IDLE - 50)]
-    for place, stream in enumerate(streams):
+    streams = []
+    for place in range(IDLE - 50):
+        streams.append(server.stream(120))
         if websocket and place % 2:
-            Frames(stream)
-        stream.sendall(parts[place % len(parts)])
+            Frames(streams[-1])
+        streams[-1].sendall(parts[place % len(parts)])
     return streams
 
 

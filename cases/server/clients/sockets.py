@@ -1,6 +1,7 @@
 """Clients over WebSockets: Python's package `websockets`, and frames written by hand."""
 import asyncio
 import socket
+import struct
 import sys
 import time
 import websockets
@@ -73,11 +74,10 @@ class Work:
         await self.origin()
 
 
-def ends(what, connection):
-    """The connection ends with no further reply, whether by a close frame or without."""
+def ends(what, connection, code=None):
+    """The connection ends with no further reply, by a close frame with this code or without one."""
     frame = connection.receive()
-    if frame and frame[0] != Frames.CLOSE:
-        sys.exit(f"cases/server: {what}: {frame} in place of the end")
+    check(what, frame, (Frames.CLOSE, struct.pack(">H", code)) if code else None)
     connection.close()
 
 
@@ -100,17 +100,17 @@ def frames(server):
     connection.send(Frames.CLOSE, b"\x03\xe8bye")
     check("the close", connection.receive(), (Frames.CLOSE, b"\x03\xe8bye"))
     ends("after the close", connection)
-    for what, frame in [
-        ("65,537 bytes", Frames.frame(Frames.TEXT, b" " * (LONGEST_MESSAGE + 1))), ("a text that is no UTF-8", Frames.frame(Frames.TEXT, b"a\xff")),
-        ("an unmasked frame", b"\x81\x02{}"), ("fragments past 65,536 bytes", b"".join(Frames.frame(Frames.TEXT if n == 0 else 0, b" " * 1_000, last=False) for n in range(70))),
-        ("a fragment of nothing", Frames.frame(0, b"x")), ("a kind of frame that is none", Frames.frame(3, b"{}")),
+    for what, frame, code in [
+        ("65,537 bytes", Frames.frame(Frames.TEXT, b" " * (LONGEST_MESSAGE + 1)), 1009), ("a text that is no UTF-8", Frames.frame(Frames.TEXT, b"a\xff"), 1007),
+        ("an unmasked frame", b"\x81\x02{}", 1002), ("fragments past 65,536 bytes", b"".join(Frames.frame(Frames.TEXT if n == 0 else 0, b" " * 1_000, last=False) for n in range(70)), 1009),
+        ("a fragment of nothing", Frames.frame(0, b"x"), 1002), ("a kind of frame that is none", Frames.frame(3, b"{}"), 1002), ("reserved bits", b"\xc1\x80\0\0\0\0", 1002),
     ]:
         connection = Frames(server.stream())
         try:
             connection.stream.sendall(frame)
         except ConnectionError:
             pass
-        ends(what, connection)
+        ends(what, connection, code)
     connection = Frames(server.stream())
     connection.stream.sendall(Frames.frame(Frames.TEXT, b" " * 200)[:50])
     connection.stream.shutdown(socket.SHUT_WR)

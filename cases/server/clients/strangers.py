@@ -1,13 +1,15 @@
-"""What a stranger can do to a server, each with its end. Words: which of `page`, `slow`, `handshakes`.
+"""What a stranger can do to a server, each with its end. Words: which of `page`, `slow`, `handshakes`, `answers`, `idle`, `silent`.
 
 A page of the web sends a request of HTTP whose body is a `stop`: it is told nothing, and nothing stops. A client that takes 1,500
 bytes of its replies each ten seconds doesn't hold a stop up. Clients that don't shake hands to the end are cut off, and hold no
-descriptor."""
+descriptor. So are those that send nothing, unless a job of theirs is open. A
+handshake that fails has its answer of HTTP."""
+import random
 import socket
 import sys
 import threading
 import time
-from client import CLOSING, STOP, Frames, Server, check, fetch
+from client import CLOSING, STOP, Frames, Server, check, fetch, state
 
 # What Chromium sends for `fetch(url, {method: "POST", mode: "no-cors", body: '{"do":"stop"}\n'})`.
 PAGE = (
@@ -20,6 +22,8 @@ STOP_WAIT = 15
 # The seconds that a client has to shake hands, and some for a busy machine.
 HANDSHAKE_WAIT, MORE = 10, 5
 LINES = 2_000_000
+# The seconds that a client may be silent here, and how many silent ones come to a server with few descriptors.
+IDLE, DESCRIPTORS, SILENT = 2, 64, 100
 
 
 def told(stream):
@@ -117,5 +121,100 @@ def handshakes():
     print(f"handshakes: who shakes no hands is cut off after {taken:.1f} seconds")
 
 
-for word in sys.argv[1:] or ["page", "slow", "handshakes"]:
-    {"page": page, "slow": slow, "handshakes": handshakes}[word]()
+# The headers of a handshake, each with what the answer begins with where it is left out.
+HEADERS = [
+    ("Host: 127.0.0.1", 400), ("Connection: Upgrade", 426), ("Upgrade: websocket", 426), ("Sec-WebSocket-Version: 13", 426),
+    ("Sec-WebSocket-Key: dGhlIHNhbXBsZSBub25jZQ==", 400),
+]
+REASONS = {101: b"Switching Protocols", 400: b"Bad Request", 426: b"Upgrade Required"}
+
+
+def answers():
+    server = Server("--allow-stop", "--websocket", workers=1)
+    whole = [header for header, _ in HEADERS]
+
+    def answer(line, headers, body=b""):
+        with server.stream() as stream:
+            stream.sendall("".join(f"{part}\r\n" for part in [line, *headers, ""]).encode() + body)
+            stream.shutdown(socket.SHUT_WR)
+            return told(stream)
+
+    def begins(what, found, status):
+        check(what, found.split(b"\r\n")[0], b"HTTP/1.1 %d %s" % (status, REASONS[status]))
+
+    begins("a handshake", answer("GET / HTTP/1.1", whole), 101)
+    for header, status in HEADERS:
+        found = answer("GET / HTTP/1.1", [other for other in whole if other != header])
+        begins(f"without {header}", found, status)
+        check(f"the version that is wanted without {header}", b"\r\nSec-WebSocket-Version: 13\r\n" in found, status == 426)
+    for what, line, headers, body, status in [
+        ("two keys", "GET / HTTP/1.1", [*whole, HEADERS[4][0]], b"", 400), ("two hosts", "GET / HTTP/1.1", [*whole, "Host: b"], b"", 400),
+        ("a key that is none", "GET / HTTP/1.1", [*whole[:4], "Sec-WebSocket-Key: abc"], b"", 400), ("version 8", "GET / HTTP/1.1", [*whole[:3], "Sec-WebSocket-Version: 8", whole[4]], b"", 426),
+        ("a page that is asked for", "GET /index.html HTTP/1.1", ["Host: 127.0.0.1", "Accept: */*"], b"", 426), ("a POST", "POST / HTTP/1.1", ["Host: 127.0.0.1", "Content-Length: 14"], STOP.encode() + b"\n", 400),
+        ("a line", fetch(1), [], b"", 400), ("a large body", "POST / HTTP/1.1", ["Host: 127.0.0.1", "Content-Length: 100000"], b"x" * 100_000, 400),
+    ]:
+        begins(what, answer(line, headers, body), status)
+    honest = Frames(server.stream())
+    check("a fetch later", honest.ask(fetch(1)), '{"fault":16}')
+    check("a stop", honest.ask(STOP), CLOSING)
+    server.end_after(1 + 1)
+    print("answers: a handshake that fails is told 400, and 426 where it is no upgrade")
+
+
+def tables(seed):
+    """64 requests for the results of deals by chance, as many as a client may have open."""
+    chance = random.Random(seed)
+    for _ in range(64):
+        cards = [(suit, rank) for suit in range(4) for rank in "AKQJT98765432"]
+        chance.shuffle(cards)
+        hands = [".".join("".join(rank for of, rank in cards[seat::4] if of == suit) for suit in range(4)) for seat in range(4)]
+        yield f'{{"do":"table","deal":"N:{" ".join(hands)}"}}'
+
+
+def idle(websocket):
+    server = Server("--allow-stop", "--idle", str(IDLE), *(["--websocket"] if websocket else []), workers=1)
+
+    def connect():
+        return Frames(server.stream()) if websocket else server.connect()
+
+    # Clients whose jobs take one worker longer than all this takes.
+    busy = [connect() for _ in range(3)]
+    for place, client in enumerate(busy):
+        for job, request in enumerate(tables(place), 1 + 64 * place):
+            check("a submit", client.ask(request), f'{{"job":{job}}}')
+    since = time.monotonic()
+    never, once, begun = connect(), connect(), connect()
+    check("a fetch", once.ask(fetch(0)), '{"fault":16}')
+    begun.stream.sendall(b'{"do":' if not websocket else Frames.frame(Frames.TEXT, b"{}")[:3])
+    for silent in (never, once, begun):
+        check("a silent client", told(silent.stream), b"")
+    taken = time.monotonic() - since
+    check(f"silent clients are cut off after {taken:.1f} seconds", IDLE - 0.5 < taken < IDLE + MORE, True)
+    time.sleep(2 * IDLE)
+    for place, client in enumerate(busy, 1):
+        check("a silent client with open jobs", client.ask(fetch(64 * place)), state(64 * place, "waiting"))
+    check("a stop", busy[0].ask(STOP), CLOSING)
+    _, status, said = server.end()
+    check("the end", (status, said), (0, ""))
+    print(f"idle {'WebSockets' if websocket else 'lines'}: who sends nothing is cut off after {taken:.1f} seconds, and who waits for a job isn't")
+
+
+def silent():
+    server = Server("--allow-stop", "--idle", str(IDLE), workers=1, descriptors=DESCRIPTORS)
+    streams = [server.stream() for _ in range(SILENT)]
+    since = time.monotonic()
+    client = server.connect()
+    check("a fetch beside silent clients", client.ask(fetch(1)), '{"fault":16}')
+    taken = time.monotonic() - since
+    # Those that found no descriptor have their time from when they got one.
+    check(f"it was answered after {taken:.1f} seconds", taken < 2 * IDLE + MORE, True)
+    check("a stop", client.ask(STOP), CLOSING)
+    server.end_after(1 + 1)
+    for stream in streams:
+        stream.close()
+    print(f"silent: beside {SILENT} silent clients and {DESCRIPTORS} descriptors a client is served after {taken:.1f} seconds")
+
+
+kinds = {"page": page, "slow": slow, "handshakes": handshakes, "answers": answers, "idle": lambda: [idle(websocket) for websocket in (False, True)], "silent": silent}
+for word in sys.argv[1:] or kinds:
+    kinds[word]()

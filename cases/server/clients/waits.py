@@ -1,15 +1,16 @@
-"""Clients whose replies wait for the end of their jobs."""
+"""Clients whose replies wait for the end of their jobs. Words: which of `round_trip`, `time_over`, `crowd`, `herd`, `filled`, `stopped`,
+`hangs` (all but the last, which takes a minute)."""
+import random
+import sys
 import threading
 import time
-from client import CLOSING, ONE_CARD, ONE_CARD_REPLY, STOP, Server, check, done, fetch, more_descriptors, number_of, recorded, state
+from client import CLOSING, ONE_CARD, ONE_CARD_REPLY, STOP, Server, check, done, fetch, full_deal, more_descriptors, number_of, recorded, state, waiting
 
 CLIENTS = 200
 JOBS_EACH = 10
-
-
-def waiting(line, wait=60_000):
-    """The line with a wait."""
-    return f'{line[:-1]},"wait":{wait}}}'
+SLEEPERS = 1_000
+# The longest wait, and what a busy machine adds.
+LONGEST, MORE = 60, 5
 
 
 def round_trip():
@@ -74,6 +75,77 @@ def crowd():
     print(f"a crowd: {CLIENTS} clients with {JOBS_EACH} requests each, four events a request")
 
 
+def herd():
+    """The end of a job wakes who waits for it, and not all who wait: one bell for all would wake each of the sleepers that are left."""
+    server = Server("--allow-stop", workers=1)
+    holders = [server.connect() for _ in range(10)]
+    clients = [server.connect() for _ in range(SLEEPERS)]
+    # Who was never served comes first, in the order of the jobs: the one worker has these before it.
+    for holder, (request, _) in zip(holders, recorded("full")[20:]):
+        number_of(holder.ask(request))
+    for client in clients:
+        client.send(waiting(ONE_CARD))
+    time.sleep(0.1)
+    before = server.switches()
+    for client in clients:
+        check("an answer", client.line().partition(',"job"')[0] + "}", ONE_CARD_REPLY)
+    each = (server.switches() - before) / SLEEPERS
+    check(f"{each:.1f} times a thread waited for each job", each < 10, True)
+    check("a stop", clients[0].ask(STOP), CLOSING)
+    _, status, said = server.end()
+    check("the end", (status, said), (0, ""))
+    print(f"no herd: {SLEEPERS} clients wait at once, and for each end of a job threads of the program wait {each:.1f} times; with one bell for all it were {SLEEPERS // 2} times at least")
+
+
+def table(drawn):
+    """A table of a full deal that no other client asks for."""
+    return f'{{"do":"table","deal":"{full_deal(drawn)}"}}'
+
+
+def filled():
+    """The event that fills the journal wakes who waits. No fetch has room, so the submit's reply is told."""
+    events, drawn = 1_024, random.Random(3)
+    server = Server("--allow-stop", "--events", str(events), workers=1)
+    clients, filler = [server.connect() for _ in range(20)], server.connect()
+    for client in clients:
+        client.send(waiting(table(drawn)))
+    time.sleep(0.1)
+    since = time.monotonic()
+    filler.send(*[fetch(0)] * events)
+    check("the last fetch", [filler.line() for _ in range(events)][-1], '{"fault":15}')
+    for client in clients:
+        told = client.line()
+        check("who waited", number_of(told) > 0 if told.startswith('{"job"') else '"done"' in told, True)
+    taken = time.monotonic() - since
+    check(f"a full journal wakes all within {taken:.2f} s", taken < 5, True)
+    check("a stop", filler.ask(STOP), '{"fault":15}')
+    check("the end", server.end(), (events, 0, ""))
+    print(f"a full journal wakes {len(clients)} clients that wait, {taken:.2f} s after it began to be filled")
+
+
+def hangs():
+    """A client that hangs up while its reply waits is noticed when the longest wait is over."""
+    drawn = random.Random(4)
+    server = Server("--allow-stop", workers=1)
+    before = server.descriptors()
+    others, gone = [server.connect() for _ in range(12)], server.connect()
+    for client in (*others, gone):
+        client.send(*[table(drawn) for _ in range(64)])
+        jobs = [number_of(client.line()) for _ in range(64)]
+    gone.send(waiting(fetch(jobs[-1])))
+    time.sleep(0.1)
+    since = time.monotonic()
+    gone.close()
+    while server.descriptors() > before + len(others) and time.monotonic() - since < LONGEST + MORE:
+        time.sleep(0.1)
+    taken = time.monotonic() - since
+    check(f"who has hung up is noticed after {taken:.1f} s", taken < LONGEST + MORE, True)
+    check("a stop", others[0].ask(STOP), CLOSING)
+    _, status, said = server.end()
+    check("the end", (status, said), (0, ""))
+    print(f"who hangs up while it waits is noticed after {taken:.1f} s, and its descriptor is free")
+
+
 def stopped():
     """A stop wakes who waits, and one who has hung up meanwhile holds nothing up."""
     server = Server("--allow-stop", workers=1)
@@ -100,7 +172,6 @@ def stopped():
 
 
 more_descriptors()
-round_trip()
-time_over()
-crowd()
-stopped()
+kinds = {"round_trip": round_trip, "time_over": time_over, "crowd": crowd, "herd": herd, "filled": filled, "stopped": stopped, "hangs": hangs}
+for kind in sys.argv[1:] or list(kinds)[:-1]:
+    kinds[kind]()

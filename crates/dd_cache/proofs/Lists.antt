@@ -1,5 +1,5 @@
 -- elements of lists that were changed
-use Rattle.std.proofs.Common.{◌≡◌, ℕ, ◌<◌, List, ◌++◌, length, take, drop, set, get_or, length-set, get_or-set_same, get_or-set_other, sym, ap, ◌∙◌, inl, inr, ◌⊎◌, arith}
+use Rattle.std.proofs.Common.{◌≡◌, ℕ, zero, suc, ◌<◌, List, [], ◌∷◌, ◌++◌, length, take, drop, set, get_or, length-set, get_or-set_same, get_or-set_other, sym, ap, ◌∙◌, inl, inr, ◌⊎◌, arith}
 use Rattle.std.specs.List.{Contains, refill}
 use Rattle.std.proofs.Math.Seq.{take-append_seam}
 use Rattle.std.proofs.lemmas.Bool.Decides.{eqb_tells}
@@ -20,3 +20,21 @@ set-has xs i x t (k, within, here) = elim (eqb_tells k i) [
     sym (get_or-set_other xs i k x t apart.1) ∙ here,
   )
 ]
+
+-- an element of a list is its first or one of the rest
+first-or-rest : {X : Type 0} (x t : X) (xs : List X) → Contains (x ∷ xs) t → (x ≡ t) ⊎ Contains xs t
+first-or-rest {X = X} x t xs has = go has.0 has.1 has.2
+  where
+    go : (k : ℕ) → k < length (x ∷ xs) → get_or (x ∷ xs) k t ≡ t → (x ≡ t) ⊎ Contains xs t
+    go zero within here = inl here
+    go (suc k) within here = inr (k, omega (arith, within), here)
+
+-- each of a list's elements is this one
+abbrev pub AllAre : {X : Type 0} → X → List X → Type 0
+AllAre f [] = Unit {0}
+AllAre f (x ∷ xs) = (x ≡ f) × AllAre f xs
+
+-- so no other is in it
+pub only-that : {X : Type 0} (f t : X) (xs : List X) → AllAre f xs → Contains xs t → f ≡ t
+only-that f t [] all has = absurd (let within = has.1 in omega (arith, within))
+only-that f t (x ∷ xs) all has = elim (first-or-rest x t xs has) [ inl here ↦ sym all.0 ∙ here | inr rest ↦ only-that f t xs all.1 rest ]

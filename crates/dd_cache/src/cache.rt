@@ -10,11 +10,11 @@ ghost use Rattle.dd_rank.specs.FirstOwners.{AreFirst};
 ghost use Rattle.dd_rank.specs.Strings.{shape_in, strings_of};
 ghost use Rattle.dd_cache.specs.StoredBounds.{StoredBoundsOf, IsSound};
 
-use crate::head::Head;
 use crate::page::Page;
+use crate::settling_lead::{MOST_DEALS, SettlingLead};
 use crate::stored_bounds::StoredBounds;
 use dd_cards::{Seat, Suit};
-use dd_play::{Interval, TrickStart};
+use dd_play::{Interval, Position, TrickStart};
 use dd_rank::{Depths, FirstOwners, OwnerStrings, Shape, alike_strings, covered_positions};
 use dd_search::{Bounds, LeadHistory, ProbeHint};
 use std::alloc::{AllocError, Global};
@@ -30,8 +30,8 @@ const WORTH_SHARING: u8 = 10;
 // With so many tricks left a value is kept: what one trick gives is played in less time than a table takes.
 const WORTH_KEEPING: u8 = 2;
 
-// So many deals have numbers of their own: an entry has four for each.
-const MOST_DEALS: u16 = 16_383;
+// A leader with 0 to 13 tricks left.
+const LEADERS: usize = 56;
 
 // So many pages at most are looked at in one place.
 const MOST_PAGES: usize = 64;
@@ -42,17 +42,17 @@ pub struct Cache<B> {
     behind: B,
     // by place the number of its newest page
     newest: Vec<u32>,
-    // by place in the ring, of each page one
-    heads: Vec<Head>,
+    // by place in the ring
     pages: Vec<Page>,
     // the number of the next page; the first one has the number PAGES
     next: u32,
-    // the suits of leads that settled starts of a trick lately, each with the number of its deal: by place of their shapes, and of
-    // their outlines
-    of_shapes: Vec<u16>,
-    of_outlines: Vec<u16>,
+    // the lead that settled the start of which bounds are noted next: it goes onto a page of the shape
+    settled: SettlingLead,
+    // leads that settled starts of a trick lately, by place of their outlines, and by leader and number of tricks
+    of_outlines: Vec<SettlingLead>,
+    of_leaders: [SettlingLead; LEADERS],
     // the number of the deal of which the last look was, from 1 on
-    generation: u16,
+    generation: u8,
     // the deal of which the last look was
     deal: Deal,
 }
@@ -69,19 +69,17 @@ impl<B: Drop> Cache<B> {
     /// A cache that has learned nothing, before this table. All its memory is taken here. The error says that there is
     /// none.
     pub fn new(alloc: Global, behind: B) -> Result<Cache<B>, AllocError> {
-        let heads = Vec::with_capacity(alloc, PAGES as usize)?;
         let pages = Vec::with_capacity(alloc, PAGES as usize)?;
         let newest = vec![in alloc; 0; PLACES]?;
-        let of_shapes = vec![in alloc; 0; PLACES]?;
-        let of_outlines = vec![in alloc; 0; PLACES]?;
+        let of_outlines = vec![in alloc; SettlingLead::none(); PLACES]?;
         Ok(Cache {
             behind,
             newest,
-            heads,
             pages,
             next: PAGES,
-            of_shapes,
+            settled: SettlingLead::none(),
             of_outlines,
+            of_leaders: [SettlingLead::none(); LEADERS],
             generation: 1,
             deal: Deal {
                 strain: 0,
@@ -118,8 +116,8 @@ impl<B> Cache<B> {
             self.generation += 1;
         } else {
             self.generation = 1;
-            self.of_shapes.fill(0);
-            self.of_outlines.fill(0);
+            self.of_outlines.fill(SettlingLead::none());
+            self.of_leaders = [SettlingLead::none(); LEADERS];
         }
     }
 
@@ -133,13 +131,41 @@ impl<B> Cache<B> {
         }
     }
 
-    // Has the page of this number the tag?
+    // Is the page of this number one of the shape?
     #[inline]
-    fn is_tagged(&self, number: u32, tag: u32) -> bool {
-        match self.heads.get((number % PAGES) as usize) {
-            Some(head) => head.has(tag),
+    fn has_shape(&self, number: u32, shape: Shape) -> bool {
+        match self.pages.get((number % PAGES) as usize) {
+            Some(page) => page.shape() == shape,
             None => false,
         }
+    }
+
+    // The number of the newest page of the shape's place.
+    #[inline]
+    fn newest_of(&self, shape: Shape) -> u32 {
+        match self.newest.get(place(shape.hash_code())) {
+            Some(newest) => *newest,
+            None => 0,
+        }
+    }
+
+    // The lead that last settled a start of the shape, as far as its place's newest page knows: the look before has read it.
+    #[inline]
+    fn lead_of_shape(&self, shape: Shape) -> Option<Suit> {
+        let at = self.ring_place(self.newest_of(shape))?;
+        let page = self.pages.get(at)?;
+        if page.shape() == shape {
+            page.lead().in_deal(self.generation)
+        } else {
+            None
+        }
+    }
+
+    // The lead that last settled a start of an outline with this number.
+    #[inline]
+    fn lead_of_outline(&self, number: u64) -> Option<Suit> {
+        let lead = *self.of_outlines.get(place(number))?;
+        lead.in_deal(self.generation)
     }
 
     // What settles the question of the position with these strings.
@@ -155,18 +181,16 @@ impl<B> Cache<B> {
         let mut place = first;
         for _ in 0..MOST_PAGES {
             let at = self.ring_place(place.number)?;
-            let head = self.heads.get(at)?;
-            if place.is_tagged {
-                let likely = head.likely(signature);
-                let page = self.pages.get(at)?;
-                if likely != 0 && page.shape() == shape {
-                    if let Some(told) = page.settle(likely, strings, need) {
-                        return Some((told.interval, told.firsts.depths()));
-                    }
+            let page = self.pages.get(at)?;
+            if place.has_shape && page.shape() == shape {
+                if let Some(told) = page.settle(signature, strings, need) {
+                    return Some((told.interval, told.firsts.depths()));
                 }
             }
-            place.number = head.before();
-            place.is_tagged = self.is_tagged(place.number, place.tag);
+            place = ProbeHint {
+                number: page.before(),
+                has_shape: true,
+            };
         }
         None
     }
@@ -193,49 +217,39 @@ impl<B> Cache<B> {
         self.keep(strings.shape(), StoredBounds { firsts, interval });
     }
 
-    // Keeps bounds of a shape: on the newest page of the shape, or on a new page.
+    // Keeps bounds of a shape: on the newest page of the shape, or on a new page. So with the lead that settled the start.
     fn keep(&mut self, shape: Shape, new: StoredBounds)
         requires { IsSound shape new }
     {
-        let hash = shape.hash_code();
-        let signature = new.firsts.signature();
-        let Some(newest) = self.newest.get_mut(place(hash)) else {
+        let mut lead = self.settled;
+        self.settled = SettlingLead::none();
+        let Some(newest) = self.newest.get_mut(place(shape.hash_code())) else {
             return;
         };
         let number = *newest;
         let at = (number % PAGES) as usize;
         let new = match self.pages.get_mut(at) {
             Some(page) if self.next.wrapping_sub(number) <= PAGES && page.shape() == shape => {
+                page.remember(lead);
+                lead = page.lead();
                 match page.keep(new) {
-                    Ok(place) => {
-                        if let Some(head) = self.heads.get_mut(at) {
-                            head.put(place, signature);
-                        }
-                        return;
-                    }
+                    Ok(()) => return,
                     Err(new) => new,
                 }
             }
             _ => new,
         };
         *newest = self.next;
-        self.add(
-            Head::new(tag(hash), number, signature),
-            Page::new(shape, new),
-        );
+        self.add(Page::new(shape, number, lead, new));
     }
 
     // Puts a page into the ring: in the place of the oldest, where it is full.
-    fn add(&mut self, head: Head, page: Page) {
+    fn add(&mut self, page: Page) {
         let at = (self.next % PAGES) as usize;
         self.next = self.next.wrapping_add(1);
-        match (self.heads.get_mut(at), self.pages.get_mut(at)) {
-            (Some(oldest_head), Some(oldest)) => {
-                *oldest_head = head;
-                *oldest = page;
-            }
-            _ => {
-                let _ = self.heads.push(head);
+        match self.pages.get_mut(at) {
+            Some(oldest) => *oldest = page,
+            None => {
                 let _ = self.pages.push(page);
             }
         }
@@ -267,19 +281,13 @@ impl<B: Bounds> Bounds for Cache<B> {
         self.settle_at(start, strings, hint, need)
     }
 
-    /// Reads what of the newest page of the shape a look reads first.
+    /// Reads what of the newest page of the shape's place a look reads first.
     #[inline]
     fn probe_hint(&self, shape: Shape) -> ProbeHint {
-        let hash = shape.hash_code();
-        let number = match self.newest.get(place(hash)) {
-            Some(newest) => *newest,
-            None => 0,
-        };
-        let tag = tag(hash);
+        let number = self.newest_of(shape);
         ProbeHint {
             number,
-            tag,
-            is_tagged: self.is_tagged(number, tag),
+            has_shape: self.has_shape(number, shape),
         }
     }
 
@@ -317,21 +325,21 @@ impl<B: Bounds> Bounds for Cache<B> {
         }
     }
 
-    fn lead_history(&self, strings: &OwnerStrings) -> LeadHistory {
+    fn lead_history(&self, start: &Position, strings: &OwnerStrings) -> LeadHistory {
         LeadHistory {
-            of_shape: lead_at(
-                &self.of_shapes,
-                self.generation,
-                strings.shape().hash_code(),
-            ),
-            of_outline: lead_at(&self.of_outlines, self.generation, strings.outline_number()),
+            of_shape: self.lead_of_shape(strings.shape()),
+            of_outline: self.lead_of_outline(strings.outline_number()),
+            of_leader: self.of_leaders[leader_place(start)].in_deal(self.generation),
         }
     }
 
-    fn note_lead(&mut self, strings: &OwnerStrings, lead: Suit) {
-        let entry = self.generation.wrapping_mul(4) | lead.code() as u16;
-        put_lead(&mut self.of_shapes, strings.shape().hash_code(), entry);
-        put_lead(&mut self.of_outlines, strings.outline_number(), entry);
+    fn note_lead(&mut self, start: &Position, strings: &OwnerStrings, lead: Suit) {
+        let new = SettlingLead::new(self.generation, lead);
+        self.settled = new;
+        if let Some(old) = self.of_outlines.get_mut(place(strings.outline_number())) {
+            *old = new;
+        }
+        self.of_leaders[leader_place(start)] = new;
     }
 
     fn note_by(
@@ -348,23 +356,12 @@ impl<B: Bounds> Bounds for Cache<B> {
     }
 }
 
-// The lead of this deal that stands at the place of this number.
+// Where the lead of a leader with so many tricks left stands.
 #[inline]
-fn lead_at(leads: &Vec<u16>, deal: u16, hash: u64) -> Option<Suit> {
-    let entry = *leads.get(place(hash))?;
-    if entry / 4 == deal {
-        Suit::from_code((entry % 4) as u8)
-    } else {
-        None
-    }
-}
-
-// Puts the entry there.
-#[inline]
-fn put_lead(leads: &mut Vec<u16>, hash: u64, entry: u16) {
-    if let Some(old) = leads.get_mut(place(hash)) {
-        *old = entry;
-    }
+fn leader_place(start: &Position) -> usize
+    ensures { result < 56 }
+{
+    4 * start.tricks_left() as usize + start.first().code() as usize
 }
 
 // Is a value of this position kept?
@@ -402,10 +399,4 @@ impl Deal {
 #[inline]
 fn place(hash: u64) -> usize {
     (hash >> 48) as usize
-}
-
-// What tells most shapes of one place apart.
-#[inline]
-fn tag(hash: u64) -> u32 {
-    (hash & 0xFFFF_FFFF) as u32
 }

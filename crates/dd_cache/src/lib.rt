@@ -2,8 +2,8 @@
 #![tactic(auto)]
 
 mod cache;
-mod head;
 mod page;
+mod settling_lead;
 mod stored_bounds;
 
 pub use cache::Cache;

@@ -1,41 +1,80 @@
-//! A few bounds of one shape.
-ghost use Rattle.std.specs.Prelude.{◌≡◌, ◌<◌, ◌≤◌, ◌⊎◌, IfSome, Err, length};
+//! A few bounds of one shape, and what is seen of them before they are read.
+ghost use Rattle.std.specs.Prelude.{◌≡◌, ◌<◌, ◌≤◌, ◌⊎◌, IfSome, IfErr, length};
 ghost use Rattle.dd_rank.specs.FirstOwners.{AreFirst};
 ghost use Rattle.dd_cache.specs.StoredBounds.{StoredBoundsOf, IsSound};
 
+use crate::settling_lead::SettlingLead;
 use crate::stored_bounds::StoredBounds;
-use arrayvec::ArrayVec;
-use dd_rank::{OwnerStrings, Shape};
+use dd_cards::Strain;
+use dd_rank::{FirstSignature, FirstSignatures, OwnerStrings, Shape, Signature};
 use std::marker::Model;
 
-/// The bounds that stand together.
-pub(crate) const BOUNDS_OF_A_PAGE: usize = 8;
+// The bounds that stand together.
+const BOUNDS_OF_A_PAGE: usize = 8;
 
 /// Bounds of one shape.
+// What a look reads first are the forty-eight bytes before the bounds: one line of the processor's cache, since a list so long
+// begins sixteen bytes after the start of one, and a page takes six.
 #[derive(Drop)]
 pub(crate) struct Page {
-    shape: Shape,
-    told: ArrayVec<StoredBounds, BOUNDS_OF_A_PAGE>,
+    lengths: u64,
+    // what is seen at once of its bounds, by their places
+    signatures: FirstSignatures,
+    // the number of the page that was the newest of its place before
+    before: u32,
+    strain: Strain,
+    count: u8,
+    // that which last settled a start of the shape
+    lead: SettlingLead,
+    // those of its places that are free have copies of the first
+    told: [StoredBounds; BOUNDS_OF_A_PAGE],
+    _rest_of_line: [u64; 2],
 }
 
 impl Model for Page {
+    ghost use Rattle.std.specs.Prelude.{◌≡◌, length};
     ghost use Rattle.dd_cache.specs.StoredBounds.{PageOf, AreSound};
 
     ghost Value = { PageOf };
 
-    ghost view = { λ p. record { shape = p.shape; told = p.told.items } };
+    ghost view = { λ p. record {
+      shape = record { strain = p.strain; lengths = p.lengths };
+      told = p.told;
+    } };
 
-    ghost invariant = { λ p. AreSound (record { shape = p.shape; told = p.told.items }) };
+    ghost invariant = { λ p. (length p.told ≡ 8) × AreSound (record {
+      shape = record { strain = p.strain; lengths = p.lengths };
+      told = p.told;
+    }) };
 }
 
 impl Page {
-    /// A page with one entry.
-    pub(crate) fn new(shape: Shape, first: StoredBounds) -> Page
+    /// A page with one entry, before which that of this number was the newest of its place.
+    pub(crate) fn new(shape: Shape, before: u32, lead: SettlingLead, first: StoredBounds) -> Page
         requires { IsSound shape first }
     {
-        let mut told = ArrayVec::new();
-        told.push(first);
-        Page { shape, told }
+        let mut signatures = FirstSignatures::default();
+        signatures.put(0, first.firsts.signature());
+        let told = [
+            first.copy(),
+            first.copy(),
+            first.copy(),
+            first.copy(),
+            first.copy(),
+            first.copy(),
+            first.copy(),
+            first,
+        ];
+        Page {
+            lengths: shape.lengths(),
+            signatures,
+            before,
+            strain: shape.strain(),
+            count: 1,
+            lead,
+            told,
+            _rest_of_line: [0; 2],
+        }
     }
 
     /// The shape of its positions.
@@ -43,15 +82,37 @@ impl Page {
     pub(crate) fn shape(&self) -> Shape
         ensures { result ≡ self.now.shape }
     {
-        self.shape
+        Shape::of_lengths(self.strain, self.lengths)
     }
 
-    /// Of the bounds at these places, bit n for place n, the first that hold of the position with these strings, which is of
-    /// the shape, and settle the question.
+    /// The number of the page before.
+    #[inline]
+    pub(crate) fn before(&self) -> u32 {
+        self.before
+    }
+
+    /// The lead that last settled a start of the shape.
+    #[inline]
+    pub(crate) fn lead(&self) -> SettlingLead {
+        self.lead
+    }
+
+    /// This lead, if it is one, settled a start of the shape.
+    #[inline]
+    pub(crate) fn remember(&mut self, lead: SettlingLead)
+        ensures { self.new ≡ self.old }
+    {
+        if lead.is_some() {
+            self.lead = lead;
+        }
+    }
+
+    /// The first of its bounds that hold of the position with this signature and these strings, which is of the shape, and settle
+    /// the question.
     #[inline]
     pub(crate) fn settle(
         &self,
-        likely: u64,
+        signature: Signature,
         strings: &OwnerStrings,
         need: u8,
     ) -> Option<&StoredBounds>
@@ -60,12 +121,12 @@ impl Page {
         ensures settles { IfSome result (λ told. (need ≤ told.now.interval.lo)
             ⊎ (told.now.interval.hi < need)) }
     {
-        let mut places = likely;
+        let mut places = self.signatures.may_be_in(signature);
         for _ in 0..BOUNDS_OF_A_PAGE {
             if places == 0 {
                 return None;
             }
-            let told = self.told.as_slice().get(places.trailing_zeros() as usize)?;
+            let told = self.told.get(places.trailing_zeros() as usize)?;
             if told.answers(strings, need) {
                 return Some(told);
             }
@@ -74,33 +135,44 @@ impl Page {
         None
     }
 
-    /// Keeps bounds of its shape, in the place of some that they make needless or beside the others, and tells the place;
-    /// gives them back where there is no room.
-    pub(crate) fn keep(&mut self, new: StoredBounds) -> Result<usize, StoredBounds>
+    /// Keeps bounds of its shape, in the place of some that they make needless or beside the others; gives them back where there
+    /// is no room.
+    pub(crate) fn keep(&mut self, new: StoredBounds) -> Result<(), StoredBounds>
         requires { IsSound self.old.shape new }
         ensures shape { self.new.shape ≡ self.old.shape }
-        ensures back { (told : StoredBoundsOf) → result ≡ Err told → told ≡ new }
+        ensures back { IfErr result (λ told. told ≡ new) }
     {
-        if let Some(place) = needless(self.told.as_slice(), &new) {
-            self.told.as_mut_slice()[place] = new;
-            return Ok(place);
+        let signature = new.firsts.signature();
+        if let Some(place) = self.needless(&new, signature) {
+            self.told[place] = new;
+            self.signatures.put(place, signature);
+            return Ok(());
         }
-        if self.told.is_full() {
+        let place = self.count as usize;
+        if place >= BOUNDS_OF_A_PAGE {
             return Err(new);
         }
-        self.told.push(new);
-        Ok(self.told.len() - 1)
+        self.told[place] = new;
+        self.signatures.put(place, signature);
+        self.count += 1;
+        Ok(())
     }
-}
 
-// The place of the first bounds that these make needless.
-fn needless(told: &[StoredBounds], new: &StoredBounds) -> Option<usize>
-    ensures { IfSome result (λ place. place < length told.now) }
-{
-    for (place, old) in told.iter().enumerate() {
-        if new.replaces(old) {
-            return Some(place);
+    // The place of the first of its bounds that these make needless.
+    fn needless(&self, new: &StoredBounds, signature: FirstSignature) -> Option<usize>
+        ensures { IfSome result (λ place. place < 8) }
+    {
+        let mut places = self.signatures.may_begin_as(signature);
+        for _ in 0..BOUNDS_OF_A_PAGE {
+            if places == 0 {
+                return None;
+            }
+            let place = places.trailing_zeros() as usize;
+            if new.replaces(self.told.get(place)?) {
+                return Some(place);
+            }
+            places &= places - 1;
         }
+        None
     }
-    None
 }

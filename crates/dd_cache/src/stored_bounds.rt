@@ -21,16 +21,18 @@ impl Model for StoredBounds {
     ghost view = { λ t. record { firsts = t.firsts; interval = t.interval } };
 }
 
-impl Default for StoredBounds {
-    fn default() -> StoredBounds {
+impl StoredBounds {
+    /// Equal ones.
+    #[inline]
+    pub(crate) fn copy(&self) -> StoredBounds
+        ensures { result ≡ self.now }
+    {
         StoredBounds {
-            firsts: FirstOwners::default(),
-            interval: Interval { lo: 0, hi: 13 },
+            firsts: self.firsts.copy(),
+            interval: self.interval,
         }
     }
-}
 
-impl StoredBounds {
     /// Does it hold of the position with these strings, and settle whether the leader's side takes so many tricks?
     #[inline]
     pub(crate) fn answers(&self, strings: &OwnerStrings, need: u8) -> bool

@@ -1,11 +1,11 @@
 -- To be believed: what a look at the desk sees, which makes no event, and what a cancel tells that may need none.
-use Rattle.std.specs.Prelude.{◌≡◌, ◌⊎◌, ℕ, Bool, true, false, not, Option, None, Some, Result, Ok, Err, List}
+use Rattle.std.specs.Prelude.{◌≡◌, ◌⊎◌, ℕ, Bool, true, false, not, Option, None, Some, Result, Ok, Err, List, nat_le}
 use Rattle.dd_book.specs.declared.call.Call.TheVariants.{Cancel}
 use Rattle.dd_book.specs.declared.call.Refusal.TheVariants.{UnknownJob}
 use Rattle.dd_book.specs.declared.call.Reply.{Reply}
 use Rattle.dd_book.specs.declared.call.Reply.TheVariants.{Cancelled, Fault}
 use Rattle.dd_book.specs.Limits.{LimitsOf}
-use Rattle.dd_book.specs.Jobs.{JobOf, is_open, own_job}
+use Rattle.dd_book.specs.Jobs.{JobOf, is_open, open_of, own_job}
 use Rattle.dd_book.specs.Running.{runs_at}
 use Rattle.dd_desk.specs.declared.fault.DeskFault.{DeskFault}
 use Rattle.dd_desk.specs.Events.{EventOf, IsLegal, replay}
@@ -19,6 +19,13 @@ pub record SeesRunning (worker job claim : ℕ) (runs : Bool) : Type 0 where
   pub journal : List EventOf
   pub legal : IsLegal limits journal
   pub sees : runs ≡ runs_at (replay limits journal).jobs worker job claim
+
+-- the caller has an open job or has none, as this tells, after a journal that one thread could have made
+pub record SeesOpen (caller : ℕ) (has : Bool) : Type 0 where
+  pub limits : LimitsOf
+  pub journal : List EventOf
+  pub legal : IsLegal limits journal
+  pub sees : has ≡ nat_le 1 (open_of caller (replay limits journal).jobs)
 
 -- is the job there, and no longer open?
 abbrev pub is_ended_job : Option JobOf → Bool

@@ -1,9 +1,9 @@
 //! What lies under the desk's lock.
-ghost use Rattle.std.specs.Prelude.{◌≡◌, ◌+◌, ◌<◌, ◌≤◌, true, false, [], length, map, take, vec_len, Some, ◌⊎◌, MatchResult, MatchBool, IfOk};
+ghost use Rattle.std.specs.Prelude.{◌≡◌, ◌+◌, ◌<◌, ◌≤◌, true, false, [], length, map, take, vec_len, vec_capacity, Some, ◌⊎◌, MatchResult, MatchBool, IfOk};
 ghost use Rattle.dd_book.specs.Calls.{IsIdle};
 ghost use Rattle.dd_book.specs.Jobs.{is_open_job, own_job};
-ghost use Rattle.dd_desk.specs.declared.fault.DeskFault.TheVariants.{NoPass};
-ghost use Rattle.dd_desk.specs.Looks.{SeesRunning};
+ghost use Rattle.dd_desk.specs.Faults.{MatchPassFault};
+ghost use Rattle.dd_desk.specs.Looks.{SeesOpen, SeesRunning};
 ghost use Rattle.dd_desk.specs.Receipts.{below};
 
 use crate::bells::{Concerns, Rings};
@@ -33,6 +33,8 @@ pub struct LockedState<J: Naming> {
     pub ghost marked: { map (λ n. n.cell) marks.items
         ≡ take (vec_len history.journal) J.cells },
     pub ghost knows: { map (λ n. n.known) marks.items ≡ map Some history.journal.items },
+    pub ghost room: { (vec_len marks ≡ vec_len history.journal)
+        × (history.limits.events ≤ vec_capacity marks) },
     pub ghost counted: { count.total ≡ vec_len history.journal },
     pub ghost placed: { sum.total ≡ below (vec_len history.journal) },
     pub ghost limits_are: { history.limits ≡ J.limits },
@@ -43,8 +45,19 @@ pub struct LockedState<J: Naming> {
 }
 
 impl<J: Naming> LockedState<J> {
-    /// An empty history, with all parts of both ledgers.
-    pub(crate) fn new(alloc: Global, limits: Limits, count: Blank, sum: Blank) -> LockedState<J>
+    /// An empty history with its journal and its marks, and all parts of both ledgers.
+    pub(crate) fn new(
+        alloc: Global,
+        limits: Limits,
+        journal: Vec<Event>,
+        marks: Vec<Note<Event>>,
+        count: Blank,
+        sum: Blank,
+    ) -> LockedState<J>
+        requires journal { (journal.items ≡ []) × (vec_len journal ≡ 0)
+            × (limits.events ≤ vec_capacity journal) }
+        requires marks { (marks.items ≡ []) × (vec_len marks ≡ 0)
+            × (limits.events ≤ vec_capacity marks) }
         requires limits { limits ≡ J.limits }
         requires events { limits.events ≡ length J.cells }
         requires passes { (limits.passes ≡ J.all) × (J.all ≡ J.parts) }
@@ -54,8 +67,8 @@ impl<J: Naming> LockedState<J> {
         let (count, spare_count) = count.open::<ReceiptCounts<J>>();
         let (sum, spare_sum) = sum.open::<PlaceSums<J>>();
         LockedState {
-            history: History::new(alloc, limits),
-            marks: Vec::new(alloc),
+            history: History::new(alloc, limits, journal),
+            marks,
             given: 0,
             count,
             sum,
@@ -64,14 +77,16 @@ impl<J: Naming> LockedState<J> {
         }
     }
 
-    /// A new pass, under the next number: refused exactly where as many were given as there may be.
+    /// A new pass, under the next number: refused with `NoPass` exactly where as many were given as there
+    /// may be.
     pub(crate) fn enrol(&mut self, alloc: Global) -> Result<CountedLog<J>, DeskFault>
         ensures pass { IfOk result (λ held. (held.log.number ≡ self.old.given + 1)
             × (held.log.receipts.items ≡ [])) }
         ensures given { MatchResult result (λ _. self.new.given ≡ self.old.given + 1)
             (λ _. self.new.given ≡ self.old.given) }
         ensures full { MatchResult result (λ _. self.old.given < self.old.history.limits.passes)
-            (λ f. (f ≡ NoPass) × (self.old.given ≡ self.old.history.limits.passes)) }
+            (λ f. MatchPassFault f (self.old.given ≡ self.old.history.limits.passes)
+            (self.old.given < self.old.history.limits.passes)) }
         ensures same { self.new.history ≡ self.old.history }
     {
         let LockedState {
@@ -86,10 +101,12 @@ impl<J: Naming> LockedState<J> {
         if *given >= history.limits.passes() {
             return Err(DeskFault::NoPass);
         }
+        let Ok(log) = ReceiptLog::new(alloc, *given + 1) else {
+            return Err(DeskFault::OutOfMemory);
+        };
         let count = spare_count.split_off(1, 0);
         let sum = spare_sum.split_off(1, 0);
         *given += 1;
-        let log = ReceiptLog::new(alloc, *given);
         Ok(CountedLog { log, count, sum })
     }
 
@@ -105,6 +122,13 @@ impl<J: Naming> LockedState<J> {
             ⊎ (vec_len self.now.history.journal ≡ self.now.history.limits.events)) }
     {
         !self.history.is_full() && !self.history.is_shut() && self.history.is_open(caller, job)
+    }
+
+    /// Has the caller an open job?
+    pub(crate) fn has_open(&self, caller: u64) -> bool
+        ensures { SeesOpen caller result }
+    {
+        self.history.has_open(caller)
     }
 
     /// Has this worker a part of the job of this number under this claim number?

@@ -1,12 +1,13 @@
 //! The receipts of one caller.
-ghost use Rattle.std.specs.Prelude.{◌≡◌, [], map, true, vec_len, Some, slice_index_or};
-ghost use Rattle.dd_desk.specs.Receipts.{told_by, rises, next_of};
+ghost use Rattle.std.specs.Prelude.{◌≡◌, ◌<◌, ◌≤◌, ◌+◌, [], map, true, false, vec_len, vec_capacity, Some, slice_index_or, IfOk, IsOk, OnOk, OnErr};
+ghost use Rattle.dd_desk.specs.Receipts.{has_shut, told_by, rises, next_of};
+ghost use Rattle.dd_desk.specs.Ready.{IsReady};
 ghost use Rattle.dd_desk.specs.Closing.{sum_of_places};
 
-use crate::event::{Event, Receipt};
+use crate::event::{Event, Receipt, blank};
 use crate::names::{Naming, PlaceSums, ReceiptCounts};
 use once_cell::race::Note;
-use std::alloc::Global;
+use std::alloc::{AllocError, Global};
 use std::marker::PhantomData;
 use std::sync::ledger::Share;
 
@@ -16,6 +17,8 @@ pub(crate) struct ReceiptLog<J: Naming> {
     pub(crate) number: u64,
     pub(crate) receipts: Vec<Receipt>,
     pub(crate) marks: Vec<Note<Event>>,
+    // Room for the event of a shut.
+    pub(crate) spare: Option<Box<Event>>,
     // The place after the last one, and the sum of the places.
     pub(crate) next: u64,
     pub(crate) places: u64,
@@ -27,23 +30,65 @@ pub(crate) struct ReceiptLog<J: Naming> {
     pub ghost rising: { rises 0 receipts.items ≡ true },
     pub ghost next_is: { next ≡ next_of 0 receipts.items },
     pub ghost places_is: { places ≡ sum_of_places receipts.items },
+    pub ghost ready: { has_shut receipts.items ≡ false
+        → IsReady (vec_len receipts) (vec_capacity receipts) (vec_len marks) (vec_capacity marks) spare },
 }
 
 impl<J: Naming> ReceiptLog<J> {
-    /// No receipt yet.
-    pub(crate) fn new(alloc: Global, number: u64) -> ReceiptLog<J>
-        ensures number { result.number ≡ number }
-        ensures receipts { (result.receipts.items ≡ []) × (vec_len result.receipts ≡ 0) }
+    /// No receipt yet, and what a shut needs.
+    pub(crate) fn new(alloc: Global, number: u64) -> Result<ReceiptLog<J>, AllocError>
+        ensures number { IfOk result (λ log. log.number ≡ number) }
+        ensures receipts { IfOk result (λ log.
+            (log.receipts.items ≡ []) × (vec_len log.receipts ≡ 0)) }
     {
-        ReceiptLog {
+        let receipts = Vec::with_capacity(alloc, 1)?;
+        let marks = Vec::with_capacity(alloc, 1)?;
+        let spare = blank(alloc)?;
+        Ok(ReceiptLog {
             number,
-            receipts: Vec::new(alloc),
-            marks: Vec::new(alloc),
+            receipts,
+            marks,
+            spare: Some(spare),
             next: 0,
             places: 0,
             of: PhantomData,
+        })
+    }
+}
+
+/// Room for an event, and in the log of a caller for its receipt and its mark. A shut may take what
+/// is kept for one, any other call leaves it.
+pub(crate) fn room_for(
+    alloc: Global,
+    receipts: &mut Vec<Receipt>,
+    marks: &mut Vec<Note<Event>>,
+    spare: &mut Option<Box<Event>>,
+    shuts: bool,
+) -> Result<Box<Event>, AllocError>
+    ensures receipts { (receipts.new.items ≡ receipts.old.items)
+        × (vec_len receipts.new ≡ vec_len receipts.old)
+        × (vec_capacity receipts.old ≤ vec_capacity receipts.new) }
+    ensures marks { (marks.new.items ≡ marks.old.items) × (vec_len marks.new ≡ vec_len marks.old)
+        × (vec_capacity marks.old ≤ vec_capacity marks.new) }
+    ensures room { OnOk result ((vec_len receipts.new < vec_capacity receipts.new)
+        × (vec_len marks.new < vec_capacity marks.new)) }
+    ensures more { shuts ≡ false → OnOk result
+        ((vec_len receipts.new + 1 < vec_capacity receipts.new)
+        × (vec_len marks.new + 1 < vec_capacity marks.new)) }
+    ensures spare { shuts ≡ false → spare.new ≡ spare.old }
+    ensures kept { OnErr result (spare.new ≡ spare.old) }
+    ensures ready { shuts ≡ true → IsReady (vec_len receipts.old) (vec_capacity receipts.old)
+        (vec_len marks.old) (vec_capacity marks.old) spare.old → IsOk result }
+{
+    let more = if shuts { 1 } else { 2 };
+    receipts.reserve(more)?;
+    marks.reserve(more)?;
+    if shuts {
+        if let Some(kept) = spare.take() {
+            return Ok(kept);
         }
     }
+    blank(alloc)
 }
 
 /// A log, with one part of each ledger: its receipts are counted, and their places added up.

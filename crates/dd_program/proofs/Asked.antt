@@ -15,19 +15,19 @@ use Rattle.clap.specs.declared.error.Error.{Error}
 use Rattle.clap.specs.declared.error.kind.ErrorKind.TheVariants.{OutOfMemory}
 use Rattle.clap.specs.declared.parser.matches.ArgMatches.{ArgMatches}
 use Rattle.clap.specs.declared.parser.matches.ArgMatches.TheViews.{out-ArgMatches, out-SubCommand}
-use Rattle.dd_program.specs.CommandLine.{SolveOption, Budget, Entries, Workers, Asks, AsksToSolve, GiveOptions, HasDefaults, IsBudget, IsEventCount, IsInRange, IsLeftOut, IsSame, IsTableSize, given_to, is_option, word_of}
-use Rattle.dd_program.specs.ServeWords.{AsksToServeBy, budget_in}
+use Rattle.dd_program.specs.CommandLine.{SolveOption, Budget, Entries, Workers, Asks, AsksToSolve, GiveOptions, HasDefaults, IsBudget, IsEventCount, IsIdle, IsInRange, IsLeftOut, IsSame, IsTableSize, given_to, is_option, word_of}
+use Rattle.dd_program.specs.ServeWords.{AsksToServeBy}
 use Rattle.dd_program.specs.Program.{number_of, program_app}
 use Rattle.dd_program.specs.declared.command_line.Args.{Args}
 use Rattle.dd_program.specs.declared.command_line.Args.TheVariants.{Serve, Solve}
-use Rattle.dd_program.specs.declared.command_line.TheConstants.{LEAST_EVENTS, MOST_WORKERS}
+use Rattle.dd_program.specs.declared.command_line.TheConstants.{LEAST_EVENTS, MOST_IDLE, MOST_WORKERS}
 use Rattle.dd_book.specs.declared.limits.TheConstants.{MOST_EVENTS}
 use Rattle.dd_table.specs.declared.shared_table.TheConstants.{MOST_SHARDS}
 use Rattle.dd_shard.specs.declared.shard.TheConstants.{MOST_SHAPES}
 use Rattle.dd_program.proofs.Given.{same-or-other}
 use Rattle.dd_program.proofs.Lines.{Asked, asked-of, given-admitted, one-meaning, walked-line}
 use Rattle.dd_program.proofs.Programs.{Serves, Solves, line-of, serve-rows, serve_rows, serve_rules, solve_rows, solves-free, subcommand-rows}
-use Rattle.dd_program.proofs.ServeWords.{budget-fits, given-one, no-row, none-given, number-default, number-fits, number-one}
+use Rattle.dd_program.proofs.ServeWords.{limit-default, limit-fits, limit-one, no-row, number-default, number-fits, number-one}
 use Rattle.dd_program.proofs.LeftOut.{Avoids, Each, NamesOther, defaults-lack, find-has, neither, settled-lacks, walk-clean}
 use Rattle.dd_program.proofs.Words.{long_of-is, with_value}
 use Rattle.std.proofs.lemmas.Slice.Eq.{bytes_eq-Decides}
@@ -138,7 +138,7 @@ or-in-range most default (Some number) low high fits = fits
 pub asks-serve : (arguments : List Text) (rows : List Row) (args : Args) → (fault_of program_app arguments ≡ []) × (subcommand_of program_app arguments ≡ Some (codes "serve", rows))
     → AsksToServeBy rows args → Asks arguments args
 asks-serve arguments rows (Solve budget entries workers) line by = absurd by
-asks-serve arguments rows (Serve listen workers shards entries budget events websocket allow_stop) line by = (rows, line.0, line.1, by)
+asks-serve arguments rows (Serve listen workers shards entries budget events idle websocket allow_stop) line by = (rows, line.0, line.1, by)
 
 -- the numbers of a line that asks lie in their ranges
 pub in-range : (arguments : List Text) (args : Args) → Asks arguments args → IsInRange args
@@ -151,12 +151,14 @@ in-range arguments (Solve budget entries workers) (given, asks, budget-is, entri
       workers-range.0,
       workers-range.1,
     )
-in-range arguments (Serve listen workers shards entries budget events websocket allow_stop) (rows, free, line, by) =
+in-range arguments (Serve listen workers shards entries budget events idle websocket allow_stop) (rows, free, line, by) =
     let workers-fit = subst (λ n. (1 ≤ n) × (n ≤ MOST_WORKERS)) (sym by.1.2) (number-fits 1 MOST_WORKERS 4 by.1.0 (omega arith) (omega arith)) in
     let shards-fit = subst (λ n. (1 ≤ n) × (n ≤ MOST_SHARDS)) (sym by.2.2) (number-fits 1 MOST_SHARDS 16 by.2.0 (omega arith) (omega arith)) in
     let entries-fit = subst IsTableSize (sym by.3.2) (number-fits 1 MOST_SHAPES 4096 by.3.0 (omega arith) (omega arith)) in
     let events-fit = subst IsEventCount (sym by.5.2) (number-fits LEAST_EVENTS MOST_EVENTS MOST_EVENTS by.5.0 (omega arith) (omega arith)) in
-    (workers-fit.0, workers-fit.1, shards-fit.0, shards-fit.1, entries-fit, subst (λ b. IfSome b IsBudget) (sym by.4.2) (budget-fits by.4.0), events-fit)
+    let budget-fit = subst (λ b. IfSome b IsBudget) (sym by.4.2) (limit-fits 1000000000000 50000000 by.4.0 (omega arith)) in
+    let idle-fit = subst (λ i. IfSome i IsIdle) (sym by.6.2) (limit-fits MOST_IDLE 600 by.6.0 (omega arith)) in
+    (workers-fit.0, workers-fit.1, shards-fit.0, shards-fit.1, entries-fit, budget-fit, events-fit, idle-fit)
 
 -- the name of what a line enters
 abbrev entered_name : Option (Text × List Row) → Text
@@ -179,19 +181,20 @@ pub asks-one : (arguments : List Text) (args other : Args) → Asks arguments ar
 asks-one arguments (Solve b e w) (Solve c f x) asks also =
     let same = one-meaning arguments asks.0 also.0 asks.1 also.1 in
     (λ i. Solve ((also.2 ∙ sym same.0 ∙ sym asks.2) i) ((also.3 ∙ sym same.1 ∙ sym asks.3) i) ((also.4 ∙ sym same.2 ∙ sym asks.4) i))
-asks-one arguments (Solve b e w) (Serve m x t f c o j d) asks also = solve-only arguments asks.0 also.0 asks.1 also.2
-asks-one arguments (Serve l w s e b n k a) (Solve c f x) asks also = solve-only arguments also.0 asks.0 also.1 asks.2
-asks-one arguments (Serve l w s e b n k a) (Serve m x t f c o j d) (rows, free, line, by) (rows2, free2, line2, by2) =
+asks-one arguments (Solve b e w) (Serve m x t f c o h j d) asks also = solve-only arguments asks.0 also.0 asks.1 also.2
+asks-one arguments (Serve l w s e b n i k a) (Solve c f x) asks also = solve-only arguments also.0 asks.0 also.1 asks.2
+asks-one arguments (Serve l w s e b n i k a) (Serve m x t f c o h j d) (rows, free, line, by) (rows2, free2, line2, by2) =
     let same : rows2 ≡ rows = ap entered_rows (sym line2 ∙ line) in
-    let also = subst (λ r. AsksToServeBy r (Serve m x t f c o j d)) same by2 in (
+    let also = subst (λ r. AsksToServeBy r (Serve m x t f c o h j d)) same by2 in (
       also.0 ∙ sym by.0,
       number-one (codes "workers") rows 1 MOST_WORKERS 4 x w also.1 by.1,
       number-one (codes "shards") rows 1 MOST_SHARDS 16 t s also.2 by.2,
       number-one (codes "entries") rows 1 MOST_SHAPES 4096 f e also.3 by.3,
-      also.4.2 ∙ ap budget_in (given-one 64 (one_of (codes "budget") rows) also.4.0 by.4.0 also.4.1 by.4.1) ∙ sym by.4.2,
+      limit-one (codes "budget") rows 1000000000000 50000000 c b also.4 by.4,
       number-one (codes "events") rows LEAST_EVENTS MOST_EVENTS MOST_EVENTS o n also.5 by.5,
-      also.6 ∙ sym by.6,
+      limit-one (codes "idle") rows MOST_IDLE 600 h i also.6 by.6,
       also.7 ∙ sym by.7,
+      also.8 ∙ sym by.8,
     )
 
 -- ---- what is left out
@@ -267,7 +270,7 @@ IsNamedById a = (a.long ≡ Some a.id) × (a.aliases ≡ [])
 
 all-named : Each IsNamedById serve_rules
 unfolding IsNamedById
-all-named = ((refl, refl), ((refl, refl), ((refl, refl), ((refl, refl), ((refl, refl), ((refl, refl), ((refl, refl), ((refl, refl), ((refl, refl), tt)))))))))
+all-named = ((refl, refl), ((refl, refl), ((refl, refl), ((refl, refl), ((refl, refl), ((refl, refl), ((refl, refl), ((refl, refl), ((refl, refl), ((refl, refl), tt))))))))))
 
 -- so the argument that a long name finds has that name for its id
 long-found : (name : Text) (a : Rule) → arg_by_long serve_rules name ≡ Some a → a.id ≡ name
@@ -325,14 +328,15 @@ has-defaults arguments (Solve budget entries workers) (given, asks, budget-is, e
   λ out. entries-are ∙ ap (λ n. unwrap_or n 4096) (line-gives-nothing Entries arguments given asks out),
   λ out. workers-are ∙ ap (λ n. unwrap_or n 1) (line-gives-nothing Workers arguments given asks out),
 )
-has-defaults arguments (Serve listen workers shards entries budget events websocket allow_stop) (rows, free, line, by) = elim (line-of arguments free) [
+has-defaults arguments (Serve listen workers shards entries budget events idle websocket allow_stop) (rows, free, line, by) = elim (line-of arguments free) [
   | inl s ↦ absurd (other-name (ap entered_name (sym (enters arguments s) ∙ line)))
   | inr s ↦ (
-    λ out. number-default (codes "workers") rows 1 MOST_WORKERS 4 workers (left-out arguments s rows (codes "workers") line refl (inr refl, (inr refl, (inr refl, (inr refl, (inr refl, (inr refl, (inl refl, (inl refl, (inr refl, tt))))))))) out) by.1,
-    λ out. number-default (codes "shards") rows 1 MOST_SHARDS 16 shards (left-out arguments s rows (codes "shards") line refl (inr refl, (inr refl, (inr refl, (inr refl, (inr refl, (inr refl, (inl refl, (inl refl, (inr refl, tt))))))))) out) by.2,
-    λ out. number-default (codes "entries") rows 1 MOST_SHAPES 4096 entries (left-out arguments s rows (codes "entries") line refl (inr refl, (inr refl, (inr refl, (inr refl, (inr refl, (inr refl, (inl refl, (inl refl, (inr refl, tt))))))))) out) by.3,
-    λ out. by.4.2 ∙ ap budget_in (none-given 64 (one_of (codes "budget") rows) by.4.0 (left-out arguments s rows (codes "budget") line refl (inr refl, (inr refl, (inr refl, (inr refl, (inr refl, (inr refl, (inl refl, (inl refl, (inr refl, tt))))))))) out) by.4.1),
-    λ out. number-default (codes "events") rows LEAST_EVENTS MOST_EVENTS MOST_EVENTS events (left-out arguments s rows (codes "events") line refl (inr refl, (inr refl, (inr refl, (inr refl, (inr refl, (inr refl, (inl refl, (inl refl, (inr refl, tt))))))))) out) by.5,
+    λ out. number-default (codes "workers") rows 1 MOST_WORKERS 4 workers (left-out arguments s rows (codes "workers") line refl (inr refl, (inr refl, (inr refl, (inr refl, (inr refl, (inr refl, (inr refl, (inl refl, (inl refl, (inr refl, tt)))))))))) out) by.1,
+    λ out. number-default (codes "shards") rows 1 MOST_SHARDS 16 shards (left-out arguments s rows (codes "shards") line refl (inr refl, (inr refl, (inr refl, (inr refl, (inr refl, (inr refl, (inr refl, (inl refl, (inl refl, (inr refl, tt)))))))))) out) by.2,
+    λ out. number-default (codes "entries") rows 1 MOST_SHAPES 4096 entries (left-out arguments s rows (codes "entries") line refl (inr refl, (inr refl, (inr refl, (inr refl, (inr refl, (inr refl, (inr refl, (inl refl, (inl refl, (inr refl, tt)))))))))) out) by.3,
+    λ out. limit-default (codes "budget") rows 1000000000000 50000000 budget (left-out arguments s rows (codes "budget") line refl (inr refl, (inr refl, (inr refl, (inr refl, (inr refl, (inr refl, (inr refl, (inl refl, (inl refl, (inr refl, tt)))))))))) out) by.4,
+    λ out. number-default (codes "events") rows LEAST_EVENTS MOST_EVENTS MOST_EVENTS events (left-out arguments s rows (codes "events") line refl (inr refl, (inr refl, (inr refl, (inr refl, (inr refl, (inr refl, (inr refl, (inl refl, (inl refl, (inr refl, tt)))))))))) out) by.5,
+    λ out. limit-default (codes "idle") rows MOST_IDLE 600 idle (left-out arguments s rows (codes "idle") line refl (inr refl, (inr refl, (inr refl, (inr refl, (inr refl, (inr refl, (inr refl, (inl refl, (inl refl, (inr refl, tt)))))))))) out) by.6,
   )
 ]
 
@@ -343,7 +347,7 @@ pub asks-free : (app : App) (arguments : List Text) (args : Args) → app ≡ pr
 asks-free app arguments (Solve budget entries workers) is (given, asks, budget-is, entries-are, workers-are) =
     let free = solves-free asks.program asks.words (walked-line arguments given asks).faultless in
     subst (λ a. fault_of a arguments ≡ []) (sym is) (subst (λ ws. fault_of program_app ws ≡ []) (sym asks.line) free)
-asks-free app arguments (Serve listen workers shards entries budget events websocket allow_stop) is asks = subst (λ a. fault_of a arguments ≡ []) (sym is) asks.1
+asks-free app arguments (Serve listen workers shards entries budget events idle websocket allow_stop) is asks = subst (λ a. fault_of a arguments ≡ []) (sym is) asks.1
 
 -- the parser's error says that memory ran out, or the line asks for nothing
 abbrev pub Refuses : List Text → Error → Type 0

@@ -15,7 +15,7 @@ use Rattle.clap.specs.declared.builder.command.Command.{Command}
 use Rattle.clap.specs.declared.builder.command.Command.TheViews.{out-Command}
 use Rattle.std.specs.declared.alloc.AllocError.{AllocError}
 use Rattle.dd_program.specs.Program.{IsOption, IsSubcommand}
-use Rattle.dd_program.specs.ServeWords.{IsGivenBy, HasNumber, budget_in, number_in}
+use Rattle.dd_program.specs.ServeWords.{IsGivenBy, HasLimit, HasNumber, limit_in, number_in}
 use Rattle.dd_program.proofs.Numbers.{value_of}
 
 -- a test that no element passes finds none
@@ -97,6 +97,11 @@ pub number-one : (option : Text) (rows : List Row) (least most default a b : ℕ
 number-one option rows least most default a b one other =
     one.2 ∙ ap (number_in least most default) (given-one 32 (one_of option rows) one.0 other.0 one.1 other.1) ∙ sym other.2
 
+-- and one limit
+pub limit-one : (option : Text) (rows : List Row) (most default : ℕ) (a b : Option ℕ) → HasLimit option rows most default a → HasLimit option rows most default b → a ≡ b
+limit-one option rows most default a b one other =
+    one.2 ∙ ap (limit_in most default) (given-one 64 (one_of option rows) one.0 other.0 one.1 other.1) ∙ sym other.2
+
 -- ---- ranges
 
 -- what two tests let through passes both
@@ -116,15 +121,15 @@ number-fits least most default (Some number) low high = go (nat_le least number 
         (leb-true least number parts.0, leb-true number most parts.1)
     go false is = (low, high)
 
--- and so does a budget
-pub budget-fits : (given : Option ℕ) → IfSome (budget_in given) (λ positions. positions ≤ 1000000000000)
-budget-fits None = leb-true 50000000 1000000000000 refl
-budget-fits (Some zero) = tt
-budget-fits (Some (suc positions)) = go (nat_le (suc positions) 1000000000000) refl
+-- and so does a limit
+pub limit-fits : (most default : ℕ) (given : Option ℕ) → default ≤ most → IfSome (limit_in most default given) (λ number. number ≤ most)
+limit-fits most default None low = low
+limit-fits most default (Some zero) low = tt
+limit-fits most default (Some (suc number)) low = go (nat_le (suc number) most) refl
   where
-    go : (b : Bool) → nat_le (suc positions) 1000000000000 ≡ b → IfSome (cond b (Some (suc positions)) (Some 50000000)) (λ p. p ≤ 1000000000000)
-    go true is = leb-true (suc positions) 1000000000000 is
-    go false is = leb-true 50000000 1000000000000 refl
+    go : (b : Bool) → nat_le (suc number) most ≡ b → IfSome (cond b (Some (suc number)) (Some default)) (λ n. n ≤ most)
+    go true is = leb-true (suc number) most is
+    go false is = low
 
 -- ---- what is left out
 
@@ -136,6 +141,10 @@ none-given bits text (Some n) none is = let bad : None ≡ Some is.0 = sym none 
 -- so its number is the default
 pub number-default : (option : Text) (rows : List Row) (least most default number : ℕ) → one_of option rows ≡ None → HasNumber option rows least most default number → number ≡ default
 number-default option rows least most default number none is = is.2 ∙ ap (number_in least most default) (none-given 32 (one_of option rows) is.0 none is.1)
+
+-- and so is its limit
+pub limit-default : (option : Text) (rows : List Row) (most default : ℕ) (limit : Option ℕ) → one_of option rows ≡ None → HasLimit option rows most default limit → limit ≡ Some default
+limit-default option rows most default limit none is = is.2 ∙ ap (limit_in most default) (none-given 64 (one_of option rows) is.0 none is.1)
 
 -- no row of an option has no text of it
 pub no-row : (option : Text) (rows : List Row) → has_row option rows ≡ false → one_of option rows ≡ None

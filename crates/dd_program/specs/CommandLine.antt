@@ -7,7 +7,7 @@ use Rattle.dd_book.specs.declared.limits.TheConstants.{MOST_EVENTS}
 use Rattle.dd_shard.specs.declared.shard.TheConstants.{MOST_SHAPES}
 use Rattle.dd_program.specs.declared.command_line.Args.{Args}
 use Rattle.dd_program.specs.declared.command_line.Args.TheVariants.{Serve, Solve}
-use Rattle.dd_program.specs.declared.command_line.TheConstants.{LEAST_EVENTS, MOST_WORKERS}
+use Rattle.dd_program.specs.declared.command_line.TheConstants.{LEAST_EVENTS, MOST_IDLE, MOST_WORKERS}
 use Rattle.dd_table.specs.declared.shared_table.TheConstants.{MOST_SHARDS}
 use Rattle.dd_program.specs.ServeWords.{AsksToServe}
 
@@ -30,6 +30,10 @@ IsTableSize entries = (1 ≤ entries) × (entries ≤ MOST_SHAPES)
 -- a run has at least 1,024 events, and no more than a journal may have
 abbrev pub IsEventCount : ℕ → Type 0
 IsEventCount events = (LEAST_EVENTS ≤ events) × (events ≤ MOST_EVENTS)
+
+-- a connection without an open job may be silent for a day at most, in seconds
+abbrev pub IsIdle : ℕ → Type 0
+IsIdle seconds = seconds ≤ MOST_IDLE
 
 -- the options of `solve`
 pub data SolveOption : Type 0 where
@@ -85,22 +89,22 @@ abbrev pub Asks : List Text → Args → Type 0
 Asks arguments (Solve budget entries workers) =
     (given : List (SolveOption × ℕ)) × AsksToSolve arguments given × (budget ≡ given_to Budget given)
     × (entries ≡ unwrap_or (given_to Entries given) 4096) × (workers ≡ unwrap_or (given_to Workers given) 1)
-Asks arguments (Serve listen workers shards entries budget events websocket allow_stop) = AsksToServe arguments (Serve listen workers shards entries budget events websocket allow_stop)
+Asks arguments (Serve listen workers shards entries budget events idle websocket allow_stop) = AsksToServe arguments (Serve listen workers shards entries budget events idle websocket allow_stop)
 
 -- the same is asked for: the same numbers, and an address of the same text
 abbrev pub IsSame : Args → Args → Type 0
 IsSame (Solve b e w) (Solve c f x) = Solve b e w ≡ Solve c f x
-IsSame (Serve l w s e b n k a) (Serve m x t f c o j d) =
-    (string_bytes l ≡ string_bytes m) × (w ≡ x) × (s ≡ t) × (e ≡ f) × (b ≡ c) × (n ≡ o) × (k ≡ j) × (a ≡ d)
-IsSame (Solve b e w) (Serve m x t f c o j d) = ⊥
-IsSame (Serve l w s e b n k a) (Solve c f x) = ⊥
+IsSame (Serve l w s e b n i k a) (Serve m x t f c o h j d) =
+    (string_bytes l ≡ string_bytes m) × (w ≡ x) × (s ≡ t) × (e ≡ f) × (b ≡ c) × (n ≡ o) × (i ≡ h) × (k ≡ j) × (a ≡ d)
+IsSame (Solve b e w) (Serve m x t f c o h j d) = ⊥
+IsSame (Serve l w s e b n i k a) (Solve c f x) = ⊥
 
 -- each number lies in its range
 abbrev pub IsInRange : Args → Type 0
 IsInRange (Solve budget entries workers) = IfSome budget IsBudget × IsTableSize entries × (1 ≤ workers) × (workers ≤ MOST_WORKERS)
-IsInRange (Serve listen workers shards entries budget events websocket allow_stop) =
+IsInRange (Serve listen workers shards entries budget events idle websocket allow_stop) =
     (1 ≤ workers) × (workers ≤ MOST_WORKERS) × (1 ≤ shards) × (shards ≤ MOST_SHARDS) × IsTableSize entries × IfSome budget IsBudget
-    × IsEventCount events
+    × IsEventCount events × IfSome idle IsIdle
 
 -- no word is the option's name or begins with it
 abbrev pub IsLeftOut : Text → List Text → Type 0
@@ -111,7 +115,7 @@ abbrev pub HasDefaults : List Text → Args → Type 0
 HasDefaults arguments (Solve budget entries workers) =
     (IsLeftOut (codes "--budget") arguments → budget ≡ None) × (IsLeftOut (codes "--entries") arguments → entries ≡ 4096)
     × (IsLeftOut (codes "--workers") arguments → workers ≡ 1)
-HasDefaults arguments (Serve listen workers shards entries budget events websocket allow_stop) =
+HasDefaults arguments (Serve listen workers shards entries budget events idle websocket allow_stop) =
     (IsLeftOut (codes "--workers") arguments → workers ≡ 4) × (IsLeftOut (codes "--shards") arguments → shards ≡ 16)
     × (IsLeftOut (codes "--entries") arguments → entries ≡ 4096) × (IsLeftOut (codes "--budget") arguments → budget ≡ Some 50000000)
-    × (IsLeftOut (codes "--events") arguments → events ≡ MOST_EVENTS)
+    × (IsLeftOut (codes "--events") arguments → events ≡ MOST_EVENTS) × (IsLeftOut (codes "--idle") arguments → idle ≡ Some 600)

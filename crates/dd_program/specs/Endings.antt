@@ -241,7 +241,7 @@ EndsSo (Err NoMemoryLeft) failed errors errors2 ending = (ending ≡ OutOfMemory
 -- what the arguments ask for is done, up to this ending
 abbrev pub AnswersUntil : Args → Streams → Streams → Ending → Type 0
 AnswersUntil (Solve budget entries workers) old new ending = SolvesUntil budget old new ending
-AnswersUntil (Serve listen workers shards entries budget events websocket allow_stop) old new ending = ServesUntil events old new ending
+AnswersUntil (Serve listen workers shards entries budget events idle websocket allow_stop) old new ending = ServesUntil events old new ending
 
 -- ---- an error is shown
 

@@ -9,7 +9,7 @@ use Rattle.clap.specs.declared.builder.command.Command.{Command}
 use Rattle.clap.specs.declared.builder.command.Command.TheViews.{out-Command}
 use Rattle.clap.specs.declared.builder.value_parser.ValueParser.TheVariants.{Signed, Unsigned}
 use Rattle.clap.specs.declared.builder.action.ArgAction.TheVariants.{SetTrue}
-use Rattle.dd_program.specs.declared.command_line.TheConstants.{LEAST_EVENTS, MOST_WORKERS}
+use Rattle.dd_program.specs.declared.command_line.TheConstants.{LEAST_EVENTS, MOST_IDLE, MOST_WORKERS}
 use Rattle.dd_table.specs.declared.shared_table.TheConstants.{MOST_SHARDS}
 
 -- `--budget N`
@@ -78,6 +78,14 @@ events_rule = record (new_rule (codes "events")) {
   parser = Some (Signed (pos LEAST_EVENTS) (pos MOST_EVENTS));
 }
 
+-- `--idle SECONDS`
+abbrev pub idle_rule : Rule
+idle_rule = record (new_rule (codes "idle")) {
+  long = Some (codes "idle");
+  value_names = 1;
+  parser = Some (Unsigned 0 MOST_IDLE);
+}
+
 -- `--websocket`
 abbrev pub websocket_rule : Rule
 websocket_rule = record (new_rule (codes "websocket")) { long = Some (codes "websocket"); action = Some SetTrue }
@@ -89,7 +97,8 @@ allow_stop_rule = record (new_rule (codes "allow-stop")) { long = Some (codes "a
 -- `serve` with its options
 abbrev pub serve_app : App
 serve_app =
-    with_rule (with_rule (with_rule (with_rule (with_rule (with_rule (with_rule (with_rule (new_app (codes "serve")) listen_rule) workers_rule) shards_rule) shard_entries_rule) budget_rule) events_rule) websocket_rule) allow_stop_rule
+    with_rule (with_rule (with_rule (with_rule (with_rule (with_rule (with_rule (with_rule (with_rule (new_app (codes "serve")) listen_rule) workers_rule) shards_rule) shard_entries_rule) budget_rule) events_rule) idle_rule) websocket_rule)
+    allow_stop_rule
 
 -- the program without a subcommand, which it wants
 abbrev pub bare_app : App

@@ -7,7 +7,7 @@ use Rattle.dd_book.specs.declared.limits.TheConstants.{MOST_EVENTS}
 use Rattle.dd_shard.specs.declared.shard.TheConstants.{MOST_SHAPES}
 use Rattle.dd_program.specs.declared.command_line.Args.{Args}
 use Rattle.dd_program.specs.declared.command_line.Args.TheVariants.{Serve, Solve}
-use Rattle.dd_program.specs.declared.command_line.TheConstants.{LEAST_EVENTS, MOST_WORKERS}
+use Rattle.dd_program.specs.declared.command_line.TheConstants.{LEAST_EVENTS, MOST_IDLE, MOST_WORKERS}
 use Rattle.dd_table.specs.declared.shared_table.TheConstants.{MOST_SHARDS}
 use Rattle.dd_program.specs.Program.{program_app, FitsBits}
 use Rattle.std.specs.Option.{option_map_or}
@@ -18,11 +18,11 @@ abbrev pub number_in : ℕ → ℕ → ℕ → Option ℕ → ℕ
 number_in least most default None = default
 number_in least most default (Some number) = (if nat_le least number && nat_le number most then number else default)
 
--- the budget that is given, where it is 1 to 1,000,000,000,000; none where 0 is given; else fifty million
-abbrev pub budget_in : Option ℕ → Option ℕ
-budget_in None = Some 50000000
-budget_in (Some zero) = None
-budget_in (Some (suc positions)) = (if nat_le (suc positions) 1000000000000 then Some (suc positions) else Some 50000000)
+-- the limit that is given, where it is no more than the most; none where 0 is given; else the default
+abbrev pub limit_in : ℕ → ℕ → Option ℕ → Option ℕ
+limit_in most default None = Some default
+limit_in most default (Some zero) = None
+limit_in most default (Some (suc number)) = (if nat_le (suc number) most then Some (suc number) else Some default)
 
 -- what a text gives: the number that it writes, or none, where it writes none of so many bits
 abbrev pub IsGivenBy : ℕ → Option (List ℕ) → Option ℕ → Type 0
@@ -37,6 +37,10 @@ IsGiven bits option rows given = IsGivenBy bits (one_of option rows) given
 abbrev pub HasNumber : List ℕ → List Row → ℕ → ℕ → ℕ → ℕ → Type 0
 HasNumber option rows least most default number = (given : Option ℕ) × IsGiven 32 option rows given × (number ≡ number_in least most default given)
 
+-- the same of a limit, which may be none
+abbrev pub HasLimit : List ℕ → List Row → ℕ → ℕ → Option ℕ → Type 0
+HasLimit option rows most default limit = (given : Option ℕ) × IsGiven 64 option rows given × (limit ≡ limit_in most default given)
+
 -- the flag's text
 abbrev pub is_set : List ℕ → List Row → Bool
 is_set flag rows = option_map_or (λ text. bytes_eq text (codes "true")) (first_of flag rows) false
@@ -44,13 +48,14 @@ is_set flag rows = option_map_or (λ text. bytes_eq text (codes "true")) (first_
 -- what the options of `serve` ask for, by the rows that the parser of arguments gave them
 abbrev pub AsksToServeBy : List Row → Args → Type 0
 AsksToServeBy rows (Solve budget entries workers) = ⊥
-AsksToServeBy rows (Serve listen workers shards entries budget events websocket allow_stop) =
+AsksToServeBy rows (Serve listen workers shards entries budget events idle websocket allow_stop) =
     (string_bytes listen ≡ unwrap_or (first_of (codes "listen") rows) [])
     × HasNumber (codes "workers") rows 1 MOST_WORKERS 4 workers
     × HasNumber (codes "shards") rows 1 MOST_SHARDS 16 shards
     × HasNumber (codes "entries") rows 1 MOST_SHAPES 4096 entries
-    × ((given : Option ℕ) × IsGiven 64 (codes "budget") rows given × (budget ≡ budget_in given))
+    × HasLimit (codes "budget") rows 1000000000000 50000000 budget
     × HasNumber (codes "events") rows LEAST_EVENTS MOST_EVENTS MOST_EVENTS events
+    × HasLimit (codes "idle") rows MOST_IDLE 600 idle
     × (websocket ≡ is_set (codes "websocket") rows)
     × (allow_stop ≡ is_set (codes "allow-stop") rows)
 

@@ -2,8 +2,8 @@
 ghost use Rattle.std.specs.Prelude.{◌≡◌, ◌⊎◌, ◌≤◌, IfOk, IfErr, Some, codes, map, string_bytes};
 ghost use Rattle.clap.specs.Words.{app_of, fault_of, found_of, kind_of, rows_of, HasKind};
 ghost use Rattle.dd_program.specs.CommandLine.{Asks, HasDefaults, IsInRange, IsSame};
-ghost use Rattle.dd_program.specs.Program.{allow_stop_rule, budget_rule, entries_rule, events_rule, line_workers_rule, listen_rule, program_app, serve_app, shard_entries_rule, shards_rule, solve_app, websocket_rule, workers_rule, number_of, HasNumbers, IsOption, IsSubcommand};
-ghost use Rattle.dd_program.specs.ServeWords.{budget_in, is_set, number_in, AsksToServeBy, IsGiven};
+ghost use Rattle.dd_program.specs.Program.{allow_stop_rule, budget_rule, entries_rule, events_rule, idle_rule, line_workers_rule, listen_rule, program_app, serve_app, shard_entries_rule, shards_rule, solve_app, websocket_rule, workers_rule, number_of, HasNumbers, IsOption, IsSubcommand};
+ghost use Rattle.dd_program.specs.ServeWords.{is_set, limit_in, number_in, AsksToServeBy, IsGiven};
 
 use crate::help::requests;
 use clap::error::ErrorKind;
@@ -20,6 +20,12 @@ const MOST_POSITIONS: i64 = 1_000_000_000_000;
 
 /// The budget of a job or of a part of one where none is given: full deals don't come near it.
 const JOB_POSITIONS: u64 = 50_000_000;
+
+/// The most seconds for which a connection without an open job may be silent, where there is a limit: a day.
+pub const MOST_IDLE: u64 = 86_400;
+
+/// The same where none is given.
+const IDLE: u64 = 600;
 
 /// The most workers.
 pub const MOST_WORKERS: u32 = 64;
@@ -57,6 +63,8 @@ pub enum Args {
         budget: Option<u64>,
         /// The most events of each run, 1,024 to 1,048,576.
         events: u32,
+        /// For how many seconds a connection without an open job may be silent, 1 to 86,400. `None` is no limit.
+        idle: Option<u64>,
         /// Each connection is a WebSocket.
         websocket: bool,
         /// A client may stop the program.
@@ -152,8 +160,8 @@ fn number_of(options: &ArgMatches, option: &str) -> Option<u32>
     options.get_one(option)
 }
 
-/// The number of positions that the option's text writes.
-fn positions_of(options: &ArgMatches, option: &str) -> Option<u64>
+/// The limit that the option's text writes.
+fn limit_of(options: &ArgMatches, option: &str) -> Option<u64>
     ensures { IsGiven 64 option.now (rows_of (found_of options.now)) result }
 {
     options.get_one(option)
@@ -179,14 +187,14 @@ fn number_in(given: Option<u32>, least: u32, most: u32, default: u32) -> u32
     }
 }
 
-/// The budget that was given, which the parser of arguments has held to its range, or the default; 0 is for none.
-fn budget_in(given: Option<u64>) -> Option<u64>
-    ensures { result ≡ budget_in given }
+/// The limit that was given, which the parser of arguments has held to its range, or the default; 0 is for none.
+fn limit_in(given: Option<u64>, most: u64, default: u64) -> Option<u64>
+    ensures { result ≡ limit_in most default given }
 {
     match given {
         Some(0) => None,
-        Some(positions) if positions <= MOST_POSITIONS as u64 => Some(positions),
-        _ => Some(JOB_POSITIONS),
+        Some(number) if number <= most => Some(number),
+        _ => Some(default),
     }
 }
 
@@ -199,13 +207,18 @@ fn serve_args(alloc: Global, options: &ArgMatches) -> Result<Args, AllocError>
         workers: number_in(number_of(options, "workers"), 1, MOST_WORKERS, 4),
         shards: number_in(number_of(options, "shards"), 1, MOST_SHARDS, 16),
         entries: number_in(number_of(options, "entries"), 1, MOST_SHAPES, 4_096),
-        budget: budget_in(positions_of(options, "budget")),
+        budget: limit_in(
+            limit_of(options, "budget"),
+            MOST_POSITIONS as u64,
+            JOB_POSITIONS,
+        ),
         events: number_in(
             number_of(options, "events"),
             LEAST_EVENTS,
             MOST_EVENTS as u32,
             MOST_EVENTS as u32,
         ),
+        idle: limit_in(limit_of(options, "idle"), MOST_IDLE, IDLE),
         websocket: is_set(options, "websocket"),
         allow_stop: is_set(options, "allow-stop"),
     })
@@ -251,6 +264,7 @@ fn serve_command<'a>(alloc: Global) -> Result<Command<'a>, AllocError>
         .arg(shard_entries_option(alloc))?
         .arg(job_budget_option(alloc))?
         .arg(events_option(alloc))?
+        .arg(idle_option(alloc))?
         .arg(websocket_flag(alloc))?
         .arg(allow_stop_flag(alloc))
 }
@@ -348,6 +362,18 @@ fn events_option<'a>(alloc: Global) -> Arg<'a>
         .value_name("N")
         .value_parser(value_parser!(u32).range(LEAST_EVENTS as i64..=MOST_EVENTS as i64))
         .help("The most events of a run, 1024 to 1048576 [default: 1048576]; the next run follows")
+}
+
+fn idle_option<'a>(alloc: Global) -> Arg<'a>
+    ensures { IsOption result idle_rule }
+{
+    Arg::new(alloc, "idle")
+        .long("idle")
+        .value_name("SECONDS")
+        .value_parser(value_parser!(u64).range(0..=MOST_IDLE as i64))
+        .help(
+            "How long a connection without an open job may be silent, 0 to 86400, 0 for no limit [default: 600]",
+        )
 }
 
 fn websocket_flag<'a>(alloc: Global) -> Arg<'a>

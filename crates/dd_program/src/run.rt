@@ -1,7 +1,7 @@
 //! What the program does: from its arguments and its streams to its ending.
-ghost use Rattle.std.specs.Prelude.{◌≡◌, ◌≤◌, IfOk, IfErr};
+ghost use Rattle.std.specs.Prelude.{◌≡◌, ◌≤◌, ◌*◌, IfOk, IfErr, IfSome, option_map};
 ghost use Rattle.clap.specs.Words.{kind_of};
-ghost use Rattle.dd_program.specs.CommandLine.{IsInRange, IsTableSize};
+ghost use Rattle.dd_program.specs.CommandLine.{IsIdle, IsInRange, IsTableSize};
 ghost use Rattle.dd_program.specs.Endings.{line_of, state_of, streams, arguments_of, Device, AskFor, Explains, Writes, SolvesUntil, ShowsUntil, Runs};
 
 use crate::ahead::solve_ahead;
@@ -73,6 +73,7 @@ pub fn run_program<
                 entries,
                 budget,
                 events,
+                idle,
                 websocket,
                 allow_stop,
             },
@@ -84,6 +85,7 @@ pub fn run_program<
                 budget,
                 websocket,
                 allow_stop,
+                idle: milliseconds(idle),
                 grace: GRACE,
             };
             serve(rt, alloc, listen.as_str(), events, args, output, errors)
@@ -92,6 +94,17 @@ pub fn run_program<
             ErrorKind::OutOfMemory => fail(errors, Ending::OutOfMemory),
             _ => show(alloc, &error, output, errors),
         },
+    }
+}
+
+/// So many seconds, a day at most, in milliseconds.
+fn milliseconds(seconds: Option<u64>) -> Option<u64>
+    requires { IfSome seconds IsIdle }
+    ensures { result ≡ option_map (λ s. s * 1000) seconds }
+{
+    match seconds {
+        Some(seconds) => Some(seconds * 1_000),
+        None => None,
     }
 }
 

@@ -14,6 +14,7 @@ pub mod PartnersPlan
 pub mod Across
 pub mod AcrossClaims
 pub mod Claims
+pub mod NoRun
 pub mod Highest
 pub mod Reached
 pub mod TrumpRanks
@@ -21,6 +22,7 @@ pub mod Sequences
 pub mod Shares
 pub mod Next
 pub mod LeadBack
+pub mod Led
 pub mod TakenTrick
 pub mod SecondHand
 pub mod SecondTrump

@@ -90,6 +90,13 @@ fn led_out(ranks: &Ranks) -> Cash
     ensures bound { result.tricks ≤ 13 }
 {
     let run = own_run(ranks).len();
+    // Most suits are headed by another hand.
+    if run == 0 {
+        return Cash {
+            tricks: 0,
+            depth: 0,
+        };
+    }
     let longest = ranks
         .left
         .len()

@@ -1,15 +1,20 @@
-//! Second hand wins. An opponent of the leader, the second hand or the fourth, holds the highest card left of the suit that is
-//! led. What it could cash with the lead in the position before, with that card as the first of its tricks, it takes now:
-//! it wins this trick with that card whatever comes, and the other hands have followed as they would have to its lead. Its
-//! partner has not played yet, so it can keep what the count rests on, winners to which the seat crosses too; where third hand
-//! is to play it has, and the same is not sound. An opponent that could ruff the first trick leaves nothing to cash in the suit.
-ghost use Rattle.std.specs.Prelude.{◌≡◌, ◌≤◌, ◌+◌, ◌∷◌, [], true, min, IfSome};
+//! Second hand wins. An opponent of the leader, the second hand or the fourth, holds the highest card left of a suit that the
+//! leader can lead. What it could cash with the lead in the leader's place, with that card as the first of its tricks, it takes
+//! after each lead of the suit: it wins this trick with that card whatever comes, and the other hands follow as they would to its
+//! lead. Which card is led is no matter, so one count answers for all of the suit. Its partner has not played yet, so it can keep
+//! what the count rests on, winners to which the seat crosses too; where third hand is to play it has, and the same is not sound.
+//! An opponent that could ruff the first trick leaves nothing to cash in the suit.
+ghost use Rattle.std.specs.Prelude.{◌≡◌, ◌≤◌, ◌+◌, [], true, min, IfSome};
+ghost use Rattle.dd_cards.specs.declared.strain.Strain.TheVariants.{Trump};
 ghost use Rattle.dd_cards.specs.declared.suit.Suit.TheVariants.{Spades, Hearts, Diamonds, Clubs};
+ghost use Rattle.dd_cards.specs.PlayingCard.{PlayingCard};
+ghost use Rattle.dd_cards.specs.Cards.{has_card};
 ghost use Rattle.dd_cards.specs.Sides.{side_of, other_side};
-ghost use Rattle.dd_play.specs.Tricks.{is_trump};
+ghost use Rattle.dd_play.specs.Board.{IsBoard, board_of};
+ghost use Rattle.dd_play.specs.Play.{after, legal};
 ghost use Rattle.dd_play.specs.Reach.{reach, TakesBy};
 ghost use Rattle.dd_quick.specs.QuickTricks.{IsCash, side_tricks, joint_trumps};
-ghost use Rattle.dd_quick.specs.SecondHand.{IsBeforeLead, Opposes, unled};
+ghost use Rattle.dd_quick.specs.SecondHand.{Opposes, TakesAfterLead};
 ghost use Rattle.dd_quick.specs.Sharing.{shares};
 
 use crate::crossing::{beside_trumps, crossing};
@@ -18,41 +23,47 @@ use crate::long_suit::{Cash, Cashes, offers, with_shares, with_winners};
 use crate::quick_tricks::{Sure, crossing_cards, leaders};
 use crate::sharing::{Shares, share_out};
 use crate::winners::{run, trumps};
-use dd_cards::{Card, Hand, Holding, Seat, Strain, Suit};
+use dd_cards::{Hand, Seat, Strain, Suit};
 use dd_play::Position;
 
-/// Where one card is on the trick, and an opponent of its leader has the highest card left of its suit: the winners on which it
-/// rests that the opponents take at least `need` tricks, this one included, where they have so many quick tricks.
-pub fn for_second_hand(position: &Position, need: u8) -> Option<Hand>
-    ensures { IfSome result
-        (λ cards. TakesBy (reach cards) (other_side (side_of position.now.first)) position.now
-        need) }
+/// Where no card is on the trick and this opponent of the leader has the highest card left of the suit: the winners on which it
+/// rests that after each lead of the suit the opponents take at least `need` tricks, the one led to included, where they have so many
+/// quick tricks.
+pub fn for_second_hand(position: &Position, seat: Seat, suit: Suit, need: u8) -> Option<Hand>
+    requires start { position.now.trick ≡ [] }
+    requires opposes { Opposes position.now seat }
+    ensures { IfSome result (λ cards. (card : PlayingCard) → has_card (legal position.now) card ≡ true
+        → card.suit ≡ suit → TakesBy (reach cards) (other_side (side_of position.now.first))
+        (after position.now card) need) }
 {
-    let [led] = position.trick() else {
-        return None;
-    };
-    let led = *led;
-    let seat = heading(position, led)?;
-    let before = before_lead(position, led, seat)?;
+    let before = led_by(position, seat)?;
     match position.strain() {
-        Strain::Trump(trump) if trump == led.suit => after_a_trump(position, &before, led, need),
-        _ => after_a_side_suit(position, &before, led, need),
+        Strain::Trump(trump) if trump == suit => after_a_trump(&before, suit, need),
+        _ => after_a_side_suit(&before, suit, need),
     }
 }
 
-// The same by what is sure before the lead, where a side suit was led.
-fn after_a_side_suit(position: &Position, before: &Position, led: Card, need: u8) -> Option<Hand>
-    requires { IsBeforeLead position.now led before.now }
-    ensures { IfSome result
-        (λ cards. TakesBy (reach cards) (side_of before.now.first) position.now need) }
+// The position with this seat to lead in the leader's place.
+fn led_by(position: &Position, seat: Seat) -> Option<Position>
+    ensures before { IfSome result (λ before. before
+        ≡ board_of position.now.hands position.now.strain seat []) }
+    ensures board { IsBoard position.now }
+{
+    Position::new(position.hands().copy(), position.strain(), seat, &[]).ok()
+}
+
+// The same by what is sure before the lead, where a side suit is led.
+fn after_a_side_suit(before: &Position, suit: Suit, need: u8) -> Option<Hand>
+    requires { before.now.trick ≡ [] }
+    ensures { IfSome result (λ cards. TakesAfterLead cards before.now suit need) }
 {
     let sure = leaders(before);
-    let first = tricks_in(sure.cashed, led.suit);
+    let first = tricks_in(sure.cashed, suit);
     if need == 0 || first == 0 || sure.side == 0 {
         return None;
     }
     if need <= sure.side + sure.trumps {
-        return Some(winners_of(position, before, led, sure, need));
+        return Some(winners_of(before, suit, sure, need));
     }
     let most = beside_trumps(before, sure.side);
     if need > sure.side + sure.trumps + most {
@@ -66,17 +77,16 @@ fn after_a_side_suit(position: &Position, before: &Position, led: Card, need: u8
     }
 }
 
-// The same where a trump was led: the seat's trumps that no other hand can beat, and what is cashed in side suits while the
+// The same where a trump is led: the seat's trumps that no other hand can beat, and what is cashed in side suits while the
 // partner has one card more to throw, to this trick. Joint trumps are not counted, since two of them may fall on it.
-fn after_a_trump(position: &Position, before: &Position, led: Card, need: u8) -> Option<Hand>
-    requires before { IsBeforeLead position.now led before.now }
-    requires trump { is_trump position.now.strain led ≡ true }
-    ensures { IfSome result
-        (λ cards. TakesBy (reach cards) (side_of before.now.first) position.now need) }
+fn after_a_trump(before: &Position, suit: Suit, need: u8) -> Option<Hand>
+    requires start { before.now.trick ≡ [] }
+    requires trump { before.now.strain ≡ Trump suit }
+    ensures { IfSome result (λ cards. TakesAfterLead cards before.now suit need) }
 {
     let sure = leaders(before);
     let seat = before.first();
-    let run = run(before, seat, led.suit).len();
+    let run = run(before, seat, suit).len();
     let tops = need.min(run);
     let side = need - tops;
     let spare = before
@@ -90,50 +100,8 @@ fn after_a_trump(position: &Position, before: &Position, led: Card, need: u8) ->
         tricks: tops,
         depth: tops,
     };
-    let cards = with_winners(before, Hand::new(), led.suit, cash, tops);
+    let cards = with_winners(before, Hand::new(), suit, cash, tops);
     Some(with_shares(before, cards, sure.cashed, shares))
-}
-
-// The opponent of the leader with the highest card left of the suit led, where an opponent has it.
-fn heading(position: &Position, led: Card) -> Option<Seat>
-    ensures { IfSome result (λ seat. Opposes position.now seat) }
-{
-    let leader = position.first();
-    let hands = position.hands();
-    let second = highest(hands.holding(leader.left(), led.suit));
-    let fourth = highest(hands.holding(leader.right(), led.suit));
-    let theirs = highest(hands.holding(leader, led.suit)).max(highest(hands.holding(
-        leader.partner(),
-        led.suit,
-    )));
-    let others = theirs.max(led.rank.code());
-    if second > others.max(fourth) {
-        Some(leader.left())
-    } else if fourth > others.max(second) {
-        Some(leader.right())
-    } else {
-        None
-    }
-}
-
-// The highest of these ranks, 2 to 14, or 0 where there are none.
-#[inline]
-fn highest(ranks: Holding) -> u8 {
-    match ranks.highest() {
-        Some(rank) => rank.code(),
-        None => 0,
-    }
-}
-
-// The position before the lead, with this seat to lead in the leader's place.
-fn before_lead(position: &Position, led: Card, seat: Seat) -> Option<Position>
-    ensures { IfSome result (λ before. before ≡ unled position.now led seat) }
-{
-    let mut hands = position.hands().copy();
-    if !hands.insert(position.first(), led) {
-        return None;
-    }
-    Position::new(hands, position.strain(), seat, &[]).ok()
 }
 
 // What is cashed in this suit.
@@ -182,8 +150,8 @@ fn share_out_from(suit: Suit, cashed: Cashes, need: u8) -> Shares
 }
 
 // The winners on which so many tricks of the opponents' side rest, the first of them in the suit led.
-fn winners_of(position: &Position, before: &Position, led: Card, sure: Sure, need: u8) -> Hand
-    requires before { IsBeforeLead position.now led before.now }
+fn winners_of(before: &Position, suit: Suit, sure: Sure, need: u8) -> Hand
+    requires start { before.now.trick ≡ [] }
     requires spades { IsCash before.now Spades sure.cashed.spades.tricks sure.cashed.spades.depth }
     requires hearts { IsCash before.now Hearts sure.cashed.hearts.tricks sure.cashed.hearts.depth }
     requires diamonds { IsCash before.now Diamonds
@@ -192,14 +160,14 @@ fn winners_of(position: &Position, before: &Position, led: Card, sure: Sure, nee
     requires side { sure.side ≡ side_tricks before.now }
     requires some { (1 ≤ need) × (1 ≤ sure.side) }
     requires first { 1 ≤ shares sure.cashed.spades.tricks sure.cashed.hearts.tricks
-        sure.cashed.diamonds.tricks sure.cashed.clubs.tricks led.suit }
+        sure.cashed.diamonds.tricks sure.cashed.clubs.tricks suit }
     requires few { need ≤ side_tricks before.now
         + joint_trumps before.now.strain before.now before.now.first }
-    ensures { TakesBy (reach result) (side_of before.now.first) position.now need }
+    ensures { TakesAfterLead result before.now suit need }
 {
     let cashed = sure.cashed;
     let side = need.min(sure.side);
-    let shares = share_out_from(led.suit, cashed, side);
+    let shares = share_out_from(suit, cashed, side);
     let cards = with_shares(before, Hand::new(), cashed, shares);
     with_trumps(before, before.first(), cards, need - side)
 }

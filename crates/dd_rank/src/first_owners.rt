@@ -90,6 +90,18 @@ impl FirstOwners {
         self.depths
     }
 
+    /// Equal ones.
+    #[inline]
+    pub fn copy(&self) -> FirstOwners
+        ensures { result ≡ self.now }
+    {
+        FirstOwners {
+            depths: self.depths,
+            mask: self.mask,
+            places: self.places,
+        }
+    }
+
     // The bits in which they stand, and the owners in them.
     #[inline]
     pub(crate) fn bits(&self) -> (u64, OwnerPlanes) {

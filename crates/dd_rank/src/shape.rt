@@ -1,10 +1,10 @@
-ghost use Rattle.std.specs.Prelude.{◌≡◌, bit_and};
+ghost use Rattle.std.specs.Prelude.{◌≡◌, ◌≤◌, bit_and};
 ghost use Rattle.dd_cards.specs.Strains.{strain_code};
 ghost use Rattle.std.specs.Hash as fed;
 ghost use Rattle.dd_rank.specs.Strings.{fed-shape, mix, hash_of, same-shape, same-shape-partial, same_shape, shape_of};
 
 use crate::lanes::suit_lengths;
-use dd_cards::Strain;
+use dd_cards::{Strain, Suit};
 use dd_play::TrickStart;
 use std::hash::{Hash, Hasher};
 use std::marker::Model;
@@ -52,6 +52,39 @@ impl Shape {
             strain: position.strain(),
             lengths: leaders + seconds * 0x10 + thirds * 0x100 + fourths * 0x1000,
         }
+    }
+
+    /// The shape with these lengths: four bits each, sixteen for each suit, the spades on top, and in them the leader's the lowest.
+    #[inline]
+    pub fn of_lengths(strain: Strain, lengths: u64) -> Shape
+        ensures { result ≡ record { strain = strain; lengths = lengths } }
+    {
+        Shape { strain, lengths }
+    }
+
+    #[inline]
+    pub fn strain(self) -> Strain
+        ensures { result ≡ self.strain }
+    {
+        self.strain
+    }
+
+    /// The lengths as they are handed to `of_lengths`.
+    #[inline]
+    pub fn lengths(self) -> u64
+        ensures { result ≡ self.lengths }
+    {
+        self.lengths
+    }
+
+    /// How many cards of the suit the hand has that is so many places after the leader's.
+    // It serves the order of leads: no answer rests on it.
+    #[inline]
+    pub fn length(self, suit: Suit, places: u8) -> u8
+        requires { places ≤ 3 }
+        ensures { result ≤ 15 }
+    {
+        ((self.lengths >> (48 - 16 * suit.code() + 4 * places)) % 16) as u8
     }
 
     /// A number of 64 bits that shapes are spread over: equal for equal shapes.

@@ -1,9 +1,11 @@
 //! What is seen at once of owners: those of the two highest cards of each suit. It tells soon that others differ, and no
 //! more: no answer rests on it.
+ghost use Rattle.std.specs.Prelude.{◌≤◌};
 
 use crate::first_owners::FirstOwners;
 use crate::lanes::OwnerPlanes;
 use crate::owner_strings::OwnerStrings;
+use dd_cards::Suit;
 use std::simd::cmp::SimdPartialEq;
 use std::simd::u16x8;
 
@@ -47,6 +49,18 @@ impl Default for FirstSignatures {
     }
 }
 
+impl Signature {
+    /// Who holds the two highest cards of this suit, as a number: of the lowest two bits the second is set where the second or the
+    /// fourth hand has the highest card, the first where one of them has the next; so are the two above for the third and the
+    /// fourth hand. The hands are counted from the leader's, and where a card is missing no bit is set.
+    #[inline]
+    pub fn of_suit(self, suit: Suit) -> u8
+        ensures { result ≤ 15 }
+    {
+        ((self.owners >> (12 - 4 * suit.code())) % 16) as u8
+    }
+}
+
 impl OwnerStrings {
     /// The owners of the two highest cards of each suit.
     #[inline]
@@ -78,6 +92,17 @@ impl FirstSignatures {
     pub fn put(&mut self, place: usize, signature: FirstSignature) {
         self.owners[place % TOGETHER] = signature.owners;
         self.masks[place % TOGETHER] = signature.mask;
+    }
+
+    /// The places of those that may begin as this one does and go on: bit n for place n.
+    #[inline]
+    pub fn may_begin_as(&self, first: FirstSignature) -> u64 {
+        let masks = u16x8::from_array(self.masks);
+        let mask = u16x8::splat(first.mask);
+        let differing = u16x8::from_array(self.owners) ^ u16x8::splat(first.owners);
+        let missing = (masks & mask) ^ mask;
+        let seen = (differing & mask) | missing;
+        seen.simd_eq(u16x8::splat(0)).to_bitmask()
     }
 
     /// The places of those that may be of the position, by what is seen of both: bit n for place n.

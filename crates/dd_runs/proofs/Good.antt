@@ -14,7 +14,7 @@ use Rattle.dd_book.specs.declared.call.JobState.TheVariants as shown
 use Rattle.dd_book.specs.declared.call.Reply.{Reply}
 use Rattle.dd_book.specs.declared.call.Reply.TheVariants.{Submitted, State}
 use Rattle.dd_book.specs.declared.job.Stage.{Stage}
-use Rattle.dd_book.specs.declared.job.Stage.TheVariants.{Open, Done, TableDone, TargetDone, Cancelled, Spent}
+use Rattle.dd_book.specs.declared.job.Stage.TheVariants.{Open, Done, TableDone, TargetDone, PlayDone, Cancelled, Spent}
 use Rattle.dd_book.specs.Limits.{LimitsOf}
 use Rattle.dd_book.specs.Parts.{is_waiting}
 use Rattle.dd_book.specs.Jobs.{JobOf, is_open, job_at, shown_stage}
@@ -35,6 +35,7 @@ IsFinal shown.Running = ⊥
 IsFinal (shown.Done solved) = Unit {0}
 IsFinal (shown.TableDone table) = Unit {0}
 IsFinal (shown.TargetDone solved) = Unit {0}
+IsFinal (shown.PlayDone tricks) = Unit {0}
 IsFinal shown.Cancelled = Unit {0}
 IsFinal shown.Spent = Unit {0}
 
@@ -74,6 +75,7 @@ final-stage owner asked last (Open parts) h = absurd (open-unfinal (list_all is_
 final-stage owner asked last (Done solved) h = refl
 final-stage owner asked last (TableDone table) h = refl
 final-stage owner asked last (TargetDone solved) h = refl
+final-stage owner asked last (PlayDone tricks) h = refl
 final-stage owner asked last Cancelled h = refl
 final-stage owner asked last Spent h = refl
 

@@ -10,22 +10,24 @@ use Rattle.dd_cards.specs.Hands.{FourHands}
 use Rattle.dd_solve.specs.Questions.{solved_question}
 use Rattle.dd_solve.specs.Results.{hands_results}
 use Rattle.dd_solve.specs.Targets.{solved_target}
+use Rattle.dd_solve.specs.Plays as plays
+use Rattle.dd_solve.specs.Plays.{trace, tricks_after}
 use Rattle.dd_solve.specs.declared.asked.Asked.{Asked}
-use Rattle.dd_solve.specs.declared.asked.Asked.TheVariants.{Solve, Table, Target}
+use Rattle.dd_solve.specs.declared.asked.Asked.TheVariants.{Solve, Table, Target, Play}
 use Rattle.dd_book.specs.declared.call.Call.{Call}
 use Rattle.dd_book.specs.declared.call.Call.TheVariants.{Submit, Claim, Finish, Cancel, Fetch, Shut}
 use Rattle.dd_book.specs.declared.call.Outcome.{Outcome}
-use Rattle.dd_book.specs.declared.call.Outcome.TheVariants.{Solved as SolvedOutcome, Part as PartOutcome, Target as TargetOutcome, Spent as SpentOutcome, Stopped}
+use Rattle.dd_book.specs.declared.call.Outcome.TheVariants.{Solved as SolvedOutcome, Part as PartOutcome, Target as TargetOutcome, PlayPart as PlayPartOutcome, Spent as SpentOutcome, Stopped}
 use Rattle.dd_book.specs.declared.call.Refusal.TheVariants.{UnknownJob, JobEnded}
 use Rattle.dd_book.specs.declared.call.Reply.{Reply}
-use Rattle.dd_book.specs.declared.call.Reply.TheVariants.{Submitted, Claimed, ClaimedTarget, ClaimedPart, NothingWaits, Closing, Recorded, Stale, Cancelled, State, Shut as ShutReply, Fault}
+use Rattle.dd_book.specs.declared.call.Reply.TheVariants.{Submitted, Claimed, ClaimedTarget, ClaimedPart, ClaimedPlayPart, NothingWaits, Closing, Recorded, Stale, Cancelled, State, Shut as ShutReply, Fault}
 use Rattle.dd_book.specs.declared.job.Stage.{Stage}
-use Rattle.dd_book.specs.declared.job.Stage.TheVariants.{Open, Done, TableDone, TargetDone, Cancelled as CancelledStage, Spent}
+use Rattle.dd_book.specs.declared.job.Stage.TheVariants.{Open, Done, TableDone, TargetDone, PlayDone, Cancelled as CancelledStage, Spent}
 use Rattle.dd_book.specs.declared.parts.Part.{Part}
-use Rattle.dd_book.specs.declared.parts.Part.TheVariants.{Waiting, Ended}
+use Rattle.dd_book.specs.declared.parts.Part.TheVariants.{Waiting, Ended, Number}
 use Rattle.dd_book.specs.Parts.{is_waiting, is_ended, runs_by}
-use Rattle.dd_book.specs.Same.{same_question, same_target, same_hands}
-use Rattle.dd_book.specs.Jobs.{JobOf, Turn, if_owned, is_due, is_open, job_after, job_at, job_with, new_job, next_turn, own_job, parts_of, shown_stage, stage_after, table_stage, turn, turn_at, turn_of, with_claim, with_job, with_stage}
+use Rattle.dd_book.specs.Same.{same_question, same_target, same_hands, is_of_play}
+use Rattle.dd_book.specs.Jobs.{JobOf, Turn, if_owned, is_due, is_open, job_after, job_at, job_with, new_job, next_turn, own_job, parts_of, play_stage, shown_stage, stage_after, table_stage, turn, turn_at, turn_of, with_claim, with_job, with_stage}
 use Rattle.dd_book.specs.Calls.{BookOf, after, book_claimed, cancel_told, claim_told, claimed, fetch_told, jobs_after_finish, jobs_cancelled, reply_of, with_jobs}
 use Rattle.dd_book.proofs.CallerLemmas.{job_at-place, refused, same_question-is, same_target-is}
 use Rattle.dd_runs.specs.Steps.{CarriesRight, IsRight}
@@ -37,6 +39,7 @@ EndsRight asked (Open parts) = Unit {0}
 EndsRight asked (Done solved) = (asked ≡ Solve solved.asked) × (solved ≡ solved_question solved.asked)
 EndsRight asked (TableDone table) = (asked ≡ Table table.hands) × (table ≡ hands_results table.hands)
 EndsRight asked (TargetDone solved) = (asked ≡ Target solved.asked) × (solved ≡ solved_target solved.asked)
+EndsRight asked (PlayDone tricks) = (play : plays.Play) × (asked ≡ Play play) × (tricks ≡ trace play)
 EndsRight asked CancelledStage = Unit {0}
 EndsRight asked Spent = Unit {0}
 
@@ -53,6 +56,7 @@ TellsJob jobs c (Submitted number) = (job : JobOf) × (job_at jobs number ≡ So
 TellsJob jobs c (Claimed number claim question) = Unit {0}
 TellsJob jobs c (ClaimedTarget number claim question) = Unit {0}
 TellsJob jobs c (ClaimedPart number part claim position) = Unit {0}
+TellsJob jobs c (ClaimedPlayPart number part claim position side) = Unit {0}
 TellsJob jobs c NothingWaits = Unit {0}
 TellsJob jobs c Closing = Unit {0}
 TellsJob jobs c Recorded = Unit {0}
@@ -86,6 +90,7 @@ open-stage test owner asked last (Open parts) part h = refl
 open-stage test owner asked last (Done solved) part h = absurd (cc)
 open-stage test owner asked last (TableDone table) part h = absurd (cc)
 open-stage test owner asked last (TargetDone solved) part h = absurd (cc)
+open-stage test owner asked last (PlayDone tricks) part h = absurd (cc)
 open-stage test owner asked last CancelledStage part h = absurd (cc)
 open-stage test owner asked last Spent part h = absurd (cc)
 
@@ -204,6 +209,7 @@ claimed-tells : (c : Call) (number part claim : ℕ) (asked : Asked) (jobs : Lis
 claimed-tells c number part claim (Solve question) jobs = tt
 claimed-tells c number part claim (Target question) jobs = tt
 claimed-tells c number part claim (Table hands) jobs = tt
+claimed-tells c number part claim (Play play) jobs = tt
 
 claim-changes : (book : BookOf) (worker : ℕ) → Changes book.jobs (after book (Claim worker)).jobs (Claim worker) (reply_of book (Claim worker))
 claim-changes book worker = go (next_turn book.jobs) refl
@@ -220,6 +226,10 @@ table-right : (b : Bool) (hands : FourHands) (parts : List Part) → EndsRight (
 table-right true hands parts = (refl, refl)
 table-right false hands parts = tt
 
+play-right : (b : Bool) (play : plays.Play) (parts : List Part) → EndsRight (Play play) (cond b (PlayDone (trace play)) (Open parts))
+play-right true play parts = (play, refl, refl)
+play-right false play parts = tt
+
 -- what a part ends with is right, where the outcome is
 stage-right : (asked : Asked) (parts : List Part) (place : ℕ) (outcome : Outcome) (stage : Stage) → IsRight outcome → stage_after asked parts place outcome ≡ Some stage → EndsRight asked stage
 stage-right (Solve question) parts place (SolvedOutcome solved) stage right is =
@@ -227,17 +237,27 @@ stage-right (Solve question) parts place (SolvedOutcome solved) stage right is =
     subst (EndsRight (Solve question)) done.1 (ap Solve (same_question-is question solved.asked done.0), right)
 stage-right (Table hands) parts place (SolvedOutcome solved) stage right is = absurd (cc)
 stage-right (Target question) parts place (SolvedOutcome solved) stage right is = absurd (cc)
+stage-right (Play play) parts place (SolvedOutcome solved) stage right is = absurd (cc)
 stage-right (Solve question) parts place (TargetOutcome solved) stage right is = absurd (cc)
 stage-right (Table hands) parts place (TargetOutcome solved) stage right is = absurd (cc)
+stage-right (Play play) parts place (TargetOutcome solved) stage right is = absurd (cc)
 stage-right (Target question) parts place (TargetOutcome solved) stage right is =
     let done = cond_some (same_target question solved.asked) (TargetDone solved) stage is in
     subst (EndsRight (Target question)) done.1 (ap Target (same_target-is question solved.asked done.0), right)
 stage-right (Target question) parts place (PartOutcome solved) stage right is = absurd (cc)
 stage-right (Solve question) parts place (PartOutcome solved) stage right is = absurd (cc)
+stage-right (Play play) parts place (PartOutcome solved) stage right is = absurd (cc)
 stage-right (Table hands) parts place (PartOutcome solved) stage right is =
     let set = slice_set parts place (Ended solved) in
     let done = cond_some (same_hands hands solved.hands && (solved.part == place)) (table_stage hands set) stage is in
     subst (EndsRight (Table hands)) done.1 (table-right (list_all is_ended set) hands set)
+stage-right (Solve question) parts place (PlayPartOutcome solved) stage right is = absurd (cc)
+stage-right (Table hands) parts place (PlayPartOutcome solved) stage right is = absurd (cc)
+stage-right (Target question) parts place (PlayPartOutcome solved) stage right is = absurd (cc)
+stage-right (Play play) parts place (PlayPartOutcome solved) stage right is =
+    let set = slice_set parts place (Number (tricks_after play place)) in
+    let done = cond_some (is_of_play play place solved) (play_stage play set) stage is in
+    subst (EndsRight (Play play)) done.1 (play-right (list_all is_ended set) play set)
 stage-right asked parts place SpentOutcome stage right is = subst (EndsRight asked) (same_Some Spent stage is) tt
 stage-right asked parts place Stopped stage right is = subst (EndsRight asked) (same_Some (Open (slice_set parts place Waiting)) stage is) tt
 

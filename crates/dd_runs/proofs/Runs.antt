@@ -5,7 +5,9 @@ use Rattle.std.proofs.lemmas.Option.{same_Some}
 use Rattle.dd_play.specs.Board.{Board}
 use Rattle.dd_play.specs.Value.{leaders_tricks}
 use Rattle.dd_solve.specs.declared.asked.Asked.{Asked}
-use Rattle.dd_solve.specs.declared.asked.Asked.TheVariants.{Solve, Table, Target}
+use Rattle.dd_solve.specs.declared.asked.Asked.TheVariants.{Solve, Table, Target, Play}
+use Rattle.dd_solve.specs.Plays as plays
+use Rattle.dd_solve.specs.Plays.{trace}
 use Rattle.dd_solve.specs.Questions.{SolvedQuestion, solved_question}
 use Rattle.dd_solve.specs.Results.{HandsResults, hands_results}
 use Rattle.dd_solve.specs.Targets.{SolvedTargetQuestion, solved_target}
@@ -17,7 +19,7 @@ use Rattle.dd_book.specs.declared.call.JobState.{JobState}
 use Rattle.dd_book.specs.declared.call.Reply.{Reply}
 use Rattle.dd_book.specs.declared.call.Reply.TheVariants.{Submitted, State}
 use Rattle.dd_book.specs.declared.job.Stage.{Stage}
-use Rattle.dd_book.specs.declared.job.Stage.TheVariants.{Open, Done, TableDone, TargetDone, Cancelled, Spent}
+use Rattle.dd_book.specs.declared.job.Stage.TheVariants.{Open, Done, TableDone, TargetDone, PlayDone, Cancelled, Spent}
 use Rattle.dd_book.specs.Limits.{LimitsOf}
 use Rattle.dd_book.specs.Parts.{is_waiting}
 use Rattle.dd_book.specs.Jobs.{JobOf, job_at, shown_stage}
@@ -159,6 +161,7 @@ shown-answer asked (Open parts) solved e right = absurd (open-other (list_all is
 shown-answer asked (Done done) solved e right = let same : done ≡ solved = cc in subst (λ (s : SolvedQuestion). (asked ≡ Solve s.asked) × (s ≡ solved_question s.asked)) same right
 shown-answer asked (TableDone table) solved e right = absurd (cc)
 shown-answer asked (TargetDone done) solved e right = absurd (cc)
+shown-answer asked (PlayDone done) solved e right = absurd (cc)
 shown-answer asked Cancelled solved e right = absurd (cc)
 shown-answer asked Spent solved e right = absurd (cc)
 
@@ -168,6 +171,7 @@ shown-table asked (Open parts) table e right = absurd (open-other (list_all is_w
 shown-table asked (Done done) table e right = absurd (cc)
 shown-table asked (TableDone done) table e right = let same : done ≡ table = cc in subst (λ (t : HandsResults). (asked ≡ Table t.hands) × (t ≡ hands_results t.hands)) same right
 shown-table asked (TargetDone done) table e right = absurd (cc)
+shown-table asked (PlayDone done) table e right = absurd (cc)
 shown-table asked Cancelled table e right = absurd (cc)
 shown-table asked Spent table e right = absurd (cc)
 
@@ -177,8 +181,19 @@ shown-target asked (Open parts) solved e right = absurd (open-other (list_all is
 shown-target asked (Done done) solved e right = absurd (cc)
 shown-target asked (TableDone table) solved e right = absurd (cc)
 shown-target asked (TargetDone done) solved e right = let same : done ≡ solved = cc in subst (λ (s : SolvedTargetQuestion). (asked ≡ Target s.asked) × (s ≡ solved_target s.asked)) same right
+shown-target asked (PlayDone done) solved e right = absurd (cc)
 shown-target asked Cancelled solved e right = absurd (cc)
 shown-target asked Spent solved e right = absurd (cc)
+
+-- .. and one that shows a trace with that of the play that was asked
+shown-play : (asked : Asked) (stage : Stage) (tricks : List ℕ) → shown.PlayDone tricks ≡ shown_stage stage → EndsRight asked stage → (play : plays.Play) × (asked ≡ Play play) × (tricks ≡ trace play)
+shown-play asked (Open parts) tricks e right = absurd (open-other (list_all is_waiting parts) shown.Waiting (λ (s : JobState). shown.PlayDone tricks ≡ s) (λ h. cc) (λ h. cc) e)
+shown-play asked (Done done) tricks e right = absurd (cc)
+shown-play asked (TableDone table) tricks e right = absurd (cc)
+shown-play asked (TargetDone done) tricks e right = absurd (cc)
+shown-play asked (PlayDone done) tricks e right = let same : done ≡ tricks = cc in (right.0, right.1, sym same ∙ right.2)
+shown-play asked Cancelled tricks e right = absurd (cc)
+shown-play asked Spent tricks e right = absurd (cc)
 
 -- the submit of a job, by its number
 submit-of : (w : World) (number : ℕ) (job : JobOf) → IsGood w → job_at w.book.jobs number ≡ Some job → Contains w.journal (event job.owner (Submit job.owner job.asked) (Submitted number)) × EndsRight job.asked job.stage
@@ -210,6 +225,14 @@ target-of w k number c solved g h =
     let right = shown-target f.0.asked f.0.stage solved f.3 from.1 in
     (subst (Contains w.journal) (λ i. event (f.2 i) (Submit (f.2 i) (right.0 i)) (Submitted number)) from.0, right.1)
 
+play-of : (w : World) (k number : ℕ) (c : Call) (tricks : List ℕ) → IsGood w → Contains w.journal (event k c (State number (shown.PlayDone tricks)))
+    → (play : plays.Play) × Contains w.journal (event k (Submit k (Play play)) (Submitted number)) × (tricks ≡ trace play)
+play-of w k number c tricks g h =
+    let f = g.of_fetch k number c (shown.PlayDone tricks) h tt in
+    let from = submit-of w number f.0 g f.1 in
+    let right = shown-play f.0.asked f.0.stage tricks f.3 from.1 in
+    (right.0, subst (Contains w.journal) (λ i. event (f.2 i) (Submit (f.2 i) (right.1 i)) (Submitted number)) from.0, right.2)
+
 -- a number was given to one submit
 one-number : (w : World) (k l number : ℕ) (a b : Asked) → IsGood w → Contains w.journal (event k (Submit k a) (Submitted number)) → Contains w.journal (event l (Submit l b) (Submitted number)) → (k ≡ l) × (a ≡ b)
 one-number w k l number a b g first second =
@@ -239,6 +262,7 @@ headline alike limits at ss start w e l =
       answers = λ k job c solved h. answer-of w k job c solved r.good h;
       tables = λ k job c table h. table-of w k job c table r.good h;
       targets = λ k job c solved h. target-of w k job c solved r.good h;
+      plays = λ k job c tricks h. play-of w k job c tricks r.good h;
       numbers = λ k l job a b first second. one-number w k l job a b r.good first second;
       told = own-answers limits w.journal legal;
     }

@@ -5,14 +5,15 @@ use Rattle.std.specs.declared.option.Option.TheVariants.{None, Some}
 use Rattle.dd_play.specs.Board.{Board}
 use Rattle.dd_play.specs.Value.{leaders_tricks}
 use Rattle.dd_solve.specs.declared.asked.Asked.{Asked}
-use Rattle.dd_solve.specs.declared.asked.Asked.TheVariants.{Solve, Table, Target}
+use Rattle.dd_solve.specs.declared.asked.Asked.TheVariants.{Solve, Table, Target, Play}
+use Rattle.dd_solve.specs.Plays.{Play as PlayOf, trace}
 use Rattle.dd_solve.specs.Questions.{SolvedQuestion, solved_question}
 use Rattle.dd_solve.specs.Results.{HandsResults, hands_results}
 use Rattle.dd_solve.specs.Targets.{SolvedTargetQuestion, solved_target}
 use Rattle.dd_shard.specs.Entries.{Entries, Told}
 use Rattle.dd_book.specs.declared.call.Call.{Call}
 use Rattle.dd_book.specs.declared.call.Call.TheVariants.{Submit}
-use Rattle.dd_book.specs.declared.call.JobState.TheVariants.{Done, TableDone, TargetDone}
+use Rattle.dd_book.specs.declared.call.JobState.TheVariants.{Done, TableDone, TargetDone, PlayDone}
 use Rattle.dd_book.specs.declared.call.Reply.TheVariants.{Submitted, State}
 use Rattle.dd_book.specs.Limits.{LimitsOf}
 use Rattle.dd_book.specs.Jobs.{JobOf, is_open, job_at}
@@ -50,9 +51,9 @@ calls_of (set cell p value ∷ ss) k = calls_of ss k
 -- callers: it holds each caller's calls once and in its order, with the replies that the caller got.
 -- looks, covered, gets: every answer of the table holds the value of the position asked, and bounds
 -- hold the value of each position that this one covers at their depths.
--- answers, tables, targets: every answer fetched has the cards, equals and scores, or the twenty
--- results, or the cards that reach the target, of the request that this caller submitted as that job,
--- as exhaustive play by the Laws gives them.
+-- answers, tables, targets, plays: every answer fetched has the cards, equals and scores, or the twenty
+-- results, or the cards that reach the target, or the tricks before the first card and after each one,
+-- of the request that this caller submitted as that job, as exhaustive play by the Laws gives them.
 -- numbers: a job's number was given to one submit.
 -- told: all else that was told of a job is of what was submitted under its number.
 pub record Headline (limits : LimitsOf) (steps : List Step) (w : World) : Type 0 where
@@ -76,6 +77,10 @@ pub record Headline (limits : LimitsOf) (steps : List Step) (w : World) : Type 0
       → Contains w.journal (event k c (State job (TargetDone solved)))
       → Contains w.journal (event k (Submit k (Target solved.asked)) (Submitted job))
       × (solved ≡ solved_target solved.asked)
+  pub plays : (k job : ℕ) (c : Call) (tricks : List ℕ)
+      → Contains w.journal (event k c (State job (PlayDone tricks)))
+      → (play : PlayOf) × Contains w.journal (event k (Submit k (Play play)) (Submitted job))
+      × (tricks ≡ trace play)
   pub numbers : (k l job : ℕ) (a b : Asked)
       → Contains w.journal (event k (Submit k a) (Submitted job))
       → Contains w.journal (event l (Submit l b) (Submitted job)) → (k ≡ l) × (a ≡ b)

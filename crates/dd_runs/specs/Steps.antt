@@ -7,6 +7,7 @@ use Rattle.dd_play.specs.Board.{Board, IsBoard}
 use Rattle.dd_play.specs.Covers.{count_of}
 use Rattle.dd_play.specs.Value.{leaders_tricks}
 use Rattle.dd_rank.specs.Depths.{Covers, all_cards, depth_in}
+use Rattle.dd_solve.specs.Plays.{position_tricks}
 use Rattle.dd_solve.specs.Questions.{solved_question}
 use Rattle.dd_solve.specs.Results.{part_result}
 use Rattle.dd_solve.specs.Targets.{solved_target}
@@ -15,7 +16,7 @@ use Rattle.dd_table.specs.Front.{Exact, Gets, Sets}
 use Rattle.dd_book.specs.declared.call.Call.{Call}
 use Rattle.dd_book.specs.declared.call.Call.TheVariants.{Submit, Claim, Finish, Cancel, Fetch, Shut}
 use Rattle.dd_book.specs.declared.call.Outcome.{Outcome}
-use Rattle.dd_book.specs.declared.call.Outcome.TheVariants.{Solved, Part, Target, Spent, Stopped}
+use Rattle.dd_book.specs.declared.call.Outcome.TheVariants.{Solved, Part, Target, PlayPart, Spent, Stopped}
 use Rattle.dd_book.specs.declared.call.Reply.{Reply}
 use Rattle.dd_book.specs.Calls.{after, reply_of}
 use Rattle.dd_desk.specs.Events.{IsBy, event}
@@ -49,11 +50,13 @@ HoldsFor p told =
 abbrev pub HasDepths : Board → Told → Type 0
 HasDepths p told = (u : Suit) → depth_in told.depths u ≤ count_of u (all_cards p)
 
--- an answer or a result is that of the request, or of the part, that it names
+-- an answer or a result is that of the request, or of the part, that it names, and tricks are those of the side from the
+-- position on
 abbrev pub IsRight : Outcome → Type 0
 IsRight (Solved solved) = solved ≡ solved_question solved.asked
 IsRight (Part solved) = solved ≡ part_result solved.hands solved.part
 IsRight (Target solved) = solved ≡ solved_target solved.asked
+IsRight (PlayPart solved) = solved ≡ position_tricks solved.board solved.side
 IsRight Spent = Unit {0}
 IsRight Stopped = Unit {0}
 

@@ -1,7 +1,7 @@
 -- answers that rest on cards, by the rules of such claims alone
 use Rattle.std.proofs.Common.{◌≡◌, ℕ, ◌+◌, ◌-◌, ◌<◌, ◌≤◌, Bool, true, false, refl, sym, ap, ◌∙◌, subst, arith, List, [], inl, inr, ◌⊎◌}
 use Rattle.std.specs.Bool.{OnTrue, OnFalse}
-use Rattle.std.specs.Prelude.{filter, map, min, nat_le, if◌then◌else◌}
+use Rattle.std.specs.Prelude.{filter, length, map, min, nat_le, ◌==◌, if◌then◌else◌}
 use Rattle.std.proofs.lemmas.Bool.{leb-true}
 use Rattle.std.proofs.lemmas.Bool.Decides.{nat_tests}
 use mathlib.Core.Bool.{not, beq}
@@ -74,6 +74,27 @@ leads p q need rest c later by said valid has some next same answer within settl
     (worth-after (reach by) (claimant said) p c (claimed said (after p c) rest) has settled
     (by-more (reach later) (reach by) (claimant said) (after p c) (claimed said (after p c) rest) (reach-within later by within) (reach-upward later) here))
     (claimed-after said p c need rest valid has some same)
+
+-- what the other side takes after a lead
+pub led-against : (p : Board) (c : PlayingCard) (need others : ℕ) (cards : List PlayingCard) (b : Bool) → IsBoard p → length p.trick ≡ 0 → IsLegal p c → 1 ≤ need → need ≤ tricks_left p → b ≡ is_north_south p.first
+    → others ≡ (if b then tricks_left p + 1 - need else need) → TakesBy (reach cards) (other_side (side_of p.first)) (after p c) others → IsAnswerAfter p need c cards (not b)
+led-against p c need others cards b valid start legal low high leads is takes =
+    worth-fewer (reach cards) (claimant (not b)) p c (others + trick_for (claimant (not b)) p c) (claimed (not b) p need)
+    (worth-after (reach cards) (claimant (not b)) p c others legal settled (subst (λ s. TakesBy (reach cards) s (after p c) others) (sym side) takes)) (few b is)
+  where
+    settled : IsSettled (reach cards) p c
+    settled full i l other same = absurd (let no : false ≡ true = sym (ap (λ n. n == 3) start) ∙ full in cc)
+
+    turned : (x : Side) → claimant (not (same_side x NorthSouth)) ≡ other_side x
+    turned NorthSouth = refl
+    turned EastWest = refl
+
+    side : claimant (not b) ≡ other_side (side_of p.first)
+    side = ap (λ (x : Bool). claimant (not x)) leads ∙ turned (side_of p.first)
+
+    few : (b : Bool) → others ≡ (if b then tricks_left p + 1 - need else need) → claimed (not b) p need ≤ others + trick_for (claimant (not b)) p c
+    few true e = omega (arith, e)
+    few false e = omega (arith, e)
 
 -- by more cards too
 pub leads-wider : (p : Board) (need : ℕ) (c : PlayingCard) (few many : List PlayingCard) (said : Bool) → Within few many → IsAnswerAfter p need c few said → IsAnswerAfter p need c many said

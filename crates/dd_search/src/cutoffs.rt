@@ -1,20 +1,26 @@
 //! What is known of a position's value before a card is tried, and what an answer makes known.
-ghost use Rattle.std.specs.Prelude.{◌≡◌, ◌-◌, ◌<◌, ◌≤◌, ℕ, min, IfSome};
+ghost use Rattle.std.specs.Prelude.{◌≡◌, ◌-◌, ◌<◌, ◌≤◌, ℕ, true, length, min, IfSome};
 ghost use Rattle.std.specs.Bool.{OnTrue, OnFalse};
 ghost use Rattle.dd_cards.specs.declared.suit.Suit.{Suit as SuitOf};
+ghost use Rattle.dd_cards.specs.Cards.{has_card};
 ghost use Rattle.dd_cards.specs.Sides.{side_of, other_side};
 ghost use Rattle.dd_play.specs.Board.{Board, IsBoard, tricks_left};
 ghost use Rattle.dd_play.specs.Covers.{count_of};
+ghost use Rattle.dd_play.specs.Play.{legal};
 ghost use Rattle.dd_play.specs.Value.{leaders_tricks};
 ghost use Rattle.dd_play.specs.Intervals.{Holds};
 ghost use Rattle.dd_play.specs.Reach.{reach, TakesBy};
 ghost use Rattle.dd_rank.specs.Depths.{all_cards, depth_in, Covers};
 ghost use Rattle.dd_rank.specs.Strings.{strings_of};
-ghost use Rattle.dd_search.specs.ClaimsBy.{IsAnswerBy, IsWindow, north_souths};
+ghost use Rattle.dd_search.specs.ClaimsBy.{IsAnswerAfter, IsAnswerBy, IsWindow, north_souths};
+ghost use Rattle.dd_search.specs.Turns.{cards_before};
 
 use crate::claim::Claim;
+use crate::second_hands::SecondHands;
 use crate::table::{Bounds, ProbeHint};
+use crate::turn::Turn;
 use crate::verdict::Verdict;
+use dd_cards::Card;
 use dd_play::{Interval, Position, TrickStart};
 use dd_quick::{against_leader, bounds as quick_bounds, for_leader, for_second_hand};
 use dd_rank::{Depths, OwnerStrings};
@@ -65,21 +71,51 @@ pub(crate) fn told_answer<B: Bounds>(
     }
 }
 
-/// The same after the lead, where an opponent of the leader has the highest card of its suit and quick tricks from there.
-#[inline]
-pub(crate) fn second_hands_answer(position: &Position, need: u8) -> Option<Verdict>
-    requires { need ≤ tricks_left position.now }
-    ensures answer { IfSome result
-        (λ answer. IsAnswerBy position.now need answer.cards answer.yes) }
-    ensures board { IsBoard position.now }
+/// What is answered where this card is led, by quick tricks of an opponent that has the highest card left of its suit. It leads
+/// nowhere else.
+#[inline(always)]
+pub(crate) fn second_hands_answer(
+    position: &Position,
+    turn: Turn,
+    card: Card,
+    need: u8,
+    seconds: &mut SecondHands,
+) -> Option<Verdict>
+    requires legal { has_card (legal position.now) card ≡ true }
+    requires turn { length position.now.trick ≡ cards_before turn }
+    requires low { 1 ≤ need }
+    requires high { need ≤ tricks_left position.now }
+    ensures found { IfSome result
+        (λ found. IsAnswerAfter position.now need card found.cards found.yes) }
 {
-    if position.trick().len() != 1 {
-        return None;
+    match turn {
+        Turn::First => answer_by_second_hand(position, card, need, seconds),
+        Turn::Second | Turn::Third | Turn::Fourth => None,
     }
+}
+
+// The same where no card is on the trick.
+fn answer_by_second_hand(
+    position: &Position,
+    card: Card,
+    need: u8,
+    seconds: &mut SecondHands,
+) -> Option<Verdict>
+    requires legal { has_card (legal position.now) card ≡ true }
+    requires start { length position.now.trick ≡ 0 }
+    requires low { 1 ≤ need }
+    requires high { need ≤ tricks_left position.now }
+    ensures found { IfSome result
+        (λ found. IsAnswerAfter position.now need card found.cards found.yes) }
+{
+    let seat = seconds.to_ask(position, card)?;
     let leads = position.first().is_north_south();
     let left = position.tricks_left();
     let others = if leads { left + 1 - need } else { need };
-    let cards = for_second_hand(position, others)?;
+    let Some(cards) = for_second_hand(position, seat, card.suit, others) else {
+        seconds.was_in_vain(position, seat, card.suit);
+        return None;
+    };
     Some(Verdict::new(!leads, cards))
 }
 

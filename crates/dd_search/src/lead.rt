@@ -2,11 +2,11 @@
 ghost use Rattle.std.specs.Prelude.{◌≡◌, ◌≤◌, true, IfSome};
 ghost use Rattle.dd_cards.specs.Cards.{has_card};
 
-use crate::holdings::code_of_highest;
+use crate::holdings::{code_of_highest, lowest};
 use crate::table::LeadHistory;
-use arrayvec::ArrayVec;
 use dd_cards::{Card, Hand, Holding, Rank, Strain, Suit};
 use dd_play::Position;
+use dd_rank::{OwnerStrings, Shape, Signature};
 use std::marker::Model;
 
 /// A card to try, and how good it looks.
@@ -47,33 +47,14 @@ impl Move {
     }
 }
 
-/// The cards that may be led, in no order, each with how good it looks.
+/// Of each suit the lead that looks best of those still to be tried, of weight 0 where there is none. Most searches need no
+/// other: so the next of a suit is weighed where that failed.
 #[derive(Debug, Drop)]
 pub(crate) struct Leading {
-    leads: ArrayVec<Move, 13>,
-    // the best of them all, of weight 0 where there are none: most searches need no other
-    first: Move,
-}
-
-#[derive(Clone, Copy, Debug)]
-struct SuitView {
-    // how good the suit looks
-    weight: u16,
-    // what a card of it is worth
-    worth: LeadWorth,
-    // what it is worth where it is the highest left, or has an equal below it
-    special: LeadWorth,
-    // the rank of the highest card, where the leader has it
-    own_top: u8,
-    // whether the leader has the second highest card and not the highest
-    sequence: bool,
-    // the leader's cards and those of the other hands
-    own: Holding,
-    others: Holding,
-    // the rank of partner's highest card, and more than any rank where partner ruffs
-    partner: u8,
-    // the rank of the opponents' highest card, and more than any rank where one of them ruffs
-    against: u8,
+    spades: Move,
+    hearts: Move,
+    diamonds: Move,
+    clubs: Move,
 }
 
 // What a card is worth whose trick the leader's side wins when each hand plays well, and one whose trick it loses.
@@ -136,58 +117,86 @@ const OPPONENTS_CARD: u16 = 10;
 // More than any rank.
 const RUFF: u8 = 15;
 
-// What the best card of a suit weighs more: each suit is rather tried once before one is tried again.
+// What the first card of a suit weighs more: each suit is rather tried once before one is tried again.
 const BEST_OF_ITS_SUIT: u16 = 30;
 
-// What the cards of a suit weigh more that settled the last start of a trick of the same shape, or of the same outline.
-const SETTLED_SHAPE: u16 = 60;
+// What the cards of a suit weigh more that settled the last start of a trick of the same shape, of the same outline, or of the
+// same leader with as many tricks left.
+const SETTLED_SHAPE: u16 = 40;
 
 const SETTLED_OUTLINE: u16 = 40;
 
+const SETTLED_LEADER: u16 = 10;
+
 impl Leading {
-    /// No cards yet.
+    /// No cards.
     #[inline]
     pub(crate) fn new() -> Leading {
         Leading {
-            leads: ArrayVec::new(),
-            first: Move::default(),
+            spades: Move::default(),
+            hearts: Move::default(),
+            diamonds: Move::default(),
+            clubs: Move::default(),
         }
     }
 
-    /// Puts these cards of the mover into the empty list, with no card on the trick.
-    pub(crate) fn weigh(&mut self, position: &Position, settling: LeadHistory, choices: Hand) {
-        let ruffs = Ruffs::of(position);
-        let leads = &mut self.leads;
-        let spades = weigh_suit(position, &ruffs, settling, Suit::Spades, choices, leads);
-        let hearts = weigh_suit(position, &ruffs, settling, Suit::Hearts, choices, leads);
-        let diamonds = weigh_suit(position, &ruffs, settling, Suit::Diamonds, choices, leads);
-        let clubs = weigh_suit(position, &ruffs, settling, Suit::Clubs, choices, leads);
-        self.first = spades.or(hearts).or(diamonds.or(clubs));
+    /// Weighs these cards of the leader at the start with these strings.
+    pub(crate) fn weigh(
+        &mut self,
+        position: &Position,
+        strings: &OwnerStrings,
+        settling: LeadHistory,
+        choices: Hand,
+    ) {
+        let start = StartView::of(position, strings, settling);
+        let more = BEST_OF_ITS_SUIT;
+        self.spades = best_of(position, &start, Suit::Spades, choices, more);
+        self.hearts = best_of(position, &start, Suit::Hearts, choices, more);
+        self.diamonds = best_of(position, &start, Suit::Diamonds, choices, more);
+        self.clubs = best_of(position, &start, Suit::Clubs, choices, more);
+    }
+
+    /// Weighs those of a suit anew, of which a card failed, where these cards are still to be tried.
+    fn weigh_again(
+        &mut self,
+        position: &Position,
+        strings: &OwnerStrings,
+        settling: LeadHistory,
+        suit: Suit,
+        untried: Hand,
+    ) {
+        let start = StartView::of(position, strings, settling);
+        let next = best_of(position, &start, suit, untried, 0);
+        match suit {
+            Suit::Spades => self.spades = next,
+            Suit::Hearts => self.hearts = next,
+            Suit::Diamonds => self.diamonds = next,
+            Suit::Clubs => self.clubs = next,
+        }
+    }
+
+    /// Takes note that a card of this suit failed, and these are still to be tried. It does nothing where no card is led.
+    #[inline(always)]
+    pub(crate) fn go_on(
+        &mut self,
+        position: &Position,
+        strings: Option<&OwnerStrings>,
+        settling: LeadHistory,
+        suit: Suit,
+        untried: Hand,
+    ) {
+        if let Some(strings) = strings {
+            self.weigh_again(position, strings, settling, suit, untried);
+        }
     }
 
     /// The best lead that was not tried yet.
-    // Without a branch but the loop's: which lead is better is hardly foreseen.
     #[inline]
     pub(crate) fn best(&self, untried: Hand) -> Option<Card>
         ensures { IfSome result (λ card. has_card untried card ≡ true) }
     {
-        if untried.has(self.first.card) && self.first.weight > 0 {
-            return Some(self.first.card);
-        }
-        let mut best = Move {
-            card: Card::default(),
-            weight: 0,
-        };
-        for lead in self.leads.as_slice() {
-            let lead = *lead;
-            let weight = if untried.has(lead.card) {
-                lead.weight
-            } else {
-                0
-            };
-            best = if weight > best.weight { lead } else { best };
-        }
-        if best.weight > 0 {
+        let best = self.spades.or(self.hearts).or(self.diamonds.or(self.clubs));
+        if untried.has(best.card) && best.weight > 0 {
             Some(best.card)
         } else {
             None
@@ -195,108 +204,7 @@ impl Leading {
     }
 }
 
-// What speaks for the suit by what settled starts of a trick like this one.
-#[inline]
-fn settled_before(settling: LeadHistory, suit: Suit) -> u16
-    ensures { result ≤ 100 }
-{
-    let shape = if settling.of_shape == Some(suit) {
-        SETTLED_SHAPE
-    } else {
-        0
-    };
-    let outline = if settling.of_outline == Some(suit) {
-        SETTLED_OUTLINE
-    } else {
-        0
-    };
-    shape + outline
-}
-
-// Adds the choices of this suit, and answers the best of them, of weight 0 where there are none.
-fn weigh_suit(
-    position: &Position,
-    ruffs: &Ruffs,
-    settling: LeadHistory,
-    suit: Suit,
-    choices: Hand,
-    leads: &mut ArrayVec<Move, 13>,
-) -> Move
-    requires { ruffs.now.tricks ≤ 13 }
-{
-    let mut rest = choices.holding(suit);
-    let Some(lowest) = rest.pop_lowest() else {
-        return Move::default();
-    };
-    let mut view = suit_view(position, ruffs, suit);
-    view.weight = view.weight.saturating_add(settled_before(settling, suit));
-    let mut best = weighed(&view, suit, lowest);
-    'ranks: while let Some(rank) = rest.pop_lowest() {
-        let new = weighed(&view, suit, rank);
-        let other = if new.weight > best.weight { best } else { new };
-        if new.weight > best.weight {
-            best = new;
-        }
-        add(leads, other);
-    }
-    let weight = best.weight.saturating_add(BEST_OF_ITS_SUIT);
-    let best = Move { weight, ..best };
-    add(leads, best);
-    best
-}
-
-// There is room for thirteen.
-#[inline]
-fn add(leads: &mut ArrayVec<Move, 13>, new: Move) {
-    if !leads.is_full() {
-        leads.push(new);
-    }
-}
-
-// A card of the suit, and how good it looks.
-#[inline]
-fn weighed(view: &SuitView, suit: Suit, rank: Rank) -> Move {
-    let code = rank.code();
-    let special = code == view.own_top || view.sequence && has_equal(view, rank);
-    let worth = if special { view.special } else { view.worth };
-    let worth = if code.max(view.partner) > view.against {
-        worth.wins
-    } else {
-        worth.loses
-    };
-    let weight = view
-        .weight
-        .saturating_add(worth)
-        .saturating_sub(code as u16);
-    Move {
-        card: Card { suit, rank },
-        weight,
-    }
-}
-
-// Has the card an equal below it?
-#[inline]
-fn has_equal(view: &SuitView, rank: Rank) -> bool {
-    match view.own.next_below(rank) {
-        Some(lower) => match view.others.next_below(rank) {
-            Some(other) => other.code() < lower.code(),
-            None => true,
-        },
-        None => false,
-    }
-}
-
-// The cards of a suit, from the leader's on.
-#[derive(Clone, Copy, Debug)]
-struct FourHoldings {
-    own: Holding,
-    left: Holding,
-    partner: Holding,
-    right: Holding,
-}
-
-// Whose a card is: how many places after the leader its hand is, and more where there is no card. Numbers, since a choice by them
-// is a look at a table and not a branch, which would hardly be foreseen.
+// Whose a card is: how many places after the leader its hand is.
 const LEADER: u8 = 0;
 
 const LEFT: u8 = 1;
@@ -305,213 +213,341 @@ const PARTNER: u8 = 2;
 
 const RIGHT: u8 = 3;
 
-const NOBODY: u8 = 4;
-
-#[inline]
-fn four_holdings(position: &Position, suit: Suit) -> FourHoldings {
-    let hands = position.hands();
-    let leader = position.first();
-    let left = leader.next();
-    let partner = left.next();
-    FourHoldings {
-        own: hands.holding(leader, suit),
-        left: hands.holding(left, suit),
-        partner: hands.holding(partner, suit),
-        right: hands.holding(partner.next(), suit),
-    }
+// What is known of a suit by whose its two highest cards are.
+#[derive(Clone, Copy, Debug)]
+struct TopTwo {
+    // who has the highest card
+    first: u8,
+    // how good the suit looks, but for its lengths and for ruffs
+    weight: u16,
+    // whether its cards are worth the same, so that the lowest of them looks best
+    alike: bool,
+    // what its cards are worth, and where they are not alike the special ones: the leader's highest, or one with an equal below it
+    worth: LeadWorth,
+    special: LeadWorth,
 }
 
-#[inline]
-fn owner_of(holdings: &FourHoldings, rank: Option<Rank>) -> u8
-    ensures { result ≤ 4 }
-{
-    let Some(rank) = rank else {
-        return NOBODY;
-    };
-    let left = if holdings.left.has(rank) { LEFT } else { 0 };
-    let partner = if holdings.partner.has(rank) {
-        PARTNER
-    } else {
-        0
-    };
-    let right = if holdings.right.has(rank) { RIGHT } else { 0 };
-    (left + partner + right).min(NOBODY)
-}
+const LEADERS: TopTwo = TopTwo {
+    first: LEADER,
+    weight: SUIT,
+    alike: false,
+    worth: BELOW_OWN_TOP_CARD,
+    special: OWN_TOP_CARD,
+};
 
-#[inline]
-fn suit_view(position: &Position, ruffs: &Ruffs, suit: Suit) -> SuitView
-    requires { ruffs.now.tricks ≤ 13 }
-{
-    let holdings = four_holdings(position, suit);
-    let theirs = holdings.left.union(holdings.right);
-    let all = holdings.own.union(holdings.partner).union(theirs);
-    let top = all.highest();
-    let second = match top {
-        Some(rank) => all.next_below(rank),
-        None => None,
-    };
-    let top_owner = owner_of(&holdings, top);
-    let second_owner = owner_of(&holdings, second);
-    let lone = top_owner == LEFT && holdings.left.len() == 1
-        || top_owner == RIGHT && holdings.right.len() == 1;
-    let (worth, special) = worths(top_owner, second_owner, lone);
-    let side = ruffs.trump != Some(suit);
-    let ruffed = side && ruffs.opponents(&holdings);
-    let weight = suit_weight(ruffs.tricks, &holdings, top_owner, second_owner);
-    let weight = if ruffed {
-        weight - OPPONENT_RUFFS
-    } else {
-        weight
-    };
-    let single = holdings.own.len() == 1 && holdings.partner.len() > 1;
-    let weight = if single && top_owner == PARTNER && side && ruffs.leader {
-        weight.saturating_add(SINGLETON_TO_TOP)
-    } else {
-        weight
-    };
-    SuitView {
-        weight,
-        worth,
-        special,
-        own_top: if top_owner == LEADER {
-            code_of_highest(all)
-        } else {
-            0
-        },
-        sequence: top_owner != LEADER && second_owner == LEADER,
-        own: holdings.own,
-        others: theirs.union(holdings.partner),
-        partner: if side && ruffs.partner && holdings.partner.is_empty() {
-            RUFF
-        } else {
-            code_of_highest(holdings.partner)
-        },
-        against: if ruffed {
-            RUFF
-        } else {
-            code_of_highest(theirs)
-        },
-    }
-}
+const LEADERS_THEN_RIGHTS: TopTwo = TopTwo {
+    first: LEADER,
+    weight: SUIT - LAST_HAND_HAS_SECOND,
+    alike: false,
+    worth: BELOW_OWN_TOP_CARD,
+    special: OWN_TOP_CARD,
+};
 
-// What the cards of a suit are worth, and what the special ones are, by whose the highest card is and whose the second.
-static WORTHS: [(LeadWorth, LeadWorth); 25] = [
-    // the leader's, and then the leader's, the left hand's, partner's, the right hand's, nobody's
-    (BELOW_OWN_TOP_CARD, OWN_TOP_CARD),
-    (BELOW_OWN_TOP_CARD, OWN_TOP_CARD),
-    (TOP_TWO_CARDS, TOP_TWO_CARDS),
-    (BELOW_OWN_TOP_CARD, OWN_TOP_CARD),
-    (BELOW_OWN_TOP_CARD, OWN_TOP_CARD),
-    // the left hand's
-    (ANY_OTHER, SEQUENCE),
-    (ANY_OTHER, ANY_OTHER),
-    (ANY_OTHER, ANY_OTHER),
-    (ANY_OTHER, ANY_OTHER),
-    (ANY_OTHER, ANY_OTHER),
-    // partner's
-    (TO_PARTNER, TO_PARTNER),
-    (TO_PARTNER, TO_PARTNER),
-    (TO_PARTNER, TO_PARTNER),
-    (TO_PARTNER, TO_PARTNER),
-    (TO_PARTNER, TO_PARTNER),
-    // the right hand's
-    (ANY_OTHER, SEQUENCE),
-    (ANY_OTHER, ANY_OTHER),
-    (ANY_OTHER, ANY_OTHER),
-    (ANY_OTHER, ANY_OTHER),
-    (ANY_OTHER, ANY_OTHER),
-    // nobody's
-    (ANY_OTHER, ANY_OTHER),
-    (ANY_OTHER, ANY_OTHER),
-    (ANY_OTHER, ANY_OTHER),
-    (ANY_OTHER, ANY_OTHER),
-    (ANY_OTHER, ANY_OTHER),
+const LEADERS_THEN_PARTNERS: TopTwo = TopTwo {
+    first: LEADER,
+    weight: SUIT,
+    alike: true,
+    worth: TOP_TWO_CARDS,
+    special: TOP_TWO_CARDS,
+};
+
+const PARTNERS: TopTwo = TopTwo {
+    first: PARTNER,
+    weight: SUIT,
+    alike: true,
+    worth: TO_PARTNER,
+    special: TO_PARTNER,
+};
+
+const PARTNERS_THEN_RIGHTS: TopTwo = TopTwo {
+    first: PARTNER,
+    weight: SUIT - LAST_HAND_HAS_SECOND,
+    alike: true,
+    worth: TO_PARTNER,
+    special: TO_PARTNER,
+};
+
+const LEFTS: TopTwo = TopTwo {
+    first: LEFT,
+    weight: SUIT,
+    alike: true,
+    worth: ANY_OTHER,
+    special: ANY_OTHER,
+};
+
+const LEFTS_THEN_LEADERS: TopTwo = TopTwo {
+    first: LEFT,
+    weight: SUIT,
+    alike: false,
+    worth: ANY_OTHER,
+    special: SEQUENCE,
+};
+
+const LEFTS_THEN_PARTNERS: TopTwo = TopTwo {
+    first: LEFT,
+    weight: SUIT + THROUGH_TOP_TO_SECOND,
+    alike: true,
+    worth: ANY_OTHER,
+    special: ANY_OTHER,
+};
+
+const LEFTS_THEN_RIGHTS: TopTwo = TopTwo {
+    first: LEFT,
+    weight: SUIT - LAST_HAND_HAS_SECOND,
+    alike: true,
+    worth: ANY_OTHER,
+    special: ANY_OTHER,
+};
+
+const RIGHTS: TopTwo = TopTwo {
+    first: RIGHT,
+    weight: SUIT - LAST_HAND_HAS_TOP,
+    alike: true,
+    worth: ANY_OTHER,
+    special: ANY_OTHER,
+};
+
+const RIGHTS_THEN_LEADERS: TopTwo = TopTwo {
+    first: RIGHT,
+    weight: SUIT - LAST_HAND_HAS_TOP,
+    alike: false,
+    worth: ANY_OTHER,
+    special: SEQUENCE,
+};
+
+// By the number that a signature tells of a suit. A look at a table and not branches, which would hardly be foreseen.
+static TOP_TWO: [TopTwo; 16] = [
+    // the leader's, and then the leader's or nobody's, the left hand's
+    LEADERS,
+    LEADERS,
+    // the left hand's, and then the leader's, the left hand's
+    LEFTS_THEN_LEADERS,
+    LEFTS,
+    // the leader's, and then partner's, the right hand's
+    LEADERS_THEN_PARTNERS,
+    LEADERS_THEN_RIGHTS,
+    // the left hand's, and then partner's, the right hand's
+    LEFTS_THEN_PARTNERS,
+    LEFTS_THEN_RIGHTS,
+    // partner's, and then the leader's, the left hand's
+    PARTNERS,
+    PARTNERS,
+    // the right hand's, and then the leader's, the left hand's
+    RIGHTS_THEN_LEADERS,
+    RIGHTS,
+    // partner's, and then partner's, the right hand's
+    PARTNERS,
+    PARTNERS_THEN_RIGHTS,
+    // the right hand's, and then partner's, the right hand's
+    RIGHTS,
+    RIGHTS,
 ];
 
-// The same, where an opponent's highest card may stand alone.
-#[inline]
-fn worths(top: u8, second: u8, lone: bool) -> (LeadWorth, LeadWorth)
-    requires top { top ≤ 4 }
-    requires second { second ≤ 4 }
-{
-    if lone {
-        return (LONE_TOP_CARD, LONE_TOP_CARD);
-    }
-    WORTHS[(5 * top + second) as usize]
+// How many cards of a suit the four hands have.
+#[derive(Clone, Copy, Debug)]
+struct Lengths {
+    own: u8,
+    left: u8,
+    partner: u8,
+    right: u8,
 }
 
-// How good the suit looks, but for ruffs.
+const NO_CARDS: Lengths = Lengths {
+    own: 0,
+    left: 0,
+    partner: 0,
+    right: 0,
+};
+
 #[inline]
-fn suit_weight(tricks: u8, holdings: &FourHoldings, top: u8, second: u8) -> u16
-    requires { tricks ≤ 13 }
-    ensures { 100 ≤ result }
-{
-    let cards = opponents_cards(holdings.left, tricks) + opponents_cards(holdings.right, tricks);
-    let mut weight = SUIT - OPPONENTS_CARD * cards;
-    if top == RIGHT {
-        weight -= LAST_HAND_HAS_TOP;
-    } else if second == RIGHT {
-        weight -= LAST_HAND_HAS_SECOND;
+fn lengths_of(shape: Shape, suit: Suit) -> Lengths {
+    Lengths {
+        own: shape.length(suit, LEADER),
+        left: shape.length(suit, LEFT),
+        partner: shape.length(suit, PARTNER),
+        right: shape.length(suit, RIGHT),
     }
-    if top == LEFT && second == PARTNER {
-        weight += THROUGH_TOP_TO_SECOND;
+}
+
+// What is seen of a start of a trick, the same for each suit.
+#[derive(Debug, Drop)]
+struct StartView {
+    shape: Shape,
+    tops: Signature,
+    tricks: u8,
+    trump: Option<Suit>,
+    trumps: Lengths,
+    settling: LeadHistory,
+}
+
+impl StartView {
+    #[inline]
+    fn of(position: &Position, strings: &OwnerStrings, settling: LeadHistory) -> StartView {
+        let shape = strings.shape();
+        let (trump, trumps) = match position.strain() {
+            Strain::Trump(trump) => (Some(trump), lengths_of(shape, trump)),
+            Strain::Notrump => (None, NO_CARDS),
+        };
+        StartView {
+            shape,
+            tops: strings.signature(),
+            tricks: position.tricks_left(),
+            trump,
+            trumps,
+            settling,
+        }
     }
-    weight
+}
+
+// Who could ruff a suit: opponents and partner at once, the leader later on.
+#[derive(Clone, Copy, Debug)]
+struct Ruffs {
+    opponents: bool,
+    partner: bool,
+    leader: bool,
+}
+
+#[inline]
+fn ruffs_of(start: &StartView, suit: Suit, of: Lengths) -> Ruffs {
+    let side = start.trump != Some(suit);
+    let trumps = start.trumps;
+    let left = of.left == 0 && trumps.left > 0;
+    let right = of.right == 0 && trumps.right > 0;
+    Ruffs {
+        opponents: side && (left || right),
+        partner: side && of.partner == 0 && trumps.partner > 0,
+        leader: side && trumps.own > 0,
+    }
+}
+
+// The card of this suit that looks best of these choices, of weight 0 where there is none; each weighs so much more.
+// Once for each suit: a call of its own for all costs 1.5 % instructions.
+#[inline(always)]
+fn best_of(position: &Position, start: &StartView, suit: Suit, choices: Hand, more: u16) -> Move {
+    let ranks = choices.holding(suit);
+    let Some(low) = lowest(ranks) else {
+        return Move::default();
+    };
+    let of = lengths_of(start.shape, suit);
+    let ruffs = ruffs_of(start, suit, of);
+    let tops = TOP_TWO[start.tops.of_suit(suit) as usize];
+    let weight = suit_weight(start, of, ruffs, tops).saturating_add(more);
+    let weight = weight.saturating_add(settled_before(start.settling, suit));
+    let lone = tops.first == LEFT && of.left == 1 || tops.first == RIGHT && of.right == 1;
+    if !lone && !tops.alike {
+        return best_by_rank(position, suit, ranks, weight, ruffs, tops);
+    }
+    let worth = if lone { LONE_TOP_CARD } else { tops.worth };
+    let wins = !ruffs.opponents && (ruffs.partner || tops.first == PARTNER);
+    weighed(suit, low, weight, worth, wins)
+}
+
+// How good the suit looks.
+#[inline]
+fn suit_weight(start: &StartView, of: Lengths, ruffs: Ruffs, tops: TopTwo) -> u16 {
+    let left = opponents_cards(of.left, start.tricks);
+    let right = opponents_cards(of.right, start.tricks);
+    let ruffed = if ruffs.opponents { OPPONENT_RUFFS } else { 0 };
+    let single = of.own == 1 && of.partner > 1 && tops.first == PARTNER && ruffs.leader;
+    let single = if single { SINGLETON_TO_TOP } else { 0 };
+    tops.weight
+        .saturating_add(single)
+        .saturating_sub(OPPONENTS_CARD * (left + right) + ruffed)
 }
 
 // The cards of the suit, and where an opponent has none of it all that it has.
 #[inline]
-fn opponents_cards(holding: Holding, tricks: u8) -> u16
-    requires { tricks ≤ 13 }
-    ensures { result ≤ 13 }
+fn opponents_cards(length: u8, tricks: u8) -> u16
+    ensures { result ≤ 255 }
 {
-    if holding.is_empty() {
+    if length == 0 {
         tricks as u16
     } else {
-        holding.len() as u16
+        length as u16
     }
 }
 
-// Which hands have trumps, and how many tricks are left: the same for each suit.
-#[derive(Clone, Copy, Debug)]
-struct Ruffs {
-    trump: Option<Suit>,
-    leader: bool,
-    left: bool,
-    partner: bool,
-    right: bool,
-    tricks: u8,
+// What speaks for the suit by what settled starts of a trick like this one.
+#[inline]
+fn settled_before(settling: LeadHistory, suit: Suit) -> u16 {
+    settled(settling.of_shape, suit, SETTLED_SHAPE)
+        + settled(settling.of_outline, suit, SETTLED_OUTLINE)
+        + settled(settling.of_leader, suit, SETTLED_LEADER)
 }
 
-impl Ruffs {
-    fn of(position: &Position) -> Ruffs
-        ensures { result.tricks ≤ 13 }
-    {
-        let tricks = position.tricks_left();
-        let Strain::Trump(trump) = position.strain() else {
-            return Ruffs {
-                trump: None,
-                leader: false,
-                left: false,
-                partner: false,
-                right: false,
-                tricks,
-            };
+// So much where the lead that settled is of the suit.
+#[inline]
+fn settled(lead: Option<Suit>, suit: Suit, weight: u16) -> u16
+    ensures { result ≤ weight }
+{
+    if lead == Some(suit) { weight } else { 0 }
+}
+
+// A card of the suit, and how good it looks.
+#[inline]
+fn weighed(suit: Suit, rank: Rank, weight: u16, worth: LeadWorth, wins: bool) -> Move {
+    let worth = if wins { worth.wins } else { worth.loses };
+    let weight = weight
+        .saturating_add(worth)
+        .saturating_sub(rank.code() as u16);
+    Move {
+        card: Card { suit, rank },
+        weight,
+    }
+}
+
+// The best of these ranks where what a card is worth is not the same for all of them.
+fn best_by_rank(
+    position: &Position,
+    suit: Suit,
+    ranks: Holding,
+    weight: u16,
+    ruffs: Ruffs,
+    tops: TopTwo,
+) -> Move {
+    let hands = position.hands();
+    let leader = position.first();
+    let own = hands.holding(leader, suit);
+    let ours = hands.holding(leader.partner(), suit);
+    let theirs = hands
+        .holding(leader.left(), suit)
+        .union(hands.holding(leader.right(), suit));
+    let others = theirs.union(ours);
+    let partner = if ruffs.partner {
+        RUFF
+    } else {
+        code_of_highest(ours)
+    };
+    let against = if ruffs.opponents {
+        RUFF
+    } else {
+        code_of_highest(theirs)
+    };
+    let own_top = code_of_highest(own);
+    let mut rest = ranks;
+    let mut best = Move::default();
+    'ranks: while let Some(rank) = rest.pop_lowest() {
+        let code = rank.code();
+        let special = if tops.first == LEADER {
+            code == own_top
+        } else {
+            has_equal(own, others, rank)
         };
-        let trumps = four_holdings(position, trump);
-        Ruffs {
-            trump: Some(trump),
-            leader: !trumps.own.is_empty(),
-            left: !trumps.left.is_empty(),
-            partner: !trumps.partner.is_empty(),
-            right: !trumps.right.is_empty(),
-            tricks,
-        }
+        let worth = if special { tops.special } else { tops.worth };
+        let wins = code.max(partner) > against;
+        best = best.or(weighed(suit, rank, weight, worth, wins));
     }
+    best
+}
 
-    // Can an opponent of the leader ruff a side suit with these holdings?
-    #[inline]
-    fn opponents(&self, holdings: &FourHoldings) -> bool {
-        self.left && holdings.left.is_empty() || self.right && holdings.right.is_empty()
+// Has the card of the leader's own an equal below it?
+#[inline]
+fn has_equal(own: Holding, others: Holding, rank: Rank) -> bool {
+    match own.next_below(rank) {
+        Some(lower) => match others.next_below(rank) {
+            Some(other) => other.code() < lower.code(),
+            None => true,
+        },
+        None => false,
     }
 }

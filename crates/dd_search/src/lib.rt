@@ -15,6 +15,7 @@ mod lead;
 mod meter;
 mod order;
 mod position_value;
+mod second_hands;
 mod start;
 mod table;
 mod trick_view;

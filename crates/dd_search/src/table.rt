@@ -9,7 +9,7 @@ ghost use Rattle.dd_rank.specs.Depths.{FourDepths, depth_in, all_cards, Covers};
 ghost use Rattle.dd_rank.specs.Strings.{strings_of};
 
 use dd_cards::Suit;
-use dd_play::{Interval, TrickStart};
+use dd_play::{Interval, Position, TrickStart};
 use dd_rank::{Depths, OwnerStrings, Shape};
 
 /// Known bounds of the values of positions. A value is the number of tricks, 0 to 13, of the leader's side. Bounds come
@@ -93,14 +93,14 @@ pub trait Bounds {
         self.note(start, depths, interval);
     }
 
-    /// The suits of leads that settled starts of a trick like the one with these strings. They serve the order of leads alone: no
-    /// answer rests on them, so any are right.
-    fn lead_history(&self, _strings: &OwnerStrings) -> LeadHistory {
+    /// The suits of leads that settled starts of a trick like this one, which has these strings. They serve the order of leads
+    /// alone: no answer rests on them, so any are right.
+    fn lead_history(&self, _start: &Position, _strings: &OwnerStrings) -> LeadHistory {
         LeadHistory::default()
     }
 
-    /// Hands over the suit of a lead that settled the start with these strings, which may be kept or not.
-    fn note_lead(&mut self, _strings: &OwnerStrings, _lead: Suit) {}
+    /// Hands over the suit of a lead that settled this start, which has these strings, and which may be kept or not.
+    fn note_lead(&mut self, _start: &Position, _strings: &OwnerStrings, _lead: Suit) {}
 
     /// what is told holds
     ghost holds: { (table : Self) (p : Board) (depths : FourDepths) (interval : Interval) (q :
@@ -113,10 +113,8 @@ pub trait Bounds {
 pub struct ProbeHint {
     /// the number of what stands there
     pub number: u32,
-    /// a number that tells most shapes of one place apart
-    pub tag: u32,
-    /// whether what stands there has the tag
-    pub is_tagged: bool,
+    /// whether what stands there is of the shape
+    pub has_shape: bool,
 }
 
 /// The suits of leads that settled starts of a trick, where some are known.
@@ -126,6 +124,8 @@ pub struct LeadHistory {
     pub of_shape: Option<Suit>,
     /// the last one at a start of the same outline
     pub of_outline: Option<Suit>,
+    /// the last one of the same leader with as many tricks left
+    pub of_leader: Option<Suit>,
 }
 
 /// Knows nothing and keeps nothing.

@@ -15,6 +15,7 @@ use crate::cutoffs::{note_answer, quick_answer, second_hands_answer, told_answer
 use crate::lead::Leading;
 use crate::meter::{Halt, Meter, go_on};
 use crate::order::{MovePicker, Order};
+use crate::second_hands::SecondHands;
 use crate::table::{Bounds, LeadHistory};
 use crate::turn::Turn;
 use crate::verdict::Verdict;
@@ -25,7 +26,7 @@ use dd_play::{Position, TrickStart};
 use dd_rank::{OwnerStrings, Shape};
 
 /// Do North and South take at least `need` of the tricks left? It ticks first; at a start of a trick a look or the quick
-/// bounds may settle it, after the lead second hand's winners; else play does, and what that taught at a start is noted.
+/// bounds may settle it, and a lead second hand's winners; else play does, and what that taught at a start is noted.
 // Each hand of a trick has a question of its own: where whose turn it is is a constant, the code looks at it nowhere.
 pub(crate) fn zero_window<B: Bounds, M: Meter>(
     position: &Position,
@@ -88,9 +89,6 @@ fn zero_window_at_second_hand<B: Bounds, M: Meter>(
     ensures ends { EndsAs (M.says meter.new) result }
 {
     go_on(meter)?;
-    if let Some(answer) = second_hands_answer(position, need) {
-        return Ok(answer);
-    }
     answer_by_play(position, Turn::Second, None, need, table, meter)
 }
 
@@ -197,7 +195,7 @@ fn answer_by_play<B: Bounds, M: Meter>(
     let mut others = choices;
     match others.pop_first() {
         Some(card) if others.is_empty() => answer_by_only_choice(
-            position, turn, card, need, table, meter,
+            position, turn, strings, card, need, table, meter,
         ),
         _ => answer_by_choices(
             position,
@@ -218,6 +216,7 @@ fn answer_by_play<B: Bounds, M: Meter>(
 fn answer_by_only_choice<B: Bounds, M: Meter>(
     position: &Position,
     turn: Turn,
+    strings: Option<&OwnerStrings>,
     card: Card,
     need: u8,
     table: &mut B,
@@ -233,7 +232,9 @@ fn answer_by_only_choice<B: Bounds, M: Meter>(
     ensures ends { EndsAs (M.says meter.new) result }
 {
     let north_south = position.mover_at(turn.cards_before()).is_north_south();
-    let found = answer_after(position, turn, card, need, table, meter)?;
+    let none = Hand::new();
+    let mut seconds = SecondHands::of(strings, none.with(card));
+    let found = answer_after(position, turn, card, need, &mut seconds, table, meter)?;
     if found.is_yes() == north_south {
         return Ok(found);
     }
@@ -267,25 +268,25 @@ fn answer_by_choices<B: Bounds, M: Meter>(
     ensures ends { EndsAs (M.says meter.new) result }
 {
     let north_south = position.mover_at(turn.cards_before()).is_north_south();
+    let settling = lead_history(position, strings, table);
     let mut leading = Leading::new();
     let picker = match order {
-        Order::Best => {
-            let settling = lead_history(strings, table);
-            MovePicker::of(position, turn, settling, choices, &mut leading)
-        }
+        Order::Best => MovePicker::of(position, turn, strings, settling, choices, &mut leading),
         Order::Listed => MovePicker::listed(),
     };
+    let mut seconds = SecondHands::of(strings, choices);
     let mut untried = choices;
     let mut cards = Hand::new();
     'tries: while let Some(card) = picker.best(position, turn, choices, untried, &leading) {
-        let found = answer_after(position, turn, card, need, table, meter)?;
+        let found = answer_after(position, turn, card, need, &mut seconds, table, meter)?;
         if found.is_yes() == north_south {
-            note_lead(strings, card, table);
+            note_lead(position, strings, card, table);
             return Ok(found);
         }
         let winning_ranks = found.cards();
         cards = cards.union(winning_ranks);
         untried = still_untried(untried, card, winning_ranks);
+        leading.go_on(position, strings, settling, card.suit, untried);
     }
     Ok(Verdict::new(!north_south, whole_at(position, turn.cards_before(), cards)))
 }
@@ -318,22 +319,32 @@ pub(crate) fn zero_window_in_order<B: Bounds, M: Meter>(
 
 // The suits of leads that settled starts of a trick like this one; of another position none are known.
 #[inline]
-fn lead_history<B: Bounds>(strings: Option<&OwnerStrings>, table: &B) -> LeadHistory {
+fn lead_history<B: Bounds>(
+    position: &Position,
+    strings: Option<&OwnerStrings>,
+    table: &B,
+) -> LeadHistory {
     match strings {
-        Some(strings) => table.lead_history(strings),
+        Some(strings) => table.lead_history(position, strings),
         None => LeadHistory::default(),
     }
 }
 
 // Hands over the card that settled a start of a trick.
 #[inline]
-fn note_lead<B: Bounds>(strings: Option<&OwnerStrings>, card: Card, table: &mut B) {
+fn note_lead<B: Bounds>(
+    position: &Position,
+    strings: Option<&OwnerStrings>,
+    card: Card,
+    table: &mut B,
+) {
     if let Some(strings) = strings {
-        table.note_lead(strings, card.suit);
+        table.note_lead(position, strings, card.suit);
     }
 }
 
-// What is answered when this card is played, and the cards on which that rests here, before it is.
+// What is answered when this card is played, and the cards on which that rests here, before it is. Of a lead second hand's
+// winners may tell it.
 #[cycle(zero_window)]
 #[inline(always)]
 fn answer_after<B: Bounds, M: Meter>(
@@ -341,6 +352,7 @@ fn answer_after<B: Bounds, M: Meter>(
     turn: Turn,
     card: Card,
     need: u8,
+    seconds: &mut SecondHands,
     table: &mut B,
     meter: &mut M,
 ) -> Result<Verdict, Halt>
@@ -353,6 +365,9 @@ fn answer_after<B: Bounds, M: Meter>(
     ensures ticked { (m : M) → M.ticked m meter.old → OnOk result (M.ticked m meter.new) }
     ensures ends { EndsAs (M.says meter.new) result }
 {
+    if let Some(found) = second_hands_answer(position, turn, card, need, seconds) {
+        return Ok(found);
+    }
     // The position stays where `play` put it: a copy of it would wait for its bytes to be written.
     let played = position.play_at(turn.cards_before(), card);
     let rest = rest_after(need, played.1);

@@ -1,11 +1,12 @@
 //! Connections as they come.
 use crate::args::ServeFault;
 use crate::connection::serve_connection;
+use crate::own_pass::OwnPass;
 use crate::roster::Opening;
 use crate::run_end::RunLimits;
 use crate::run_state::RunState;
 use crate::runs::Runs;
-use dd_desk::{Naming, Pass};
+use dd_desk::Naming;
 use std::io::Error;
 use std::net::TcpStream;
 use std::sync::{Arc, Wait};
@@ -28,7 +29,7 @@ pub(crate) fn accept_connections<'s, E, J, L, R>(
     scope: &Scope<'s, E>,
     state: &'s RunState<'s, J>,
     runs: &Runs<L>,
-    own: &mut Pass<J>,
+    own: &mut OwnPass<J>,
     first: Option<TcpStream>,
 ) -> Result<(), ServeFault>
 where
@@ -53,7 +54,7 @@ where
                 thread::sleep(rt, Duration::from_millis(REST))
             }
             Err(_) => {
-                let ended = state.shut(rt, own);
+                let ended = own.shut(rt, state);
                 state.server.stop.stop(ended);
                 return Err(ServeFault::Listen);
             }

@@ -2,18 +2,16 @@
 ghost use Rattle.std.specs.Prelude.{◌≡◌, false};
 ghost use Rattle.dd_session.specs.Ports.{AsksNoStop};
 
-use crate::args::ServeArgs;
 use crate::opening::LineStream;
+use crate::parting::part;
 use crate::reply_stream::{CALL_WAIT, ReplyStream};
 use crate::run_port::RunPort;
 use crate::run_state::RunState;
 use crate::session_stream::SessionStream;
 use crate::socket_stream::SocketStream;
-use crate::stop::RunStop;
 use dd_desk::{DeskFault, Naming, Pass};
 use dd_lines::{CountedDevice, write_whole};
 use dd_session::{BookPort, serve_lines, serve_socket, write_refusal};
-use std::alloc::Global;
 use std::net::TcpStream;
 use std::sync::Wait;
 use std::sync::atomic::Ordering;
@@ -46,35 +44,35 @@ fn serve_session<J: Naming, R: Wait + Clock>(
     stream: &TcpStream,
     pass: Pass<J>,
 ) -> Pass<J> {
+    let caller = pass.number();
     let mut port = RunPort::new(rt, state, pass);
-    serve_port(
-        rt,
-        state.server.alloc,
-        state.server.args,
-        stream,
-        &state.stop,
-        &mut port,
-    );
+    serve_port(rt, state, stream, caller, &mut port);
     port.into_pass()
 }
 
-// The session over a port, as the run was asked for: by lines or by messages, with leave to stop or without.
-fn serve_port<R: Clock, P: BookPort>(
+// The session over the port of this caller, as the run was asked for: by lines or by messages, with leave to stop or without.
+fn serve_port<J: Naming, R: Wait + Clock, P: BookPort>(
     rt: &R,
-    alloc: Global,
-    args: ServeArgs,
+    state: &RunState<'_, J>,
     stream: &TcpStream,
-    stop: &RunStop,
+    caller: u64,
     port: &mut P,
 )
-    ensures leave { args.allow_stop ≡ false → AsksNoStop (P.told port.old) (P.told port.new) }
+    ensures leave { state.now.server.now.args.allow_stop ≡ false
+        → AsksNoStop (P.told port.old) (P.told port.new) }
 {
+    let alloc = state.server.alloc;
+    let args = state.server.args;
     if args.websocket {
-        let stream = SocketStream::new(rt, stream, stop);
-        let _ = serve_socket(alloc, stream, port, args.allow_stop);
+        let socket = SocketStream::new(rt, state, stream, caller);
+        let end = serve_socket(alloc, socket, port, args.allow_stop);
+        part(rt, stream, &state.stop, end);
     } else {
-        let mut reader = CountedDevice::new(LineStream::new(SessionStream::new(stream, stop)));
-        let mut writer = CountedDevice::new(ReplyStream::new(rt, stream, stop));
+        let session = SessionStream::new(rt, state, stream, caller);
+        // Without a limit it is served too.
+        let _ = session.limit_reads();
+        let mut reader = CountedDevice::new(LineStream::new(session));
+        let mut writer = CountedDevice::new(ReplyStream::new(rt, stream, &state.stop));
         let _ = serve_lines(alloc, &mut reader, &mut writer, port, args.allow_stop);
     }
 }

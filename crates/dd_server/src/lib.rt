@@ -6,6 +6,8 @@ mod args;
 mod connection;
 mod open_streams;
 mod opening;
+mod own_pass;
+mod parting;
 mod reply_stream;
 mod returned;
 mod roster;

@@ -5,6 +5,7 @@ ghost use Rattle.dd_server.specs.Histories.{IsHistory};
 
 use crate::accepting::{accept_connections, wait_for_sessions};
 use crate::args::ServeFault;
+use crate::own_pass::OwnPass;
 use crate::returned::Returned;
 use crate::roster::{Begun, Opening};
 use crate::run_end::{RunEnd, RunLimits};
@@ -138,18 +139,19 @@ fn keep_open<
     gate: &G,
 ) -> Result<(), ServeFault> {
     // The run's own pass, by which it shuts the book.
-    let Ok(mut own) = state.enrol(rt) else {
+    let Ok(pass) = state.enrol(rt) else {
         return Err(ServeFault::OutOfMemory);
     };
+    let mut own = OwnPass::new(pass);
     let (own, ended) = thread::scope(
         thread::scope_env(),
         rt,
-        move |scope| -> (Pass<J>, Result<(), ServeFault>) {
+        move |scope| -> (OwnPass<J>, Result<(), ServeFault>) {
             let ended = serve_clients(rt, scope, state, runs, &mut own, stream, gate);
             (own, ended)
         },
     );
-    state.take_back(rt, own);
+    state.take_back(rt, own.into_pass());
     ended
 }
 
@@ -159,7 +161,7 @@ fn serve_clients<'s, E, J, L, R, G>(
     scope: &Scope<'s, E>,
     state: &'s RunState<'s, J>,
     runs: &Runs<L>,
-    own: &mut Pass<J>,
+    own: &mut OwnPass<J>,
     stream: Option<TcpStream>,
     gate: &'s G,
 ) -> Result<(), ServeFault>
@@ -173,7 +175,7 @@ where
     accept_connections(rt, scope, state, runs, own, stream)?;
     wait_for_sessions(rt, state, runs);
     if !state.stop.is_ended() {
-        let _ = state.shut(rt, own);
+        let _ = own.shut(rt, state);
     }
     Ok(())
 }

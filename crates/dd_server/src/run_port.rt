@@ -1,6 +1,7 @@
 //! The port of a run.
 ghost use Rattle.std.specs.Prelude.{◌≡◌, true, Err, IsTrue, ◌↔◌};
 ghost use Rattle.dd_wire.specs.declared.want.Want.TheVariants.{Stop as StopWant};
+ghost use Rattle.dd_desk.specs.Receipts.{has_shut};
 ghost use Rattle.dd_session.specs.Ports.{Tells, last_place, port_of, told_at};
 ghost use Rattle.dd_server.specs.Worn.{KnowsWorn, is_submit};
 
@@ -65,6 +66,8 @@ impl<'a, J: Naming, R: Wait + Clock> RunPort<'a, J, R> {
     fn ask_desk(&mut self, want: Want) -> Result<Reply, DeskFault>
         ensures told { Tells (port_of (told_at self.old.port) self.old.port.refusals) want result
             (port_of (told_at self.new.port) self.new.port.refusals) }
+        ensures stop { want ≡ StopWant → result ≡ Err DeskFault.OutOfMemory
+            → has_shut self.old.port.pass.receipts ≡ true }
     {
         let stops = is_stop(&want);
         let reply = self.port.ask(want);
@@ -92,6 +95,8 @@ impl<'a, J: Naming, R: Wait + Clock> BookPort for RunPort<'a, J, R> {
             (port_of (told_at self.new.port) self.new.port.refusals) }
         ensures worn { KnowsWorn self.old.limits (last_place self.old.port) → is_submit want ≡ true
             → result ≡ Err DeskFault.JournalFull }
+        ensures stop { want ≡ StopWant → result ≡ Err DeskFault.OutOfMemory
+            → has_shut self.old.port.pass.receipts ≡ true }
     {
         if is_submit(&want) && self.is_worn() {
             return Err(self.port.refuse());

@@ -1,16 +1,13 @@
 //! What the threads of a run share.
-ghost use Rattle.std.specs.Prelude.{◌≡◌, Err};
+ghost use Rattle.std.specs.Prelude.{◌≡◌, [], IfOk};
 
 use crate::returned::Returned;
 use crate::server_state::ServerState;
 use crate::stop::RunStop;
-use crate::stop_flag::FlagIsSet;
 use crate::wear::{are_events_used, are_passes_used};
-use dd_book::Reply;
 use dd_desk::{Desk, DeskFault, Naming, Pass};
 use std::sync::atomic::{AtomicBool, Ordering};
 use std::sync::{Mutex, Wait};
-use std::thread;
 
 /// What the threads of a run share.
 #[derive(Drop)]
@@ -30,7 +27,9 @@ pub(crate) struct RunState<'a, J: Naming> {
 
 impl<'a, J: Naming> RunState<'a, J> {
     /// A pass, with room kept for its return.
-    pub(crate) fn enrol<R: Wait>(&self, rt: &R) -> Result<Pass<J>, DeskFault> {
+    pub(crate) fn enrol<R: Wait>(&self, rt: &R) -> Result<Pass<J>, DeskFault>
+        ensures { IfOk result (λ pass. pass.receipts ≡ []) }
+    {
         if self.returned.lock(rt).expect_one().is_err() {
             return Err(DeskFault::OutOfMemory);
         }
@@ -44,25 +43,6 @@ impl<'a, J: Naming> RunState<'a, J> {
     /// The pass comes back.
     pub(crate) fn take_back<R: Wait>(&self, rt: &R, pass: Pass<J>) {
         self.returned.lock(rt).take_back(pass);
-    }
-
-    /// Shuts the book and ends the run.
-    pub(crate) fn shut<R: Wait>(&self, rt: &R, pass: &mut Pass<J>) -> FlagIsSet {
-        let said = self.shut_book(rt, pass);
-        self.stop.end(rt, &said)
-    }
-
-    // Shuts the book, however often memory runs out at it: only that may be otherwise at the next try.
-    fn shut_book<R: Wait>(&self, rt: &R, pass: &mut Pass<J>) -> Result<Reply, DeskFault>
-        ensures { result ≡ Err DeskFault.OutOfMemory → ⊥ }
-    {
-        for _ in rt.forever() {
-            match self.desk.shut(rt, pass) {
-                Err(DeskFault::OutOfMemory) => thread::yield_now(),
-                told => return told,
-            }
-        }
-        unreachable!()
     }
 
     /// Whether the run takes no more jobs, nor connections.

@@ -1,42 +1,91 @@
 //! A connection's stream, as its session sees it.
 ghost use Rattle.std.specs.Prelude.{◌≡◌, ◌+◌, MatchResult};
 ghost use Rattle.std.specs.Io.{ReadsAtMost};
+ghost use Rattle.dd_desk.specs.Looks.{SeesOpen};
 
-use crate::stop::RunStop;
+use crate::run_state::RunState;
+use dd_desk::Naming;
 use std::io;
-use std::io::Read;
+use std::io::{Error, ErrorKind, Read};
 use std::net::TcpStream;
+use std::sync::Wait;
+use std::time::Duration;
 
 // The most bytes that are read after a stop, more than Linux keeps for a stream: what was received before the stop is
 // answered, and a client that goes on sending holds nothing up.
 const READ_AFTER_STOP: usize = 16_777_216;
 
-/// A stream that ends soon after its run, whatever its client still sends.
+/// A stream that ends soon after its run, whatever its client still sends, and where its client is idle: it sends nothing and has
+/// no open job.
 #[derive(Drop)]
-pub(crate) struct SessionStream<'a> {
+pub(crate) struct SessionStream<'a, J: Naming, R> {
+    rt: &'a R,
+    state: &'a RunState<'a, J>,
     stream: &'a TcpStream,
-    stop: &'a RunStop,
+    // The number of the session's pass.
+    caller: u64,
     // The bytes that may be read after a stop.
     left: usize,
 }
 
-impl<'a> SessionStream<'a> {
-    pub(crate) fn new(stream: &'a TcpStream, stop: &'a RunStop) -> SessionStream<'a> {
+impl<'a, J: Naming, R> SessionStream<'a, J, R> {
+    pub(crate) fn new(
+        rt: &'a R,
+        state: &'a RunState<'a, J>,
+        stream: &'a TcpStream,
+        caller: u64,
+    ) -> SessionStream<'a, J, R> {
         SessionStream {
+            rt,
+            state,
             stream,
-            stop,
+            caller,
             left: READ_AFTER_STOP,
         }
     }
-}
 
-impl Read for SessionStream<'_> {
-    fn read(&mut self, buf: &mut [u8]) -> io::Result<usize> {
+    /// Each read waits so long for its client as a session may be silent.
+    pub(crate) fn limit_reads(&self) -> io::Result<()> {
+        let most = self.state.server.args.idle.map(Duration::from_millis);
+        self.stream.set_read_timeout(most)
+    }
+
+    // One read, which gives `WouldBlock` where nothing came for so long as a session may be silent.
+    fn read_once(&mut self, buf: &mut [u8]) -> io::Result<usize>
+        ensures bound { ReadsAtMost result buf.new }
+    {
         let mut stream = self.stream;
-        if !self.stop.is_ended() {
+        if !self.state.stop.is_ended() {
             return stream.read(buf);
         }
         read_last(&mut stream, buf, &mut self.left)
+    }
+}
+
+impl<J: Naming, R: Wait> SessionStream<'_, J, R> {
+    // May the session be silent still?
+    fn has_open_job(&self) -> bool
+        ensures { SeesOpen self.now.caller result }
+    {
+        self.state.desk.has_open(self.rt, self.caller)
+    }
+}
+
+impl<J: Naming, R: Wait> Read for SessionStream<'_, J, R> {
+    fn read(&mut self, buf: &mut [u8]) -> io::Result<usize> {
+        for _ in 0..u64::MAX {
+            match self.read_once(buf) {
+                // A read with a limit ends so where the process was stopped and goes on.
+                Err(error) if error.kind() == ErrorKind::Interrupted => {}
+                Err(error) if error.kind() == ErrorKind::WouldBlock => {
+                    if !self.has_open_job() {
+                        break;
+                    }
+                }
+                read => return read,
+            }
+        }
+        Err(Error::from(ErrorKind::TimedOut))
     }
 }
 

@@ -1,10 +1,12 @@
 //! A connection's stream, as its session over a WebSocket sees it.
 use crate::reply_stream::ReplyStream;
+use crate::run_state::RunState;
 use crate::session_stream::SessionStream;
-use crate::stop::RunStop;
+use dd_desk::Naming;
 use std::io;
 use std::io::{Error, ErrorKind, Read, Write};
 use std::net::TcpStream;
+use std::sync::Wait;
 use std::time::{Clock, Duration, Instant};
 
 /// For how many seconds a client may shake hands.
@@ -12,28 +14,33 @@ const HANDSHAKE_WAIT: u64 = 10;
 
 /// A stream whose client has some time to shake hands, and for each reply.
 #[derive(Drop)]
-pub(crate) struct SocketStream<'a, R> {
+pub(crate) struct SocketStream<'a, J: Naming, R> {
     rt: &'a R,
     stream: &'a TcpStream,
-    reads: SessionStream<'a>,
+    reads: SessionStream<'a, J, R>,
     replies: ReplyStream<'a, R>,
     // How long the handshake may still wait for the client. `None` once it was answered.
     left: Option<Duration>,
 }
 
-impl<'a, R> SocketStream<'a, R> {
-    pub(crate) fn new(rt: &'a R, stream: &'a TcpStream, stop: &'a RunStop) -> SocketStream<'a, R> {
+impl<'a, J: Naming, R> SocketStream<'a, J, R> {
+    pub(crate) fn new(
+        rt: &'a R,
+        state: &'a RunState<'a, J>,
+        stream: &'a TcpStream,
+        caller: u64,
+    ) -> SocketStream<'a, J, R> {
         SocketStream {
             rt,
             stream,
-            reads: SessionStream::new(stream, stop),
-            replies: ReplyStream::new(rt, stream, stop),
+            reads: SessionStream::new(rt, state, stream, caller),
+            replies: ReplyStream::new(rt, stream, &state.stop),
             left: Some(Duration::from_secs(HANDSHAKE_WAIT)),
         }
     }
 }
 
-impl<R: Clock> Read for SocketStream<'_, R> {
+impl<J: Naming, R: Wait + Clock> Read for SocketStream<'_, J, R> {
     fn read(&mut self, buf: &mut [u8]) -> io::Result<usize> {
         let Some(left) = self.left else {
             return self.reads.read(buf);
@@ -50,11 +57,11 @@ impl<R: Clock> Read for SocketStream<'_, R> {
     }
 }
 
-impl<R: Clock> Write for SocketStream<'_, R> {
+impl<J: Naming, R: Wait + Clock> Write for SocketStream<'_, J, R> {
     // What is written first answers the handshake.
     fn write(&mut self, buf: &[u8]) -> io::Result<usize> {
         if self.left.take().is_some() {
-            self.stream.set_read_timeout(None)?;
+            self.reads.limit_reads()?;
         }
         self.replies.write(buf)
     }

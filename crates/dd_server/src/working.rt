@@ -2,6 +2,7 @@
 ghost use Rattle.dd_work.specs.Rounds.{Works};
 
 use crate::args::ServeFault;
+use crate::own_pass::OwnPass;
 use crate::run_state::RunState;
 use crate::worker_gate::WorkerGate;
 use dd_cache::Cache;
@@ -18,7 +19,7 @@ pub(crate) fn start_workers<'s, E, J, R, G>(
     rt: &'s R,
     scope: &Scope<'s, E>,
     state: &'s RunState<'s, J>,
-    own: &mut Pass<J>,
+    own: &mut OwnPass<J>,
     gate: &'s G,
 ) -> Result<(), ServeFault>
 where
@@ -28,7 +29,7 @@ where
 {
     for _ in 0..state.server.args.workers {
         if let Err(fault) = start_worker(rt, scope, state, own, gate) {
-            let _ = state.shut(rt, own);
+            let _ = own.shut(rt, state);
             return Err(fault);
         }
     }
@@ -40,7 +41,7 @@ fn start_worker<'s, E, J, R, G>(
     rt: &'s R,
     scope: &Scope<'s, E>,
     state: &'s RunState<'s, J>,
-    own: &mut Pass<J>,
+    own: &mut OwnPass<J>,
     gate: &'s G,
 ) -> Result<(), ServeFault>
 where
@@ -56,7 +57,7 @@ where
     };
     if let Err(refused) = scope.spawn(move || work(rt, state, cache, pass, gate)) {
         // After the shut it leaves at once, and its pass comes back.
-        let _ = state.shut(rt, own);
+        let _ = own.shut(rt, state);
         (refused.value)();
         return Err(ServeFault::OutOfMemory);
     }

@@ -69,6 +69,7 @@ pub(crate) fn new_job(reply: &Reply) -> Option<u64>
         Reply::Claimed { .. }
         | Reply::ClaimedTarget { .. }
         | Reply::ClaimedPart { .. }
+        | Reply::ClaimedPlayPart { .. }
         | Reply::NothingWaits
         | Reply::Closing
         | Reply::Recorded

@@ -1,10 +1,12 @@
 //! The job book as one session sees it.
-ghost use Rattle.std.specs.Prelude.{◌≡◌};
+ghost use Rattle.std.specs.Prelude.{◌≡◌, Err, true};
 ghost use Rattle.dd_book.specs.declared.call.Call.TheVariants.{Fetch};
 ghost use Rattle.dd_desk.specs.Replies.{IsTold};
-ghost use Rattle.dd_desk.specs.declared.fault.DeskFault.TheVariants.{JournalFull};
+ghost use Rattle.dd_desk.specs.Receipts.{has_shut};
+ghost use Rattle.dd_desk.specs.declared.fault.DeskFault.TheVariants.{JournalFull, OutOfMemory};
 ghost use Rattle.dd_lines.specs.CountedDevices.{one_more};
-ghost use Rattle.dd_session.specs.Ports.{call_by, last_place, new_port, refused};
+ghost use Rattle.dd_session.specs.Ports.{Tells, call_by, last_place, new_port, port_of, refused, told_at};
+ghost use Rattle.dd_wire.specs.declared.want.Want.TheVariants.{Stop as StopWant};
 
 use crate::leaving::give_up_jobs;
 use dd_book::Reply;
@@ -127,7 +129,12 @@ impl<'a, J: Naming, R: Wait + Clock> BookPort for DeskPort<'a, J, R> {
 
     ghost ended = { λ p job. SeesEnd p.pass.number job };
 
-    fn ask(&mut self, want: Want) -> Result<Reply, DeskFault> {
+    fn ask(&mut self, want: Want) -> Result<Reply, DeskFault>
+        ensures told { Tells (port_of (told_at self.old) self.old.refusals) want result
+            (port_of (told_at self.new) self.new.refusals) }
+        ensures stop { want ≡ StopWant → result ≡ Err OutOfMemory
+            → has_shut self.old.pass.receipts ≡ true }
+    {
         match call(self.rt, self.desk, &mut self.pass, want) {
             Ok(reply) => Ok(reply),
             Err(fault) => {
@@ -165,7 +172,8 @@ fn call<J: Naming, R: Wait>(
     pass: &mut Pass<J>,
     want: Want,
 ) -> Result<Reply, DeskFault>
-    ensures { IsTold pass.old (call_by pass.old.number want) result pass.new }
+    ensures told { IsTold pass.old (call_by pass.old.number want) result pass.new }
+    ensures stop { want ≡ StopWant → result ≡ Err OutOfMemory → has_shut pass.old.receipts ≡ true }
 {
     match want {
         Want::Submit(asked) => desk.submit(rt, pass, asked),

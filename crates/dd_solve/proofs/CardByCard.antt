@@ -9,7 +9,6 @@ use Rattle.dd_cards.specs.Cards.{card_of, has_card, same_card}
 use Rattle.dd_cards.specs.declared.suit.Suit.TheVariants.{Spades}
 use Rattle.dd_cards.specs.Sides.{side_of, other_side, is_side, same_side}
 use Rattle.dd_cards.specs.declared.side.Side.{Side}
-use Rattle.dd_cards.specs.declared.side.Side.TheVariants.{NorthSouth, EastWest}
 use Rattle.dd_cards.proofs.CallerLemmas.{is-same, is-other, same-self, same-other, same_card-eq}
 use Rattle.dd_play.specs.Board.{Board, IsBoard, mover, tricks_left}
 use Rattle.dd_play.specs.Tricks.{winner_of}
@@ -200,6 +199,25 @@ number-defenders play count q k value s is turn =
 -- the side to play takes no more tricks than are left
 pub value-within : (p : Board) → IsBoard p → won (side_of (mover p)) p ≤ tricks_left p
 value-within p valid = let sum = all (side_of (mover p)) p valid in omega (arith, sum)
+
+-- a side takes what its mover takes, and no more than are left
+pub mover-takes : (side : Side) (p : Board) (value : ℕ) → IsBoard p → value ≡ won (side_of (mover p)) p → same_side (side_of (mover p)) side ≡ true → (value ≡ won side p) × (value ≤ tricks_left p)
+mover-takes side p value valid is turn = (is ∙ ap (λ a. won a p) (is-same (side_of (mover p)) side turn), (let most = value-within p valid in omega (arith, is, most)))
+
+-- the other side what its opponents leave
+pub other-takes : (side : Side) (p : Board) (value : ℕ) → IsBoard p → value ≡ won (side_of (mover p)) p → same_side (side_of (mover p)) side ≡ false → (value ≤ tricks_left p) × (tricks_left p - value ≡ won side p)
+other-takes side p value valid is other =
+    let mine : Side = side_of (mover p) in
+    let sum = all mine p valid in
+    let same : won (other_side mine) p ≡ won side p = ap (λ a. won a p) (is-other mine side other) in
+    (omega (arith, sum, is), omega (arith, sum, is, same))
+
+-- where no card is left the number is what was won
+pub number-last : (play : Play) (count : ℕ) (q : Board) (k : ℕ) → Stands play count q k → tricks_left q ≡ 0 → k ≡ tricks_after play count
+number-last play count q k s none =
+    let here = number-here play count q k s in
+    let sum = all (declarers play.opening) q (stands-valid play count q k s) in
+    omega (arith, here, sum, none)
 
 -- ---- a card without a choice
 

@@ -38,6 +38,10 @@ declarers opening = side_of (next_seat opening.first)
 abbrev pub tricks_with : Side → Board → List PlayingCard → ℕ
 tricks_with side p cards = tricks_won side p cards + won side (position_after p cards)
 
+-- the position after the first n cards
+abbrev pub position_at : Play → ℕ → Board
+position_at play n = position_after play.opening (take n play.cards)
+
 -- the tricks that declarer's side takes after the first n cards
 unfoldable pub tricks_after : Play → ℕ → ℕ
 tricks_after play n = tricks_with (declarers play.opening) play.opening (take n play.cards)
@@ -56,11 +60,11 @@ pub record PlayTrace : Type 0 where
 abbrev pub play_trace : Play → PlayTrace
 play_trace play = record { play = play; tricks = trace play }
 
--- one number of a trace: the tricks after so many cards
-pub record PlayNumber : Type 0 where
-  pub play : Play
-  pub part : ℕ
+-- a position with the tricks that a side takes from it on
+pub record PositionTricks : Type 0 where
+  pub board : Board
+  pub side : Side
   pub tricks : ℕ
 
-abbrev pub play_number : Play → ℕ → PlayNumber
-play_number play part = record { play = play; part = part; tricks = tricks_after play part }
+abbrev pub position_tricks : Board → Side → PositionTricks
+position_tricks board side = record { board = board; side = side; tricks = won side board }

@@ -1,5 +1,6 @@
 ghost use Rattle.std.specs.Prelude.{◌≡◌};
 
+use crate::play_request::PlayRequest;
 use crate::request::Request;
 use crate::table_request::TableRequest;
 use crate::target_request::TargetRequest;
@@ -13,6 +14,8 @@ pub enum Asked {
     Table(TableRequest),
     /// The cards of a position that reach a target.
     Target(TargetRequest),
+    /// The tricks that declarer's side takes before the first card of a play and after each one.
+    Play(PlayRequest),
 }
 
 impl Asked {
@@ -24,6 +27,7 @@ impl Asked {
             Asked::Solve(request) => Asked::Solve(request.copy()),
             Asked::Table(request) => Asked::Table(request.copy()),
             Asked::Target(request) => Asked::Target(request.copy()),
+            Asked::Play(request) => Asked::Play(request.copy()),
         }
     }
 }

@@ -5,7 +5,7 @@ ghost use Rattle.dd_cards.specs.Sides.{is_side};
 ghost use Rattle.dd_play.specs.Positions.{CanPlay};
 ghost use Rattle.dd_play.specs.Simulations.{IsLegal};
 ghost use Rattle.dd_solve.specs.CardFaults.{IsFaultOf, IsFirstFault};
-ghost use Rattle.dd_solve.specs.Plays.{declarers, position_after, tricks_won, IsRegular};
+ghost use Rattle.dd_solve.specs.Plays.{declarers, position_after, position_at, tricks_after, tricks_won, IsRegular};
 ghost use Rattle.dd_solve.specs.SideTricks.{side_trick};
 
 use crate::card_fault::CardFault;
@@ -102,6 +102,21 @@ impl PlayRequest {
             position = next;
         }
         (position, won)
+    }
+
+    /// The number of the trace after the last card, where no card is left to play: the tricks that were won.
+    pub fn last_number(&self) -> Option<u8>
+        ensures { MatchOption result
+            (1 ≤ tricks_left (position_at self.now (length self.now.cards)))
+            (λ tricks. (tricks_left (position_at self.now (length self.now.cards)) ≡ 0)
+            × (tricks ≡ tricks_after self.now (length self.now.cards))) }
+    {
+        let (position, won) = self.after(self.cards().len());
+        if position.tricks_left() == 0 {
+            Some(won)
+        } else {
+            None
+        }
     }
 
     /// Is declarer's side to play in this position?

@@ -1,11 +1,16 @@
 //! The numbers of a play's trace, from the last one back.
 ghost use Rattle.std.specs.Prelude.{◌≡◌, ◌+◌, ◌<◌, ◌≤◌, IfOk, IfNone, IfSome, IsOk, IsSome, length};
 ghost use Rattle.dd_search.specs.Budgets.{EndsAs, IsEndless};
-ghost use Rattle.dd_solve.specs.Plays.{play_number, play_trace, tricks_after};
+ghost use Rattle.dd_cards.specs.Sides.{is_side, side_of};
+ghost use Rattle.dd_play.specs.Board.{IsBoard, mover, tricks_left};
+ghost use Rattle.dd_play.specs.Won.{won};
+ghost use Rattle.dd_solve.specs.Plays.{play_trace, position_tricks, tricks_after};
 
 use crate::play_request::PlayRequest;
 use crate::solved_play::{PlayPart, SolvedPlay, Trace, TraceList};
 use arrayvec::ArrayVec;
+use dd_cards::Side;
+use dd_play::Position;
 use dd_search::{Bounds, Budget, Endless, Halt, Meter, value, value_at_least};
 
 /// Finds the trace of a play. It goes from the last card back, so that each search finds what the one before it learned. The
@@ -31,22 +36,43 @@ pub fn solve_play<B: Bounds>(
     Some(SolvedPlay::of(request, Trace::of(trace)))
 }
 
-/// Finds one number of a play's trace: the tricks, 0 to 13, that declarer's side takes after its first `part` cards. It takes
-/// no memory. An error says why the search ended without a result; what was noted by then holds.
+/// Finds the tricks that this side takes from a position of a play on. It takes no memory. An error says why the search ended
+/// without a result; what was noted by then holds.
 pub fn solve_play_part<B: Bounds, M: Meter>(
-    request: &PlayRequest,
-    part: u8,
+    position: Position,
+    side: Side,
     table: &mut B,
     meter: &mut M,
 ) -> Result<PlayPart, Halt>
-    requires { part ≤ length request.now.cards }
-    ensures solved { IfOk result (λ solved. solved ≡ play_number request.now part) }
+    ensures solved { IfOk result (λ solved. solved ≡ position_tricks position side) }
     ensures ends { EndsAs (M.says meter.new) result }
     // It has a result where the meter can say nothing else than to go on.
     ensures answers { IsEndless M.says → IsOk result }
 {
-    let tricks = number_after(request, part as usize, None, table, meter)?;
-    Ok(PlayPart::of(request.copy(), part, tricks))
+    let value = value(&position, table, meter)?;
+    let tricks = tricks_of_side(&position, side, value);
+    Ok(PlayPart::of(position, side, tricks))
+}
+
+// The tricks that this side takes from the position on, where the side to play takes so many.
+fn tricks_of_side(position: &Position, side: Side, value: u8) -> u8
+    requires { value ≡ won (side_of (mover position.now)) position.now }
+    ensures tricks { result ≡ won side position.now }
+    ensures bound { result ≤ tricks_left position.now }
+{
+    if plays(position, side) {
+        value
+    } else {
+        position.tricks_left() - value
+    }
+}
+
+// Is this side to play?
+fn plays(position: &Position, side: Side) -> bool
+    ensures turn { result ≡ is_side side (mover position.now) }
+    ensures board { IsBoard position.now }
+{
+    position.mover().side() == side
 }
 
 // A number of the trace. `None` where the search spent its budget.

@@ -1,9 +1,13 @@
 //! Plays with the tricks that declarer's side takes before the first card and after each one.
-ghost use Rattle.std.specs.Prelude.{◌≡◌, ◌+◌, ◌≤◌, length};
-ghost use Rattle.dd_solve.specs.Plays.{play_number, play_trace, trace as trace_of, tricks_after};
+ghost use Rattle.std.specs.Prelude.{◌≡◌, ◌<◌, ◌≤◌, ◌++◌, ◌∷◌, [], length};
+ghost use Rattle.dd_play.specs.Board.{tricks_left};
+ghost use Rattle.dd_play.specs.Won.{won};
+ghost use Rattle.dd_solve.specs.Plays.{play_trace, position_tricks, trace as trace_of};
 
 use crate::play_request::PlayRequest;
 use arrayvec::ArrayVec;
+use dd_cards::Side;
+use dd_play::Position;
 use std::marker::Model;
 
 /// The most numbers of a trace.
@@ -27,6 +31,23 @@ impl Model for Trace {
 }
 
 impl Trace {
+    /// A trace without numbers. It takes no memory.
+    pub fn new() -> Trace
+        ensures { result ≡ [] }
+    {
+        Trace {
+            tricks: ArrayVec::new(),
+        }
+    }
+
+    /// One number more at the end.
+    pub fn push(&mut self, tricks: u8)
+        requires { length self.old < MOST_NUMBERS }
+        ensures { self.new ≡ self.old ++ tricks ∷ [] }
+    {
+        self.tricks.push(tricks);
+    }
+
     /// A trace of these numbers.
     pub(crate) fn of(tricks: TraceList) -> Trace
         ensures { result ≡ tricks.items }
@@ -105,72 +126,72 @@ impl SolvedPlay {
     }
 }
 
-/// A play with one number of its trace.
+/// A position of a play with the tricks that a side, which is declarer's, takes from it on.
 #[derive(Drop)]
 pub struct PlayPart {
-    request: PlayRequest,
-    part: u8,
+    position: Position,
+    side: Side,
     tricks: u8,
 }
 
 impl Model for PlayPart {
-    ghost use Rattle.std.specs.Prelude.{◌≡◌, ◌≤◌, length};
-    ghost use Rattle.dd_solve.specs.Plays.{PlayNumber, tricks_after};
+    ghost use Rattle.std.specs.Prelude.{◌≡◌, ◌≤◌};
+    ghost use Rattle.dd_play.specs.Board.{tricks_left};
+    ghost use Rattle.dd_play.specs.Won.{won};
+    ghost use Rattle.dd_solve.specs.Plays.{PositionTricks};
 
-    ghost Value = { PlayNumber };
+    ghost Value = { PositionTricks };
 
-    ghost view = { λ s. record { play = s.request; part = s.part; tricks = s.tricks } };
+    ghost view = { λ s. record { board = s.position; side = s.side; tricks = s.tricks } };
 
-    ghost invariant = { λ s. (s.part ≤ length s.request.cards) × (s.tricks ≤ 13) ×
-        (s.tricks ≡ tricks_after s.request s.part) };
+    ghost invariant = { λ s. (s.tricks ≤ tricks_left s.position) ×
+        (s.tricks ≡ won s.side s.position) };
 }
 
 impl PlayPart {
-    /// A play with what is this number of its trace.
-    pub(crate) fn of(request: PlayRequest, part: u8, tricks: u8) -> PlayPart
-        requires part { part ≤ length request.cards }
-        requires bound { tricks ≤ 13 }
-        requires tricks { tricks ≡ tricks_after request part }
-        ensures { result ≡ record { play = request; part = part; tricks = tricks } }
+    /// A position with what this side takes from it on.
+    pub(crate) fn of(position: Position, side: Side, tricks: u8) -> PlayPart
+        requires bound { tricks ≤ tricks_left position }
+        requires tricks { tricks ≡ won side position }
+        ensures { result ≡ record { board = position; side = side; tricks = tricks } }
     {
         PlayPart {
-            request,
-            part,
+            position,
+            side,
             tricks,
         }
     }
 
-    /// The play whose number it is.
-    pub fn request(&self) -> &PlayRequest
-        ensures { result.now ≡ self.now.play }
+    /// The position.
+    pub fn position(&self) -> &Position
+        ensures { result.now ≡ self.now.board }
     {
-        &self.request
+        &self.position
     }
 
-    /// After how many cards, 0 to all of them.
-    pub fn part(&self) -> u8
-        ensures value { result ≡ self.now.part }
-        ensures bound { result ≤ length self.now.play.cards }
+    /// Whose tricks they are.
+    pub fn side(&self) -> Side
+        ensures { result ≡ self.now.side }
     {
-        self.part
+        self.side
     }
 
-    /// The tricks, 0 to 13, that declarer's side takes after these cards.
+    /// The tricks that the side takes from the position on.
     pub fn tricks(&self) -> u8
         ensures value { result ≡ self.now.tricks }
-        ensures bound { result ≤ 13 }
-        ensures solved { self.now ≡ play_number self.now.play self.now.part }
+        ensures bound { result ≤ tricks_left self.now.board }
+        ensures solved { self.now ≡ position_tricks self.now.board self.now.side }
     {
         self.tricks
     }
 
-    /// The same number. It takes no memory.
+    /// The same position with the same tricks. It takes no memory.
     pub fn copy(&self) -> PlayPart
         ensures { result ≡ self.now }
     {
         PlayPart {
-            request: self.request.copy(),
-            part: self.part,
+            position: self.position.copy(),
+            side: self.side,
             tricks: self.tricks,
         }
     }

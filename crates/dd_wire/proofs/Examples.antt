@@ -16,7 +16,8 @@ use Rattle.dd_solve.specs.declared.asked.Asked.TheVariants.{Solve, Table}
 use Rattle.dd_wire.specs.declared.fault.Fault.TheVariants.{NoCard}
 use Rattle.dd_solve.specs.ScoredClasses.{ScoredClass, answer, all_scores}
 use Rattle.dd_solve.specs.Results.{results, contracts, tricks_of}
-use Rattle.dd_wire.specs.Replies.{class_text, asked_text, fault_text}
+use Rattle.dd_wire.specs.LineReplies.{asked_text}
+use Rattle.dd_wire.specs.Replies.{class_text, fault_text}
 
 -- four hands, from North clockwise, the strain, the seat that leads, and the trick
 abbrev board : List PlayingCard → List PlayingCard → List PlayingCard → List PlayingCard → Strain → Seat → List PlayingCard → Board

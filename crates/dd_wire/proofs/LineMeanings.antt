@@ -10,20 +10,18 @@ use Rattle.dd_score.proofs.CallerLemmas.{some-par}
 use Rattle.dd_wire.specs.declared.fault.Fault.{Fault}
 use Rattle.dd_wire.specs.declared.fault.Fault.TheVariants.{LineTooLong, NotAnObject, WrongField, OutOfMemory}
 use Rattle.dd_wire.specs.declared.line_asked.LineAsked.{LineAsked}
-use Rattle.dd_wire.specs.declared.line_asked.LineAsked.TheVariants.{Cards, Par, ParOfDeal, Play}
+use Rattle.dd_wire.specs.declared.line_asked.LineAsked.TheVariants.{Cards, Par, ParOfDeal}
 use Rattle.dd_wire.specs.declared.par_request.Conditions.{Conditions}
-use Rattle.dd_wire.specs.LineReplies.{IsReplyTo}
-use Rattle.dd_wire.specs.Lines.{Means, MeansOfCards, MeansMembers}
-use Rattle.dd_wire.specs.PlayLines.{MeansPlayFields, play_fields}
-use Rattle.dd_wire.specs.PlayReplies.{trace_text}
-use Rattle.dd_solve.specs.Plays.{trace}
-use Rattle.dd_wire.proofs.PlayMeanings.{some-play-fields, one-play-fields, play-memory}
+use Rattle.dd_wire.specs.LineReplies.{IsReplyTo, asked_text}
+use Rattle.dd_wire.specs.Lines.{Means, MeansMembers}
+use Rattle.dd_wire.specs.PlayLines.{MeansAsked}
+use Rattle.dd_wire.proofs.PlayMeanings.{some-taken, one-taken, taken-memory}
 use Rattle.dd_wire.specs.ParLines.{par_fields}
 use Rattle.dd_wire.specs.ParReplies.{TellsPar, par_text, rows_of}
-use Rattle.dd_wire.specs.Replies.{asked_text, fault_text}
-use Rattle.dd_wire.specs.Requests.{MeansObject, object_of, wait_at}
-use Rattle.dd_wire.proofs.Meanings.{SomeMeaning, by-test, by-option, by-fields, some-object, some-way, object-memory, way-memory}
-use Rattle.dd_wire.proofs.OneMeaning.{AtMostOne, both, one-by-test, one-by-option, one-object, one-way}
+use Rattle.dd_wire.specs.Replies.{fault_text}
+use Rattle.dd_wire.specs.Requests.{object_of, wait_at}
+use Rattle.dd_wire.proofs.Meanings.{SomeMeaning, by-test, by-option, by-fields, some-way, way-memory}
+use Rattle.dd_wire.proofs.OneMeaning.{AtMostOne, both, one-by-test, one-by-option, one-way}
 use Rattle.dd_wire.proofs.ParMeanings.{some-given, one-given, given-memory}
 
 -- a line that is not too long, and has a wait, means what the other members of its object mean
@@ -34,13 +32,9 @@ means-members line object wait meaning short is waits means =
     rw (test, is, waits) means
 
 -- ---- every line has a meaning
-some-cards : (members : Members) → SomeMeaning (MeansOfCards members)
-some-cards members =
-    by-option (play_fields members) _ _ (some-way Cards (MeansObject members) (some-object members)) (λ fields _. some-way Play (MeansPlayFields fields) (some-play-fields fields))
-
 some-members : (members : Members) → SomeMeaning (MeansMembers members)
 some-members members =
-    by-option (par_fields members) _ _ (some-cards members) (λ fields _. some-given fields.given fields)
+    by-option (par_fields members) _ _ (some-way Cards (MeansAsked members) (some-taken members)) (λ fields _. some-given fields.given fields)
 
 pub some-meaning : (line : List ℕ) → (meaning : Result LineAsked Fault) × Means line meaning
 some-meaning line =
@@ -49,13 +43,9 @@ some-meaning line =
     by-option (wait_at members) _ _ (Err WrongField, refl) (λ wait _. some-members members)))
 
 -- ---- and one
-one-cards : (members : Members) → AtMostOne (MeansOfCards members)
-one-cards members =
-    one-by-option (play_fields members) _ _ (one-way Cards (MeansObject members) (one-object members)) (λ fields. one-way Play (MeansPlayFields fields) (one-play-fields fields))
-
 one-members : (members : Members) → AtMostOne (MeansMembers members)
 one-members members =
-    one-by-option (par_fields members) _ _ (one-cards members) (λ fields. one-given fields.given fields)
+    one-by-option (par_fields members) _ _ (one-way Cards (MeansAsked members) (one-taken members)) (λ fields. one-given fields.given fields)
 
 pub one-meaning : (line : List ℕ) (a b : Result LineAsked Fault) → Means line a → Means line b → a ≡ b
 one-meaning line =
@@ -64,16 +54,10 @@ one-meaning line =
     one-by-option (wait_at members) _ _ (both _) (λ wait. one-members members)))
 
 -- ---- no meaning is that memory ran out
-cards-memory : (members : Members) → MeansOfCards members (Err OutOfMemory) → ⊥
-cards-memory members =
-    by-fields (play_fields members) _ _
-    (λ means. way-memory Cards (MeansObject members) (object-memory members) means.0 means.1 means.2)
-    (λ fields means. way-memory Play (MeansPlayFields fields) (play-memory fields) means.0 means.1 means.2)
-
 pub members-memory : (members : Members) → MeansMembers members (Err OutOfMemory) → ⊥
 members-memory members =
     by-fields (par_fields members) _ _
-    (cards-memory members)
+    (λ means. way-memory Cards (MeansAsked members) (taken-memory members) means.0 means.1 means.2)
     (λ fields means. given-memory fields.given fields means)
 
 -- ---- each meaning has a reply
@@ -86,5 +70,4 @@ pub some-answer : (meaning : Result LineAsked Fault) → (text : List ℕ) × Is
 some-answer (Ok (Cards asked)) = (asked_text asked, refl)
 some-answer (Ok (Par par)) = some-par-text par.results par.conditions
 some-answer (Ok (ParOfDeal par)) = some-par-text (rows_of (results par.hands)) par.conditions
-some-answer (Ok (Play play)) = (trace_text (trace play), refl)
 some-answer (Err fault) = (fault_text fault, refl)

@@ -20,15 +20,17 @@ use Rattle.dd_solve.specs.declared.card_fault.CardFault.{CardFault}
 use Rattle.dd_solve.specs.declared.card_fault.CardFault.TheVariants as faults
 use Rattle.dd_solve.specs.CardFaults.{IsFirstFault}
 use Rattle.dd_solve.specs.Plays.{Play, IsRegular}
+use Rattle.dd_solve.specs.declared.asked.Asked.TheVariants as asked
+use Rattle.serde_json.specs.Data.{Members}
 use Rattle.dd_solve.proofs.CallerLemmas.{regular-decided, regular-faultless, one-first-fault}
 use Rattle.dd_wire.specs.declared.fault.Fault.{Fault}
 use Rattle.dd_wire.specs.declared.fault.Fault.TheVariants.{WrongTrump, WrongFirst, WrongPlayed, UnevenHands, NoCard, OutOfMemory}
-use Rattle.dd_wire.specs.PlayLines.{PlayFields, MeansPlay, MeansPlayed, MeansPlayFields, IsPlayOf, are_cards_played, card_fault}
+use Rattle.dd_wire.specs.PlayLines.{PlayFields, MeansAsked, MeansPlay, MeansPlayed, MeansPlayFields, IsPlayOf, are_cards_played, card_fault, play_fields}
 use Rattle.dd_wire.specs.Reading.{play_fault}
-use Rattle.dd_wire.specs.Requests.{pair_of_card}
+use Rattle.dd_wire.specs.Requests.{MeansObject, pair_of_card}
 use Rattle.dd_wire.proofs.Pairs.{is_card}
-use Rattle.dd_wire.proofs.Meanings.{SomeMeaning, by-test, by-bool, cards-of, deal-memory, even-decided, seat-of, some-deal, strain-of}
-use Rattle.dd_wire.proofs.OneMeaning.{AtMostOne, both, one-by-test, one-deal, one-trick, same-board}
+use Rattle.dd_wire.proofs.Meanings.{SomeMeaning, by-test, by-bool, by-fields, by-option, cards-of, deal-memory, even-decided, object-memory, seat-of, some-deal, some-object, some-way, strain-of, way-memory}
+use Rattle.dd_wire.proofs.OneMeaning.{AtMostOne, both, one-by-option, one-by-test, one-deal, one-object, one-trick, one-way, same-board}
 
 -- ---- the cards decide
 
@@ -111,8 +113,12 @@ some-played fields hands =
         let means = some-play play in
         (means.0, (play, record { dealt = refl; strain = strain.1; first = seat.1; trick = refl; cards = cards.1 }, means.1))
 
-pub some-play-fields : (fields : PlayFields) → SomeMeaning (MeansPlayFields fields)
+some-play-fields : (fields : PlayFields) → SomeMeaning (MeansPlayFields fields)
 some-play-fields fields = some-deal fields.deal (MeansPlayed fields) (λ hands _. some-played fields hands)
+
+-- what a job book takes too
+pub some-taken : (members : Members) → SomeMeaning (MeansAsked members)
+some-taken members = by-option (play_fields members) _ _ (some-object members) (λ fields _. some-way asked.Play (MeansPlayFields fields) (some-play-fields fields))
 
 -- ---- and one
 one-play : (play : Play) → AtMostOne (MeansPlay play)
@@ -152,8 +158,11 @@ one-played fields hands =
         let same : y ≡ x = one-asked hands fields y x asks_y asks_x in
         one-play x a b means_x (subst (λ (play : Play). MeansPlay play b) same means_y)
 
-pub one-play-fields : (fields : PlayFields) → AtMostOne (MeansPlayFields fields)
+one-play-fields : (fields : PlayFields) → AtMostOne (MeansPlayFields fields)
 one-play-fields fields = one-deal fields.deal (MeansPlayed fields) (λ hands _. one-played fields hands)
+
+pub one-taken : (members : Members) → AtMostOne (MeansAsked members)
+one-taken members = one-by-option (play_fields members) _ _ (one-object members) (λ fields. one-way asked.Play (MeansPlayFields fields) (one-play-fields fields))
 
 -- ---- no meaning is that memory ran out
 card-memory : (fault : CardFault) → Err OutOfMemory ≡ (let err : Result Play Fault = Err (card_fault fault) in err) → ⊥
@@ -180,5 +189,9 @@ played-memory fields hands =
     (by-bool (nat_lt 3 fields.first) _ _ (λ no. cc)
     (by-bool (are_cards_played fields.cards) _ _ (λ asked. one-memory asked.0 asked.2) (λ no. cc)))
 
-pub play-memory : (fields : PlayFields) → MeansPlayFields fields (Err OutOfMemory) → ⊥
+play-memory : (fields : PlayFields) → MeansPlayFields fields (Err OutOfMemory) → ⊥
 play-memory fields = deal-memory fields.deal (MeansPlayed fields) (played-memory fields)
+
+pub taken-memory : (members : Members) → MeansAsked members (Err OutOfMemory) → ⊥
+taken-memory members =
+    by-fields (play_fields members) _ _ (object-memory members) (λ fields means. way-memory asked.Play (MeansPlayFields fields) (play-memory fields) means.0 means.1 means.2)

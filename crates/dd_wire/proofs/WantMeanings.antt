@@ -8,12 +8,14 @@ use Rattle.dd_wire.specs.declared.fault.Fault.TheVariants.{LineTooLong, NotAnObj
 use Rattle.dd_wire.specs.declared.session_asked.SessionAsked.{SessionAsked}
 use Rattle.dd_wire.specs.declared.session_asked.SessionAsked.TheVariants.{Par}
 use Rattle.dd_wire.specs.ParLines.{par_fields, table_par_of}
-use Rattle.dd_wire.specs.Requests.{MeansObject, asked_as, object_of, wait_at}
+use Rattle.dd_wire.specs.PlayLines.{MeansAsked}
+use Rattle.dd_wire.specs.Requests.{asked_as, object_of, wait_at}
 use Rattle.dd_lines.specs.Line.{longest_line}
 use Rattle.dd_wire.specs.Wants.{MeansWant, MeansWanted, MeansOther, called, session_call, submitted}
-use Rattle.dd_wire.proofs.Meanings.{SomeMeaning, by-test, by-option, by-fields, some-object, some-way, object-memory, way-memory}
-use Rattle.dd_wire.proofs.OneMeaning.{AtMostOne, both, one-by-test, one-by-option, one-object, one-way}
+use Rattle.dd_wire.proofs.Meanings.{SomeMeaning, by-test, by-option, by-fields, some-way, way-memory}
+use Rattle.dd_wire.proofs.OneMeaning.{AtMostOne, both, one-by-test, one-by-option, one-way}
 use Rattle.dd_wire.proofs.ParMeanings.{table_par-memory, way-fault}
+use Rattle.dd_wire.proofs.PlayMeanings.{one-taken, some-taken, taken-memory}
 
 -- a line that is not too long means what the members of its object ask, with their wait
 pub means-wanted : (leave : Bool) (line : List ℕ) (object : Members) (wait : ℕ) (meaning : Result SessionAsked Fault)
@@ -25,7 +27,7 @@ means-wanted leave line object wait meaning short is waits means =
 -- ---- every line has a meaning
 some-other : (wait : ℕ) (members : Members) → SomeMeaning (MeansOther wait members)
 some-other wait members =
-    by-option (par_fields members) _ _ (some-way (submitted wait) (MeansObject members) (some-object members)) (λ fields _. (asked_as Par (table_par_of fields.given fields), refl))
+    by-option (par_fields members) _ _ (some-way (submitted wait) (MeansAsked members) (some-taken members)) (λ fields _. (asked_as Par (table_par_of fields.given fields), refl))
 
 some-wanted : (leave : Bool) (wait : ℕ) (members : Members) → SomeMeaning (MeansWanted leave wait members)
 some-wanted leave wait members = by-option (session_call leave members) _ _ (some-other wait members) (λ want _. (Ok (called wait want), refl))
@@ -38,7 +40,7 @@ some-want leave line =
 
 -- ---- and one
 one-other : (wait : ℕ) (members : Members) → AtMostOne (MeansOther wait members)
-one-other wait members = one-by-option (par_fields members) _ _ (one-way (submitted wait) (MeansObject members) (one-object members)) (λ fields. both _)
+one-other wait members = one-by-option (par_fields members) _ _ (one-way (submitted wait) (MeansAsked members) (one-taken members)) (λ fields. both _)
 
 one-wanted : (leave : Bool) (wait : ℕ) (members : Members) → AtMostOne (MeansWanted leave wait members)
 one-wanted leave wait members = one-by-option (session_call leave members) _ _ (one-other wait members) (λ want. both _)
@@ -53,7 +55,7 @@ one-want leave line =
 other-memory : (wait : ℕ) (members : Members) → MeansOther wait members (Err OutOfMemory) → ⊥
 other-memory wait members =
     by-fields (par_fields members) _ _
-    (λ means. way-memory (submitted wait) (MeansObject members) (object-memory members) means.0 means.1 means.2)
+    (λ means. way-memory (submitted wait) (MeansAsked members) (taken-memory members) means.0 means.1 means.2)
     (λ fields is. table_par-memory fields.given fields (way-fault Par (table_par_of fields.given fields) OutOfMemory is))
 
 pub wanted-memory : (leave : Bool) (wait : ℕ) (members : Members) → MeansWanted leave wait members (Err OutOfMemory) → ⊥

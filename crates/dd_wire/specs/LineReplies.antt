@@ -1,23 +1,33 @@
 -- To be believed: the reply of the line tool to a line.
 use Rattle.std.specs.Prelude.{◌≡◌, ℕ, ◌<◌, ◌≤◌, ◌⊎◌, List, length, Option, IsSome, Result, Ok, Err}
 use Rattle.dd_lines.specs.Line.{longest_line}
+use Rattle.dd_solve.specs.declared.asked.Asked.{Asked}
+use Rattle.dd_solve.specs.declared.asked.Asked.TheVariants.{Solve, Table, Target, Play}
 use Rattle.dd_solve.specs.Plays.{trace}
 use Rattle.dd_solve.specs.Results.{results}
+use Rattle.dd_solve.specs.ScoredClasses.{answer}
+use Rattle.dd_solve.specs.Targets.{reaching}
 use Rattle.dd_wire.specs.declared.fault.Fault.{Fault}
 use Rattle.dd_wire.specs.declared.fault.Fault.TheVariants.{OutOfMemory}
 use Rattle.dd_wire.specs.declared.line_asked.LineAsked.{LineAsked}
-use Rattle.dd_wire.specs.declared.line_asked.LineAsked.TheVariants.{Cards, Par, ParOfDeal, Play}
+use Rattle.dd_wire.specs.declared.line_asked.LineAsked.TheVariants.{Cards, Par, ParOfDeal}
 use Rattle.dd_wire.specs.Lines.{Means}
 use Rattle.dd_wire.specs.ParReplies.{TellsPar, rows_of}
 use Rattle.dd_wire.specs.PlayReplies.{trace_text}
-use Rattle.dd_wire.specs.Replies.{asked_text, fault_text, spent_text}
+use Rattle.dd_wire.specs.Replies.{answer_text, table_text, fault_text, spent_text}
+
+-- the text of the answer to what is asked of a deal, a position or a play
+abbrev pub asked_text : Asked → List ℕ
+asked_text (Solve question) = answer_text (answer question.board question.solutions)
+asked_text (Table hands) = table_text (results hands)
+asked_text (Target question) = answer_text (reaching question.board question.target question.solutions)
+asked_text (Play play) = trace_text (trace play)
 
 -- the text answers what is asked
 abbrev pub IsAnswer : LineAsked → List ℕ → Type 0
 IsAnswer (Cards asked) text = text ≡ asked_text asked
 IsAnswer (Par par) text = TellsPar par.results par.conditions text
 IsAnswer (ParOfDeal par) text = TellsPar (rows_of (results par.hands)) par.conditions text
-IsAnswer (Play play) text = text ≡ trace_text (trace play)
 
 -- the text replies to a line of this meaning
 abbrev pub IsReplyTo : Result LineAsked Fault → List ℕ → Type 0
@@ -29,7 +39,6 @@ abbrev pub IsSearched : LineAsked → Type 0
 IsSearched (Cards asked) = Unit {0}
 IsSearched (Par par) = ⊥
 IsSearched (ParOfDeal par) = Unit {0}
-IsSearched (Play play) = Unit {0}
 
 -- The text is the reply to the line: what its meaning is answered with; that memory ran out while it was read; or, with a
 -- budget, that this was spent in a search for the answer, for one of the twenty results

@@ -7,11 +7,10 @@ use Rattle.dd_lines.specs.Line.{longest_line}
 use Rattle.dd_wire.specs.declared.fault.Fault.{Fault}
 use Rattle.dd_wire.specs.declared.fault.Fault.TheVariants.{LineTooLong, NotAnObject, WrongField}
 use Rattle.dd_wire.specs.declared.line_asked.LineAsked.{LineAsked}
-use Rattle.dd_wire.specs.declared.line_asked.LineAsked.TheVariants.{Cards, Par, ParOfDeal, Play}
+use Rattle.dd_wire.specs.declared.line_asked.LineAsked.TheVariants.{Cards, Par, ParOfDeal}
 use Rattle.dd_wire.specs.ParLines.{DealPar, Given, results, deal, ParFields, par_fields, par_of_results, MeansParOfDeal}
-use Rattle.dd_solve.specs.Plays as plays
-use Rattle.dd_wire.specs.PlayLines.{MeansPlayFields, play_fields}
-use Rattle.dd_wire.specs.Requests.{MeansObject, asked_as, object_of, wait_at}
+use Rattle.dd_wire.specs.PlayLines.{MeansAsked}
+use Rattle.dd_wire.specs.Requests.{asked_as, object_of, wait_at}
 
 -- what the fields of a request for par ask, or their first fault
 abbrev pub MeansGiven : Given → ParFields → Result LineAsked Fault → Type 0
@@ -19,18 +18,11 @@ MeansGiven (results rows) fields meaning = meaning ≡ asked_as Par (par_of_resu
 MeansGiven (deal text) fields meaning =
     (asked : Result DealPar Fault) × MeansParOfDeal fields.first fields.vulnerable text asked × (meaning ≡ asked_as ParOfDeal asked)
 
--- what members ask that do not ask for par: a play, or else a question of cards
-abbrev pub MeansOfCards : Members → Result LineAsked Fault → Type 0
-MeansOfCards members meaning =
-    MatchOption (play_fields members)
-    ((asked : Result Asked Fault) × MeansObject members asked × (meaning ≡ asked_as Cards asked))
-    (λ fields. (asked : Result plays.Play Fault) × MeansPlayFields fields asked × (meaning ≡ asked_as Play asked))
-
--- what the members of an object ask: par, or else a play or a question of cards
+-- what the members of an object ask: par, or else what a job book takes too
 abbrev pub MeansMembers : Members → Result LineAsked Fault → Type 0
 MeansMembers members meaning =
     MatchOption (par_fields members)
-    (MeansOfCards members meaning)
+    ((asked : Result Asked Fault) × MeansAsked members asked × (meaning ≡ asked_as Cards asked))
     (λ fields. MeansGiven fields.given fields meaning)
 
 -- what a line means: its length is looked at first, then that it is a JSON object, then its wait, which asks for nothing here,

@@ -1,5 +1,5 @@
 -- To be believed: what a line that asks for a play means: the position before the opening lead and the cards played from there on, or its first fault.
-use Rattle.std.specs.Prelude.{◌≡◌, ℕ, ◌<◌, ◌&&◌, Bool, List, [], ◌∷◌, map, nat_lt, nat_le, length, codes, Option, None, Some, option_and_then, Result, Ok, Err, if◌then◌else◌}
+use Rattle.std.specs.Prelude.{◌≡◌, ℕ, ◌<◌, ◌&&◌, Bool, List, [], ◌∷◌, map, nat_lt, nat_le, length, codes, Option, None, Some, option_and_then, Result, Ok, Err, MatchOption, if◌then◌else◌}
 use Rattle.std.specs.Bool.{MatchBool}
 use Rattle.std.specs.List.{list_all}
 use Rattle.std.specs.Str.{bytes_eq}
@@ -15,9 +15,11 @@ use Rattle.dd_solve.specs.declared.card_fault.CardFault.{CardFault}
 use Rattle.dd_solve.specs.declared.card_fault.CardFault.TheVariants as faults
 use Rattle.dd_solve.specs.CardFaults.{IsFirstFault}
 use Rattle.dd_solve.specs.Plays.{Play, IsRegular}
+use Rattle.dd_solve.specs.declared.asked.Asked.{Asked}
+use Rattle.dd_solve.specs.declared.asked.Asked.TheVariants as asked
 use Rattle.dd_wire.specs.declared.fault.Fault.{Fault}
 use Rattle.dd_wire.specs.declared.fault.Fault.TheVariants.{WrongTrump, WrongFirst, WrongPlayed, UnevenHands, NoCard, NotInHand, Revoke, AfterLast}
-use Rattle.dd_wire.specs.Requests.{MeansDeal, are_among, keys_of, text_at, whole_number_at, pairs_of, pair_of_card}
+use Rattle.dd_wire.specs.Requests.{MeansDeal, MeansObject, asked_as, are_among, keys_of, text_at, whole_number_at, pairs_of, pair_of_card}
 
 -- ---- the fields
 
@@ -30,7 +32,7 @@ pub record PlayFields : Type 0 where
 
 -- the names of these fields
 abbrev pub play_keys : List (List ℕ)
-play_keys = codes "cards" ∷ codes "deal" ∷ codes "do" ∷ codes "first" ∷ codes "trump" ∷ []
+play_keys = codes "cards" ∷ codes "deal" ∷ codes "do" ∷ codes "first" ∷ codes "trump" ∷ codes "wait" ∷ []
 
 -- a list of pairs
 abbrev pub list_of_pairs : Data → Option (List (ℕ × ℕ))
@@ -86,3 +88,11 @@ MeansPlayed fields hands meaning =
 -- the deal first
 abbrev pub MeansPlayFields : PlayFields → Result Play Fault → Type 0
 MeansPlayFields fields = MeansDeal fields.deal (MeansPlayed fields)
+
+-- ---- the members
+
+-- what members ask that a job book takes: a play, or else a table or cards of a position
+abbrev pub MeansAsked : Members → Result Asked Fault → Type 0
+MeansAsked members meaning =
+    MatchOption (play_fields members) (MeansObject members meaning)
+    (λ fields. (play : Result Play Fault) × MeansPlayFields fields play × (meaning ≡ asked_as asked.Play play))

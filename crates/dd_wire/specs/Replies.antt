@@ -4,11 +4,7 @@ use Rattle.std.specs.List.{join_with_byte, range_with_len, slice_range}
 use Rattle.dd_cards.specs.Suits.{suit_code}
 use Rattle.dd_wire.specs.declared.fault.Fault.{Fault}
 use Rattle.dd_wire.specs.Faults.{fault_number}
-use Rattle.dd_solve.specs.Results.{results}
-use Rattle.dd_solve.specs.declared.asked.Asked.{Asked}
-use Rattle.dd_solve.specs.declared.asked.Asked.TheVariants.{Solve, Table, Target}
-use Rattle.dd_solve.specs.ScoredClasses.{ScoredClass, answer}
-use Rattle.dd_solve.specs.Targets.{reaching}
+use Rattle.dd_solve.specs.ScoredClasses.{ScoredClass}
 
 -- {"equals":e,"rank":r,"score":n,"suit":s}
 abbrev pub class_text : ScoredClass → List ℕ
@@ -54,9 +50,3 @@ fault_text fault = numbered_fault_text (fault_number fault)
 -- the budget was spent before there was an answer
 abbrev pub spent_text : List ℕ
 spent_text = codes "{\"state\":\"spent\"}"
-
--- the text of the answer to what is asked
-abbrev pub asked_text : Asked → List ℕ
-asked_text (Solve question) = answer_text (answer question.board question.solutions)
-asked_text (Table hands) = table_text (results hands)
-asked_text (Target question) = answer_text (reaching question.board question.target question.solutions)

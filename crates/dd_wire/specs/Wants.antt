@@ -12,7 +12,8 @@ use Rattle.dd_wire.specs.declared.want.Want.TheVariants.{Submit, Cancel, Fetch, 
 use Rattle.dd_wire.specs.declared.session_asked.SessionAsked.{SessionAsked}
 use Rattle.dd_wire.specs.declared.session_asked.SessionAsked.TheVariants.{Book, Par}
 use Rattle.dd_wire.specs.ParLines.{par_fields, table_par_of}
-use Rattle.dd_wire.specs.Requests.{MeansObject, asked_as, object_of, keys_of, are_among, text_at, wait_at, whole_number_at}
+use Rattle.dd_wire.specs.PlayLines.{MeansAsked}
+use Rattle.dd_wire.specs.Requests.{asked_as, object_of, keys_of, are_among, text_at, wait_at, whole_number_at}
 use Rattle.dd_lines.specs.Line.{longest_line}
 
 -- the names of the fields of a call that names a job
@@ -56,7 +57,7 @@ submitted wait asked = called wait (Submit asked)
 abbrev pub MeansOther : ℕ → Members → Result SessionAsked Fault → Type 0
 MeansOther wait members meaning =
     MatchOption (par_fields members)
-    ((asked : Result Asked Fault) × MeansObject members asked × (meaning ≡ asked_as (submitted wait) asked))
+    ((asked : Result Asked Fault) × MeansAsked members asked × (meaning ≡ asked_as (submitted wait) asked))
     (λ fields. meaning ≡ asked_as Par (table_par_of fields.given fields))
 
 -- what the members of an object ask: such a call, or else one of these

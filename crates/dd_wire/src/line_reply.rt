@@ -1,11 +1,9 @@
 //! The reply to a line.
 ghost use Rattle.std.specs.Prelude.{◌≡◌, ◌≤◌, ◌⊎◌, IsSome};
 ghost use Rattle.arrayvec.specs.ArrayString.{array_string_len};
-ghost use Rattle.dd_wire.specs.LineReplies.{IsReply};
+ghost use Rattle.dd_wire.specs.LineReplies.{IsReply, asked_text};
 ghost use Rattle.dd_wire.specs.ParReplies.{TellsPar, rows_of};
-ghost use Rattle.dd_wire.specs.PlayReplies.{trace_text};
-ghost use Rattle.dd_wire.specs.Replies.{asked_text, spent_text};
-ghost use Rattle.dd_solve.specs.Plays.{trace};
+ghost use Rattle.dd_wire.specs.Replies.{spent_text};
 ghost use Rattle.dd_solve.specs.Results.{results};
 
 use crate::line_asked::LineAsked;
@@ -40,7 +38,6 @@ pub fn reply_to_line<B: Bounds>(
         Ok(LineAsked::Cards(asked)) => cards_reply(asked, table, budget),
         Ok(LineAsked::Par(asked)) => write_par(&asked),
         Ok(LineAsked::ParOfDeal(asked)) => deal_par_reply(&asked, table, budget),
-        Ok(LineAsked::Play(request)) => play_reply(request, table, budget),
         Err(fault) => write_fault(fault),
     }
 }
@@ -56,6 +53,7 @@ fn cards_reply<B: Bounds>(asked: Asked, table: &mut B, budget: Option<u64>) -> R
         (Asked::Table(request), _) => table_reply(&request, table, budget),
         (Asked::Target(request), Some(limit)) => target_reply_within(request, table, limit),
         (Asked::Target(request), None) => target_reply_in_the_end(request, table),
+        (Asked::Play(request), _) => play_reply(request, table, budget),
     }
 }
 
@@ -107,7 +105,8 @@ fn deal_par_reply<B: Bounds>(asked: &ParOfDeal, table: &mut B, budget: Option<u6
 
 /// The tricks after each card of a play, or that the search for one of these numbers spent the budget.
 fn play_reply<B: Bounds>(request: PlayRequest, table: &mut B, budget: Option<u64>) -> ReplyText
-    ensures text { (result.bytes ≡ trace_text (trace request)) ⊎ (IsSome budget × (result.bytes ≡ spent_text)) }
+    ensures text { (result.bytes ≡ asked_text (Asked.Play request)) ⊎
+        (IsSome budget × (result.bytes ≡ spent_text)) }
     ensures bound { array_string_len result ≤ LONGEST_REPLY }
 {
     match solve_play(request, table, budget) {

@@ -62,7 +62,7 @@ fn has_play_keys_alone(object: &Map<String, Value>) -> bool
 fn is_play_key(key: &str) -> bool
     ensures { result ≡ list_any (bytes_eq key.now) play_keys }
 {
-    matches!(key, "cards" | "deal" | "do" | "first" | "trump")
+    matches!(key, "cards" | "deal" | "do" | "first" | "trump" | "wait")
 }
 
 // The cards of the play: None where they are left out or no list of pairs.

@@ -11,7 +11,8 @@ ghost use Rattle.dd_cards.specs.Hands.{AreHands, FourHands};
 ghost use Rattle.dd_pbn.specs.declared.fault.PbnFault.{PbnFault};
 ghost use Rattle.dd_play.specs.Board.{board_of};
 ghost use Rattle.dd_solve.specs.Questions.{Question};
-ghost use Rattle.dd_wire.specs.Lines.{Means, MeansOfCards, MeansMembers};
+ghost use Rattle.dd_wire.specs.Lines.{Means, MeansMembers};
+ghost use Rattle.dd_wire.specs.PlayLines.{MeansAsked};
 ghost use Rattle.dd_wire.specs.Requests.{MeansObject, MeansDeal, MeansTable, MeansFields, MeansHands, MeansBoard, MeansSolve, MeansPosition, question, known_fields, SpellsDeal, SpellsNone, asked_as, deal_fault, pair_of_card, object_of, solve_keys, table_keys, are_among, keys_of, solve_fields, table_deal, text_at, wait_at, whole_number_at, pairs_at, pairs_of};
 ghost use Rattle.dd_lines.specs.Line.{longest_line};
 ghost use Rattle.dd_wire.specs.Reading.{IsUnread, ArePlayed, ReadsPlayed, ReadsFields, pair_in, cards_in, played_in, fields_of, play_fault};
@@ -51,28 +52,28 @@ pub fn read_request(alloc: Global, line: &[u8]) -> Result<LineAsked, Fault>
     Ok(asked)
 }
 
-// What the members of an object ask, or their first fault: par, or else a play, or else a question of cards.
+// What the members of an object ask, or their first fault: par, or else what a job book takes too.
 fn line_asked_by(object: &Map<String, Value>) -> Result<LineAsked, Fault>
     ensures { MeansMembers (members_view object.now.entries) result }
 {
     match par_fields(object) {
         Some(fields) => par_asked(fields),
-        None => cards_asked_by(object),
-    }
-}
-
-// What they ask that don't ask for par: a play, or else a question of cards.
-fn cards_asked_by(object: &Map<String, Value>) -> Result<LineAsked, Fault>
-    ensures { MeansOfCards (members_view object.now.entries) result }
-{
-    match play_fields(object) {
-        Some(fields) => Ok(LineAsked::Play(play_asked(&fields)?)),
         None => Ok(LineAsked::Cards(asked_by(object)?)),
     }
 }
 
-// What the members of an object ask of cards, or their first fault.
+// What the members of an object ask that a job book takes, or their first fault: a play, or else a table or cards of a position.
 pub(crate) fn asked_by(object: &Map<String, Value>) -> Result<Asked, Fault>
+    ensures { MeansAsked (members_view object.now.entries) result }
+{
+    match play_fields(object) {
+        Some(fields) => Ok(Asked::Play(play_asked(&fields)?)),
+        None => object_asked(object),
+    }
+}
+
+// What they ask that don't ask for a play: a table, or else cards of a position.
+fn object_asked(object: &Map<String, Value>) -> Result<Asked, Fault>
     ensures { MeansObject (members_view object.now.entries) result }
 {
     match table_deal(object) {

@@ -181,37 +181,50 @@ fn dealt(deal: &str) -> Option<TrickStart> {
     TrickStart::of(&position)
 }
 
-// The suits of leads that are remembered for the start, by shape and by outline.
-fn remembered<B: Bounds>(cache: &Cache<B>, start: &TrickStart) -> (Option<Suit>, Option<Suit>) {
-    let leads = cache.lead_history(&OwnerStrings::of(start));
-    (leads.of_shape, leads.of_outline)
+// The suits of leads that are remembered for the start: by shape, by outline, and by leader and number of tricks.
+fn remembered<B: Bounds>(cache: &Cache<B>, start: &TrickStart) -> [Option<Suit>; 3] {
+    let leads = cache.lead_history(start.position(), &OwnerStrings::of(start));
+    [leads.of_shape, leads.of_outline, leads.of_leader]
+}
+
+// A lead of this suit settled the start, of which the value is then noted.
+fn settled_by<B: Bounds>(cache: &mut Cache<B>, start: &TrickStart, lead: Suit) -> Option<u8> {
+    noted(start, cache)?;
+    cache.note_lead(start.position(), &OwnerStrings::of(start), lead);
+    noted(start, cache)
 }
 
 #[test]
-fn a_lead_is_remembered_by_shape_and_by_outline(rt: HostRuntime) -> Result<(), AllocError> {
+fn a_lead_is_remembered_by_shape_by_outline_and_by_leader(
+    rt: HostRuntime,
+) -> Result<(), AllocError> {
     let mut cache = Cache::new(rt.alloc(), NoTable)?;
     let start = dealt("N:32... K.4.. AQ... 65...").expect(&rt, "two cards a hand");
-    assert_eq!(rt; remembered(&cache, &start), (None, None));
-    cache.note_lead(&OwnerStrings::of(&start), Suit::Hearts);
+    assert_eq!(rt; remembered(&cache, &start), [None; 3]);
+    assert!(rt; settled_by(&mut cache, &start, Suit::Hearts).is_some());
     // The ace is North's.
     let shape = dealt("N:A2... K.4.. Q3... 65...").expect(&rt, "two cards a hand");
     // East has no spade, and North's lengths and the holders of the highest cards are the same.
     let outline = dealt("N:32... .54.. AQ... 65...").expect(&rt, "two cards a hand");
     let neither = dealt("N:A2... .54.. Q3... 65...").expect(&rt, "two cards a hand");
+    // One trick left, and North leads.
+    let last = dealt("N:A... .4.. Q... 6...").expect(&rt, "one card a hand");
     let found = [
         remembered(&cache, &start),
         remembered(&cache, &shape),
         remembered(&cache, &outline),
         remembered(&cache, &neither),
+        remembered(&cache, &last),
     ];
     let hearts = Some(Suit::Hearts);
     assert_eq!(rt;
         found,
         [
-            (hearts, hearts),
-            (hearts, None),
-            (None, hearts),
-            (None, None)
+            [hearts; 3],
+            [hearts, None, hearts],
+            [None, hearts, hearts],
+            [None, None, hearts],
+            [None; 3]
         ]
     );
     Ok(())
@@ -221,17 +234,12 @@ fn a_lead_is_remembered_by_shape_and_by_outline(rt: HostRuntime) -> Result<(), A
 fn another_deal_forgets_the_leads(rt: HostRuntime) -> Result<(), AllocError> {
     let mut cache = Cache::new(rt.alloc(), NoTable)?;
     let first = dealt("N:32... K.4.. AQ... 65...").expect(&rt, "two cards a hand");
-    assert!(rt; noted(&first, &mut cache).is_some());
-    cache.note_lead(&OwnerStrings::of(&first), Suit::Spades);
+    assert!(rt; settled_by(&mut cache, &first, Suit::Spades).is_some());
     let spades = Some(Suit::Spades);
     cache.look(&first);
-    assert_eq!(rt;
-        remembered(&cache, &first),
-        (spades, spades),
-        "the same deal"
-    );
+    assert_eq!(rt; remembered(&cache, &first), [spades; 3], "the same deal");
     let second = dealt("N:72... K.4.. AQ... 65...").expect(&rt, "two cards a hand");
     cache.look(&second);
-    assert_eq!(rt; remembered(&cache, &first), (None, None));
+    assert_eq!(rt; remembered(&cache, &first), [None; 3]);
     Ok(())
 }

@@ -4,6 +4,7 @@ mod asking;
 mod budgets;
 mod devices;
 mod given;
+mod idle;
 mod leave;
 mod limits;
 mod runs;

@@ -1,6 +1,6 @@
 //! Calls as lines of words, and replies as texts.
 use dd_book::{Call, JobState, Reply};
-use dd_wire::{LineAsked, read_request, write_answer, write_table};
+use dd_wire::{LineAsked, read_request, write_answer, write_table, write_trace};
 use std::alloc::{AllocError, Global};
 
 /// One card each, and North's takes the trick.
@@ -38,6 +38,12 @@ pub(crate) const SUITS: &str =
 pub(crate) const SUITS_ANSWER: &str =
     r#"{"table":[[13,0,13,0],[0,13,0,13],[13,0,13,0],[0,13,0,13],[0,0,0,0]]}"#;
 
+/// Four cards of a play, of which the third costs a trick.
+pub(crate) const PLAYED: &str =
+    r#"{"do":"play","deal":"N:32... K4... AQ... 65...","trump":4,"first":0,"cards":[[0,2],[0,4],[0,14],[0,5]]}"#;
+
+pub(crate) const PLAYED_ANSWER: &str = r#"{"tricks":[0,0,0,1,1]}"#;
+
 /// The call of a caller that these words name: a verb, and a request line or a number.
 pub(crate) fn call(alloc: Global, caller: u64, words: &str) -> Option<Call> {
     if words == "shuts" {
@@ -58,7 +64,7 @@ pub(crate) fn call(alloc: Global, caller: u64, words: &str) -> Option<Call> {
     }
 }
 
-/// What a fetch shows: the text of an answer or a table, or else a word.
+/// What a fetch shows: the text of an answer, a table or a trace, or else a word.
 pub(crate) fn shown(alloc: Global, state: &JobState) -> Result<String, AllocError> {
     match state {
         JobState::Done(solved) => String::from_str(alloc, write_answer(solved.answer()).as_str()),
@@ -68,6 +74,7 @@ pub(crate) fn shown(alloc: Global, state: &JobState) -> Result<String, AllocErro
         JobState::TableDone(table) => {
             String::from_str(alloc, write_table(table.results()).as_str())
         }
+        JobState::PlayDone(trace) => String::from_str(alloc, write_trace(trace).as_str()),
         JobState::Waiting => String::from_str(alloc, "waiting"),
         JobState::Running => String::from_str(alloc, "running"),
         JobState::Cancelled => String::from_str(alloc, "cancelled"),

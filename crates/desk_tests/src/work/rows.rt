@@ -1,6 +1,7 @@
 //! Worked rows of one worker.
 use crate::work::lines::{
-    ACE, CAUGHT, CAUGHT_ANSWER, LAST, LAST_ANSWER, RUFFED, RUFFED_ANSWER, SUITS, SUITS_ANSWER,
+    ACE, CAUGHT, CAUGHT_ANSWER, LAST, LAST_ANSWER, PLAYED, PLAYED_ANSWER, RUFFED, RUFFED_ANSWER,
+    SUITS, SUITS_ANSWER,
 };
 use crate::work::worked::{Script, follow};
 use dd_book::Limits;
@@ -84,6 +85,16 @@ fn a_worker_takes_the_parts_of_a_table(rt: HostRuntime) -> Result<(), AllocError
         "submits {SUITS} => job 1\nshuts => shut\nworks => 41 receipts\nfetches 1 => {SUITS_ANSWER}"
     )?;
     let ending = text(alloc, "44 events: 3 41")?;
+    follow(&rt, alloc, &script(&rt, 1_000, None, rows, ending))
+}
+
+#[test]
+fn a_worker_takes_the_parts_of_a_play(rt: HostRuntime) -> Result<(), AllocError> {
+    let alloc = rt.alloc();
+    let rows = format!(in alloc;
+        "submits {PLAYED} => job 1\nshuts => shut\nworks => 11 receipts\nfetches 1 => {PLAYED_ANSWER}"
+    )?;
+    let ending = text(alloc, "14 events: 3 11")?;
     follow(&rt, alloc, &script(&rt, 1_000, None, rows, ending))
 }
 

@@ -1,11 +1,12 @@
 //! Requests with a card or two in each hand, their answers, and replies as plain values.
+use arrayvec::ArrayVec;
 use dd_book::{Call, JobState, Outcome, Reply};
 use dd_cards::{Card, Hands, Rank, Seat, Strain, Suit};
 use dd_play::Position;
 use dd_search::{Endless, NoTable};
 use dd_solve::{
-    Asked, Request, Solved, SolvedPart, SolvedTarget, TableRequest, TargetRequest, solve,
-    solve_part, solve_target,
+    Asked, PlayPart, PlayRequest, Request, Solved, SolvedPart, SolvedTarget, TableRequest,
+    TargetRequest, solve, solve_part, solve_play_part, solve_target,
 };
 use std::alloc::{AllocError, Global};
 
@@ -20,6 +21,8 @@ pub enum Asks {
     Table,
     /// The cards of `Pair` that win one trick.
     Target,
+    /// A play of all the cards of `Pair`.
+    Play,
 }
 
 /// How a part ends.
@@ -27,6 +30,8 @@ pub enum Asks {
 pub enum Ends {
     Answer(Asks),
     Part(u8),
+    /// The tricks of declarer's side after so many cards of `Play`.
+    After(u8),
     Spent,
     Stopped,
 }
@@ -50,6 +55,8 @@ pub enum Shows {
     Done(u8),
     TableDone,
     TargetDone(u8),
+    /// With so many numbers, each of which is 0.
+    PlayDone(usize),
     Cancelled,
     Spent,
 }
@@ -61,6 +68,7 @@ pub enum MadeReply {
     Claimed(u64, u64),
     ClaimedPart(u64, u8, u64),
     ClaimedTarget(u64, u64),
+    ClaimedAfter(u64, u8, u64),
     NothingWaits,
     Closing,
     Recorded,
@@ -79,6 +87,8 @@ pub struct Made {
     target: SolvedTarget,
     table: TableRequest,
     parts: Vec<SolvedPart>,
+    play: PlayRequest,
+    numbers: Vec<PlayPart>,
 }
 
 /// Hands of spades, so many each: North's, then the others' clockwise.
@@ -119,6 +129,32 @@ fn parts(alloc: Global, table: &TableRequest) -> Result<Vec<SolvedPart>, AllocEr
     Ok(parts)
 }
 
+// North leads the three, and East's king is caught.
+fn play() -> Option<PlayRequest> {
+    let hands = hands(&[3, 2, 13, 4, 14, 12, 6, 5], 2)?;
+    let opening = Position::new(hands, Strain::Notrump, Seat::North, &[]).ok()?;
+    let mut cards = ArrayVec::<Card, 8>::new();
+    for rank in [3u8, 4, 12, 5, 14, 6, 2, 13] {
+        let rank = Rank::from_code(rank)?;
+        let suit = Suit::Spades;
+        let _fits = cards.try_push(Card { suit, rank });
+    }
+    PlayRequest::new(opening, cards.as_slice()).ok()
+}
+
+// What declarer's side takes from each position of the play on.
+fn numbers(alloc: Global, play: &PlayRequest) -> Result<Vec<PlayPart>, AllocError> {
+    let mut numbers = Vec::new(alloc);
+    for count in 0..=play.cards().len() {
+        let (position, _) = play.after(count);
+        let side = play.declarers();
+        if let Ok(solved) = solve_play_part(position, side, &mut NoTable, &mut Endless) {
+            numbers.push(solved)?;
+        }
+    }
+    Ok(numbers)
+}
+
 /// `None` where there is no such hand.
 pub fn make(alloc: Global) -> Result<Option<Made>, AllocError> {
     let cards = [14, 13, 12, 11];
@@ -138,12 +174,18 @@ pub fn make(alloc: Global) -> Result<Option<Made>, AllocError> {
         return Ok(None);
     };
     let parts = parts(alloc, &table)?;
+    let Some(play) = play() else {
+        return Ok(None);
+    };
+    let numbers = numbers(alloc, &play)?;
     Ok(Some(Made {
         ace,
         pair,
         target,
         table,
         parts,
+        play,
+        numbers,
     }))
 }
 
@@ -154,6 +196,7 @@ impl Made {
             Asks::Pair => Asked::Solve(self.pair.request().copy()),
             Asks::Table => Asked::Table(self.table.copy()),
             Asks::Target => Asked::Target(self.target.request().copy()),
+            Asks::Play => Asked::Play(self.play.copy()),
         }
     }
 
@@ -165,6 +208,10 @@ impl Made {
             Ends::Answer(Asks::Target) => Outcome::Target(self.target.copy()),
             Ends::Part(part) => match self.parts.get(part as usize) {
                 Some(solved) => Outcome::Part(solved.copy()),
+                None => Outcome::Stopped,
+            },
+            Ends::After(count) => match self.numbers.get(count as usize) {
+                Some(solved) => Outcome::PlayPart(solved.copy()),
                 None => Outcome::Stopped,
             },
             Ends::Spent => Outcome::Spent,
@@ -202,11 +249,18 @@ fn asks_of(request: &Request) -> Asks {
     }
 }
 
+// How many cards of the play led to this position.
+fn played(position: &Position) -> u8 {
+    8u8.saturating_sub(position.tricks_left().saturating_mul(4))
+        .saturating_add(position.trick().len() as u8)
+}
+
 fn plain_outcome(outcome: &Outcome) -> Ends {
     match outcome {
         Outcome::Solved(solved) => Ends::Answer(asks_of(solved.request())),
         Outcome::Part(solved) => Ends::Part(solved.part()),
         Outcome::Target(_) => Ends::Answer(Asks::Target),
+        Outcome::PlayPart(solved) => Ends::After(played(solved.position())),
         Outcome::Spent => Ends::Spent,
         Outcome::Stopped => Ends::Stopped,
     }
@@ -219,6 +273,7 @@ pub fn plain_call(call: &Call) -> Step {
             Asked::Solve(request) => Step::Submit(*caller, asks_of(request)),
             Asked::Table(_) => Step::Submit(*caller, Asks::Table),
             Asked::Target(_) => Step::Submit(*caller, Asks::Target),
+            Asked::Play(_) => Step::Submit(*caller, Asks::Play),
         },
         Call::Claim { worker } => Step::Claim(*worker),
         Call::Finish {
@@ -247,6 +302,9 @@ pub fn shown(state: &JobState) -> Shows {
             Some(first) => Shows::TargetDone(first.score),
             None => Shows::TargetDone(99),
         },
+        JobState::PlayDone(trace) => {
+            Shows::PlayDone(trace.as_slice().iter().filter(|n| **n == 0).count())
+        }
         JobState::Cancelled => Shows::Cancelled,
         JobState::Spent => Shows::Spent,
     }
@@ -264,6 +322,12 @@ pub fn plain(reply: &Reply) -> MadeReply {
             claim,
             ..
         } => MadeReply::ClaimedPart(*job, *part, *claim),
+        Reply::ClaimedPlayPart {
+            job,
+            part,
+            claim,
+            ..
+        } => MadeReply::ClaimedAfter(*job, *part, *claim),
         Reply::NothingWaits => MadeReply::NothingWaits,
         Reply::Closing => MadeReply::Closing,
         Reply::Recorded => MadeReply::Recorded,

@@ -43,7 +43,11 @@ impl Job {
             *part = state;
         }
         if self.parts.iter().all(|part| *part == Part::Ended) {
-            return self.end(Shows::TableDone);
+            let shows = match self.asks {
+                Asks::Play => Shows::PlayDone(9),
+                _ => Shows::TableDone,
+            };
+            return self.end(shows);
         }
         MadeReply::Recorded
     }
@@ -139,8 +143,17 @@ impl Second {
             return Ok(MadeReply::Fault(14));
         }
         let mut parts = Vec::new(self.alloc);
-        for _ in 0..if asks == Asks::Table { 20 } else { 1 } {
+        let waiting = match asks {
+            Asks::Table => 20,
+            Asks::Play => 8,
+            _ => 1,
+        };
+        for _ in 0..waiting {
             parts.push(Part::Waiting)?;
+        }
+        // After the last card the number is known.
+        if asks == Asks::Play {
+            parts.push(Part::Ended)?;
         }
         let ended = None;
         self.jobs.push(Job {
@@ -207,6 +220,7 @@ impl Second {
         Ok(match asks {
             Asks::Table => MadeReply::ClaimedPart(job, part, claim),
             Asks::Target => MadeReply::ClaimedTarget(job, claim),
+            Asks::Play => MadeReply::ClaimedAfter(job, part, claim),
             _ => MadeReply::Claimed(job, claim),
         })
     }
@@ -226,6 +240,9 @@ impl Second {
             (Asks::Pair, Ends::Answer(Asks::Pair)) => found.end(Shows::Done(2)),
             (Asks::Target, Ends::Answer(Asks::Target)) => found.end(Shows::TargetDone(1)),
             (Asks::Table, Ends::Part(number)) if number as usize == part => {
+                found.set(part, Part::Ended)
+            }
+            (Asks::Play, Ends::After(count)) if count as usize == part => {
                 found.set(part, Part::Ended)
             }
             _ => MadeReply::Stale,

@@ -20,10 +20,11 @@ fn recent(seed: &mut u64, second: &Second) -> u64 {
 }
 
 fn asks(seed: &mut u64) -> Asks {
-    match draw(seed) % 5 {
+    match draw(seed) % 6 {
         0 => Asks::Table,
         1 => Asks::Pair,
         2 => Asks::Target,
+        3 => Asks::Play,
         _ => Asks::Ace,
     }
 }
@@ -38,7 +39,10 @@ fn ends(seed: &mut u64, claimed: Asks, part: u8) -> Ends {
         19..22 => Ends::Part(0),
         22..25 => Ends::Part(19),
         25..28 => Ends::Answer(Asks::Target),
+        28..31 => Ends::After(0),
+        31..34 => Ends::After(part.saturating_add(1) % 9),
         _ if claimed == Asks::Table => Ends::Part(part),
+        _ if claimed == Asks::Play => Ends::After(part),
         _ => Ends::Answer(claimed),
     }
 }
@@ -94,13 +98,13 @@ fn next_batch(
     Ok(Batch { calls, wanted })
 }
 
-// The book after the batch, and how many replies showed a table that is done.
+// The book after the batch, and how many replies showed a table that is done, and a play.
 fn run_batch(
     rt: &impl Abort,
     alloc: Global,
     book: Book,
     batch: &Batch,
-) -> Result<(Book, u64), AllocError> {
+) -> Result<(Book, u64, u64), AllocError> {
     assert!(rt; book.claims() < 1_000_000);
     assert!(rt; batch.calls.len() < 1_000);
     let Ok((book, replies)) = run_calls(alloc, book, batch.calls.as_slice()) else {
@@ -108,13 +112,17 @@ fn run_batch(
     };
     assert_eq!(rt; replies.len(), batch.wanted.len());
     let mut tables = 0u64;
+    let mut plays = 0u64;
     for (reply, wanted) in replies.iter().zip(batch.wanted.iter()) {
         assert_eq!(rt; plain(reply), *wanted);
         if let MadeReply::State(_, Shows::TableDone) = wanted {
             tables = tables.wrapping_add(1);
         }
+        if let MadeReply::State(_, Shows::PlayDone(_)) = wanted {
+            plays = plays.wrapping_add(1);
+        }
     }
-    Ok((book, tables))
+    Ok((book, tables, plays))
 }
 
 #[test]
@@ -126,16 +134,19 @@ fn a_plain_list_gives_the_same_replies(rt: HostRuntime) -> Result<(), AllocError
     let mut book = Book::new(alloc, limits);
     let mut second = Second::new(alloc, 3, 400);
     let mut tables = 0u64;
+    let mut plays = 0u64;
     for number in 0..BATCHES {
         if number % BATCHES_A_BOOK == 0 {
             book = Book::new(alloc, limits);
             second = Second::new(alloc, 3, 400);
         }
         let batch = next_batch(alloc, &mut seed, &mut second, &made)?;
-        let (after, shown) = run_batch(&rt, alloc, book, &batch)?;
+        let (after, tables_shown, plays_shown) = run_batch(&rt, alloc, book, &batch)?;
         book = after;
-        tables = tables.wrapping_add(shown);
+        tables = tables.wrapping_add(tables_shown);
+        plays = plays.wrapping_add(plays_shown);
     }
     assert!(&rt; tables > 4, "{tables}");
+    assert!(&rt; plays > 4, "{plays}");
     Ok(())
 }

@@ -2,11 +2,15 @@
 ghost use Rattle.std.specs.Prelude.{◌<◌};
 
 use crate::book::made::hands;
+use arrayvec::ArrayVec;
 use dd_book::{Call, JobState, Outcome, Reply};
 use dd_cards::{Card, Hands, Rank, Seat, Strain, Suit};
 use dd_play::Position;
 use dd_search::{Endless, NoTable};
-use dd_solve::{Asked, Request, TableRequest, TargetRequest, solve, solve_part, solve_target};
+use dd_solve::{
+    Asked, PlayRequest, Request, TableRequest, TargetRequest, Trace, solve, solve_part,
+    solve_play_part, solve_target,
+};
 use std::alloc::{AllocError, Global};
 
 // A suit each: North's spades, East's hearts, South's diamonds, West's clubs.
@@ -22,7 +26,8 @@ fn whole_suits() -> Option<Hands> {
 }
 
 // A: North's ace, with the king, queen and jack; B: two cards each; T: the table of the hands of A;
-// S: the table of a suit each; G: the cards of B that win a trick, U: those that win two, V: the first of these.
+// S: the table of a suit each; G: the cards of B that win a trick, U: those that win two, V: the first of these; P: a play of all
+// cards of B, Q: another one of four cards, W: one of no card of A.
 fn asked(name: &str) -> Option<Asked> {
     if name == "T" {
         let hands = hands(&[14, 13, 12, 11], 1)?;
@@ -30,6 +35,9 @@ fn asked(name: &str) -> Option<Asked> {
     }
     if name == "S" {
         return Some(Asked::Table(TableRequest::new(whole_suits()?).ok()?));
+    }
+    if let Some(cards) = cards_of(name) {
+        return Some(Asked::Play(play_of(name, cards)?));
     }
     let hands = if name == "A" {
         hands(&[14, 13, 12, 11], 1)?
@@ -45,8 +53,48 @@ fn asked(name: &str) -> Option<Asked> {
     }
 }
 
+// The ranks of the spades that are played, if it is the name of a play.
+fn cards_of(name: &str) -> Option<&'static [u8]> {
+    match name {
+        "P" => Some(&[3, 4, 12, 5, 14, 6, 2, 13]),
+        "Q" => Some(&[2, 4, 14, 5]),
+        "W" => Some(&[]),
+        _ => None,
+    }
+}
+
+// North leads at notrump.
+fn play_of(name: &str, ranks: &[u8]) -> Option<PlayRequest> {
+    let hands = if name == "W" {
+        hands(&[14, 13, 12, 11], 1)?
+    } else {
+        hands(&[3, 2, 13, 4, 14, 12, 6, 5], 2)?
+    };
+    let opening = Position::new(hands, Strain::Notrump, Seat::North, &[]).ok()?;
+    let mut cards = ArrayVec::<Card, 8>::new();
+    for rank in ranks {
+        let rank = Rank::from_code(*rank)?;
+        let suit = Suit::Spades;
+        let _fits = cards.try_push(Card { suit, rank });
+    }
+    PlayRequest::new(opening, cards.as_slice()).ok()
+}
+
+// What declarer's side takes from the position after so many cards of a play on.
+fn part_of_play(name: &str, count: u8) -> Option<Outcome> {
+    let request = play_of(name, cards_of(name)?)?;
+    if count as usize > request.cards().len() {
+        return None;
+    }
+    let (position, _) = request.after(count as usize);
+    let side = request.declarers();
+    let solved = solve_play_part(position, side, &mut NoTable, &mut Endless).ok()?;
+    Some(Outcome::PlayPart(solved))
+}
+
 // The outcome of this name: the answer to A or B, to G, U or V, the result of a part of T by its letter (a for
-// 0), the result of the second part of S by its own, spent or stopped.
+// 0), the result of the second part of S by its own, that of a play by its letter and how many cards were
+// played, spent or stopped.
 fn outcome(name: &str) -> Option<Outcome> {
     if name == "spent" {
         return Some(Outcome::Spent);
@@ -56,6 +104,11 @@ fn outcome(name: &str) -> Option<Outcome> {
     }
     if name == "S" {
         return part_of("S", 1);
+    }
+    for play in ["P", "Q", "W"] {
+        if let Some(count) = name.strip_prefix(play) {
+            return part_of_play(play, count.parse().ok()?);
+        }
     }
     if let Some(part) = name.as_bytes().first() {
         if (97..117).contains(part) {
@@ -71,7 +124,7 @@ fn outcome(name: &str) -> Option<Outcome> {
             let solved = solve_target(request, &mut NoTable, &mut Endless).ok()?;
             Some(Outcome::Target(solved))
         }
-        Asked::Table(_) => None,
+        Asked::Table(_) | Asked::Play(_) => None,
     }
 }
 
@@ -125,8 +178,18 @@ pub fn call(words: &str) -> Option<Call> {
     })
 }
 
+// The numbers of a trace, one after the other.
+fn traced(alloc: Global, trace: &Trace) -> Result<String, AllocError> {
+    let mut text = String::from_str(alloc, "traced ")?;
+    for tricks in trace.as_slice() {
+        let number = format!(in alloc; "{tricks}")?;
+        text.push_str(number.as_str())?;
+    }
+    Ok(text)
+}
+
 // What a fetch shows, in a word; of an answer the first score, of a table the ace's tricks at
-// spades.
+// spades, of a play its numbers.
 fn shown(alloc: Global, state: &JobState) -> Result<String, AllocError> {
     match state {
         JobState::Waiting => String::from_str(alloc, "waiting"),
@@ -149,6 +212,7 @@ fn shown(alloc: Global, state: &JobState) -> Result<String, AllocError> {
             Some(tricks) => format!(in alloc; "done with {tricks}"),
             None => String::from_str(alloc, "done without a result"),
         },
+        JobState::PlayDone(trace) => traced(alloc, trace),
         JobState::Cancelled => String::from_str(alloc, "cancelled"),
         JobState::Spent => String::from_str(alloc, "spent"),
     }
@@ -168,6 +232,12 @@ pub fn told(alloc: Global, reply: &Reply) -> Result<String, AllocError> {
             claim,
             ..
         } => format!(in alloc; "job {job} part {part} claim {claim}"),
+        Reply::ClaimedPlayPart {
+            job,
+            part,
+            claim,
+            ..
+        } => format!(in alloc; "job {job} after {part} claim {claim}"),
         Reply::NothingWaits => String::from_str(alloc, "nothing waits"),
         Reply::Closing => String::from_str(alloc, "closing"),
         Reply::Recorded => String::from_str(alloc, "recorded"),

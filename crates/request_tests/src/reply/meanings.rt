@@ -12,10 +12,6 @@ fn meaning(alloc: Global, line: &[u8]) -> Result<String, AllocError> {
         Ok(LineAsked::Cards(asked)) => meaning_of_cards(alloc, &asked),
         Ok(LineAsked::Par(_)) => format!(in alloc; "par"),
         Ok(LineAsked::ParOfDeal(_)) => format!(in alloc; "par of a deal"),
-        Ok(LineAsked::Play(request)) => {
-            let cards = request.cards().len();
-            format!(in alloc; "play {cards}")
-        }
         Err(fault) => {
             let number = fault.number();
             format!(in alloc; "{number}")
@@ -48,6 +44,10 @@ fn meaning_of_cards(alloc: Global, asked: &Asked) -> Result<String, AllocError> 
             let solutions = request.solutions();
             let target = request.target();
             format!(in alloc; "{strain} {first} {left} {played} {solutions} target {target}")
+        }
+        Asked::Play(request) => {
+            let cards = request.cards().len();
+            format!(in alloc; "play {cards}")
         }
     }
 }

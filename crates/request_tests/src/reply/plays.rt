@@ -68,13 +68,14 @@ fn play_of(cards: &[Card]) -> Option<Result<PlayRequest, CardFault>> {
     Some(PlayRequest::new(opening, cards))
 }
 
-// The parts of a play, each with its number.
+// The parts of a play: the tricks that declarer's side has won by then, and those that it takes from there on.
 fn numbers_of(request: &PlayRequest) -> ArrayVec<(u8, u8), 53> {
     let mut numbers = ArrayVec::new();
     for count in 0..=request.cards().len() {
-        let solved = solve_play_part(request, count as u8, &mut NoTable, &mut Endless);
+        let (position, won) = request.after(count);
+        let solved = solve_play_part(position, request.declarers(), &mut NoTable, &mut Endless);
         if let Ok(part) = solved {
-            let _fits = numbers.try_push((part.part(), part.copy().tricks()));
+            let _fits = numbers.try_push((won, part.copy().tricks()));
         }
     }
     numbers
@@ -90,14 +91,16 @@ fn a_play_has_its_parts_and_its_trace(rt: HostRuntime) {
     assert_eq!(rt; request.opening().tricks_left(), 2);
     assert_eq!(rt;
         numbers_of(&request).as_slice(),
-        [(0, 0), (1, 0), (2, 0), (3, 1), (4, 1)].as_slice()
+        [(0, 0), (0, 0), (0, 0), (0, 1), (0, 1)].as_slice()
     );
     let (next, won) = request.after(request.cards().len());
     assert_eq!(rt;
         (next.first(), next.tricks_left(), won),
         (Seat::South, 1, 0)
     );
-    let spent = solve_play_part(&request, 0, &mut NoTable, &mut Budget::new(0));
+    assert_eq!(rt; request.last_number(), None);
+    let opening = request.opening().copy();
+    let spent = solve_play_part(opening, Side::EastWest, &mut NoTable, &mut Budget::new(0));
     assert_eq!(rt; spent.err(), Some(Halt::Spent));
     let solved = solve_play(request.copy(), &mut NoTable, None).expect(&rt, "a trace");
     assert_eq!(rt;
@@ -106,6 +109,24 @@ fn a_play_has_its_parts_and_its_trace(rt: HostRuntime) {
     );
     assert_eq!(rt; solved.request().cards(), cards.as_slice());
     assert!(rt; solve_play(request, &mut NoTable, Some(0)).is_none());
+}
+
+#[test]
+fn a_play_of_all_cards_needs_no_search_for_its_last_number(rt: HostRuntime) {
+    let whole = [
+        spade(3),
+        spade(13),
+        spade(12),
+        spade(5),
+        spade(4),
+        spade(14),
+        spade(6),
+        spade(2),
+    ];
+    let request = play_of(&whole)
+        .and_then(|play| play.ok())
+        .expect(&rt, "a play");
+    assert_eq!(rt; request.last_number(), Some(1));
 }
 
 // The fault of the first card that may not be played.

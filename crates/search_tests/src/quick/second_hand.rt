@@ -1,22 +1,16 @@
-//! What second or fourth hand takes with the highest card of the suit led.
+//! What second or fourth hand takes with the highest card of a suit that may be led.
 use super::start;
-use dd_cards::{Card, Hand, Rank, Seat, Strain, Suit};
-use dd_play::Position;
+use dd_cards::{Hand, Seat, Strain, Suit};
+use dd_play::TrickStart;
 use dd_quick::for_second_hand;
 
-// The position after North's lead of a spade of this rank.
-fn after_a_spade(hands: [&str; 4], strain: Strain, rank: u8) -> Option<Position> {
-    let rank = Rank::from_code(rank)?;
-    let suit = Suit::Spades;
-    let start = start(hands, strain, Seat::North)?;
-    played(start.position(), Card { suit, rank })
-}
-
-fn played(position: &Position, card: Card) -> Option<Position> {
-    if position.is_legal(card) {
-        Some(position.play(card).0)
-    } else {
-        None
+// The winners of either opponent of the leader on which it rests that so many tricks are theirs after a lead of spades.
+fn after_spades(start: &TrickStart, need: u8) -> Option<Hand> {
+    let position = start.position();
+    let leader = position.first();
+    match for_second_hand(position, leader.left(), Suit::Spades, need) {
+        Some(cards) => Some(cards),
+        None => for_second_hand(position, leader.right(), Suit::Spades, need),
     }
 }
 
@@ -30,7 +24,7 @@ fn by_suit(cards: Hand) -> [u8; 4] {
     ]
 }
 
-// North leads the two of spades. Of each suit so many winners of East and West's are listed.
+// North leads a spade. Of each suit so many winners of East and West's are listed.
 #[test]
 fn the_highest_card_of_the_suit_led_wins_and_more_are_cashed(rt: HostRuntime) {
     let notrump = Strain::Notrump;
@@ -70,6 +64,13 @@ fn the_highest_card_of_the_suit_led_wins_and_more_are_cashed(rt: HostRuntime) {
             1,
             None,
             "third hand has the ace",
+        ),
+        (
+            ["A2...", "KQ...", "54...", "76..."],
+            notrump,
+            1,
+            None,
+            "the leader has the ace",
         ),
         (
             ["2.32..", "A.54..", "3.76..", "4.AK.."],
@@ -185,8 +186,8 @@ fn the_highest_card_of_the_suit_led_wins_and_more_are_cashed(rt: HostRuntime) {
         ),
     ];
     for (hands, strain, need, want, what) in table {
-        let position = after_a_spade(hands, strain, 2).expect(&rt, "even hands");
-        let found = for_second_hand(&position, need).map(by_suit);
+        let start = start(hands, strain, Seat::North).expect(&rt, "even hands");
+        let found = after_spades(&start, need).map(by_suit);
         assert_eq!(rt; found, want, "{what}");
     }
 }
@@ -245,43 +246,9 @@ fn the_highest_trump_wins_and_side_suits_are_cashed(rt: HostRuntime) {
         ),
     ];
     for (hands, need, want, what) in table {
-        let position = after_a_spade(hands, Strain::Trump(Suit::Spades), 2).expect(
-            &rt,
-            "even hands",
-        );
-        let found = for_second_hand(&position, need).map(by_suit);
+        let spades = Strain::Trump(Suit::Spades);
+        let start = start(hands, spades, Seat::North).expect(&rt, "even hands");
+        let found = after_spades(&start, need).map(by_suit);
         assert_eq!(rt; found, want, "{what}");
     }
-}
-
-#[test]
-fn the_lead_itself_may_be_the_highest(rt: HostRuntime) {
-    let hands = ["A2...", "KQ...", "54...", "76..."];
-    let position = after_a_spade(hands, Strain::Notrump, 14).expect(&rt, "even hands");
-    assert!(rt; for_second_hand(&position, 1).is_none());
-    let position = after_a_spade(hands, Strain::Notrump, 2).expect(&rt, "even hands");
-    assert!(rt; for_second_hand(&position, 1).is_none());
-}
-
-// With spades as trumps East's jack of clubs takes four tricks for its side, by exhaustive play. Counted so at third hand it
-// would take five: then the partner's jack, which lies on the trick, is one of the winners that are counted.
-#[test]
-fn third_hand_is_told_nothing(rt: HostRuntime) {
-    let hands = ["4.82..65", ".3.T3.J2", ".A97.8.9", "5.J.A5.K"];
-    let trump = Strain::Trump(Suit::Spades);
-    let start = start(hands, trump, Seat::East).expect(&rt, "even hands");
-    assert!(rt; for_second_hand(start.position(), 1).is_none());
-    let suit = Suit::Clubs;
-    let jack = Card {
-        suit,
-        rank: Rank::of(11),
-    };
-    let nine = Card {
-        suit,
-        rank: Rank::of(9),
-    };
-    let second = played(start.position(), jack).expect(&rt, "East has the jack");
-    assert!(rt; for_second_hand(&second, 1).is_none());
-    let third = played(&second, nine).expect(&rt, "South has the nine");
-    assert!(rt; for_second_hand(&third, 1).is_none());
 }

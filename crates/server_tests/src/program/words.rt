@@ -96,6 +96,7 @@ fn a_line_of_serve_has_its_options_and_the_defaults_of_the_others(rt: HostRuntim
                 entries: 4_096,
                 budget: Some(50_000_000),
                 events: 1_048_576,
+                idle: Some(600),
                 websocket: false,
                 allow_stop: true,
             },
@@ -113,6 +114,31 @@ fn the_events_of_a_run_are_those_that_were_asked_for(rt: HostRuntime) {
         _ => 0,
     };
     assert_eq!(rt; found, 1_024);
+}
+
+// For how many seconds a client may be silent, by the options of this line. 7 stands for a line that is none.
+fn idle_of(alloc: Global, options: &str) -> Result<Option<u64>, Fail> {
+    let line = format!(in alloc; "ddserve serve --listen a {options}")?;
+    match read(alloc, line.as_str()) {
+        Ok(Args::Serve { idle, .. }) => Ok(idle),
+        _ => Ok(Some(7)),
+    }
+}
+
+#[test]
+fn a_client_may_be_silent_as_long_as_was_asked_for(rt: HostRuntime) -> Result<(), Fail> {
+    for (options, idle) in [
+        ("--idle 1", Some(1)),
+        ("--idle=86400", Some(86_400)),
+        ("--idle 0", None),
+        ("--workers 2", Some(600)),
+        ("--idle 86401", Some(7)),
+        ("--idle 2s", Some(7)),
+    ] {
+        let found = idle_of(rt.alloc(), options)?;
+        assert_eq!(rt; found, idle, "{options}");
+    }
+    Ok(())
 }
 
 // Does each of these lines, one a row, have an error of this kind, which ends with this status?
@@ -153,7 +179,8 @@ fn a_bad_line_ends_with_status_2(rt: HostRuntime) {
             ddserve solve --workers 0\n\
             ddserve solve --workers 65\n\
             ddserve serve --listen a --events 1023\n\
-            ddserve serve --listen a --events 1048577",
+            ddserve serve --listen a --events 1048577\n\
+            ddserve serve --listen a --idle 86401",
             ErrorKind::ValueValidation,
         ),
         (

@@ -20,6 +20,8 @@ pub struct Run {
     pub budget: Option<u64>,
     pub websocket: bool,
     pub allow_stop: bool,
+    /// For how many milliseconds a client without an open job may be silent.
+    pub idle: Option<u64>,
     /// For how many milliseconds a run that is worn waits for its sessions.
     pub grace: u64,
 }
@@ -32,6 +34,7 @@ pub const LINES: Run = Run {
     budget: None,
     websocket: false,
     allow_stop: true,
+    idle: None,
     grace: 60_000,
 };
 
@@ -77,6 +80,7 @@ pub fn serve_runs<R: Threads + Wait + Clock + Eprint + Sync, G: Gate + Sync>(
         budget: run.budget,
         websocket: run.websocket,
         allow_stop: run.allow_stop,
+        idle: run.idle,
         grace: run.grace,
     };
     let told = Told { runs: 0, events: 0 };

@@ -40,6 +40,14 @@ stop|{"do":"stop"}
 {"fault":3}|{"do":"stopped"}
 {"fault":3}|{"do":"claim"}
 {"fault":3}|{"do":"shut"}
+play|{"do":"play","deal":"N:32... K4... AQ... 65...","trump":4,"first":0,"cards":[[0,2],[0,4],[0,14],[0,5]]}
+play within 250|{"do":"play","deal":"N:32... K4... AQ... 65...","trump":4,"first":0,"cards":[],"wait":250}
+{"fault":3}|{"do":"play","deal":"N:32... K4... AQ... 65...","trump":4,"first":0,"cards":[],"job":1}
+{"fault":3}|{"do":"play","deal":"N:32... K4... AQ... 65...","trump":4,"first":0}
+{"fault":24}|{"do":"play","deal":"N:32... K4... AQ... 65...","trump":4,"first":0,"cards":[[0,4]]}
+{"fault":25}|{"do":"play","deal":"N:3.2.. A.A.. K.K.. Q.Q..","trump":4,"first":0,"cards":[[0,3],[1,14]]}
+{"fault":26}|{"do":"play","deal":"N:A... K... Q... J...","trump":4,"first":0,"cards":[[0,14],[0,13],[0,12],[0,11],[0,11]]}
+{"fault":27}|{"do":"solve","deal":"N:A... K... Q... J...","trump":4,"first":0,"solutions":2,"target":14}
 {"contracts":[{"declarers":[1,3],"level":2,"tricks":8,"trump":0}],"score":-110}|{"do":"par","table":[[5,8,5,8],[6,6,6,6],[5,7,5,7],[7,5,7,5],[6,6,6,6]],"dealer":0,"vulnerable":0}
 {"fault":20}|{"do":"par","table":[[5,8,5,8],[6,6,6,6],[5,7,5,7],[7,5,7,5],[6,6,6,14]],"dealer":4,"vulnerable":4}
 {"fault":22}|{"do":"par","table":[[5,8,5,8],[6,6,6,6],[5,7,5,7],[7,5,7,5],[6,6,6,14]],"side":0,"vulnerable":0}

@@ -77,6 +77,22 @@ const TABLE: &[u8] = br#"1 submits T|{"job":1}
 9 finishes 1 20 t|{}
 1 fetches 1|{"job":1,"state":"done","table":[[1,0,1,0],[1,0,1,0],[1,0,1,0],[1,0,1,0],[1,0,1,0]]}"#;
 
+// A play of four cards, one of them the king's: the parts are finished one by one.
+const PLAY: &[u8] = br#"1 submits Q|{"job":1}
+1 fetches 1|{"job":1,"state":"waiting"}
+9 claims|{}
+9 finishes 1 1 Q0|{}
+1 fetches 1|{"job":1,"state":"running"}
+9 claims|{}
+9 finishes 1 2 Q1|{}
+9 claims|{}
+9 finishes 1 3 Q2|{}
+9 claims|{}
+9 finishes 1 4 Q3|{}
+9 claims|{}
+9 finishes 1 5 Q4|{}
+1 fetches 1|{"job":1,"state":"done","tricks":[0,0,0,1,1]}"#;
+
 // The first row whose call is replied with another text, or nothing.
 fn first_with_another_text(alloc: Global, table: &'static [u8]) -> Option<&'static [u8]> {
     let session = Session::new(alloc, true);
@@ -100,4 +116,5 @@ fn first_with_another_text(alloc: Global, table: &'static [u8]) -> Option<&'stat
 fn worked_calls_are_replied(rt: HostRuntime) {
     assert_eq!(rt; first_with_another_text(rt.alloc(), WORKED), None);
     assert_eq!(rt; first_with_another_text(rt.alloc(), TABLE), None);
+    assert_eq!(rt; first_with_another_text(rt.alloc(), PLAY), None);
 }

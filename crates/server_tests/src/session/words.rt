@@ -28,6 +28,7 @@ fn wanted(alloc: Global, want: &Want) -> Result<String, AllocError> {
         Want::Submit(Asked::Solve(_)) => String::from_str(alloc, "solve"),
         Want::Submit(Asked::Table(_)) => String::from_str(alloc, "table"),
         Want::Submit(Asked::Target(_)) => String::from_str(alloc, "target"),
+        Want::Submit(Asked::Play(_)) => String::from_str(alloc, "play"),
         Want::Cancel(job) => format!(in alloc; "cancel {job}"),
         Want::Fetch(job) => format!(in alloc; "fetch {job}"),
         Want::Stop => String::from_str(alloc, "stop"),

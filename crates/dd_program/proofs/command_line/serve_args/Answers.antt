@@ -11,8 +11,9 @@ returns c = (
   (c.number_of.result, c.number_of.ensures, c.number_in.ensures),
   (c.number_of-2.result, c.number_of-2.ensures, c.number_in-2.ensures),
   (c.number_of-3.result, c.number_of-3.ensures, c.number_in-3.ensures),
-  (c.positions_of.result, c.positions_of.ensures, c.budget_in.ensures),
+  (c.limit_of.result, c.limit_of.ensures, c.limit_in.ensures),
   (c.number_of-4.result, c.number_of-4.ensures, c.number_in-4.ensures),
+  (c.limit_of-2.result, c.limit_of-2.ensures, c.limit_in-2.ensures),
   c.is_set.ensures,
   c.is_set-2.ensures,
 )

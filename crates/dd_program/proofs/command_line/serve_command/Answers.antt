@@ -1,6 +1,6 @@
 use Rattle.std.proofs.Common.{codes, rules}
 use Rattle.clap.specs.Words.{new_app}
-use Rattle.dd_program.specs.Program.{listen_rule, workers_rule, shards_rule, shard_entries_rule, budget_rule, events_rule, websocket_rule, allow_stop_rule}
+use Rattle.dd_program.specs.Program.{listen_rule, workers_rule, shards_rule, shard_entries_rule, budget_rule, events_rule, idle_rule, websocket_rule, allow_stop_rule}
 use Rattle.dd_program.proofs.ServeWords.{Holds, adds, adds-last}
 use Rattle.dd_program.proofs.command_line.serve_command.Goals as goal
 
@@ -13,5 +13,6 @@ returns c =
     let four = adds _ shard_entries_rule _ c.shard_entries_option.result c.in_ok-arg-4.field-0 c.in_ok-arg-4.ensures c.shard_entries_option.ensures three in
     let five = adds _ budget_rule _ c.job_budget_option.result c.in_ok-arg-5.field-0 c.in_ok-arg-5.ensures c.job_budget_option.ensures four in
     let six = adds _ events_rule _ c.events_option.result c.in_ok-arg-6.field-0 c.in_ok-arg-6.ensures c.events_option.ensures five in
-    let seven = adds _ websocket_rule _ c.websocket_flag.result c.in_ok-arg-7.field-0 c.in_ok-arg-7.ensures c.websocket_flag.ensures six in
-    adds-last _ allow_stop_rule _ c.allow_stop_flag.result c.arg-8.result c.arg-8.ensures c.allow_stop_flag.ensures seven
+    let seven = adds _ idle_rule _ c.idle_option.result c.in_ok-arg-7.field-0 c.in_ok-arg-7.ensures c.idle_option.ensures six in
+    let eight = adds _ websocket_rule _ c.websocket_flag.result c.in_ok-arg-8.field-0 c.in_ok-arg-8.ensures c.websocket_flag.ensures seven in
+    adds-last _ allow_stop_rule _ c.allow_stop_flag.result c.arg-9.result c.arg-9.ensures c.allow_stop_flag.ensures eight

@@ -29,12 +29,6 @@ answer_at_start-returns-in-Some-quick_answer-clause-answer g t c =
     let answer = c.in-Some-quick_answer.answer in
     answer-here c.args.start.now c.args.need answer.cards answer.yes c.quick_answer.ensures.board c.in-Some-quick_answer.ensures.answer
 
--- So does one that second hand's winners gave.
-pub zero_window_at_second_hand-returns-in-Some-clause-answer : goal.zero_window_at_second_hand-returns-in-Some-clause-answer
-zero_window_at_second_hand-returns-in-Some-clause-answer g t c =
-    let answer = c.in-Some.answer in
-    answer-here c.args.position.now c.args.need answer.cards answer.yes c.second_hands_answer.ensures.board c.in-Some.ensures.answer
-
 -- what was found after the card answers what is still needed then
 later-answer : (g : _) (t : _) (c : answer_after-After-is_yes g t) → IsAnswerBy c.play_at-played.result.0 c.rest_after-rest.result c.match-turn.later.cards c.match-turn.later.yes
 later-answer g t c =

@@ -1,4 +1,4 @@
-use Rattle.std.proofs.Common.{◌≡◌, ◌+◌, false, ap, sym, ◌∙◌, subst, ◌∷◌, List, drop}
+use Rattle.std.proofs.Common.{◌≡◌, ◌+◌, ap, sym, ◌∙◌, subst, ◌∷◌, List, drop}
 use Rattle.std.proofs.lemmas.List.{drop_more, drop_all}
 use Rattle.dd_cards.specs.PlayingCard.{PlayingCard}
 use Rattle.std.specs.Prelude.{Err}

@@ -1,4 +1,4 @@
-use Rattle.std.proofs.Common.{◌≡◌, ◌+◌, ◌-◌, ◌<◌, ◌≤◌, ap, sym, ◌∙◌, arith, length, true, false}
+use Rattle.std.proofs.Common.{◌≡◌, ◌+◌, ◌-◌, ◌<◌, ap, sym, ◌∙◌, arith, length, true, false}
 use Rattle.dd_cards.specs.Sides.{side_of, is_side}
 use Rattle.dd_play.specs.Board.{mover}
 use Rattle.dd_play.specs.Play.{legal}

@@ -8,7 +8,7 @@ unfolding below
 invariant_of-result g c =
     let journal : c.new.result.journal.items ≡ [] = c.new.ensures.journal.0 in
     let none : vec_len c.new.result.journal ≡ 0 = c.new.ensures.journal.1 in
-    let marks : c.new-2.result.items ≡ [] = c.new-2.ensures.items in
+    let marks : c.args.marks.items ≡ [] = c.requires.marks.0 in
     let whole : g.J.Naming.all ≡ g.J.Tokens.parts = c.requires.passes.1 in
     let parts : c.open-count.result.1.parts ≡ g.J.Tokens.parts = c.open-count.ensures.parts in
     let parts' : c.open-sum.result.1.parts ≡ g.J.Tokens.parts = c.open-sum.ensures.parts in
@@ -16,6 +16,7 @@ invariant_of-result g c =
       within = omega (arith, ap (λ l. l.events) c.new.ensures.limits, c.requires.events);
       marked = ap (map (λ n. n.cell)) marks ∙ sym (ap (λ k. take k g.J.Naming.cells) none ∙ search rules);
       knows = ap (map (λ n. n.known)) marks ∙ sym (ap (map {A = EventOf} Some) journal);
+      room = (omega (arith, c.requires.marks.1, none), omega (arith, ap (λ l. l.events) c.new.ensures.limits, c.requires.marks.2));
       counted = c.open-count.ensures.total ∙ sym none;
       placed = c.open-sum.ensures.total ∙ sym (ap below none);
       limits_are = c.new.ensures.limits ∙ c.requires.limits;

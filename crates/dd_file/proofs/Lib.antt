@@ -1,0 +1,7 @@
+pub mod Going
+pub mod Joined
+pub mod Passed
+pub mod Spelled
+pub mod Steps
+pub mod WovenLemmas
+pub mod Written

@@ -1,0 +1,57 @@
+use Rattle.std.proofs.Common.{◌<◌, ◌∙◌, length, refl, rules, arith}
+use Rattle.std.proofs.lemmas.Result.{on_ok_weaker, on_err_weaker, err_from_is_err_and}
+use Rattle.dd_file.proofs.Written.{Filling-begun, Filling-further, Filling-ended, Filling-last_failed, Filling-piece_failed, Filling-read_failed, first-point, nothing_read, stops-written, write-failed, no-read-failed}
+use Rattle.dd_file.proofs.engine.fill_file.Goals as goal
+
+pub loop-init : goal.loop-init
+loop-init g c =
+    record {
+      so_far = Filling-begun g.A.Analyst.gives _ _ _ _ _ c.new-filler.ensures.wanted (first-point c.new-filler.result c.new-filler.ensures.state c.new-filler.ensures.left c.new-filler.ensures.mode) c.new-window.ensures.items;
+      reads = refl;
+      writes = refl;
+      turns = omega arith;
+      few = λ some. absurd (omega (arith, some));
+      room = c.requires;
+    }
+
+pub returns-in-Ok-eq0-clause-ok : goal.returns-in-Ok-eq0-clause-ok
+returns-in-Ok-eq0-clause-ok g c =
+    let none = c.in-Ok-eq0.field-0-test in
+    let read = c.in-Ok-eq0.ensures.bytes in
+    let room : 0 < length c.read.new.buf = omega arith in
+    on_ok_weaker c.write_last.result (λ last. Filling-ended g.A.Analyst.gives _ _ _ _ _ _ _ _ _ _ c.loop.invariant.so_far (nothing_read _ _ _ _ none read.0) (read.1 none room) c.as_slice.ensures.value last) c.write_last.ensures.ok
+
+pub returns-in-Ok-eq0-clause-err : goal.returns-in-Ok-eq0-clause-err
+returns-in-Ok-eq0-clause-err g c =
+    let read = nothing_read _ _ _ _ c.in-Ok-eq0.field-0-test c.in-Ok-eq0.ensures.bytes.0 in
+    on_err_weaker c.write_last.result (λ wrote. Filling-last_failed g.A.Analyst.gives _ _ _ _ _ _ _ _ _ _ c.loop.invariant.so_far read c.as_slice.ensures.value wrote) c.write_last.ensures.err
+
+pub returns-in-Ok-eq0-clause-first : goal.returns-in-Ok-eq0-clause-first
+returns-in-Ok-eq0-clause-first g c = stops-written c.args.reader.now c.read.new.self c.args.writer.now c.loop.writer c.write_last.new.writer c.write_last.result (c.in-Ok-eq0.ensures.counted.failures ∙ c.loop.invariant.reads) c.loop.invariant.writes c.write_last.ensures.fault
+
+pub returns-in-Ok-eq0-clause-write : goal.returns-in-Ok-eq0-clause-write
+returns-in-Ok-eq0-clause-write g c = write-failed c.args.reader.now c.read.new.self c.args.writer.now c.write_last.new.writer c.write_last.result
+    (stops-written c.args.reader.now c.read.new.self c.args.writer.now c.loop.writer c.write_last.new.writer c.write_last.result (c.in-Ok-eq0.ensures.counted.failures ∙ c.loop.invariant.reads) c.loop.invariant.writes c.write_last.ensures.fault)
+
+pub returns-in-Ok-eq0-clause-read : goal.returns-in-Ok-eq0-clause-read
+returns-in-Ok-eq0-clause-read g c = λ is. absurd (no-read-failed c.loop.writer c.write_last.new.writer c.write_last.result c.write_last.ensures.fault is)
+
+pub returns-in_err-take_piece-in-Ok-clause-err : goal.returns-in_err-take_piece-in-Ok-clause-err
+returns-in_err-take_piece-in-Ok-clause-err g c =
+    let p = err_from_is_err_and c.from_residual.result c.from_residual.ensures.1 in
+    rw p.1 (Filling-piece_failed g.A.Analyst.gives _ _ _ _ _ _ _ _ _ _ c.loop.invariant.so_far c.in-Ok.ensures.bytes.0 c.in_err-take_piece-in-Ok.ensures.err)
+
+pub returns-in-Err-clause-err : goal.returns-in-Err-clause-err
+returns-in-Err-clause-err g c = Filling-read_failed g.A.Analyst.gives _ _ _ _ _ _ _ _ c.loop.invariant.so_far c.in-Err.ensures.bytes
+
+pub loop-preserved : goal.loop-preserved
+loop-preserved g c =
+    let counted = c.in-Ok.ensures.counted in
+    record {
+      so_far = Filling-further g.A.Analyst.gives _ _ _ _ _ _ _ _ _ _ _ _ c.loop.invariant.so_far c.in-Ok.ensures.bytes.0 c.in_ok-take_piece-in-Ok.ensures.ok;
+      reads = counted.failures ∙ c.loop.invariant.reads;
+      writes = c.in_ok-take_piece-in-Ok.ensures.fault ∙ c.loop.invariant.writes;
+      turns = omega (arith, counted.calls, counted.let_through);
+      few = λ _. omega (arith, counted.calls, counted.let_through);
+      room = search rules;
+    }

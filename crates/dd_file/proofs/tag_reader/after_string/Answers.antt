@@ -1,0 +1,17 @@
+use Rattle.std.proofs.Common.{◌∙◌, sym}
+use Rattle.dd_file.proofs.Steps.{after_string-closed, after_string-broken, after_string-other, after_string-end}
+use Rattle.dd_file.proofs.tag_reader.after_string.Goals as goal
+
+pub returns-in-Plain : goal.returns-in-Plain
+returns-in-Plain c = sym c.loop-rest.invariant ∙ after_string-closed _ _ c.in-len1-up.len_at_least (sym c.next-mode.ensures ∙ c.in-Plain.is)
+
+pub returns-in-Start : goal.returns-in-Start
+returns-in-Start c = sym c.loop-rest.invariant ∙ after_string-broken _ _ c.in-len1-up.len_at_least (sym c.next-mode.ensures ∙ c.in-Start.is)
+
+pub loop-rest-preserved : goal.loop-rest-preserved
+loop-rest-preserved c =
+    rw c.next-mode.ensures (sym (after_string-other _ _ c.in-len1-up.len_at_least
+    (λ is. c.in_default-mode.not-Plain (c.next-mode.ensures ∙ is)) (λ is. c.in_default-mode.not-Start (c.next-mode.ensures ∙ is))) ∙ c.loop-rest.invariant)
+
+pub returns : goal.returns
+returns c = sym c.loop-rest.invariant ∙ after_string-end _ _ c.in_default.len_below

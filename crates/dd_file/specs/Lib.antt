@@ -1,0 +1,15 @@
+pub mod Deals
+pub mod Filled
+pub mod Games
+pub mod Kepts
+pub mod KnownTags
+pub mod Lines
+pub mod Marked
+pub mod Marks
+pub mod Modes
+pub mod Passing
+pub mod Served
+pub mod Tags
+pub mod Values
+pub mod Windows
+pub mod Woven

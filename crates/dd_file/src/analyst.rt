@@ -1,0 +1,62 @@
+//! Who knows the results of a deal, and is told which games were left.
+ghost use Rattle.std.specs.Prelude.{◌≡◌, List, ℕ, Option};
+ghost use Rattle.dd_cards.specs.Hands.{FourHands};
+ghost use Rattle.dd_file.specs.Deals.{IsThirteen};
+
+use dd_cards::Hands;
+use dd_score::Results;
+
+/// Why the value of a tag Deal is no deal of thirteen cards a hand.
+#[derive(Clone, Copy, Debug, PartialEq, Eq)]
+pub enum DealFault {
+    /// It hasn't the form of a deal.
+    Text,
+    /// A hand is left out.
+    LeftOut,
+    /// A card stands twice.
+    Twice,
+    /// The hands don't have equally many cards.
+    Uneven,
+    /// They have none.
+    Empty,
+    /// They have equally many, but not thirteen.
+    NotThirteen,
+}
+
+/// Why a game lacks a tag that was asked for.
+#[derive(Clone, Copy, Debug, PartialEq, Eq)]
+pub enum Reason {
+    /// It has no deal.
+    NoDeal,
+    /// Its deal is refused.
+    Refused(DealFault),
+    /// Its tag Dealer names no seat.
+    NoDealer,
+    /// Its tag Vulnerable names no sides.
+    NoVulnerable,
+    /// It has no end, or none at which a line can stand.
+    NotClosed,
+    /// The search for its results spent the budget.
+    Spent,
+}
+
+/// Who knows the results of a deal, and is told which games were left.
+pub trait Analyst {
+    ghost use Rattle.std.specs.Prelude.{List, ℕ, Option};
+    ghost use Rattle.dd_cards.specs.Hands.{FourHands};
+    ghost use Rattle.dd_file.specs.Deals.{IsThirteen};
+
+    /// these may be told as the twenty results of a deal, or none may be
+    ghost gives: { FourHands → Option (List (List ℕ)) → Type 0 };
+
+    /// The twenty results of a deal of thirteen cards a hand; None where they were given up.
+    fn results(&mut self, deal: &Hands) -> Option<Results>
+        requires { IsThirteen deal.now }
+        ensures { Self.gives deal.now result };
+
+    /// Is told why the game of this number, with this value of its tag Board, lacks a tag that was asked for.
+    fn left(&mut self, game: u64, board: &[u8], reason: Reason);
+
+    /// Is told how many games have ended, and how many bytes were passed on.
+    fn passed(&mut self, games: u64, bytes: u64);
+}

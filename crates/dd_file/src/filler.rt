@@ -1,0 +1,447 @@
+//! A file passed on byte by byte, with the lines that its games lack.
+ghost use Rattle.std.specs.Prelude.{◌≡◌, ◌<◌, ◌++◌, length, slice_index, OnOk};
+ghost use Rattle.dd_cards.specs.Hands.{FourHands};
+ghost use Rattle.dd_file.specs.Deals.{IsThirteen};
+ghost use Rattle.dd_file.specs.Filled.{IsParFound, added_text, ask_at, ask_of, ask_with, asked_here, ends_last, has_place, needs, par_text, text_here, where_lacking};
+ghost use Rattle.dd_file.specs.Games.{after_end, conditions_of, first_state, lacks, line_ends, next_state, with_mark};
+ghost use Rattle.dd_file.specs.Lines.{contract_line, line_with, score_line, table_text, tricks_line};
+ghost use Rattle.dd_file.specs.Marked.{is_closed, left_of, left_within};
+ghost use Rattle.dd_file.specs.Marks.{shown};
+ghost use Rattle.dd_file.specs.Modes.{next_mode};
+ghost use Rattle.dd_file.specs.Passing.{AddsAnswer, AddsFound, AddsLast, EndsBefore, KeepsPlace, PassesByte, begins_now, par_found};
+
+use crate::analyst::{Analyst, Reason};
+use crate::fill_state::{Conditions, FillState};
+use crate::known_tag::{BOARD, known_number};
+use crate::line_text::{LineEnds, push_contracts, push_score, push_table, push_tricks};
+use crate::mark::{Mark, mark_at};
+use crate::mode::Mode;
+use crate::value::{Unfit, thirteen_in, unescaped};
+use crate::wanted::Wanted;
+use dd_cards::Hands;
+use dd_score::{Order, ParResult, Results, par};
+use std::alloc::{AllocError, Global};
+
+/// A file that is passed on.
+#[derive(Drop)]
+pub(crate) struct Filler {
+    pub(crate) wanted: Wanted,
+    /// Where the next byte stands.
+    pub(crate) mode: Mode,
+    /// How many bytes from there on belong to a tag that has begun.
+    pub(crate) left: usize,
+    pub(crate) state: FillState,
+    alloc: Global,
+    // The number of the game at hand, and what its tag Board says.
+    number: u64,
+    board: Vec<u8>,
+}
+
+impl Filler {
+    /// Before the first byte.
+    pub(crate) fn new(alloc: Global, wanted: Wanted) -> Filler
+        ensures wanted { result.wanted ≡ wanted }
+        ensures mode { result.mode ≡ Mode.Head }
+        ensures left { result.left ≡ 0 }
+        ensures state { result.state ≡ first_state }
+    {
+        Filler {
+            wanted,
+            mode: Mode::Head,
+            left: 0,
+            state: FillState::new(),
+            alloc,
+            number: 1,
+            board: Vec::new(alloc),
+        }
+    }
+
+    /// How many games have ended.
+    pub(crate) fn games(&self) -> u64 {
+        self.number.saturating_sub(1)
+    }
+
+    /// Passes on the first of these bytes, which are all that follow, or the next `NEAR`.
+    pub(crate) fn pass<A: Analyst>(
+        &mut self,
+        near: &[u8],
+        is_all: bool,
+        analyst: &mut A,
+        out: &mut Vec<u8>,
+    ) -> Result<(), AllocError>
+        requires { 0 < length near.now }
+        ensures { OnOk result (PassesByte A.gives self.old self.new
+            (begins_now self.old.left self.old.mode is_all near.now) (slice_index near.now 0)
+            out.old.items out.new.items) }
+    {
+        let byte = near[0];
+        let mark = self.mark(near, is_all);
+        self.end_before(&mark, analyst, out)?;
+        out.push(byte)?;
+        self.take(&mark, byte)
+    }
+
+    // What begins at the first of these bytes.
+    fn mark<'a>(&self, near: &'a [u8], is_all: bool) -> Mark<'a>
+        ensures { shown result ≡ begins_now self.now.left self.now.mode is_all near.now }
+    {
+        if self.left > 0 {
+            Mark::Nothing
+        } else {
+            mark_at(self.mode, near, is_all)
+        }
+    }
+
+    // Ends the game that ends before what begins here, if it does.
+    fn end_before<A: Analyst>(
+        &mut self,
+        mark: &Mark<'_>,
+        analyst: &mut A,
+        out: &mut Vec<u8>,
+    ) -> Result<(), AllocError>
+        ensures { OnOk result (EndsBefore A.gives self.old self.new (shown mark.now)
+            out.old.items out.new.items) }
+    {
+        if !self.state.ends(mark) {
+            return Ok(());
+        }
+        self.add_lines_at(has_place(mark), analyst, out)?;
+        self.end_game();
+        Ok(())
+    }
+
+    // The game is over.
+    fn end_game(&mut self)
+        ensures state { self.new.state ≡ after_end self.old.state }
+        ensures place { KeepsPlace self.old self.new }
+    {
+        self.state.end_game();
+        self.number = self.number.saturating_add(1);
+        self.board.clear();
+    }
+
+    // The byte has been passed on, and what begins with it is taken in.
+    fn take(&mut self, mark: &Mark<'_>, byte: u8) -> Result<(), AllocError>
+        ensures state { OnOk result (self.new.state ≡ next_state self.old.state (shown mark.now) byte) }
+        ensures mode { OnOk result (self.new.mode ≡ next_mode self.old.mode byte) }
+        ensures left { OnOk result (self.new.left ≡ left_within self.old.left (shown mark.now)) }
+        ensures wanted { OnOk result (self.new.wanted ≡ self.old.wanted) }
+    {
+        self.tell(mark)?;
+        self.state.pass(byte);
+        self.left = left_within(self.left, mark);
+        self.mode = self.mode.next(byte);
+        Ok(())
+    }
+
+    // Takes a tag in.
+    fn tell(&mut self, mark: &Mark<'_>) -> Result<(), AllocError>
+        ensures state { OnOk result (self.new.state ≡ with_mark (shown mark.now) self.old.state) }
+        ensures place { OnOk result (KeepsPlace self.old self.new) }
+    {
+        match *mark {
+            Mark::Tag { name, quoted, .. } => {
+                self.note_board(name, quoted)?;
+                self.state.tell_tag(self.alloc, name, quoted)
+            }
+            _ => Ok(()),
+        }
+    }
+
+    // Notes what a tag Board says.
+    fn note_board(&mut self, name: &[u8], quoted: &[u8]) -> Result<(), AllocError>
+        ensures state { OnOk result (self.new.state ≡ self.old.state) }
+        ensures place { OnOk result (KeepsPlace self.old self.new) }
+    {
+        if known_number(name) == Some(BOARD) {
+            self.board = unescaped(self.alloc, quoted)?;
+        }
+        Ok(())
+    }
+
+    // Adds the lines of a game that ends at a place for lines, or at none.
+    fn add_lines_at<A: Analyst>(
+        &self,
+        has_place: bool,
+        analyst: &mut A,
+        out: &mut Vec<u8>,
+    ) -> Result<(), AllocError>
+        ensures { OnOk result (AddsAnswer A.gives (ask_at has_place self.now.wanted self.now.state)
+            self.now.wanted self.now.state out.old.items out.new.items) }
+    {
+        if has_place {
+            self.add_lines(analyst, out)
+        } else {
+            self.leave(analyst, Reason::NotClosed);
+            Ok(())
+        }
+    }
+
+    /// Adds the lines of a game that the end of the file ends, or tells that it has no end.
+    pub(crate) fn add_last<A: Analyst>(
+        &self,
+        analyst: &mut A,
+        out: &mut Vec<u8>,
+    ) -> Result<(), AllocError>
+        ensures { OnOk result (AddsLast A.gives (is_closed self.now.left self.now.mode) self.now
+            out.old.items out.new.items) }
+    {
+        if !self.state.begun {
+            return Ok(());
+        }
+        if !is_closed(self.left, self.mode) {
+            self.leave(analyst, Reason::NotClosed);
+            return Ok(());
+        }
+        self.add_lines(analyst, out)
+    }
+
+    // Adds the lines of the game at hand.
+    fn add_lines<A: Analyst>(&self, analyst: &mut A, out: &mut Vec<u8>) -> Result<(), AllocError>
+        ensures { OnOk result (AddsAnswer A.gives (ask_of self.now.wanted self.now.state)
+            self.now.wanted self.now.state out.old.items out.new.items) }
+    {
+        match thirteen_in(self.state.deal.value()) {
+            Ok(deal) => self.add_lines_of(&deal, analyst, out),
+            Err(unfit) => {
+                self.leave(analyst, reason_of(unfit));
+                Ok(())
+            }
+        }
+    }
+
+    // Adds the lines of the game at hand, which has this deal.
+    fn add_lines_of<A: Analyst>(
+        &self,
+        deal: &Hands,
+        analyst: &mut A,
+        out: &mut Vec<u8>,
+    ) -> Result<(), AllocError>
+        requires { IsThirteen deal.now }
+        ensures { OnOk result (AddsAnswer A.gives
+            (ask_with (Ok deal.now) (conditions_of self.now.state) (lacks self.now.wanted self.now.state))
+            self.now.wanted self.now.state out.old.items out.new.items) }
+    {
+        let lacking = self.state.lacks(self.wanted);
+        let conditions = self.state.conditions();
+        if !needs(lacking, conditions.is_some()) {
+            self.tell_unknown(lacking, analyst);
+            return Ok(());
+        }
+        match analyst.results(deal) {
+            Some(results) => {
+                self.tell_unknown(lacking, analyst);
+                push_found(out, self.state.line_ends(), lacking, &results, conditions)
+            }
+            None => {
+                self.leave(analyst, Reason::Spent);
+                Ok(())
+            }
+        }
+    }
+
+    // Tells why the lines of par are lacking, where they are and who calls first or which sides are vulnerable isn't known.
+    fn tell_unknown<A: Analyst>(&self, lacking: Wanted, analyst: &mut A) {
+        if !lacking.score && !lacking.contract {
+            return;
+        }
+        if self.state.dealer.value().is_none() {
+            self.leave(analyst, Reason::NoDealer);
+        } else if self.state.vulnerable.value().is_none() {
+            self.leave(analyst, Reason::NoVulnerable);
+        }
+    }
+
+    // Tells why the game at hand lacks a tag, where it lacks one.
+    fn leave<A: Analyst>(&self, analyst: &mut A, reason: Reason) {
+        let lacking = self.state.lacks(self.wanted);
+        if lacking.tricks || lacking.score || lacking.contract || lacking.table {
+            let board = self.board.as_slice();
+            analyst.left(self.number, &board[..board.len().min(BOARD_BYTES)], reason);
+        }
+    }
+}
+
+/// The most bytes of the value of a tag Board that are told.
+const BOARD_BYTES: usize = 32;
+
+fn reason_of(unfit: Unfit) -> Reason {
+    match unfit {
+        Unfit::NoDeal => Reason::NoDeal,
+        Unfit::Refused(fault) => Reason::Refused(fault),
+    }
+}
+
+// Can lines stand before what begins here?
+fn has_place(mark: &Mark<'_>) -> bool
+    ensures { result ≡ has_place (shown mark.now) }
+{
+    match *mark {
+        Mark::EmptyLine => true,
+        Mark::Tag { is_first, .. } => is_first,
+        _ => false,
+    }
+}
+
+// How many bytes after this one belong to a tag, where so many with it did.
+fn left_within(left: usize, mark: &Mark<'_>) -> usize
+    ensures { result ≡ left_within left (shown mark.now) }
+{
+    match left {
+        0 => left_of(mark),
+        _ => left - 1,
+    }
+}
+
+fn left_of(mark: &Mark<'_>) -> usize
+    ensures { result ≡ left_of (shown mark.now) }
+{
+    match *mark {
+        Mark::Tag { length, .. } => length.saturating_sub(1),
+        Mark::Cut { length } => length,
+        _ => 0,
+    }
+}
+
+// Is the file closed where it ends so?
+fn is_closed(left: usize, mode: Mode) -> bool
+    ensures { result ≡ is_closed left mode }
+{
+    match (left, mode) {
+        (0, Mode::Braced) => false,
+        (0, _) => true,
+        _ => false,
+    }
+}
+
+// Does a game that lacks these get a line?
+fn needs(lacking: Wanted, has_par: bool) -> bool
+    ensures { result ≡ needs lacking has_par }
+{
+    (lacking.tricks || lacking.table) || (has_par && (lacking.score || lacking.contract))
+}
+
+// Adds the lines for these results.
+fn push_found(
+    out: &mut Vec<u8>,
+    ends: LineEnds,
+    lacking: Wanted,
+    results: &Results,
+    conditions: Option<Conditions>,
+) -> Result<(), AllocError>
+    ensures { OnOk result (AddsFound ends lacking results.now conditions out.old.items out.new.items) }
+{
+    let found = par_of(results, conditions);
+    push_lines(out, ends, lacking, results, &found)
+}
+
+// Par, where who calls first and which sides are vulnerable is known.
+fn par_of(results: &Results, conditions: Option<Conditions>) -> Option<ParResult>
+    ensures { IsParFound results.now conditions (par_found result) }
+{
+    match conditions {
+        Some(conditions) => Some(par(
+            results,
+            conditions.vulnerable,
+            Order::Dealer(conditions.dealer),
+        )),
+        None => None,
+    }
+}
+
+// Adds those lines that are lacking.
+#[tactic(auto, unfolding(crate::specs::Filled::added_text))]
+fn push_lines(
+    out: &mut Vec<u8>,
+    ends: LineEnds,
+    lacking: Wanted,
+    results: &Results,
+    found: &Option<ParResult>,
+) -> Result<(), AllocError>
+    ensures { OnOk result (out.new.items ≡ out.old.items
+        ++ added_text ends lacking (record { table = results.now; par = par_found found.now })) }
+{
+    push_lacking_tricks(out, ends, lacking, results)?;
+    push_lacking_par(out, ends, lacking, found)?;
+    push_lacking_table(out, ends, lacking, results)
+}
+
+fn push_lacking_tricks(
+    out: &mut Vec<u8>,
+    ends: LineEnds,
+    lacking: Wanted,
+    results: &Results,
+) -> Result<(), AllocError>
+    ensures { OnOk result (out.new.items ≡ out.old.items
+        ++ where_lacking lacking.tricks (line_with ends (tricks_line results.now))) }
+{
+    if lacking.tricks {
+        push_tricks(out, ends, results)
+    } else {
+        Ok(())
+    }
+}
+
+fn push_lacking_table(
+    out: &mut Vec<u8>,
+    ends: LineEnds,
+    lacking: Wanted,
+    results: &Results,
+) -> Result<(), AllocError>
+    ensures { OnOk result (out.new.items ≡ out.old.items
+        ++ where_lacking lacking.table (table_text ends results.now)) }
+{
+    if lacking.table {
+        push_table(out, ends, results)
+    } else {
+        Ok(())
+    }
+}
+
+fn push_lacking_par(
+    out: &mut Vec<u8>,
+    ends: LineEnds,
+    lacking: Wanted,
+    found: &Option<ParResult>,
+) -> Result<(), AllocError>
+    ensures { OnOk result (out.new.items ≡ out.old.items ++ par_text ends lacking (par_found found.now)) }
+{
+    match found {
+        Some(found) => push_par(out, ends, lacking, found),
+        None => Ok(()),
+    }
+}
+
+fn push_par(
+    out: &mut Vec<u8>,
+    ends: LineEnds,
+    lacking: Wanted,
+    found: &ParResult,
+) -> Result<(), AllocError>
+    ensures { OnOk result (out.new.items ≡ out.old.items
+        ++ (where_lacking lacking.score (line_with ends (score_line found.now.score))
+        ++ where_lacking lacking.contract (line_with ends (contract_line found.now.contracts.items)))) }
+{
+    push_lacking_score(out, ends, lacking, found.score)?;
+    if lacking.contract {
+        push_contracts(out, ends, found.contracts.as_slice())
+    } else {
+        Ok(())
+    }
+}
+
+fn push_lacking_score(
+    out: &mut Vec<u8>,
+    ends: LineEnds,
+    lacking: Wanted,
+    score: i16,
+) -> Result<(), AllocError>
+    ensures { OnOk result (out.new.items ≡ out.old.items
+        ++ where_lacking lacking.score (line_with ends (score_line score))) }
+{
+    if lacking.score {
+        push_score(out, ends, score)
+    } else {
+        Ok(())
+    }
+}

@@ -1,0 +1,21 @@
+//! Files of PBN 2.1 with the twenty results and par of each deal added, and nothing else changed.
+#![tactic(auto)]
+
+mod analyst;
+mod engine;
+mod fill_state;
+mod filler;
+mod kept;
+mod known_tag;
+mod laws;
+mod line_text;
+mod mark;
+mod mode;
+mod tag_reader;
+mod value;
+mod wanted;
+
+pub use analyst::{Analyst, DealFault, Reason};
+pub use engine::{FileFault, fill_file};
+pub use laws::filling_keeps_the_file;
+pub use wanted::Wanted;

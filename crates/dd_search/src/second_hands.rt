@@ -1,0 +1,98 @@
+//! Whom to ask, before a lead is tried, whether its winners settle it: an opponent of the leader that has the highest card left of
+//! the suit, once for each suit, and of side suits once for each opponent.
+ghost use Rattle.std.specs.Prelude.{IfSome};
+ghost use Rattle.dd_quick.specs.SecondHand.{Opposes};
+
+use dd_cards::{Card, Hand, Seat, Strain, Suit};
+use dd_play::Position;
+use dd_rank::{OwnerStrings, Signature};
+
+// In what a signature tells of a suit: the highest card is an opponent's, and it is one of the last two hands'.
+const OPPONENTS: u8 = 2;
+
+const LAST_TWO: u8 = 8;
+
+/// Whom it serves to ask at a start of a trick. Any answer is right: no contract rests on who was asked.
+#[derive(Debug, Drop)]
+pub(crate) struct SecondHands {
+    // none where no card is led
+    tops: Option<Signature>,
+    // the leads of suits of which nobody was asked yet
+    unasked: Hand,
+    // which opponents were asked of a side suit in vain: they have too few winners for any
+    left_fails: bool,
+    right_fails: bool,
+}
+
+impl SecondHands {
+    /// At the start with these strings, where these cards may be led.
+    #[inline(always)]
+    pub(crate) fn of(strings: Option<&OwnerStrings>, choices: Hand) -> SecondHands {
+        let tops = match strings {
+            Some(strings) => Some(strings.signature()),
+            None => None,
+        };
+        SecondHands {
+            tops,
+            unasked: choices,
+            left_fails: false,
+            right_fails: false,
+        }
+    }
+
+    /// The opponent to ask before this card is led.
+    #[inline]
+    pub(crate) fn to_ask(&mut self, position: &Position, card: Card) -> Option<Seat>
+        ensures { IfSome result (λ seat. Opposes position.now seat) }
+    {
+        let suit = card.suit;
+        let tops = self.tops?.of_suit(suit);
+        if !self.unasked.has(card) {
+            return None;
+        }
+        self.unasked = self.unasked.without_suit(suit);
+        let leader = position.first();
+        if tops & OPPONENTS == 0 || ruffs(position, leader.partner(), suit) {
+            return None;
+        }
+        let right = tops & LAST_TWO != 0;
+        let fails = if right {
+            self.right_fails
+        } else {
+            self.left_fails
+        };
+        if fails && position.strain() != Strain::Trump(suit) {
+            return None;
+        }
+        if right {
+            Some(leader.right())
+        } else {
+            Some(leader.left())
+        }
+    }
+
+    /// It was asked in vain of a lead of this suit.
+    #[inline]
+    pub(crate) fn was_in_vain(&mut self, position: &Position, seat: Seat, suit: Suit) {
+        if position.strain() == Strain::Trump(suit) {
+            return;
+        }
+        if seat == position.first().left() {
+            self.left_fails = true;
+        } else {
+            self.right_fails = true;
+        }
+    }
+}
+
+// Can the hand ruff a lead of the suit?
+#[inline]
+fn ruffs(position: &Position, seat: Seat, suit: Suit) -> bool {
+    let hands = position.hands();
+    match position.strain() {
+        Strain::Trump(trump) if trump != suit => {
+            hands.holding(seat, suit).is_empty() && !hands.holding(seat, trump).is_empty()
+        }
+        _ => false,
+    }
+}

@@ -1,0 +1,14 @@
+# Completion of ddserve for bash.
+_ddserve() {
+    local cur=${COMP_WORDS[COMP_CWORD]} words='solve serve help --help --version'
+    if [ "$COMP_CWORD" -gt 1 ]; then
+        case ${COMP_WORDS[1]} in
+        solve) words='--budget --entries --workers --help' ;;
+        serve) words='--listen --websocket --workers --shards --entries --budget --events --idle --allow-stop --help' ;;
+        help) words='solve serve' ;;
+        *) words='' ;;
+        esac
+    fi
+    mapfile -t COMPREPLY < <(compgen -W "$words" -- "$cur")
+}
+complete -F _ddserve ddserve

@@ -1,0 +1,173 @@
+#!/usr/bin/env bash
+# Tests the packages of the programs given (as for build.sh): the same bytes of two builds, lintian without errors, each option of the
+# program's help in the page of the manual and in the completions, and in a bare Debian made by debootstrap: installed, it answers, the unit
+# verifies, its command serves, systemd runs it in a container, and nothing stays when it is purged. Ends with 77 where a tool is missing, and says which. It has to be
+# root, for debootstrap. BARE names a folder in which a bare Debian is kept for the next time.
+set -eu
+here=$(cd -- "$(dirname -- "$0")" && pwd)
+missing() {
+    echo "packaging/test.sh: $1 is missing" >&2
+    exit 77
+}
+fail() {
+    echo "packaging/test.sh: $1" >&2
+    exit 1
+}
+for tool in lintian debootstrap systemd-analyze systemd-nspawn zsh python3 man; do
+    command -v "$tool" > /dev/null || missing "the command $tool"
+done
+[ "$(id -u)" = 0 ] || missing 'root'
+work=$(mktemp -d)
+server=''
+trap 'for it in $server; do kill "$it" 2> /dev/null || true; done; rm -rf --one-file-system "$work"' EXIT
+
+# Two builds, in other folders and with another mask and clock zone.
+mapfile -t first < <("$here/build.sh" "$@" "$work/first")
+mapfile -t second < <(umask 077 && TZ=Asia/Tokyo TMPDIR=$work "$here/build.sh" "$@" "$work/second")
+[ ${#first[@]} = 2 ] || fail 'no packages were made'
+for at in 0 1; do
+    cmp "${first[at]}" "${second[at]}"
+done
+tarball=${first[0]} deb=${first[1]}
+echo 'packages: two builds make the same bytes'
+
+lintian --allow-root --fail-on error --display-level '>=warning' --suppress-tags bogus-mail-host "$deb"
+echo 'packages: lintian has no errors'
+
+# The tarball, where it was unpacked and through a link; and each option of the help.
+tar -xzf "$tarball" -C "$work"
+tree=$(find "$work" -maxdepth 1 -name 'ddserve-*' -type d)
+ln -s "$tree/bin/ddserve" "$work/link"
+line='{"do":"solve","deal":"N:A... K... Q... J...","trump":4,"first":0,"solutions":3}'
+reply='{"cards":[{"equals":0,"rank":14,"score":1,"suit":0}]}'
+for program in "$tree/bin/ddserve" "$work/link"; do
+    [ "$(echo "$line" | "$program" solve)" = "$reply" ] || fail "$program doesn't answer"
+done
+[ "$("$tree/bin/ddserve" --version)" = "ddserve $(sed -n 's/^## \([0-9.]*\)$/\1/p' "$tree/CHANGELOG.md" | head -1)" ] || fail 'the version is not that of the changelog'
+man -l "$tree/share/man/man1/ddserve.1" 2>&1 > "$work/page" | grep . && fail 'the page of the manual has mistakes'
+bash -n "$tree/share/bash-completion/completions/ddserve"
+zsh -n "$tree/share/zsh/site-functions/_ddserve"
+commands=$("$tree/bin/ddserve" --help | sed -n '/^Commands:/,/^$/s/^  \([a-z][a-z]*\) .*/\1/p')
+for command in $commands; do
+    for page in "$tree/share/bash-completion/completions/ddserve" "$tree/share/zsh/site-functions/_ddserve"; do
+        grep -q -w -- "$command" "$page" || fail "$page doesn't have the command $command"
+    done
+    [ "$command" = help ] || for option in $("$tree/bin/ddserve" "$command" --help | grep -o '^ *\(-[a-z], \)*--[a-z-]*' | grep -o -- '--[a-z-]*'); do
+        for page in "$work/page" "$tree/share/bash-completion/completions/ddserve" "$tree/share/zsh/site-functions/_ddserve"; do
+            tr '\342\200\220' '-' < "$page" | grep -q -- "$option" || grep -q -- "$option" "$page" || fail "$page doesn't have the option $option of $command"
+        done
+    done
+done
+complete() { # WORDS.. : what bash completes the last one to
+    bash -c '. "$1"; shift; COMP_WORDS=("$@"); COMP_CWORD=$(($# - 1)); _ddserve; echo "${COMPREPLY[*]}"' - "$tree/share/bash-completion/completions/ddserve" "$@"
+}
+[ "$(complete ddserve so)" = solve ] && [ "$(complete ddserve serve --we)" = --websocket ] || fail 'bash completes wrongly'
+echo 'packages: the tarball answers, and its pages have each option'
+
+# A bare Debian.
+bare=$work/bare
+if [ -n "${BARE:-}" ] && [ -e "$BARE/base.tar" ]; then
+    mkdir "$bare"
+    tar -xf "$BARE/base.tar" -C "$bare"
+else
+    # shellcheck disable=SC1091
+    debootstrap --variant=minbase "$(. /etc/os-release && echo "$VERSION_CODENAME")" "$bare" ${MIRROR:+"$MIRROR"} > "$work/log" 2>&1 || { tail -5 "$work/log" >&2; fail 'debootstrap failed'; }
+    [ -z "${BARE:-}" ] || tar -cf "$BARE/base.tar" -C "$bare" .
+fi
+cp "$deb" "$bare/ddserve.deb"
+start=$(date +%s%N)
+chroot "$bare" dpkg -i /ddserve.deb > "$work/log" 2>&1 || { cat "$work/log" >&2; fail 'dpkg failed'; }
+grep -q 'Package: ddserve' "$bare/var/lib/dpkg/status"
+mkdir -p "$bare/proc"
+cp /proc/cpuinfo "$bare/proc/cpuinfo"
+[ "$(echo "$line" | chroot "$bare" ddserve solve)" = "$reply" ] || fail 'it does not answer in a bare Debian'
+echo "packages: in a bare Debian the first answer came $((($(date +%s%N) - start) / 1000000)) ms after the start of the installation"
+# The choice, with scripts in the place of the programs and processors that are written down.
+mkdir -p "$bare/try/bin" "$bare/try/libexec/ddserve"
+cp "$bare/usr/bin/ddserve" "$bare/try/bin/ddserve"
+chooses() { # WANTED FLAGS PROGRAMS..
+    wanted=$1
+    printf 'processor\t: 0\nflags\t\t: %s\n' "$2" > "$bare/proc/cpuinfo"
+    shift 2
+    rm -f "$bare"/try/libexec/ddserve/*
+    for form in "$@"; do
+        printf '#!/bin/sh\necho %s "$@"\n' "$form" > "$bare/try/libexec/ddserve/ddserve-$form"
+        chmod 755 "$bare/try/libexec/ddserve/ddserve-$form"
+    done
+    got=$(chroot "$bare" /try/bin/ddserve solve --workers 4 2> /dev/null) || got=none
+    [ "$got" = "$wanted" ] || fail "of the programs $* it chooses '$got' for a processor with '$(sed -n 's/^flags//p' "$bare/proc/cpuinfo")'"
+}
+newer='fpu sse4_2 abm avx avx2 bmi1 bmi2 f16c fma movbe rdrand'
+chooses 'v3 solve --workers 4' "$newer" v2 v3
+chooses 'v2 solve --workers 4' "${newer/ avx2/}" v2 v3
+chooses 'v2 solve --workers 4' "$newer" v2
+chooses none "${newer/ movbe/}" v3
+rm "$bare/proc/cpuinfo"
+[ "$(chroot "$bare" ddserve --version)" = "ddserve $(sed -n 's/^## \([0-9.]*\)$/\1/p' "$tree/CHANGELOG.md" | head -1)" ] || [ ! -e "$bare/usr/libexec/ddserve/ddserve-v2" ] || fail 'without a word on the processor it does not start'
+rm -r "$bare/try"
+cp /proc/cpuinfo "$bare/proc/cpuinfo"
+# The unit, among those of this machine.
+root=$work/root
+mkdir -p "$root/lib/systemd"
+cp -r /lib/systemd/system "$root/lib/systemd/"
+dpkg-deb -x "$deb" "$root"
+systemd-analyze verify --root="$root" --man=no ddserve.service > "$work/said" 2>&1 || { cat "$work/said" >&2; fail 'the unit does not verify'; }
+! grep ddserve "$work/said" >&2 || fail 'the unit has mistakes'
+# What ExecStart says, with the settings of the package.
+listen=127.0.0.1:0
+chroot "$bare" ddserve serve --listen "$listen" > "$work/said" &
+server=$!
+for _ in $(seq 100); do
+    grep -q listening "$work/said" && break
+    sleep 0.1
+done
+port=$(sed -n 's/^listening on 127.0.0.1:\([0-9]*\)$/\1/p' "$work/said")
+[ -n "$port" ] || fail 'it does not serve in a bare Debian'
+asked() { # PORT: what the server replies, which may be about to start
+    python3 -c '
+import socket, sys, time
+for attempt in range(600):
+    try:
+        with socket.create_connection(("127.0.0.1", int(sys.argv[1])), timeout=30) as stream, stream.makefile("rw") as lines:
+            lines.write(sys.argv[2] + "\n")
+            lines.flush()
+            sys.exit(print(lines.readline().rstrip()))
+    except ConnectionError:
+        time.sleep(0.1)' "$1" "${line%\}},\"wait\":30000}"
+}
+served="${reply%\}},\"job\":1,\"state\":\"done\"}"
+told=$(asked "$port")
+[ "$told" = "$served" ] || fail "it serves '$told' in a bare Debian"
+kill "$server"
+wait "$server" 2> /dev/null || true
+server=''
+
+# Under systemd, which is started in a container of this Debian. Its network is that of the machine.
+rm -rf "$bare/proc/cpuinfo"
+cp /etc/resolv.conf "$bare/etc/resolv.conf"
+systemd-nspawn -q --register=no --keep-unit -D "$bare" sh -c 'apt-get update && DEBIAN_FRONTEND=noninteractive apt-get install -y --no-install-recommends systemd systemd-sysv' \
+    > "$work/log" 2>&1 || { tail -5 "$work/log" >&2; fail 'systemd could not be installed in the bare Debian'; }
+port=$(python3 -c 'import socket; it = socket.create_server(("127.0.0.1", 0)); print(it.getsockname()[1])')
+sed -i "s/^DDSERVE_LISTEN=.*/DDSERVE_LISTEN=127.0.0.1:$port/; s/^DDSERVE_OPTIONS=.*/DDSERVE_OPTIONS=\"--workers 1 --events 2048\"/" "$bare/etc/default/ddserve"
+chroot "$bare" systemctl enable ddserve.service > "$work/log" 2>&1
+systemd-nspawn -q --register=no --keep-unit -D "$bare" --boot < /dev/null > "$work/log" 2>&1 &
+server=$!
+running() { # the number of the process that serves
+    grep -lsz -- "^127.0.0.1:$port\$" /proc/[0-9]*/cmdline | sed -n 's|/proc/\([0-9]*\)/.*|\1|p' | head -1
+}
+[ "$(asked "$port")" = "$served" ] || { tail -5 "$work/log" >&2; fail 'systemd does not run the unit'; }
+first=$(running)
+tr '\0' ' ' < "/proc/$first/cmdline" | grep -q -- '--workers 1 --events 2048' || fail 'the unit does not take its options from /etc/default/ddserve'
+for line_of in 'Uid:.[1-9]' 'CapEff:.0000000000000000' 'NoNewPrivs:.1' 'Seccomp:.2'; do
+    grep -q "^$line_of" "/proc/$first/status" || fail "the service runs without $line_of"
+done
+kill -KILL "$first"
+[ "$(asked "$port")" = "$served" ] && [ "$(running)" != "$first" ] || fail 'the unit is not started again'
+kill "$server"
+wait "$server" 2> /dev/null || true
+server=''
+echo 'packages: systemd runs the unit with a user and filters of its own, and starts it again'
+chroot "$bare" dpkg --purge ddserve > "$work/log" 2>&1 || { cat "$work/log" >&2; fail 'dpkg --purge failed'; }
+left=$(find "$bare" -xdev -path "$bare/proc" -prune -o -name '*ddserve*' -print | grep -v -e '/ddserve.deb$' -e '/var/log/' || true)
+[ -z "$left" ] || fail "a purge leaves $left"
+echo 'packages: the unit verifies, and a purge leaves nothing'

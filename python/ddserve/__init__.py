@@ -1,0 +1,56 @@
+"""Double-dummy answers of ddserve: the tricks of each card, the twenty results of a deal, par, and the trace of a play.
+
+`table`, `solve`, `leads`, `par` and `play` ask a program that is started with the first question. `Solver`, `Client`,
+`AsyncSolver`, `AsyncClient` and `Pool` are for more."""
+from . import requests
+from .aio import AsyncClient, AsyncSolver
+from .bridge import Card, Seat, Side, Strain, Suit, Vulnerable
+from .client import Client
+from .deal import BadDeal, Deal
+from .default import ask, leads, par, play, solve, table
+from .faults import FAULTS, Cancelled, Ended, Error, Fault, NoProgram, NoServer, Spent
+from .pool import Pool
+from .requests import Request
+from .results import Cards, Choice, Contract, Par, Play, Step, Table
+from .solver import Solver
+
+__version__ = "0.2.0"
+
+__all__ = [
+    "FAULTS",
+    "AsyncClient",
+    "AsyncSolver",
+    "BadDeal",
+    "Cancelled",
+    "Card",
+    "Cards",
+    "Choice",
+    "Client",
+    "Contract",
+    "Deal",
+    "Ended",
+    "Error",
+    "Fault",
+    "NoProgram",
+    "NoServer",
+    "Par",
+    "Play",
+    "Pool",
+    "Request",
+    "Seat",
+    "Side",
+    "Solver",
+    "Spent",
+    "Step",
+    "Strain",
+    "Suit",
+    "Table",
+    "Vulnerable",
+    "ask",
+    "leads",
+    "par",
+    "play",
+    "requests",
+    "solve",
+    "table",
+]

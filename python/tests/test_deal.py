@@ -1,0 +1,87 @@
+"""Deals, cards and the words of bridge, from the forms in which people have them."""
+import pickle
+import random
+from typing import Callable, Dict, List
+
+import pytest
+
+from ddserve import BadDeal, Card, Deal, Seat, Strain, Suit, Vulnerable
+from ddserve.bridge import SeatLike, StrainLike
+from ddserve.deal import HandLike
+
+PBN = "N:J6.72.AQ7643.AJ7 Q9842.Q854.T.K42 AT75.AT9.KJ8.T83 K3.KJ63.952.Q965"
+# The same deal, as a line of BBO has it: from South clockwise, with East's hand left out.
+LIN = "qx|o1|md|3SAT75HAT9DKJ8CT83,SK3HKJ63D952CQ965,SJ6H72DAQ7643CAJ7,|rh||ah|Board 1|sv|o|mb|p|"
+
+
+@pytest.mark.parametrize(
+    "text, suit, rank",
+    [("SA", Suit.SPADES, 14), ("as", Suit.SPADES, 14), ("♥10", Suit.HEARTS, 10), ("HT", Suit.HEARTS, 10), ("2c", Suit.CLUBS, 2), ("D9", Suit.DIAMONDS, 9)],
+)
+def test_a_card_is_read_in_either_order(text: str, suit: Suit, rank: int) -> None:
+    assert Card.of(text) == (suit, rank)
+
+
+@pytest.mark.parametrize("text", ["", "S", "SX", "S1", "AA", "S11", "10"])
+def test_what_is_no_card_is_refused(text: str) -> None:
+    with pytest.raises(ValueError):
+        Card.of(text)
+
+
+def test_words_have_the_numbers_of_the_protocol() -> None:
+    strains: List[StrainLike] = ["S", "hearts", "♦", "c", "NT", "N", 4]
+    assert [Strain.of(it) for it in strains] == [0, 1, 2, 3, 4, 4, 4]
+    seats: List[SeatLike] = ["N", "east", "S", 3]
+    assert [Seat.of(it) for it in seats] == [0, 1, 2, 3]
+    assert [Vulnerable.of(it) for it in ("None", "-", "Love", "All", "Both", "NS", "E-W")] == [0, 0, 0, 1, 1, 2, 3]
+    wrong: List[Callable[[], object]] = [lambda: Strain.of("X"), lambda: Seat.of("Q"), lambda: Vulnerable.of("some"), lambda: Strain.of(5)]
+    for of in wrong:
+        with pytest.raises(ValueError):
+            of()
+
+
+@pytest.mark.parametrize(
+    "text",
+    [
+        PBN,
+        f'[Deal "{PBN}"]',
+        f'[Event "x"]\n[Deal "{PBN}"]\n[Dealer "N"]\n',
+        "E:Q9842.Q854.T.K42 AT75.AT9.KJ8.T83 K3.KJ63.952.Q965 J6.72.AQ7643.AJ7",
+        "S:at75.9ta.kj8.t83  3k.kj63.952.q965 j6.72.aq7643.aj7 q9842.q854.10.k42",
+        LIN,
+        "https://www.bridgebase.com/tools/handviewer.html?lin=md%7C3SAT75HAT9DKJ8CT83%2CSK3HKJ63D952CQ965%2CSJ6H72DAQ7643CAJ7%2C%7C",
+        "3SAT75HAT9DKJ8CT83,SK3HKJ63D952CQ965,SJ6H72DAQ7643CAJ7,SQ9842HQ854DTCK42",
+        "sat75hat9dkj8ct83,sk3hkj63d952cq965,sj6h72daq7643caj7",
+    ],
+)
+def test_one_deal_in_many_forms(text: str) -> None:
+    assert Deal.of(text).pbn == PBN
+
+
+def test_a_deal_from_cards() -> None:
+    hands: Dict[SeatLike, HandLike] = {"S": ["SA", "HK"], Seat.NORTH: "32..5.", "E": [("C", 9), "D2"], "W": []}
+    deal = Deal.from_cards(hands)
+    assert deal.pbn == "N:32..5. ..2.9 A.K.. ..."
+    assert Deal.from_cards(["A...", "K...", "Q...", "J..."]).cards("W") == (Card(Suit.SPADES, 11),)
+    assert deal.holder("HK") == Seat.SOUTH and deal.holder("CA") is None
+    assert deal.without(["HK", "D5"]).pbn == "N:32... ..2.9 A... ..."
+    assert Deal.of(deal) is deal and pickle.loads(pickle.dumps(deal)) == deal and len({deal, deal}) == 1
+
+
+@pytest.mark.parametrize(
+    "text",
+    ["", "N:", "N:A... K... Q...", "X:A... K... Q... J...", "N:A.. K... Q... J...", "N:A... A... Q... J...", "N:1... K... Q... J...", "3SAT,SK", "md|3S|"],
+)
+def test_what_is_no_deal_is_refused(text: str) -> None:
+    with pytest.raises(BadDeal):
+        Deal.of(text)
+
+
+def test_deals_by_chance() -> None:
+    deal = Deal.by_chance(rng=random.Random(1))
+    assert sorted(card for seat in Seat for card in deal.cards(seat)) == sorted(Card(suit, rank) for suit in Suit for rank in range(2, 15))
+    assert all(len(deal.cards(seat)) == 13 for seat in Seat)
+    assert deal == Deal.by_chance(rng=random.Random(1)) != Deal.by_chance(rng=random.Random(2))
+    assert [len(Deal.by_chance(3).cards(seat)) for seat in Seat] == [3] * 4
+    with pytest.raises(BadDeal):
+        Deal.by_chance(14)
