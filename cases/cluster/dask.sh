@@ -14,6 +14,7 @@ workers_are_there() {
 
 start_dask() {
     mkdir -p "$work/dask"
+    . "$top/examples/cluster/dask/quiet.sh"
     "$python" -m distributed.cli.dask_scheduler --host 127.0.0.1 --port 42300 --no-dashboard > "$work/dask/scheduler" 2>&1 &
     dask_ids=($!)
     for number in 1 2 3 4; do
