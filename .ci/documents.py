@@ -17,7 +17,7 @@ import re
 import sys
 
 # Not the changelog: it is of what was, too.
-PAGES = ["README.md", "CONTRIBUTING.md", "docs/*.md", "crates/*/README.md", "bench/README.md", "cases/README.md"]
+PAGES = ["README.md", "CONTRIBUTING.md", "docs/*.md", "crates/*/README.md", "bench/README.md", "cases/README.md", "examples/**/README.md"]
 CODE = (".rt", ".antt", ".sh", ".py", ".rs", ".cpp", ".txt", ".edit", ".tsv")
 FILES = (*CODE, ".md", ".jsonl", ".expected", ".pbn")
 # Where a path of a crate's README may begin.
@@ -153,7 +153,7 @@ def texts(lines):
 
 
 found = 0
-for page in sorted(path for pattern in PAGES for path in glob.glob(pattern)):
+for page in sorted(path for pattern in PAGES for path in glob.glob(pattern, recursive=True)):
     own = page.split("/")[1:2] if page.startswith("crates/") else []
     shown = list(texts(read(page).split("\n")))
     sections = {}
