@@ -66,31 +66,27 @@ cut_off() { # PID NAME
     wait "$1" 2> /dev/null || true
 }
 
-# Sets `seconds` and `processor` to what a command takes.
-measure() { # COMMAND..
-    local start=$EPOCHREALTIME before
-    before=$(spent)
-    "$@"
-    read -r seconds processor < <(echo "$start $EPOCHREALTIME $before $(spent)" | awk '{ printf "%.1f %.1f\n", $2 - $1, $4 - $3 }')
-}
-
-by_one_process() {
-    "$ddserve" solve --workers 4 < "$deals" > "$work/replies"
-}
-
-less() { # A B
-    awk "BEGIN { print $1 < $2 ? $1 : $2 }"
-}
-
+# Runs a way and one process of four workers at the same time, so that both have the same other work beside them, and tells what each
+# takes. The way's processor seconds are all that are spent here but for those of the one process: clients and daemons count.
 beside_one_process() { # FUNCTION
-    local one=9e9 one_used=9e9 way=9e9 way_used=9e9
-    for _ in $(seq "${RUNS:-2}"); do
-        measure by_one_process
-        one=$(less "$seconds" "$one") one_used=$(less "$processor" "$one_used")
-        measure "$1" "$work/replies"
-        cmp "$work/replies" "$wanted" || fail "$1: the replies are not those of one process"
-        way=$(less "$seconds" "$way") way_used=$(less "$processor" "$way_used")
-    done
-    awk "BEGIN { printf \"%s: %.1f s, %.1f processor seconds; solve --workers 4: %.1f s, %.1f; ratio %.2f, %.2f\", \"${1#by_}\", $way, $way_used, $one, $one_used, $way / $one, $way_used / $one_used }"
+    local before start end way one
+    before=$(spent)
+    one_process &
+    one=$!
+    start=$EPOCHREALTIME
+    "$1" "$work/replies"
+    end=$EPOCHREALTIME
+    wait "$one"
+    cmp "$work/replies" "$wanted" || fail "${1#by_}: the replies are not those of one process"
+    cmp "$work/one" "$wanted" || fail 'one process gives other replies than before'
+    echo "${1#by_} $start $end $before $(spent) $(cat "$work/one.times")" | awk '{
+        way = $5 - $4 - $7 - $8
+        printf "%s: %.1f s, %.1f processor seconds; solve --workers 4 beside it: %.1f s, %.1f; ratio %.2f, %.2f", $1, $3 - $2, way, $6, $7 + $8, ($3 - $2) / $6, way / ($7 + $8)
+    }'
     echo "; load $(cut -d ' ' -f 1 /proc/loadavg)"
+}
+
+one_process() {
+    local TIMEFORMAT='%R %U %S'
+    { time "$ddserve" solve --workers 4 < "$deals" > "$work/one"; } 2> "$work/one.times"
 }

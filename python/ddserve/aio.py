@@ -6,7 +6,7 @@ from types import TracebackType
 from typing import Awaitable, Callable, List, Optional, Type, TypeVar
 
 from .client import PATIENCE, WAIT, Retries
-from .faults import Ended, Fault, NoProgram, NoServer
+from .faults import Cancelled, Ended, Fault, NoProgram, NoServer
 from .questions import AsyncQuestions
 from .requests import Exchange, Reply, Request, reply_of
 from .solver import command, processors
@@ -125,7 +125,7 @@ class AsyncClient(Channels):
                 if not self._was_there:
                     raise
                 pause = retries.pause_after(error)
-            except (Fault, Ended) as error:
+            except (Fault, Cancelled, Ended) as error:
                 pause = retries.pause_after(error)
                 # The idle connections are likely of the same run, or lost too.
                 await self.close()

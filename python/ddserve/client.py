@@ -7,7 +7,7 @@ import time
 from types import TracebackType
 from typing import Optional, Type, TypeVar
 
-from .faults import CONNECT_ANEW, Ended, Error, Fault, NoServer
+from .faults import CONNECT_ANEW, Cancelled, Ended, Error, Fault, NoServer
 from .questions import Questions
 from .requests import Reply, Request, reply_of
 from .solver import drive
@@ -41,8 +41,8 @@ class Retries:
 class Client(Questions):
     """Questions to a server of lines. It connects with the first one. Threads may share it, one at a time.
 
-    Where the server's run is used up (fault 15), or the connection is lost, it connects anew and asks again, for `patience`
-    seconds. `wait` is how many milliseconds a line waits at the server before it is fetched again."""
+    Where the server's run is used up (fault 15), the server is closing (18, or the job is cancelled), or the connection is lost, it
+    connects anew and asks again, for `patience` seconds. `wait` is how many milliseconds a line waits at the server before it is fetched again."""
 
     def __init__(self, host: str = "127.0.0.1", port: int = 4100, *, wait: int = WAIT, patience: float = PATIENCE) -> None:
         self._address = (host, port)
@@ -63,7 +63,7 @@ class Client(Questions):
                     if not self._was_there:
                         raise
                     pause = retries.pause_after(error)
-                except (Fault, Ended) as error:
+                except (Fault, Cancelled, Ended) as error:
                     pause = retries.pause_after(error)
                 self.close()
                 time.sleep(pause)

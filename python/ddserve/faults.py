@@ -34,7 +34,7 @@ FAULTS: dict[int, Tuple[str, Tuple[str, ...]]] = {
     27: ("target is over 13", ("target",)),
 }
 # The run or the server has to be left: a client connects anew.
-CONNECT_ANEW = (14, 15)
+CONNECT_ANEW = (14, 15, 18)
 
 
 class Error(Exception):
@@ -61,7 +61,7 @@ class Spent(Error):
 
 
 class Cancelled(Error):
-    """The job was cancelled: the server is closing, or gave it up."""
+    """The job was cancelled: the server is closing, or its run is."""
 
 
 class Ended(Error):

@@ -30,6 +30,8 @@ SCRIPTS = [
     ("the run is used up at the fetch", [[{"job": 9}, {"fault": 15}], [DONE]], [2, 1]),
     ("the connection is lost", [[None], [DONE]], [1, 1]),
     ("the connection is lost at the fetch", [[{"job": 1, "state": "waiting"}, None], [DONE]], [2, 1]),
+    ("the server is closing", [[{"fault": 18}], [DONE]], [1, 1]),
+    ("the server is closing at the fetch", [[{"job": 1, "state": "running"}, {"job": 1, "state": "cancelled"}], [DONE]], [2, 1]),
     ("runs one after the other", [[{"fault": 15}], [{"fault": 15}], [None], [DONE]], [1, 1, 1, 1]),
 ]
 
@@ -66,8 +68,8 @@ def test_par_of_a_deal_asks_a_server_for_the_table_first() -> None:
 
 @pytest.mark.parametrize("reply, error", [({"job": 1, "state": "spent"}, Spent), ({"job": 1, "state": "cancelled"}, Cancelled), ({"fault": 18}, Fault)])
 def test_what_has_no_result_is_raised(reply: Dict[str, Any], error: type) -> None:
-    server = Scripted([reply])
-    with Client(port=server.port) as client, pytest.raises(error):
+    server = Scripted(*[[reply]] * 50)
+    with Client(port=server.port, patience=0.2) as client, pytest.raises(error):
         client.solve(ONE_CARD, "NT", "N")
 
 
