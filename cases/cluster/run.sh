@@ -1,10 +1,10 @@
 #!/usr/bin/env bash
-# Runs the built program on more than one worker, by what Debian has for that: GNU parallel over ssh and HAProxy and nginx before
-# servers. All of it stands on loopback, with daemons, keys and folders of its own. 2,000 full deals are solved by four workers.
-# One of them is killed while it works, and the replies have to be those of one process, byte for byte. With `--timed` nothing is
-# killed: each way is run at the same time as `ddserve solve --workers 4`, and what both take is told, RUNS times (1). Words:
-# which of `parallel`, `haproxy`, `nginx` to run (all). DEALS is the number of deals (2000). As root. Where a package is missing
-# it says which, and ends with status 77.
+# Runs the built program on more than one worker, by what Debian has for that: GNU parallel over ssh, HAProxy and nginx before
+# servers, Dask and Slurm. All of it stands on loopback, with daemons, keys and folders of its own. 2,000 full deals are solved by
+# four workers. One of them is killed while it works, and the replies have to be those of one process, byte for byte. With
+# `--timed` nothing is killed: each way is run at the same time as `ddserve solve --workers 4`, and what both take is told, RUNS
+# times (1). Words: which of `parallel`, `haproxy`, `nginx`, `dask`, `slurm` to run (all). DEALS is the number of deals (2000). As
+# root. Where a package is missing it says which, and ends with status 77.
 set -eu
 here=$(cd -- "$(dirname -- "$0")" && pwd)
 if [ "${HELD:-}" != "$PPID" ]; then
@@ -15,9 +15,9 @@ fi
 timed=
 [ "${1:-}" != --timed ] || { timed=1; shift; }
 ways=("$@")
-[ $# -gt 0 ] || ways=(parallel haproxy nginx)
+[ $# -gt 0 ] || ways=(parallel haproxy nginx dask slurm)
 for way in "${ways[@]}"; do
-    [[ $way =~ ^(parallel|haproxy|nginx)$ ]] || { echo "cases/cluster: $way is no way" >&2; exit 2; }
+    [[ $way =~ ^(parallel|haproxy|nginx|dask|slurm)$ ]] || { echo "cases/cluster: $way is no way" >&2; exit 2; }
     . "$here/$way.sh"
     "need_$way"
 done
