@@ -112,9 +112,12 @@ def without_leave():
 
 def bad_starts():
     server = Server("--allow-stop", workers=1)
+    failed = "ddserve: listen failed: "
+    no_address = f"{failed}that is no address; give one as 127.0.0.1:4100 or [::1]:4100\n"
     rows = [
-        (("--listen", f"127.0.0.1:{server.port}"), 1, "ddserve: listen failed\n"), (("--listen", "nowhere"), 1, "ddserve: listen failed\n"),
-        (("--listen", "256.0.0.1:0"), 1, "ddserve: listen failed\n"), (("--listen", ""), 1, "ddserve: listen failed\n"), ((), 2, "--listen"),
+        (("--listen", f"127.0.0.1:{server.port}"), 1, f"{failed}the address is in use\n"),
+        *((("--listen", word), 1, no_address) for word in ("nowhere", "256.0.0.1:0", "", "127.0.0.1", "127.0.0.1:65536", "nowhere:4100")),
+        (("--listen", "192.0.2.1:0"), 1, f"{failed}the address is not one of this machine's\n"), ((), 2, "--listen"),
         (("--listen", "127.0.0.1:0", "--workers", "0"), 2, "--workers"), (("--listen", "127.0.0.1:0", "--workers", "65"), 2, "--workers"),
         (("--listen", "127.0.0.1:0", "--shards", "257"), 2, "--shards"), (("--listen", "127.0.0.1:0", "--entries", "65537"), 2, "--entries"),
         (("--listen", "127.0.0.1:0", "--budget", "1000000000001"), 2, "--budget"), (("--listen", "127.0.0.1:0", "--origin"), 2, "--origin"),

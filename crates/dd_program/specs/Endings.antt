@@ -14,8 +14,10 @@ use Rattle.dd_program.specs.declared.command_line.Args.TheVariants.{Serve, Solve
 use Rattle.dd_program.specs.declared.command_line.ArgumentsFault.{ArgumentsFault}
 use Rattle.dd_program.specs.declared.command_line.ArgumentsFault.TheVariants.{NotText, OutOfMemory as NoMemory}
 use Rattle.dd_program.specs.declared.ending.Ending.{Ending}
-use Rattle.dd_program.specs.declared.ending.Ending.TheVariants.{Answered, Shown, Closed, BadLine, ReadFailed, WriteFailed, ListenFailed, OutOfMemory}
+use Rattle.dd_program.specs.declared.ending.Ending.TheVariants.{Answered, Shown, Closed, BadLine, ReadFailed, WriteFailed, CannotListen, ListenFailed, OutOfMemory}
 use Rattle.dd_program.specs.CommandLine.{Text, Asks}
+use Rattle.dd_program.specs.ListenFaults.{line_of_fault}
+use Rattle.dd_program.specs.declared.listen_fault.ListenFault.{ListenFault}
 use Rattle.dd_program.specs.Program.{program_app}
 use Rattle.dd_server.specs.Histories.{IsLengthOfHistory}
 use Rattle.dd_server.specs.declared.args.ServeFault.{ServeFault}
@@ -30,6 +32,7 @@ status_of Shown = 0
 status_of Closed = 0
 status_of ReadFailed = 1
 status_of WriteFailed = 1
+status_of (CannotListen fault) = 1
 status_of ListenFailed = 1
 status_of OutOfMemory = 1
 status_of BadLine = 2
@@ -38,6 +41,7 @@ status_of BadLine = 2
 abbrev pub line_of : Ending → List ℕ
 line_of ReadFailed = codes "ddserve: read failed\n"
 line_of WriteFailed = codes "ddserve: write failed\n"
+line_of (CannotListen fault) = line_of_fault fault
 line_of ListenFailed = codes "ddserve: listen failed\n"
 line_of OutOfMemory = codes "ddserve: out of memory\n"
 line_of _ = []
@@ -223,10 +227,17 @@ pub record FailsToServe (events : ℕ) (ending : Ending) (old new : Streams) : T
       × (runs : List ℕ) × AreRuns events runs × Writes (closed_texts runs) between new.output)
   pub said : Writes (line_of ending) old.errors new.errors
 
+-- the address can't be listened at: nothing was told, and that was said
+pub record FailsToListen (fault : ListenFault) (old new : Streams) : Type 0 where
+  pub input : new.input ≡ old.input
+  pub output : new.output ≡ old.output
+  pub said : Writes (line_of_fault fault) old.errors new.errors
+
 -- clients are served by runs of so many events, up to this ending
 abbrev pub ServesUntil : ℕ → Streams → Streams → Ending → Type 0
 ServesUntil events old new Closed = Serves events old new
 ServesUntil events old new WriteFailed = FailsToTell events old new
+ServesUntil events old new (CannotListen fault) = FailsToListen fault old new
 ServesUntil events old new ListenFailed = FailsToServe events ListenFailed old new
 ServesUntil events old new OutOfMemory = FailsToServe events OutOfMemory old new
 ServesUntil events old new _ = ⊥

@@ -1,4 +1,5 @@
 pub mod CommandLine
+pub mod ListenFaults
 pub mod Endings
 pub mod Program
 pub mod ServeWords

@@ -1,11 +1,12 @@
 //! The arguments that the program is started with.
 ghost use Rattle.std.specs.Prelude.{◌≡◌, ◌⊎◌, ◌≤◌, IfOk, IfErr, Some, codes, map, string_bytes};
-ghost use Rattle.clap.specs.Words.{app_of, fault_of, found_of, kind_of, rows_of, HasKind};
+ghost use Rattle.clap.specs.Words.{app_of, fault_of, found_of, kind_of, new_app, rows_of, HasKind};
 ghost use Rattle.dd_program.specs.CommandLine.{Asks, HasDefaults, IsInRange, IsSame};
 ghost use Rattle.dd_program.specs.Program.{allow_stop_rule, budget_rule, entries_rule, events_rule, idle_rule, line_workers_rule, listen_rule, program_app, serve_app, shard_entries_rule, shards_rule, solve_app, websocket_rule, workers_rule, number_of, HasNumbers, IsOption, IsSubcommand};
 ghost use Rattle.dd_program.specs.ServeWords.{is_set, limit_in, number_in, AsksToServeBy, IsGiven};
 
 use crate::help::requests;
+use crate::jobs_help::jobs;
 use clap::error::ErrorKind;
 use clap::{Arg, ArgAction, ArgMatches, Command, Error, value_parser};
 use dd_book::MOST_EVENTS;
@@ -254,10 +255,7 @@ fn solve_command<'a>(alloc: Global) -> Result<Command<'a>, AllocError>
 fn serve_command<'a>(alloc: Global) -> Result<Command<'a>, AllocError>
     ensures { IfOk result (λ command. IsSubcommand command serve_app.top) }
 {
-    Command::new(alloc, "serve")
-        .about(
-            "Answers the clients of an address, with a job for each position and workers that search",
-        )
+    bare_serve(alloc)
         .arg(listen_option(alloc))?
         .arg(workers_option(alloc))?
         .arg(shards_option(alloc))?
@@ -267,6 +265,18 @@ fn serve_command<'a>(alloc: Global) -> Result<Command<'a>, AllocError>
         .arg(idle_option(alloc))?
         .arg(websocket_flag(alloc))?
         .arg(allow_stop_flag(alloc))
+}
+
+// The subcommand before it has options.
+fn bare_serve<'a>(alloc: Global) -> Command<'a>
+    ensures app { app_of result ≡ new_app (codes "serve") }
+    ensures top { IsSubcommand result (new_app (codes "serve")).top }
+{
+    Command::new(alloc, "serve")
+        .about(
+            "Answers the clients of an address, with a job for each position and workers that search",
+        )
+        .after_help(jobs())
 }
 
 fn budget_option<'a>(alloc: Global) -> Arg<'a>

@@ -3,6 +3,7 @@ ghost use Rattle.std.specs.Prelude.{◌≡◌};
 ghost use Rattle.std.specs.Process.{exit_status};
 ghost use Rattle.dd_program.specs.Endings.{line_of, status_of};
 
+use crate::listen_fault::ListenFault;
 use std::process::ExitCode;
 
 /// How a run ended.
@@ -20,7 +21,9 @@ pub enum Ending {
     ReadFailed,
     /// A write of the output failed.
     WriteFailed,
-    /// The address could not be listened at, or no more connections could be accepted.
+    /// The address can't be listened at.
+    CannotListen(ListenFault),
+    /// No more connections could be accepted.
     ListenFailed,
     /// Memory ran out outside a line, or a worker's thread could not be had.
     OutOfMemory,
@@ -35,6 +38,7 @@ impl Ending {
         match self {
             Ending::ReadFailed => "ddserve: read failed\n",
             Ending::WriteFailed => "ddserve: write failed\n",
+            Ending::CannotListen(fault) => fault.line(),
             Ending::ListenFailed => "ddserve: listen failed\n",
             Ending::OutOfMemory => "ddserve: out of memory\n",
             Ending::Answered | Ending::Shown | Ending::Closed | Ending::BadLine => "",
@@ -48,8 +52,11 @@ impl Ending {
     {
         match self {
             Ending::Answered | Ending::Shown | Ending::Closed => 0,
-            Ending::ReadFailed | Ending::WriteFailed | Ending::ListenFailed | Ending::OutOfMemory =>
-                1,
+            Ending::ReadFailed
+            | Ending::WriteFailed
+            | Ending::CannotListen(_)
+            | Ending::ListenFailed
+            | Ending::OutOfMemory => 1,
             Ending::BadLine => 2,
         }
     }

@@ -5,6 +5,8 @@ mod ahead;
 mod command_line;
 mod ending;
 mod help;
+mod jobs_help;
+mod listen_fault;
 mod run;
 mod serving;
 mod telling;
@@ -13,4 +15,5 @@ pub use command_line::{
     Args, ArgumentsFault, LEAST_EVENTS, MOST_WORKERS, VERSION, given_arguments, not_text, read_args,
 };
 pub use ending::Ending;
+pub use listen_fault::ListenFault;
 pub use run::run_program;

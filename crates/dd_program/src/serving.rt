@@ -6,6 +6,7 @@ ghost use Rattle.dd_program.specs.declared.command_line.TheConstants.{MOST_WORKE
 ghost use Rattle.dd_server.specs.ServeArgs.{HasTableSize};
 
 use crate::ending::Ending;
+use crate::listen_fault::ListenFault;
 use crate::run::fail;
 use crate::telling::{Telling, serve_told, tell};
 use dd_book::{Limits, MOST_JOBS, MOST_OPEN_JOBS, MOST_PASSES};
@@ -40,11 +41,13 @@ pub(crate) fn serve<
         (streams input (state_of O.contents output.old) (state_of E.contents errors.old))
         (streams input (state_of O.contents output.new) (state_of E.contents errors.new)) result }
 {
-    let Ok(listener) = TcpListener::bind(rt, listen) else {
-        return fail(errors, Ending::ListenFailed);
+    let listener = match TcpListener::bind(rt, listen) {
+        Ok(listener) => listener,
+        Err(error) => return fail(errors, Ending::CannotListen(ListenFault::of(error.kind()))),
     };
-    let Ok(address) = listener.local_addr() else {
-        return fail(errors, Ending::ListenFailed);
+    let address = match listener.local_addr() {
+        Ok(address) => address,
+        Err(error) => return fail(errors, Ending::CannotListen(ListenFault::of(error.kind()))),
     };
     let Ok(listening) = listening_line(alloc, address) else {
         return fail(errors, Ending::OutOfMemory);

@@ -1,5 +1,5 @@
 -- What a call does to the jobs of a book, and what it tells of them.
-use Rattle.std.proofs.Common.{◌≡◌, ℕ, ◌+◌, ◌-◌, Bool, true, false, cond, arith, refl, sym, ap, ◌∙◌, subst, List, [], ◌∷◌, ◌++◌, length, Some, None, ◌⊎◌, inl, inr}
+use Rattle.std.proofs.Common.{◌≡◌, ℕ, ◌+◌, ◌-◌, ◌<◌, Bool, true, false, cond, arith, refl, sym, ap, ◌∙◌, subst, List, [], ◌∷◌, ◌++◌, length, Some, None, ◌⊎◌, inl, inr}
 use Rattle.std.specs.Prelude.{Option, option_and_then, option_map, unwrap_or, slice_get, slice_set, nat_eq, ◌&&◌, ◌==◌}
 use Rattle.std.specs.Option.{is_some}
 use Rattle.std.specs.List.{position, list_all}
@@ -25,11 +25,12 @@ use Rattle.dd_book.specs.declared.job.Stage.{Stage}
 use Rattle.dd_book.specs.declared.job.Stage.TheVariants.{Open, Done, TableDone, TargetDone, PlayDone, Cancelled as CancelledStage, Spent}
 use Rattle.dd_book.specs.declared.parts.Part.{Part}
 use Rattle.dd_book.specs.declared.parts.Part.TheVariants.{Waiting, Ended, Number}
-use Rattle.dd_book.specs.Parts.{is_waiting, is_ended, runs_by}
+use Rattle.dd_book.specs.Next.{next_part}
+use Rattle.dd_book.specs.Parts.{is_ended, runs_by}
 use Rattle.dd_book.specs.Same.{same_question, same_target, same_hands, is_of_play}
 use Rattle.dd_book.specs.Jobs.{JobOf, Turn, if_owned, is_due, is_open, job_after, job_at, job_with, new_job, next_turn, own_job, parts_of, play_stage, shown_stage, stage_after, table_stage, turn, turn_at, turn_of, with_claim, with_job, with_stage}
 use Rattle.dd_book.specs.Calls.{BookOf, after, book_claimed, cancel_told, claim_told, claimed, fetch_told, jobs_after_finish, jobs_cancelled, reply_of, with_jobs}
-use Rattle.dd_book.proofs.CallerLemmas.{job_at-place, refused, same_question-is, same_target-is}
+use Rattle.dd_book.proofs.CallerLemmas.{job_at-place, next-within, refused, same_question-is, same_target-is}
 use Rattle.dd_runs.specs.Steps.{CarriesRight, IsRight}
 use Rattle.dd_runs.proofs.Lists.{set-from, set-or, slice_get-left, slice_get-push, slice_get-push-or}
 
@@ -98,6 +99,20 @@ open-stage test owner asked last Spent part h = absurd (cc)
 has-part : (test : Part → Bool) (job : JobOf) (part : ℕ) → position test (parts_of job.stage) ≡ Some part → is_open job ≡ true
 has-part test job part h = open-stage test job.owner job.asked job.last_claim job.stage part h
 
+-- a part at this place makes its job open
+place-open : (place owner last : ℕ) (asked : Asked) (stage : Stage) → place < length (parts_of stage) → (let job : JobOf = record { owner = owner; asked = asked; stage = stage; last_claim = last } in is_open job) ≡ true
+place-open place owner last asked (Open parts) h = refl
+place-open place owner last asked (Done solved) h = absurd (omega arith)
+place-open place owner last asked (TableDone table) h = absurd (omega arith)
+place-open place owner last asked (TargetDone solved) h = absurd (omega arith)
+place-open place owner last asked (PlayDone tricks) h = absurd (omega arith)
+place-open place owner last asked CancelledStage h = absurd (omega arith)
+place-open place owner last asked Spent h = absurd (omega arith)
+
+-- a job with a part that is claimed next is open
+next-open : (job : JobOf) (part : ℕ) → next_part job.asked (parts_of job.stage) ≡ Some part → is_open job ≡ true
+next-open job part h = place-open part job.owner job.last_claim job.asked job.stage (next-within job.asked (parts_of job.stage) part h)
+
 -- ---- jobs by their numbers
 
 not-zero : (number : ℕ) → (number == 0) ≡ false → number ≡ number - 1 + 1
@@ -133,22 +148,22 @@ own-is : (jobs : List JobOf) (caller number : ℕ) (job : JobOf) → own_job job
 own-is jobs caller number job h = owned-is caller (job_at jobs number) job h
 
 -- the job whose turn is next, with a part that waits
-turn-there : (jobs : List JobOf) (t : Turn) → next_turn jobs ≡ Some t → (slice_get jobs (t.number - 1) ≡ Some t.job) × (position is_waiting (parts_of t.job.stage) ≡ Some t.part)
+turn-there : (jobs : List JobOf) (t : Turn) → next_turn jobs ≡ Some t → (slice_get jobs (t.number - 1) ≡ Some t.job) × (next_part t.job.asked (parts_of t.job.stage) ≡ Some t.part)
 turn-there jobs t h = first (position (is_due jobs) jobs) h
   where
-    of_job : (place : ℕ) (job : JobOf) (o : Option ℕ) → slice_get jobs place ≡ Some job → position is_waiting (parts_of job.stage) ≡ o → option_map (turn place job) o ≡ Some t
-        → (slice_get jobs (t.number - 1) ≡ Some t.job) × (position is_waiting (parts_of t.job.stage) ≡ Some t.part)
+    of_job : (place : ℕ) (job : JobOf) (o : Option ℕ) → slice_get jobs place ≡ Some job → next_part job.asked (parts_of job.stage) ≡ o → option_map (turn place job) o ≡ Some t
+        → (slice_get jobs (t.number - 1) ≡ Some t.job) × (next_part t.job.asked (parts_of t.job.stage) ≡ Some t.part)
     of_job place job None is waits e = absurd (cc)
     of_job place job (Some part) is waits e =
-        subst (λ (u : Turn). (slice_get jobs (u.number - 1) ≡ Some u.job) × (position is_waiting (parts_of u.job.stage) ≡ Some u.part)) (same_Some (turn place job part) t e)
+        subst (λ (u : Turn). (slice_get jobs (u.number - 1) ≡ Some u.job) × (next_part u.job.asked (parts_of u.job.stage) ≡ Some u.part)) (same_Some (turn place job part) t e)
         (ap (slice_get jobs) (omega arith) ∙ is, waits)
 
     at_place : (place : ℕ) (o : Option JobOf) → slice_get jobs place ≡ o → option_and_then (turn_of place) o ≡ Some t
-        → (slice_get jobs (t.number - 1) ≡ Some t.job) × (position is_waiting (parts_of t.job.stage) ≡ Some t.part)
+        → (slice_get jobs (t.number - 1) ≡ Some t.job) × (next_part t.job.asked (parts_of t.job.stage) ≡ Some t.part)
     at_place place None is e = absurd (cc)
-    at_place place (Some job) is e = of_job place job (position is_waiting (parts_of job.stage)) is refl e
+    at_place place (Some job) is e = of_job place job (next_part job.asked (parts_of job.stage)) is refl e
 
-    first : (o : Option ℕ) → option_and_then (turn_at jobs) o ≡ Some t → (slice_get jobs (t.number - 1) ≡ Some t.job) × (position is_waiting (parts_of t.job.stage) ≡ Some t.part)
+    first : (o : Option ℕ) → option_and_then (turn_at jobs) o ≡ Some t → (slice_get jobs (t.number - 1) ≡ Some t.job) × (next_part t.job.asked (parts_of t.job.stage) ≡ Some t.part)
     first None e = absurd (cc)
     first (Some place) e = at_place place (slice_get jobs place) refl e
 
@@ -219,7 +234,7 @@ claim-changes book worker = go (next_turn book.jobs) refl
     go (Some t) is =
         let there = turn-there book.jobs t is in
         let now = with_claim t.job t.part worker (book.claims + 1) in
-        set-changes book.jobs (t.number - 1) t.job now (Claim worker) _ there.0 (moves t.job now (has-part is_waiting t.job t.part there.1) refl refl tt)
+        set-changes book.jobs (t.number - 1) t.job now (Claim worker) _ there.0 (moves t.job now (next-open t.job t.part there.1) refl refl tt)
         (claimed-tells (Claim worker) t.number t.part (book.claims + 1) t.job.asked)
 
 table-right : (b : Bool) (hands : FourHands) (parts : List Part) → EndsRight (Table hands) (cond b (TableDone (hands_results hands)) (Open parts))

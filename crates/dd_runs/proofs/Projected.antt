@@ -6,7 +6,7 @@ use Rattle.dd_book.specs.declared.call.Reply.{Reply}
 use Rattle.dd_runs.specs.Worlds.{Places, World}
 use Rattle.dd_runs.specs.Steps.{Does, IsAllowed, Step, call}
 use Rattle.dd_runs.specs.Runs.{Headline, Leads, WorldLaw}
-use Rattle.dd_runs.specs.ManyRuns.{Worlds, RunStep, RunsLaw, DoesIn, LeadsIn, at_book, at_table, seen_by, step_of, world_of}
+use Rattle.dd_runs.specs.ManyRuns.{Worlds, RunStep, RunsLaw, DoesIn, LeadsIn, at_book, at_table, seen_by, world_of}
 
 -- a call of some run, as this run sees it, before steps that it sees
 seen-call : (at : Places) (us vs : Worlds) (own run k : ℕ) (c : Call) (reply : Reply) (rest : List Step) (w : World)

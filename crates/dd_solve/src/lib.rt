@@ -27,7 +27,7 @@ pub use request::Request;
 pub use solved_play::{MOST_NUMBERS, PlayPart, SolvedPlay, Trace};
 pub use solved_table::{RESULTS, Results, SolvedTable};
 pub use solving::{Solved, solve};
-pub use table_part::{SolvedPart, solve_part};
+pub use table_part::{SolvedPart, solve_part, solve_part_from_guess};
 pub use table_request::{PARTS, TableRequest};
 pub use table_solving::solve_table;
 pub use target_request::{GREATEST_TARGET, TargetRequest};

@@ -93,8 +93,9 @@ pub fn solve_part<B: Bounds, M: Meter>(
     solve_part_from_guess(request, part, None, table, meter)
 }
 
-/// The same, where North and South are thought to take some `first_guess` tricks: the search is the shorter the nearer that is.
-pub(crate) fn solve_part_from_guess<B: Bounds, M: Meter>(
+/// The same, where North and South are thought to take some `first_guess` tricks, any number: the search is the shorter the
+/// nearer that is.
+pub fn solve_part_from_guess<B: Bounds, M: Meter>(
     request: &TableRequest,
     part: u8,
     first_guess: Option<u8>,

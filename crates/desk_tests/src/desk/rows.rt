@@ -167,7 +167,7 @@ enrols: pass 3
 1 submits S: job 1
 1 submits A: job 2
 2 claims: job 1 part 0 claim 1
-3 claims: job 1 part 1 claim 2
+3 claims: job 1 part 4 claim 2
 2 finishes 1 1 stopped: recorded
 2 claims: job 1 part 0 claim 3
 1 fetches 1: running

@@ -9,19 +9,13 @@ use dd_search::{Budget, NoTable};
 use dd_solve::{Asked, PARTS, Request, TableRequest, solve, solve_part};
 use dd_wire::{LineAsked, read_request};
 use dd_work::{NoGate, worker};
+use request_tests::searched::{EIGHT_CARDS_TABLE, NINE_CARDS};
 use std::alloc::{AllocError, Global};
 use std::marker::Brand;
 use std::process::Abort;
 use std::sync::Wait;
 use std::sync::atomic::AtomicBool;
 use std::time::Clock;
-
-// Nine cards a hand: 42,638 positions were visited.
-const LEADS: &str =
-    r#"{"do":"solve","deal":"N:T74.JT.8.AKQ AK2.7.T74.T9 QJ63..653.83 98.Q96.AK.J7","trump":0,"first":1,"solutions":3}"#;
-
-// The table of eight cards a hand.
-const TABLE: &str = r#"{"do":"table","deal":"N:8.73.Q.AT97 954.A.974.8 AK.62.3.J32 T7.94.T85.Q"}"#;
 
 // The most positions that one search is given here.
 const MOST: u64 = 5_000_000;
@@ -106,7 +100,7 @@ fn a_large_budget_and_one_of_a_table_suffice_or_lack_one_position(
     rt: HostRuntime,
 ) -> Result<(), AllocError> {
     let alloc = rt.alloc();
-    for (line, least) in [(LEADS, 30_000), (TABLE, 1_000)] {
+    for (line, least) in [(NINE_CARDS, 30_000), (EIGHT_CARDS_TABLE, 1_000)] {
         let count = least_budget(alloc, line, least).expect(&rt, "so many positions");
         let suffices = !is_spent(&rt, alloc, line, count)?;
         let lacks_one = is_spent(&rt, alloc, line, count.saturating_sub(1))?;

@@ -8,6 +8,7 @@ use dd_book::Limits;
 use dd_search::{Budget, NoTable};
 use dd_solve::{Asked, solve};
 use dd_wire::{LineAsked, read_request, write_answer};
+use request_tests::searched::EIGHT_CARDS;
 use std::alloc::{AllocError, Global};
 use std::process::Abort;
 
@@ -125,13 +126,6 @@ fn a_worker_that_is_stopped_gives_its_job_back(rt: HostRuntime) -> Result<(), Al
     follow(&rt, alloc, &stopped)
 }
 
-// Nine cards a hand, and nobody has led.
-const MANY_CARDS: &str =
-    r#"{"do":"solve","deal":"N:QT6.764.A7.J 95.KJT2.T.87 32.5.Q932.K5 J74.AQ983..4","trump":4,"first":0,"solutions":3}
-{"do":"solve","deal":"N:KJ95.J8.9.76 QT.Q.7.KQJ95 A4.42.T4.AT2 2.AKT.AK63.3","trump":4,"first":0,"solutions":3}
-{"do":"solve","deal":"N:7.QJ4.75.T93 J4.T5.A6.Q52 Q865.73.Q9.7 3.986.KT3.A8","trump":4,"first":0,"solutions":3}
-{"do":"solve","deal":"N:2.A976.K7.A7 64.T.T93.JT6 .QJ2.A54.985 98753.5.82.K","trump":4,"first":0,"solutions":3}"#;
-
 // How many positions the search for the line comes to, over no table, where these are more than 1,000 and no more than 20,000,
 // and its answer.
 fn needed(alloc: Global, line: &str) -> Option<(u64, String)> {
@@ -151,7 +145,7 @@ fn needed(alloc: Global, line: &str) -> Option<(u64, String)> {
 #[test]
 fn a_budget_suffices_or_lacks_one_position(rt: HostRuntime) -> Result<(), AllocError> {
     let alloc = rt.alloc();
-    for line in MANY_CARDS.lines() {
+    for line in EIGHT_CARDS.lines() {
         if let Some((count, answer)) = needed(alloc, line) {
             let most = [(count, answer.as_str()), (count.saturating_sub(1), "spent")];
             for (budget, shown) in most {

@@ -10,6 +10,14 @@ enum Part {
     Ended,
 }
 
+// Does a part of this strain wait, and has no worker another?
+fn is_free(strain: &[Part]) -> bool {
+    strain.iter().any(|part| *part == Part::Waiting)
+        && !strain
+            .iter()
+            .any(|part| matches!(*part, Part::Running(_, _)))
+}
+
 // A job that has ended has no parts.
 #[derive(Drop)]
 struct Job {
@@ -36,6 +44,25 @@ impl Job {
 
     fn waits(&self) -> bool {
         self.parts.iter().any(|part| *part == Part::Waiting)
+    }
+
+    // The part that is claimed next: of a play the last one that waits; of a table the first of a strain without a worker, else
+    // the first that waits.
+    fn next_part(&self) -> Option<usize> {
+        let mut waiting = self.parts.iter();
+        match self.asks {
+            Asks::Play => waiting.rposition(|part| *part == Part::Waiting),
+            Asks::Table => match self.parts.chunks(4).position(is_free) {
+                Some(strain) => {
+                    let ahead = strain * 4;
+                    let mut rest = self.parts.iter().skip(ahead);
+                    let place = rest.position(|part| *part == Part::Waiting)?;
+                    Some(ahead + place)
+                }
+                None => waiting.position(|part| *part == Part::Waiting),
+            },
+            _ => waiting.position(|part| *part == Part::Waiting),
+        }
     }
 
     fn set(&mut self, place: usize, state: Part) -> MadeReply {
@@ -204,7 +231,7 @@ impl Second {
         let Some(found) = self.jobs.get_mut(place) else {
             return Ok(idle);
         };
-        let Some(part) = found.parts.iter().position(|part| *part == Part::Waiting) else {
+        let Some(part) = found.next_part() else {
             return Ok(MadeReply::NothingWaits);
         };
         found.set(part, Part::Running(worker, claim));

@@ -151,11 +151,11 @@ fn an_owner_of_64_tables_and_one_of_a_job_are_claimed_for_in_turn(
 9 claims: job 2 part 0 claim 2
 2 submits B: job 66
 9 claims: job 66 claim 3
-9 claims: job 2 part 1 claim 4
-9 claims: job 2 part 2 claim 5
+9 claims: job 2 part 4 claim 4
+9 claims: job 2 part 8 claim 5
 2 submits A: job 67
 9 claims: job 67 claim 6
-9 claims: job 2 part 3 claim 7";
+9 claims: job 2 part 12 claim 7";
     rows.push_str(claims)?;
     follow(&rt, alloc, ample(&rt), rows.as_str())
 }
@@ -165,7 +165,7 @@ fn a_table_is_claimed_part_by_part_and_cancelled_whole(rt: HostRuntime) -> Resul
     let rows = "1 submits T: job 1
 1 submits A: job 2
 8 claims: job 1 part 0 claim 1
-9 claims: job 1 part 1 claim 2
+9 claims: job 1 part 4 claim 2
 8 finishes 1 1 stopped: recorded
 8 claims: job 1 part 0 claim 3
 1 fetches 1: running
@@ -173,6 +173,28 @@ fn a_table_is_claimed_part_by_part_and_cancelled_whole(rt: HostRuntime) -> Resul
 1 cancels 1: cancelled 1
 9 finishes 1 2 b: stale
 9 claims: job 2 claim 4";
+    follow(&rt, rt.alloc(), ample(&rt), rows)
+}
+
+#[test]
+fn a_strain_is_left_to_its_worker_while_another_waits(rt: HostRuntime) -> Result<(), AllocError> {
+    let rows = "1 submits T: job 1
+1 claims: job 1 part 0 claim 1
+2 claims: job 1 part 4 claim 2
+3 claims: job 1 part 8 claim 3
+2 finishes 1 2 e: recorded
+2 claims: job 1 part 5 claim 4
+4 claims: job 1 part 12 claim 5
+1 finishes 1 1 a: recorded
+3 finishes 1 3 i: recorded
+3 claims: job 1 part 1 claim 6
+1 claims: job 1 part 9 claim 7
+5 claims: job 1 part 16 claim 8
+6 claims: job 1 part 2 claim 9
+7 claims: job 1 part 3 claim 10
+8 claims: job 1 part 6 claim 11
+5 finishes 1 8 stopped: recorded
+8 claims: job 1 part 16 claim 12";
     follow(&rt, rt.alloc(), ample(&rt), rows)
 }
 
@@ -214,31 +236,32 @@ fn a_play_is_done_when_each_of_its_numbers_is_there(rt: HostRuntime) -> Result<(
     let rows = "1 submits Q: job 1
 1 submits A: job 2
 1 fetches 1: waiting
-8 claims: job 1 after 0 claim 1
-9 claims: job 1 after 1 claim 2
+8 claims: job 1 after 4 claim 1
+9 claims: job 1 after 3 claim 2
 1 fetches 1: running
-8 finishes 1 1 Q1: stale
+8 finishes 1 1 Q3: stale
 8 finishes 1 1 A: stale
 8 finishes 1 1 b: stale
 8 finishes 1 1 W0: stale
 8 finishes 1 1 stopped: recorded
-8 claims: job 1 after 0 claim 3
-9 finishes 1 2 Q0: stale
+8 claims: job 1 after 4 claim 3
+9 finishes 1 2 Q4: stale
 9 finishes 1 2 Q2: stale
-9 finishes 1 2 Q1: recorded
+9 finishes 1 2 Q3: recorded
 9 claims: job 1 after 2 claim 4
-8 claims: job 1 after 3 claim 5
+8 claims: job 1 after 1 claim 5
 9 finishes 1 4 Q2: recorded
-9 claims: job 1 after 4 claim 6
-9 finishes 1 6 Q3: stale
-9 finishes 1 6 Q4: recorded
-8 finishes 1 3 Q0: recorded
+9 claims: job 1 after 0 claim 6
+9 finishes 1 6 Q1: stale
+9 finishes 1 6 W0: stale
+9 finishes 1 6 Q0: recorded
+8 finishes 1 3 Q4: recorded
 1 fetches 1: running
-8 finishes 1 5 Q3: recorded
+8 finishes 1 5 Q1: recorded
 1 fetches 1: traced 00011
 2 fetches 1: fault 16
 1 cancels 1: fault 17
-8 finishes 1 5 Q3: stale
+8 finishes 1 5 Q1: stale
 9 claims: job 2 claim 7
 9 finishes 2 7 Q0: stale";
     follow(&rt, rt.alloc(), ample(&rt), rows)
@@ -250,37 +273,37 @@ fn a_play_of_all_cards_starts_with_its_last_number(rt: HostRuntime) -> Result<()
 1 submits W: job 2
 1 fetches 1: running
 1 fetches 2: waiting
-9 claims: job 1 after 0 claim 1
-9 claims: job 1 after 1 claim 2
-9 claims: job 1 after 2 claim 3
-9 claims: job 1 after 3 claim 4
-9 claims: job 1 after 4 claim 5
-9 claims: job 1 after 5 claim 6
-9 claims: job 1 after 6 claim 7
-9 claims: job 1 after 7 claim 8
+9 claims: job 1 after 7 claim 1
+9 claims: job 1 after 6 claim 2
+9 claims: job 1 after 5 claim 3
+9 claims: job 1 after 4 claim 4
+9 claims: job 1 after 3 claim 5
+9 claims: job 1 after 2 claim 6
+9 claims: job 1 after 1 claim 7
+9 claims: job 1 after 0 claim 8
 9 claims: job 2 after 0 claim 9
 9 claims: nothing waits
 9 finishes 2 9 W0: recorded
 1 fetches 2: traced 0
-9 finishes 1 1 Q0: recorded
-9 finishes 1 2 P1: recorded
-9 finishes 1 3 P2: recorded
-9 finishes 1 4 P3: recorded
-9 finishes 1 5 P4: recorded
-9 finishes 1 6 P5: recorded
-9 finishes 1 7 P6: recorded
-9 finishes 1 8 P8: stale
+9 finishes 1 8 Q0: recorded
+9 finishes 1 7 P1: recorded
+9 finishes 1 6 P2: recorded
+9 finishes 1 5 P3: recorded
+9 finishes 1 4 P4: recorded
+9 finishes 1 3 P5: recorded
+9 finishes 1 2 P6: recorded
+9 finishes 1 1 P8: stale
 1 fetches 1: running
-9 finishes 1 8 P7: recorded
+9 finishes 1 1 P7: recorded
 1 fetches 1: traced 000000000
 1 submits P: job 3
 1 submits P: job 4
-9 claims: job 3 after 0 claim 10
+9 claims: job 3 after 7 claim 10
 9 finishes 3 10 spent: recorded
 1 fetches 3: spent
-9 claims: job 4 after 0 claim 11
+9 claims: job 4 after 7 claim 11
 1 cancels 4: cancelled 4
-9 finishes 4 11 P0: stale
+9 finishes 4 11 P7: stale
 9 claims: nothing waits";
     follow(&rt, rt.alloc(), ample(&rt), rows)
 }
@@ -290,7 +313,7 @@ fn a_full_table_is_claimed_so_too(rt: HostRuntime) -> Result<(), AllocError> {
     let rows = "1 submits S: job 1
 1 submits A: job 2
 8 claims: job 1 part 0 claim 1
-9 claims: job 1 part 1 claim 2
+9 claims: job 1 part 4 claim 2
 8 finishes 1 1 stopped: recorded
 8 claims: job 1 part 0 claim 3
 1 fetches 1: running

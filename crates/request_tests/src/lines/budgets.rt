@@ -1,26 +1,12 @@
 //! Lines whose budget just suffices, or lacks one position.
 use super::runs::run_within;
 use crate::devices::Pieces;
+use crate::searched::{EIGHT_CARDS, EIGHT_CARDS_TABLE, NINE_CARDS};
 use dd_cards::Seat;
 use dd_search::{Budget, NoTable, value, value_from_guess};
 use dd_solve::{Asked, PARTS, TableRequest, solve};
 use dd_wire::{LineAsked, read_request};
 use std::alloc::Global;
-
-// Nine cards a hand, and nobody has led.
-const MANY_CARDS: &str =
-    r#"{"do":"solve","deal":"N:QT6.764.A7.J 95.KJT2.T.87 32.5.Q932.K5 J74.AQ983..4","trump":4,"first":0,"solutions":3}
-{"do":"solve","deal":"N:KJ95.J8.9.76 QT.Q.7.KQJ95 A4.42.T4.AT2 2.AKT.AK63.3","trump":4,"first":0,"solutions":3}
-{"do":"solve","deal":"N:7.QJ4.75.T93 J4.T5.A6.Q52 Q865.73.Q9.7 3.986.KT3.A8","trump":4,"first":0,"solutions":3}
-{"do":"solve","deal":"N:2.A976.K7.A7 64.T.T93.JT6 .QJ2.A54.985 98753.5.82.K","trump":4,"first":0,"solutions":3}"#;
-
-// The table of eight cards a hand.
-const TABLE: &[u8] =
-    br#"{"do":"table","deal":"N:8.73.Q.AT97 954.A.974.8 AK.62.3.J32 T7.94.T85.Q"}"#;
-
-// Nine cards a hand: 42,638 positions were visited.
-const LONG_SEARCH: &str =
-    r#"{"do":"solve","deal":"N:T74.JT.8.AKQ AK2.7.T74.T9 QJ63..653.83 98.Q96.AK.J7","trump":0,"first":1,"solutions":3}"#;
 
 // How many positions the search for the line visits, over no table, where these are more than `least` and no more than `most`.
 fn positions(alloc: Global, line: &str, least: u64, most: u64) -> Option<u64> {
@@ -54,7 +40,7 @@ fn needs(alloc: Global, line: &str, count: u64) -> bool {
 fn a_budget_suffices_or_lacks_one_position(rt: HostRuntime) {
     let alloc = rt.alloc();
     let mut found = false;
-    for line in MANY_CARDS.lines() {
+    for line in EIGHT_CARDS.lines() {
         if let Some(count) = positions(alloc, line, 1_000, 20_000) {
             found = needs(alloc, line, count);
             break;
@@ -66,15 +52,16 @@ fn a_budget_suffices_or_lacks_one_position(rt: HostRuntime) {
 #[test]
 fn a_large_budget_suffices_or_lacks_one_position(rt: HostRuntime) {
     let alloc = rt.alloc();
-    let count = positions(alloc, LONG_SEARCH, 30_000, 1_000_000);
+    let count = positions(alloc, NINE_CARDS, 30_000, 1_000_000);
     let count = count.expect(&rt, "over 30,000 positions");
-    assert!(rt; needs(alloc, LONG_SEARCH, count));
+    assert!(rt; needs(alloc, NINE_CARDS, count));
 }
 
 #[test]
 fn the_budget_of_a_table_is_its_own_number(rt: HostRuntime) {
     let alloc = rt.alloc();
-    assert!(rt; is_spent(alloc, TABLE, 20) && !is_spent(alloc, TABLE, 1_000_000));
+    let line = EIGHT_CARDS_TABLE.as_bytes();
+    assert!(rt; is_spent(alloc, line, 20) && !is_spent(alloc, line, 1_000_000));
 }
 
 // The tricks of a part of the table, and how many positions its search visits, over no table, where North and South are thought to
@@ -120,7 +107,7 @@ fn positions_of_table(alloc: Global, line: &[u8]) -> Option<u64> {
 #[test]
 fn a_budget_of_a_table_suffices_or_lacks_one_position(rt: HostRuntime) {
     let alloc = rt.alloc();
-    let count = positions_of_table(alloc, TABLE).expect(&rt, "over 1,000 positions");
-    let less = count.saturating_sub(1);
-    assert!(rt; is_spent(alloc, TABLE, less) && !is_spent(alloc, TABLE, count));
+    let line = EIGHT_CARDS_TABLE;
+    let count = positions_of_table(alloc, line.as_bytes()).expect(&rt, "over 1,000 positions");
+    assert!(rt; needs(alloc, line, count));
 }

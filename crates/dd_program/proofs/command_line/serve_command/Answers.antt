@@ -1,4 +1,4 @@
-use Rattle.std.proofs.Common.{codes, rules}
+use Rattle.std.proofs.Common.{codes}
 use Rattle.clap.specs.Words.{new_app}
 use Rattle.dd_program.specs.Program.{listen_rule, workers_rule, shards_rule, shard_entries_rule, budget_rule, events_rule, idle_rule, websocket_rule, allow_stop_rule}
 use Rattle.dd_program.proofs.ServeWords.{Holds, adds, adds-last}
@@ -6,7 +6,7 @@ use Rattle.dd_program.proofs.command_line.serve_command.Goals as goal
 
 pub returns : goal.returns
 returns c =
-    let bare : Holds (new_app (codes "serve")) c.about.result = search rules in
+    let bare : Holds (new_app (codes "serve")) c.bare_serve.result = (c.bare_serve.ensures.app, c.bare_serve.ensures.top.1) in
     let one = adds (new_app (codes "serve")) listen_rule _ c.listen_option.result c.in_ok-arg.field-0 c.in_ok-arg.ensures c.listen_option.ensures bare in
     let two = adds _ workers_rule _ c.workers_option.result c.in_ok-arg-2.field-0 c.in_ok-arg-2.ensures c.workers_option.ensures one in
     let three = adds _ shards_rule _ c.shards_option.result c.in_ok-arg-3.field-0 c.in_ok-arg-3.ensures c.shards_option.ensures two in
