@@ -62,13 +62,13 @@ break_parallel() {
     echo 'parallel --pipe --keep-order: 300 replies, the same bytes as of one process'
 
     by_parallel "$work/replies" 2> /dev/null &
-    local run=$! done
+    local run=$! count
     wait_for 120 'a third part' parts_done 3
     cut_off "${host_ids[2]}" "$(basename "$ddserve")"
     wait_for 120 'a tenth part' parts_done 10
     cut_off "$run" ssh
-    done=$(($(wc -l < "$work/parts/log") - 1))
-    [ $((100 * done)) -lt "$(wc -l < "$deals")" ] || fail "parallel was killed after all $done parts"
+    count=$(($(wc -l < "$work/parts/log") - 1))
+    [ $((100 * count)) -lt "$(wc -l < "$deals")" ] || fail "parallel was killed after all $count parts"
     go_on "$work/replies"
-    same "$work/replies" "parallel, a host lost, broken off after $done parts and gone on with"
+    same "$work/replies" "parallel, a host lost, broken off after $count parts and gone on with"
 }

@@ -26,7 +26,7 @@ class Solver(WorkerPlugin):
     def setup(self, worker):
         import threading
 
-        self.threads = worker.nthreads if hasattr(worker, "nthreads") else worker.state.nthreads
+        self.threads = worker.state.nthreads
         self.turn = threading.Lock()
         self.process = None
 

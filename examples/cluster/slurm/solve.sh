@@ -10,6 +10,7 @@ set -eu
 here=$(cd -- "$(dirname -- "$0")" && pwd)
 [ $# -ge 2 ] || { sed -n '2,/^set/s/^# \?//p' "$0" >&2; exit 2; }
 requests=$1
+[ -s "$requests" ] || exit 0
 mkdir -p "$2/requests" "$2/replies" "$2/unfinished"
 folder=$(cd -- "$2" && pwd)
 shift 2
