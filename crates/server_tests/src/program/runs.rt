@@ -1,5 +1,5 @@
 use crate::program::devices::{Devices, Outcome, SOUND, run_line, run_over};
-use dd_program::{ArgumentsFault, Ending, VERSION, given_arguments};
+use dd_program::{ArgumentsFault, Ending, ListenFault, VERSION, given_arguments};
 use std::alloc::{AllocError, Global};
 use std::env::FillError;
 use std::net::{Net, TcpListener, TcpStream};
@@ -77,6 +77,10 @@ fn a_call_is_shown_on_the_output_and_ends_with_0(rt: HostRuntime) -> Result<(), 
         ("ddserve help", "Usage: ddserve <COMMAND>"),
         ("ddserve help solve", "Usage: ddserve solve [OPTIONS]"),
         ("ddserve solve --help", "Usage: ddserve solve [OPTIONS]"),
+        (
+            "ddserve serve --help",
+            "18  the server is closing and takes no more jobs",
+        ),
         ("ddserve --version", version.as_str()),
         ("ddserve -V", version.as_str()),
     ];
@@ -185,6 +189,37 @@ fn a_device_that_fails_is_named_and_the_run_ends_with_1(rt: HostRuntime) -> Resu
         };
         let outcome = run_line(&rt, rt.alloc(), line, ace(), closed)?;
         assert!(rt; has_failed(&outcome, ending, written, ""), "{line}");
+    }
+    Ok(())
+}
+
+#[test]
+fn an_address_that_cannot_be_listened_at_is_said_why(rt: HostRuntime) -> Result<(), Fail> {
+    let alloc = rt.alloc();
+    let listener = TcpListener::bind(&rt, "127.0.0.1:0")?;
+    let address = listener.local_addr()?;
+    let taken = format!(in alloc; "ddserve serve --listen {address}")?;
+    let rows = [
+        (
+            taken.as_str(),
+            ListenFault::InUse,
+            "ddserve: listen failed: the address is in use\n",
+        ),
+        (
+            "ddserve serve --listen nowhere",
+            ListenFault::NoAddress,
+            "ddserve: listen failed: that is no address; give one as 127.0.0.1:4100 or [::1]:4100\n",
+        ),
+        (
+            "ddserve serve --listen 192.0.2.1:0",
+            ListenFault::Elsewhere,
+            "ddserve: listen failed: the address is not one of this machine's\n",
+        ),
+    ];
+    for (line, fault, said) in rows {
+        let outcome = run_line(&rt, alloc, line, ace(), SOUND)?;
+        let failed = has_failed(&outcome, Ending::CannotListen(fault), "", said);
+        assert!(rt; failed && outcome.unread == ace().len(), "{line}");
     }
     Ok(())
 }
