@@ -116,7 +116,8 @@ def bad_starts():
     no_address = f"{failed}that is no address; give one as 127.0.0.1:4100 or [::1]:4100\n"
     rows = [
         (("--listen", f"127.0.0.1:{server.port}"), 1, f"{failed}the address is in use\n"),
-        *((("--listen", word), 1, no_address) for word in ("nowhere", "256.0.0.1:0", "", "127.0.0.1", "127.0.0.1:65536", "nowhere:4100")),
+        *((("--listen", word), 1, no_address) for word in ("nowhere", "", "127.0.0.1", "127.0.0.1:65536")),
+        (("--listen", "256.0.0.1:0"), 1, "ddserve: listen failed\n"),
         (("--listen", "192.0.2.1:0"), 1, f"{failed}the address is not one of this machine's\n"), ((), 2, "--listen"),
         (("--listen", "127.0.0.1:0", "--workers", "0"), 2, "--workers"), (("--listen", "127.0.0.1:0", "--workers", "65"), 2, "--workers"),
         (("--listen", "127.0.0.1:0", "--shards", "257"), 2, "--shards"), (("--listen", "127.0.0.1:0", "--entries", "65537"), 2, "--entries"),

@@ -8,7 +8,7 @@ use std::io::ErrorKind;
 /// Why an address can't be listened at.
 #[derive(Clone, Copy, Debug, PartialEq, Eq)]
 pub enum ListenFault {
-    /// It is no address and port, or its name is unknown.
+    /// It is no address and port.
     NoAddress,
     /// Another program listens there.
     InUse,
