@@ -1,5 +1,5 @@
 -- the steps of reading, at the first byte of a slice
-use Rattle.std.proofs.Common.{◌≡◌, ◌∙◌, ℕ, ◌-◌, ◌<◌, ◌≤◌, Bool, true, false, refl, ap, arith, List, [], ◌∷◌, length, get_or, take, drop, Result, Ok, Err}
+use Rattle.std.proofs.Common.{◌≡◌, ◌∙◌, ℕ, ◌-◌, ◌<◌, ◌≤◌, Bool, true, false, refl, ap, arith, List, [], ◌∷◌, length, get_or, take, drop, if◌then◌else◌, Result, Ok, Err}
 use Rattle.std.proofs.lemmas.List.{take_all}
 use Rattle.dd_file.specs.declared.mode.Mode.{Mode}
 use Rattle.dd_file.specs.declared.mode.Mode.TheVariants.{Head, Mark1, Mark2, Start, Plain, Escaped, Remark, Braced, Quoted, Backslash}
@@ -23,6 +23,22 @@ pub after_blanks-other : (text : List ℕ) → is_blank (get_or text 0 0) ≡ fa
 unfolding after_blanks
 after_blanks-other [] other = refl
 after_blanks-other (byte ∷ text) other = rw (other, after_blanks) refl
+
+pub after_blanks-shorter : (text : List ℕ) → length (after_blanks text) ≤ length text
+unfolding after_blanks
+after_blanks-shorter [] = omega arith
+after_blanks-shorter (byte ∷ text) = go (is_blank byte) (after_blanks-shorter text)
+  where
+    go : (b : Bool) → length (after_blanks text) ≤ length text → length (if b then after_blanks text else byte ∷ text) ≤ length (byte ∷ text)
+    go true shorter = omega arith
+    go false shorter = omega arith
+
+-- what follows the first byte, without its blanks
+pub tail-shorter : (text : List ℕ) → 1 ≤ length text → length (after_blanks (take (length text - 1) (drop 1 text))) < length text
+tail-shorter [] some_left = absurd (omega arith)
+tail-shorter (byte ∷ text) some_left =
+    let shorter : length (after_blanks text) ≤ length text = after_blanks-shorter text in
+    rw (tail-is byte text) (omega arith)
 
 pub after_blanks-end : (text : List ℕ) → length text < 1 → after_blanks text ≡ text
 unfolding after_blanks

@@ -19,6 +19,7 @@ use Rattle.dd_file.specs.declared.kept.Told.TheVariants.{AsBefore, FromHere, Her
 use Rattle.dd_file.specs.declared.value.Unfit.{Unfit}
 use Rattle.dd_file.specs.declared.value.Unfit.TheVariants.{NoDeal, Refused}
 use Rattle.dd_file.specs.declared.value.TheConstants.{LONGEST_DEAL, THIRTEEN}
+use Rattle.dd_file.specs.Marks.{after_blanks}
 
 -- A string's text: a quote or a backslash behind a backslash stands for itself. Behind a backslash or not it goes on.
 abbrev pub unescaped : Bool → List ℕ → List ℕ
@@ -80,11 +81,29 @@ abbrev pub deal_read : Result FourHands PbnFault → Result FourHands Unfit
 deal_read (Ok hands) = Ok hands
 deal_read (Err fault) = Err (Refused (fault_of fault))
 
--- The hands of a value. None is told by no text and by `?`. A value of over 1,024 bytes spells none.
+-- does a colon come first?
+abbrev pub begins_colon : List ℕ → Bool
+begins_colon [] = false
+begins_colon (byte ∷ text) = byte == 58
+
+-- the letter with the rest, where that begins with a colon, and else the text
+abbrev pub letter_closed : List ℕ → ℕ → List ℕ → List ℕ
+letter_closed text letter rest = (if begins_colon rest then letter ∷ rest else text)
+
+-- what follows its blanks is nothing, or a letter with a rest
+abbrev pub closed_after : List ℕ → List ℕ → List ℕ
+closed_after text [] = text
+closed_after text (letter ∷ rest) = letter_closed text letter (after_blanks rest)
+
+-- a text without blanks between its letter and the colon
+unfoldable pub closed_up : List ℕ → List ℕ
+closed_up text = closed_after text (after_blanks text)
+
+-- The hands of a value. None is told by no text and by `?`. A value of over 1,024 bytes spells none. Blanks may stand before the colon.
 unfoldable pub deal_value : List ℕ → Result FourHands Unfit
 deal_value text =
     (if length text == 0 || bytes_eq text (63 ∷ []) then Err NoDeal
-    else if nat_lt LONGEST_DEAL (length text) then Err (Refused Text) else deal_read (outcome (value_of text)))
+    else if nat_lt LONGEST_DEAL (length text) then Err (Refused Text) else deal_read (outcome (value_of (closed_up text))))
 
 -- the seat of a letter, in either case
 abbrev pub seat_of : ℕ → Option Seat

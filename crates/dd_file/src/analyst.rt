@@ -54,9 +54,16 @@ pub trait Analyst {
         requires { IsThirteen deal.now }
         ensures { Self.gives deal.now result };
 
+    /// Is it to be told ahead of the deals whose results will be asked for?
+    fn foresees(&self) -> bool {
+        false
+    }
+
+    /// Is told of such a deal. It serves the time alone: no answer rests on it.
+    fn foresee(&mut self, _deal: &Hands)
+        requires { IsThirteen _deal.now }
+    {}
+
     /// Is told why the game of this number, with this value of its tag Board, lacks a tag that was asked for.
     fn left(&mut self, game: u64, board: &[u8], reason: Reason);
-
-    /// Is told how many games have ended, and how many bytes were passed on.
-    fn passed(&mut self, games: u64, bytes: u64);
 }

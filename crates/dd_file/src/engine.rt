@@ -8,6 +8,7 @@ ghost use Rattle.dd_file.specs.Windows.{Ended, PassesFront, WritesBegun, WritesF
 
 use crate::analyst::Analyst;
 use crate::filler::Filler;
+use crate::foreseer::Foreseer;
 use crate::mark::NEAR;
 use crate::wanted::Wanted;
 use dd_lines::{CountedDevice, write_whole};
@@ -154,10 +155,37 @@ fn front_text<A: Analyst>(
     ensures { IfSome result (λ text. PassesFront A.gives false filler.old filler.new
         window.now (drop count window.now) [] text.items) }
 {
+    foresee(alloc, window, count, false, filler, analyst);
     let mut text = Vec::new(alloc);
     match pass_front(window, count, false, filler, analyst, &mut text) {
         Ok(()) => Some(text),
         Err(_) => None,
+    }
+}
+
+// Tells the analyst ahead of the deals whose results the first bytes of the window ask for, where it is to be told.
+fn foresee<A: Analyst>(
+    alloc: Global,
+    window: &[u8],
+    count: usize,
+    is_all: bool,
+    filler: &Filler,
+    analyst: &mut A,
+)
+    requires within { count ≤ length window.now }
+    requires room { is_all ≡ false → count + NEAR ≤ length window.now }
+{
+    if !analyst.foresees() {
+        return;
+    }
+    let Ok(mut ahead) = filler.copy() else {
+        return;
+    };
+    let mut foreseer = Foreseer { analyst };
+    let mut text = Vec::new(alloc);
+    let passed = pass_front(window, count, is_all, &mut ahead, &mut foreseer, &mut text);
+    if is_all && passed.is_ok() {
+        let _ = ahead.add_last(&mut foreseer, &mut text);
     }
 }
 
@@ -206,6 +234,7 @@ fn last_text<A: Analyst>(
     ensures { IfSome result (λ text. Ended A.gives filler.old.wanted (point_of filler.old)
         window.now text.items) }
 {
+    foresee(alloc, window, window.len(), true, filler, analyst);
     let mut text = Vec::new(alloc);
     match add_rest(window, filler, analyst, &mut text) {
         Ok(()) => Some(text),

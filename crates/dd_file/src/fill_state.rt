@@ -67,6 +67,19 @@ impl FillState {
         }
     }
 
+    /// An equal one.
+    pub(crate) fn copy(&self) -> FillState {
+        FillState {
+            begun: self.begun,
+            names: self.names,
+            deal: self.deal.copy(),
+            dealer: self.dealer.copy(),
+            vulnerable: self.vulnerable.copy(),
+            last: self.last,
+            has_return: self.has_return,
+        }
+    }
+
     /// Does the game end before what begins here?
     pub(crate) fn ends(&self, mark: &Mark<'_>) -> bool
         ensures { result ≡ ends self.now (shown mark.now) }

@@ -56,9 +56,17 @@ impl Filler {
         }
     }
 
-    /// How many games have ended.
-    pub(crate) fn games(&self) -> u64 {
-        self.number.saturating_sub(1)
+    /// One that passes on the same bytes.
+    pub(crate) fn copy(&self) -> Result<Filler, AllocError> {
+        Ok(Filler {
+            wanted: self.wanted,
+            mode: self.mode,
+            left: self.left,
+            state: self.state.copy(),
+            alloc: self.alloc,
+            number: self.number,
+            board: Vec::from_slice(self.alloc, self.board.as_slice())?,
+        })
     }
 
     /// Passes on the first of these bytes, which are all that follow, or the next `NEAR`.

@@ -53,6 +53,18 @@ impl<T: Value> Kept<T> {
         }
     }
 
+    /// An equal one.
+    pub(crate) fn copy(&self) -> Kept<T> {
+        Kept {
+            own: match &self.own {
+                Some(value) => Some(value.copy()),
+                None => None,
+            },
+            before: self.before.copy(),
+            lacking: self.lacking.copy(),
+        }
+    }
+
     /// The game is over.
     pub(crate) fn end_game(&mut self)
         ensures { self.new ≡ after_game self.old }

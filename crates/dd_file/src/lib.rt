@@ -5,6 +5,7 @@ mod analyst;
 mod engine;
 mod fill_state;
 mod filler;
+mod foreseer;
 mod kept;
 mod known_tag;
 mod laws;

@@ -71,8 +71,8 @@ fn tag_mark<'a>(near: &'a [u8], text: &'a [u8], is_first: bool, is_all: bool) ->
     }
 }
 
-// The text after its blanks.
-fn after_blanks(text: &[u8]) -> &[u8]
+/// The text after its blanks.
+pub(crate) fn after_blanks(text: &[u8]) -> &[u8]
     ensures { result.now ≡ after_blanks text.now }
 {
     let mut rest = text;

@@ -1,12 +1,14 @@
 //! What the values of tags mean.
-ghost use Rattle.std.specs.Prelude.{◌≡◌, ◌∷◌, ◌++◌, List, ℕ, false, IfOk};
+ghost use Rattle.std.specs.Prelude.{◌≡◌, ◌<◌, ◌≤◌, ◌∷◌, ◌++◌, List, ℕ, false, length, IfOk};
 ghost use Rattle.dd_cards.specs.Hands.{AreHands};
 ghost use Rattle.dd_pbn.specs.Reading.{outcome, value_of};
 ghost use Rattle.dd_file.specs.Deals.{IsThirteen};
-ghost use Rattle.dd_file.specs.Values.{behind_two, deal_read, deal_value, dealer_value, fault_of, has_length, is_word, of_thirteen, seat_of, text_told, thirteen_in, told_in, unescaped, vulnerable_value};
+ghost use Rattle.dd_file.specs.Values.{behind_two, begins_colon, closed_up, deal_read, deal_value, dealer_value, fault_of, has_length, is_word, letter_closed, of_thirteen, seat_of, text_told, thirteen_in, told_in, unescaped, vulnerable_value};
 
 use crate::analyst::DealFault;
 use crate::kept::{Told, Value};
+use crate::mark::after_blanks;
+use arrayvec::ArrayVec;
 use dd_cards::{Hands, Seat};
 use dd_pbn::{PbnFault, read_deal};
 use dd_score::Vulnerable;
@@ -114,7 +116,7 @@ fn behind_two(value: &[u8]) -> &[u8]
     }
 }
 
-/// The hands that the value of a tag Deal spells.
+/// The hands that the value of a tag Deal spells. Blanks may stand before its colon.
 #[tactic(auto, unfolding(crate::specs::Values::deal_value))]
 pub(crate) fn deal_value(text: &[u8]) -> Result<Hands, Unfit>
     ensures { result ≡ deal_value text.now }
@@ -125,7 +127,7 @@ pub(crate) fn deal_value(text: &[u8]) -> Result<Hands, Unfit>
     if text.len() > LONGEST_DEAL {
         return Err(Unfit::Refused(DealFault::Text));
     }
-    match deal_spelled(text) {
+    match deal_spelled(closed_up(text).as_slice()) {
         Ok(hands) => Ok(hands),
         Err(fault) => Err(Unfit::Refused(fault_of(fault))),
     }
@@ -136,6 +138,46 @@ fn deal_spelled(text: &[u8]) -> Result<Hands, PbnFault>
     ensures { result ≡ outcome (value_of text.now) }
 {
     read_deal(text)
+}
+
+// A value of a tag Deal that is read.
+type DealText = ArrayVec<u8, LONGEST_DEAL>;
+
+// The text without blanks between its letter and the colon.
+#[tactic(auto, unfolding(crate::specs::Values::closed_up))]
+fn closed_up(text: &[u8]) -> DealText
+    requires { length text.now ≤ LONGEST_DEAL }
+    ensures { result.items ≡ closed_up text.now }
+{
+    match after_blanks(text) {
+        [letter, rest @ ..] => letter_closed(text, *letter, after_blanks(rest)),
+        [] => DealText::try_from(text).unwrap_or_default(),
+    }
+}
+
+// The letter with the rest, where that begins with a colon, and else the text.
+fn letter_closed(text: &[u8], letter: u8, rest: &[u8]) -> DealText
+    requires text { length text.now ≤ LONGEST_DEAL }
+    requires rest { length rest.now < LONGEST_DEAL }
+    ensures { result.items ≡ letter_closed text.now letter rest.now }
+{
+    if !begins_colon(rest) {
+        return DealText::try_from(text).unwrap_or_default();
+    }
+    let mut closed = DealText::new();
+    closed.push(letter);
+    let _fits = closed.try_extend_from_slice(rest);
+    closed
+}
+
+// Does a colon come first?
+fn begins_colon(text: &[u8]) -> bool
+    ensures { result ≡ begins_colon text.now }
+{
+    match text {
+        [first, ..] => *first == b':',
+        [] => false,
+    }
 }
 
 fn fault_of(fault: PbnFault) -> DealFault

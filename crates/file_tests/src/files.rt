@@ -62,8 +62,6 @@ impl Analyst for Known {
         self.game = game;
         self.reason = Some(reason);
     }
-
-    fn passed(&mut self, _games: u64, _bytes: u64) {}
 }
 
 // What is written for the file, which is read in pieces of so many bytes at most.

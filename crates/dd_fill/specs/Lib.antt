@@ -1,0 +1,3 @@
+pub mod Notes
+pub mod Served
+pub mod Told

@@ -1,0 +1,11 @@
+//! Files of PBN with the results of their deals, which are searched for.
+#![tactic(auto)]
+
+mod analyst;
+mod deal;
+mod filling;
+mod limit;
+mod note;
+mod solving;
+
+pub use filling::fill_deals;
