@@ -1,69 +1,46 @@
-/* The program as a co-process, over a pair of sockets: a write to a program that has ended then raises no signal. */
+/* The client: a solver is whatever answers at the other end of a pair of sockets. A write to an end that is closed raises no signal. */
 #define _GNU_SOURCE
 #include "ddserve.h"
+#include "ddserve_start.h"
 
 #include <errno.h>
 #include <fcntl.h>
-#include <signal.h>
-#include <spawn.h>
-#include <stdio.h>
 #include <stdlib.h>
 #include <string.h>
 #include <sys/socket.h>
 #include <sys/uio.h>
-#include <sys/wait.h>
 #include <unistd.h>
 
-extern char **environ;
-
 struct ddserve_solver {
-    pid_t program;
-    pid_t owner; /* who opened it: after a fork the program is still the parent's */
+    struct ddserve_end end;
+    pid_t owner; /* who opened it: after a fork it is still the parent's */
     int stream;
     char reply[DDSERVE_LONGEST_REPLY + 1]; /* with its line feed */
 };
 
-/* Starts the program with this socket as its input and its output. Returns 0 or an error's number. */
-static int start(pid_t *program, int stream, unsigned entries) {
-    const char *path = getenv("DDSERVE");
-    char number[16];
-    snprintf(number, sizeof number, "%u", entries);
-    char *words[] = {(char *)(path && *path ? path : "ddserve"), "solve", entries ? "--entries" : NULL, number, NULL};
-    posix_spawn_file_actions_t actions;
-    posix_spawnattr_t attributes;
-    sigset_t none, defaults;
-    /* It begins with no signal blocked, and with those at their defaults that a host often ignores. */
-    sigemptyset(&none);
-    sigemptyset(&defaults);
-    sigaddset(&defaults, SIGPIPE);
-    int error = posix_spawn_file_actions_init(&actions);
-    if (error) return error;
-    error = posix_spawnattr_init(&attributes);
-    if (error) {
-        posix_spawn_file_actions_destroy(&actions);
-        return error;
-    }
-    error = posix_spawn_file_actions_adddup2(&actions, stream, STDIN_FILENO);
-    if (!error) error = posix_spawn_file_actions_adddup2(&actions, stream, STDOUT_FILENO);
-    if (!error) error = posix_spawnattr_setsigmask(&attributes, &none);
-    if (!error) error = posix_spawnattr_setsigdefault(&attributes, &defaults);
-    if (!error) error = posix_spawnattr_setflags(&attributes, POSIX_SPAWN_SETSIGMASK | POSIX_SPAWN_SETSIGDEF);
-    if (!error) error = posix_spawnp(program, words[0], &actions, &attributes, words, environ);
-    posix_spawnattr_destroy(&attributes);
-    posix_spawn_file_actions_destroy(&actions);
-    return error;
+/* The same stream under another number: a host may have closed its own input or output, and a stream in their places would be taken
+   for them. Returns the number, or less than 0, and errno says why. */
+static int above_standard(int stream) {
+    int moved = fcntl(stream, F_DUPFD_CLOEXEC, STDERR_FILENO + 1), error = errno;
+    close(stream);
+    errno = error;
+    return moved;
 }
 
-/* A program with the other end of a stream. Returns 0 or an error's number. */
-static int connect_program(ddserve_solver *solver, unsigned entries) {
+/* Starts what answers at the other end of a stream. Returns 0 or an error's number. */
+static int connect_end(ddserve_solver *solver, unsigned entries) {
     int ends[2];
     if (socketpair(AF_UNIX, SOCK_STREAM | SOCK_CLOEXEC, 0, ends)) return errno;
-    /* A host may have closed its own input or output: a stream in their places would be taken for them. */
-    solver->stream = fcntl(ends[0], F_DUPFD_CLOEXEC, STDERR_FILENO + 1);
-    int error = solver->stream < 0 ? errno : start(&solver->program, ends[1], entries);
-    close(ends[0]);
-    close(ends[1]);
+    solver->stream = above_standard(ends[0]);
+    int error = solver->stream < 0 ? errno : 0;
+    int other = above_standard(ends[1]);
+    if (!error && other < 0) error = errno;
+    if (!error) {
+        error = ddserve_start(&solver->end, other, entries);
+        other = -1;
+    }
     if (error && solver->stream >= 0) close(solver->stream);
+    if (other >= 0) close(other);
     return error;
 }
 
@@ -71,7 +48,7 @@ ddserve_solver *ddserve_open(unsigned entries) {
     ddserve_solver *solver = malloc(sizeof *solver);
     if (!solver) return NULL;
     solver->owner = getpid();
-    int error = connect_program(solver, entries);
+    int error = connect_end(solver, entries);
     if (!error) return solver;
     free(solver);
     errno = error;
@@ -124,14 +101,10 @@ long ddserve_line(ddserve_solver *solver, const char *line, size_t length, char 
 
 void ddserve_close(ddserve_solver *solver) {
     if (!solver) return;
+    bool is_own = solver->owner == getpid();
+    /* Not by closing alone: a process that was forked from this one may have the stream too. */
+    if (is_own) shutdown(solver->stream, SHUT_RDWR);
     close(solver->stream);
-    if (solver->owner == getpid()) {
-        /* It has nothing to lose, and may be within a search. Where the host has waited for it already it is no child any more,
-           and its number may be another's. */
-        if (waitpid(solver->program, NULL, WNOHANG) == 0) {
-            kill(solver->program, SIGKILL);
-            while (waitpid(solver->program, NULL, 0) < 0 && errno == EINTR) {}
-        }
-    }
+    ddserve_stop(&solver->end, is_own);
     free(solver);
 }

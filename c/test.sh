@@ -3,8 +3,8 @@
 # threads, forks, ends. The calls of DDS: what no comparison shows; DDS's structures and texts by DDS's own header; thousands of drawn
 # questions beside DDS; DDS's thirteen example programs, and its `dtest` over a hundred of its own deals. Then the client and the calls
 # under valgrind and under -fsanitize=address,undefined, and what a call costs beyond its line. DDS's source is fetched from Debian by
-# `bench/dds/peer.sh` and is not kept; `DDS_PEER` names a folder in which the built DDS is kept. Ends with 77 where a tool is missing,
-# and says which. The word `quick` leaves dtest and valgrind out.
+# `bench/dds/peer.sh` and is not kept; `DDS_PEER` names a folder in which the built DDS is kept. At last the same over the library
+# without the program, where that is built. Ends with 77 where a tool is missing, and says which. The word `quick` leaves dtest and valgrind out.
 set -eu
 here=$(cd -- "$(dirname -- "$0")" && pwd)
 top=$(cd -- "$here/.." && pwd)
@@ -65,8 +65,9 @@ peer=${DDS_PEER:-$work/peer}
 bash "$top/bench/dds/peer.sh" "$peer" || missing "DDS's source"
 ours=$work/ours theirs=$work/theirs
 mkdir "$ours" "$theirs"
-g++ -O2 -flto=auto -shared -fPIC -o "$theirs/libpeer.so" -Wl,--whole-archive "$peer/libdds.a" -Wl,--no-whole-archive -pthread
-peer_library=("$theirs/libpeer.so" -Wl,-rpath,"$theirs")
+[ -e "$peer/libpeer.so" ] ||
+    g++ -O2 -flto=auto -shared -fPIC -o "$peer/libpeer.so" -Wl,--whole-archive "$peer/libdds.a" -Wl,--no-whole-archive -pthread
+peer_library=("$(readlink -f -- "$peer")/libpeer.so")
 for test in layout compare; do
     gcc -std=gnu11 -O1 -I"$here" -o "$ours/$test" "$here/tests/$test.c" "$library" -pthread
     gcc -std=gnu11 -O1 -I"$peer/include" -o "$theirs/$test" "$here/tests/$test.c" "${peer_library[@]}"
@@ -126,7 +127,7 @@ if [ "${1:-}" != quick ]; then
     done
     echo 'valgrind: nothing to say'
 fi
-sources=("$here"/*.c)
+sources=("$here"/dds*.c "$here/start_program.c")
 build client_checked -fsanitize=address,undefined -fno-sanitize-recover=all "$here/tests/client.c" "${sources[@]}"
 build calls_checked -fsanitize=address,undefined -fno-sanitize-recover=all "$here/tests/calls.c" "${sources[@]}"
 build compare_checked -fsanitize=address,undefined -fno-sanitize-recover=all "$here/tests/compare.c" "${sources[@]}"
@@ -137,3 +138,31 @@ build compare_checked -fsanitize=address,undefined -fno-sanitize-recover=all "$h
 "$work/compare_checked" tables 2 9 > /dev/null
 echo 'sanitizers: nothing to say'
 "$work/cost" 40
+
+# The same without the program, where the proved library is built.
+proved=${PROVED:-$top/crates/ddserve_c/out/libddserve_c.a}
+if [ ! -e "$proved" ] || ! command -v rt > /dev/null; then
+    echo "alone: not tried, since $proved or the command rt is missing"
+    exit 0
+fi
+make -s -C "$here" BUILD="$work/build" PROVED="$proved" alone
+library=$work/build/libddserve_alone.a
+for test in client calls cost compare; do
+    build "${test}_alone" -DALONE "$here/tests/$test.c" "$library"
+done
+for name in written small plays targets; do
+    "$work/client_alone" "$data/$name.jsonl" "$data/$name.expected"
+done
+DDSERVE=/nowhere/ddserve "$work/calls_alone"
+for kind in 'positions 3000 1' 'boards 200 4' 'tables 8 5' 'plays 400 6'; do
+    # shellcheck disable=SC2086
+    "$work/compare_alone" $kind | cmp - <("$ours/compare" $kind)
+done
+if [ "${1:-}" != quick ]; then
+    for test in "client_alone $data/written.jsonl $data/written.expected" calls_alone; do
+        # shellcheck disable=SC2086
+        UNDER_VALGRIND=1 valgrind -q --leak-check=full --show-leak-kinds=all --errors-for-leak-kinds=all --error-exitcode=9 --child-silent-after-fork=yes "$work/"$test
+    done
+fi
+"$work/cost_alone" 40
+echo 'alone: the library without the program answers the same'

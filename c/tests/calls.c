@@ -48,6 +48,10 @@ static void threads(void) {
 }
 
 static void forks(void) {
+#ifdef ALONE
+    /* What the parent's threads had would be lost in the child, as valgrind sees it. */
+    if (getenv("UNDER_VALGRIND")) return;
+#endif
     CHECK(is_solved());
     pid_t child = fork();
     if (child == 0) {
@@ -109,33 +113,44 @@ static void texts(void) {
     CHECK(info.major == 2 && info.noOfThreads >= 1 && strcmp(info.versionString, "2.9.0") == 0);
 }
 
-/* A program that ended meanwhile is started anew; without one each call says that it failed. */
-static void programs(void) {
-    char *program = strdup(getenv("DDSERVE"));
+/* Other resources, and memory that is given back. */
+static void resources(void) {
     CHECK(is_solved());
     SetResources(200, 2);
     CHECK(is_solved());
     FreeMemory();
-    setenv("DDSERVE", "/nowhere/ddserve", 1);
+    CHECK(is_solved());
+    SetMaxThreads(0);
+    CHECK(is_solved());
+}
+
+#ifndef ALONE
+/* Without a program each call says that it failed, and the next one tries anew. */
+static void programs(void) {
+    char *program = strdup(getenv("DDSERVE"));
     struct futureTricks found;
+    FreeMemory();
+    setenv("DDSERVE", "/nowhere/ddserve", 1);
     CHECK(SolveBoardPBN(three_cards, -1, 3, 1, &found, 0) == RETURN_UNKNOWN_FAULT);
     setenv("DDSERVE", "/bin/true", 1);
     CHECK(SolveBoardPBN(three_cards, -1, 3, 1, &found, 0) == RETURN_UNKNOWN_FAULT);
     setenv("DDSERVE", program, 1);
     free(program);
-    SetMaxThreads(0);
     CHECK(is_solved());
 }
+#endif
 
 int main(void) {
-    CHECK(getenv("DDSERVE"));
     SetMaxThreads(0);
     threads();
     forks();
     tables();
     revokes();
     texts();
+    resources();
+#ifndef ALONE
     programs();
-    printf("calls: threads, forks, tables, revokes, texts and programs\n");
+#endif
+    printf("calls: threads, forks, tables, revokes, texts and resources\n");
     return 0;
 }

@@ -1,4 +1,4 @@
-/* Tests of ddserve.h over the program that DDSERVE names. Words: a file of lines and one of the replies to them. It says what is
+/* Tests of ddserve.h over the program that DDSERVE names, or with ALONE over the library without it. Words: a file of lines and one of the replies to them. It says what is
    wrong and ends with 1, or ends with 0. */
 #define _GNU_SOURCE
 #include "../ddserve.h"
@@ -115,6 +115,10 @@ static void threads(void) {
 
 /* A solver is of the process that opened it. A child may close it, and the parent's goes on. */
 static void forks(void) {
+#ifdef ALONE
+    /* What the parent's threads had would be lost in the child, as valgrind sees it. */
+    if (getenv("UNDER_VALGRIND")) return;
+#endif
     ddserve_solver *solver = ddserve_open(0);
     CHECK(is_answered(solver, 0));
     pid_t child = fork();
@@ -145,14 +149,9 @@ static int descriptors(void) {
     return found;
 }
 
-/* Nothing is left of a solver, whether it is idle, within a search, or its program has ended by itself. */
-static void ends(void) {
-    int before = descriptors();
-    for (int at = 0; at < 20; at++) {
-        ddserve_solver *solver = ddserve_open(0);
-        CHECK(at % 2 || is_answered(solver, at));
-        ddserve_close(solver);
-    }
+#ifndef ALONE
+/* A program that ends at once, and one that is not there. */
+static void other_programs(void) {
     char reply[64], *program = strdup(getenv("DDSERVE"));
     setenv("DDSERVE", "/bin/true", 1);
     ddserve_solver *ended = ddserve_open(0);
@@ -171,12 +170,29 @@ static void ends(void) {
     }
     setenv("DDSERVE", program, 1);
     free(program);
+}
+#endif
+
+/* Nothing is left of a solver, whether it is idle, within a search, or its program has ended by itself. */
+static void ends(void) {
+    int before = descriptors();
+    for (int at = 0; at < 20; at++) {
+        ddserve_solver *solver = ddserve_open(0);
+        CHECK(at % 2 || is_answered(solver, at));
+        ddserve_close(solver);
+    }
+#ifndef ALONE
+    other_programs();
+#endif
     CHECK(descriptors() == before);
     CHECK(waitpid(-1, NULL, WNOHANG) == -1 && errno == ECHILD);
 }
 
 /* A host without an input and an output: the stream takes neither's number. */
 static void closed_streams(void) {
+#ifdef ALONE
+    if (getenv("UNDER_VALGRIND")) return;
+#endif
     pid_t child = fork();
     if (child == 0) {
         close(STDIN_FILENO);
