@@ -81,16 +81,16 @@ const TABLE: &[u8] = br#"1 submits T|{"job":1}
 const PLAY: &[u8] = br#"1 submits Q|{"job":1}
 1 fetches 1|{"job":1,"state":"waiting"}
 9 claims|{}
-9 finishes 1 1 Q0|{}
+9 finishes 1 1 Q4|{}
 1 fetches 1|{"job":1,"state":"running"}
 9 claims|{}
-9 finishes 1 2 Q1|{}
+9 finishes 1 2 Q3|{}
 9 claims|{}
 9 finishes 1 3 Q2|{}
 9 claims|{}
-9 finishes 1 4 Q3|{}
+9 finishes 1 4 Q1|{}
 9 claims|{}
-9 finishes 1 5 Q4|{}
+9 finishes 1 5 Q0|{}
 1 fetches 1|{"job":1,"state":"done","tricks":[0,0,0,1,1]}"#;
 
 // The first row whose call is replied with another text, or nothing.
