@@ -16,7 +16,7 @@ const RESULTS: [[u8; 4]; 5] = [
 ];
 
 // One line without a line end.
-const ONE_LINE: &[u8] =
+pub(crate) const ONE_LINE: &[u8] =
     br#"[Dealer "N"][Vulnerable "None"][Deal "N:J6.72.AQ7643.AJ7 Q9842.Q854.T.K42 AT75.AT9.KJ8.T83 K3.KJ63.952.Q965"]"#;
 
 // What it begins with when it comes out, from the line feed after it on.
@@ -105,7 +105,7 @@ fn comes_out(alloc: Global, file: &[u8], most: usize, wanted: &[u8]) -> bool {
 }
 
 // Does the text begin with one part and then another?
-fn begins_with(text: &[u8], first: &[u8], second: &[u8]) -> bool {
+pub(crate) fn begins_with(text: &[u8], first: &[u8], second: &[u8]) -> bool {
     match text.strip_prefix(first) {
         Some(rest) => rest.starts_with(second),
         None => false,

@@ -1,6 +1,8 @@
-//! Tests of files with added lines, by the public surface of `dd_file`.
+//! Tests of files with added lines, by the public surfaces of `dd_file` and `dd_fill`.
 #![tactic(auto)]
 
+#[cfg(test)]
+mod deals;
 #[cfg(test)]
 mod devices;
 #[cfg(test)]

@@ -1,0 +1,99 @@
+//! Files whose deals are searched, and what is said of those that are left.
+use super::devices::{Pieces, Taker};
+use super::files::{ONE_LINE, begins_with};
+use dd_cache::Cache;
+use dd_file::Wanted;
+use dd_fill::fill_deals;
+use dd_lines::CountedDevice;
+use dd_search::NoTable;
+use std::alloc::Global;
+
+// A suit in each hand: with its own suit as trumps a side takes all tricks, and at notrump the side that leads does.
+const SUITS: &[u8] =
+    br#"[Dealer "N"][Vulnerable "None"][Deal "N:AKQJT98765432... .AKQJT98765432.. ..AKQJT98765432. ...AKQJT98765432"]"#;
+
+// Seven spades can't be bettered: seven notrump doubled costs East and West 3,500.
+const ADDED: &[u8] =
+    b"\n[DoubleDummyTricks \"0d0d00d0d000d0d00d0d\"]\n[OptimumScore \"NS 1510\"]\n[ParContract \"NS 7S=\"]\n";
+
+// What is written for a file, and what is said of its games.
+#[derive(Drop)]
+struct Outcome {
+    file: Vec<u8>,
+    notes: Vec<u8>,
+}
+
+// The outcome for a file, where each search has this budget. `None` where memory ran out.
+fn fill(alloc: Global, file: &[u8], budget: Option<u64>) -> Option<Outcome> {
+    let mut cache = Cache::new(alloc, NoTable).ok()?;
+    let mut reader = CountedDevice::new(Pieces {
+        bytes: file,
+        most: usize::MAX,
+    });
+    let mut writer = CountedDevice::new(Taker {
+        taken: Vec::new(alloc),
+    });
+    let mut errors = CountedDevice::new(Taker {
+        taken: Vec::new(alloc),
+    });
+    let mut buffer = [0; 4_096];
+    fill_deals(
+        alloc,
+        Wanted::ALL,
+        &mut reader,
+        &mut writer,
+        &mut errors,
+        &mut cache,
+        budget,
+        &mut buffer,
+    )
+    .ok()?;
+    let Taker { taken: file } = writer.into_inner();
+    let Taker { taken: notes } = errors.into_inner();
+    Some(Outcome { file, notes })
+}
+
+// Does the file come out as it is, and is this said of it?
+fn is_left(alloc: Global, file: &[u8], budget: Option<u64>, note: &[u8]) -> bool {
+    match fill(alloc, file, budget) {
+        Some(found) => found.file.as_slice() == file && found.notes.as_slice() == note,
+        None => false,
+    }
+}
+
+// Does the file of a suit in each hand come out with its lines, and is nothing said of it?
+fn is_filled(alloc: Global, budget: Option<u64>) -> bool {
+    match fill(alloc, SUITS, budget) {
+        Some(found) => {
+            begins_with(found.file.as_slice(), SUITS, ADDED) && found.notes.is_empty()
+        }
+        None => false,
+    }
+}
+
+#[test]
+fn the_results_of_a_deal_are_searched_for(rt: HostRuntime) {
+    assert!(rt; is_filled(rt.alloc(), None));
+    assert!(rt; is_filled(rt.alloc(), Some(1_000)));
+}
+
+#[test]
+fn a_game_that_is_left_is_said_why(rt: HostRuntime) {
+    let alloc = rt.alloc();
+    assert!(rt;
+        is_left(
+            alloc,
+            ONE_LINE,
+            Some(0),
+            b"ddserve: game 1 (board ?): spent\n"
+        )
+    );
+    assert!(rt;
+        is_left(
+            alloc,
+            b"[Board \"7\"]\n",
+            None,
+            b"ddserve: game 1 (board 7): no deal\n"
+        )
+    );
+}
