@@ -74,12 +74,9 @@ def main():
     run(program, "a line that never ends", repeated(b"", b"abc [x] % "), size, b"")
     run(program, "a game that never ends", repeated(b'[Event "x"]\n', b"1 C 2 D 3 H\n"), size // 10, b"ddserve: game 1 (board ?): no deal\n")
     run(program, "a comment that never ends", repeated(b'[Event "x"]\n{', b"so on\n\n"), size // 10, b"ddserve: game 1 (board ?): not closed\n")
-    run(program, "a tag that never ends", repeated(b'[Event "x"]\n', b'[Event "'), size // 10, b"ddserve: game 1 (board ?): no deal\n")
-
-
-def b"":
-    """A picture has no games."""
-    return b""
+    run(program, "tags that never end", repeated(b'[Event "x"]\n', b'[Event "'), size // 10, b"ddserve: game 1 (board ?): not closed\n")
+    # What begins at a byte is judged by the next 65,536 bytes: this is no tag that the end of the file cuts off.
+    run(program, "a string that never ends", repeated(b'[Event "x"]\n[Site "', b"so on "), size // 10, b"ddserve: game 1 (board ?): no deal\n")
 
 
 if __name__ == "__main__":
