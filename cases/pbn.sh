@@ -31,7 +31,7 @@ if [ "${1:-}" = reader ]; then
         exit 0
     fi
     printf 'produce 20\naction printpbn\n' > "$work/deals"
-    "$work/there/usr/games/dealer" -s 1 "$work/deals" > "$work/plain"
+    "$work/there/usr/games/dealer" -v -s 1 "$work/deals" > "$work/plain"
     # It takes tags alone, and stops at the rows of a table.
     "$ddserve" pbn --tags DoubleDummyTricks,OptimumScore,ParContract < "$work/plain" > "$work/filled"
     for tag in DoubleDummyTricks OptimumScore ParContract; do
