@@ -1,11 +1,12 @@
 # Completion of ddserve for bash.
 _ddserve() {
-    local cur=${COMP_WORDS[COMP_CWORD]} words='solve serve help --help --version'
+    local cur=${COMP_WORDS[COMP_CWORD]} words='solve serve pbn help --help --version'
     if [ "$COMP_CWORD" -gt 1 ]; then
         case ${COMP_WORDS[1]} in
         solve) words='--budget --entries --workers --help' ;;
         serve) words='--listen --websocket --workers --shards --entries --budget --events --idle --allow-stop --help' ;;
-        help) words='solve serve' ;;
+        pbn) words='--tags --budget --entries --help' ;;
+        help) words='solve serve pbn' ;;
         *) words='' ;;
         esac
     fi

@@ -16,18 +16,20 @@ use Rattle.clap.specs.declared.error.kind.ErrorKind.TheVariants.{OutOfMemory}
 use Rattle.clap.specs.declared.parser.matches.ArgMatches.{ArgMatches}
 use Rattle.clap.specs.declared.parser.matches.ArgMatches.TheViews.{out-ArgMatches, out-SubCommand}
 use Rattle.dd_program.specs.CommandLine.{SolveOption, Budget, Entries, Workers, Asks, AsksToSolve, GiveOptions, HasDefaults, IsBudget, IsEventCount, IsIdle, IsInRange, IsLeftOut, IsSame, IsTableSize, given_to, is_option, word_of}
+use Rattle.dd_program.specs.FillWords.{AsksToFillBy, limit_up_to}
 use Rattle.dd_program.specs.ServeWords.{AsksToServeBy}
 use Rattle.dd_program.specs.Program.{number_of, program_app}
 use Rattle.dd_program.specs.declared.command_line.Args.{Args}
-use Rattle.dd_program.specs.declared.command_line.Args.TheVariants.{Serve, Solve}
+use Rattle.dd_program.specs.declared.command_line.Args.TheVariants.{Fill, Serve, Solve}
 use Rattle.dd_program.specs.declared.command_line.TheConstants.{LEAST_EVENTS, MOST_IDLE, MOST_WORKERS}
 use Rattle.dd_book.specs.declared.limits.TheConstants.{MOST_EVENTS}
 use Rattle.dd_table.specs.declared.shared_table.TheConstants.{MOST_SHARDS}
 use Rattle.dd_shard.specs.declared.shard.TheConstants.{MOST_SHAPES}
 use Rattle.dd_program.proofs.Given.{same-or-other}
 use Rattle.dd_program.proofs.Lines.{Asked, asked-of, given-admitted, one-meaning, walked-line}
-use Rattle.dd_program.proofs.Programs.{Serves, Solves, line-of, serve-rows, serve_rows, serve_rules, solve_rows, solves-free, subcommand-rows}
-use Rattle.dd_program.proofs.ServeWords.{limit-default, limit-fits, limit-one, no-row, number-default, number-fits, number-one}
+use Rattle.dd_program.proofs.OtherWords.{IsNamedById, begins, row-left-out}
+use Rattle.dd_program.proofs.Programs.{Fills, IsOneOf, Serves, Solves, fill-rows, fill_rows, fill_rules, line-of, serve-rows, serve_rows, serve_rules, solve_rows, solves-free, subcommand-rows}
+use Rattle.dd_program.proofs.ServeWords.{given-one, limit-default, limit-fits, limit-one, no-first, no-row, none-given, number-default, number-fits, number-one, up-to-fits}
 use Rattle.dd_program.proofs.LeftOut.{Avoids, Each, NamesOther, defaults-lack, find-has, neither, settled-lacks, walk-clean}
 use Rattle.dd_program.proofs.Words.{long_of-is, with_value}
 use Rattle.std.proofs.lemmas.Slice.Eq.{bytes_eq-Decides}
@@ -48,8 +50,12 @@ enters-serve arguments s = ap (subcommand_of program_app) s.line ∙ serve-rows 
 has-rows : (app : App) (arguments : List Text) (m : ArgMatches) → app ≡ program_app → HasMatchesOf app arguments m → subcommand_rows_of m ≡ subcommand_of program_app arguments
 has-rows app arguments m is matches = (subst (λ a. HasMatchesOf a arguments m) is matches refl).1
 
--- a line without a fault is one of `solve` or of `serve`
-line-free : (app : App) (arguments : List Text) → app ≡ program_app → fault_of app arguments ≡ [] → Solves arguments ⊎ Serves arguments
+-- and of `pbn`
+enters-fill : (arguments : List Text) (s : Fills arguments) → subcommand_of program_app arguments ≡ Some (codes "pbn", fill_rows s.rest)
+enters-fill arguments s = ap (subcommand_of program_app) s.line ∙ fill-rows s.program s.rest
+
+-- a line without a fault is one of `solve`, of `serve` or of `pbn`
+line-free : (app : App) (arguments : List Text) → app ≡ program_app → fault_of app arguments ≡ [] → IsOneOf arguments
 line-free app arguments is free = line-of arguments (subst (λ a. fault_of a arguments ≡ []) is free)
 
 -- two letters that differ
@@ -60,6 +66,19 @@ apart a b is-a is-b same = omega arith
 pub other-name : codes "solve" ≡ codes "serve" → ⊥
 other-name e = apart (slice_index (codes "solve") 1) (slice_index (codes "serve") 1) refl refl (ap (λ xs. slice_index xs 1) e)
 
+-- nor is a name of five letters one of three
+five-three : (name : Text) → length name ≡ 5 → name ≡ codes "pbn" → ⊥
+five-three name five is =
+    let three : 5 ≡ 3 = sym five ∙ ap (λ (n : Text). length n) is in
+    cc
+
+-- so neither is `pbn`
+pub solve-pbn : codes "solve" ≡ codes "pbn" → ⊥
+solve-pbn e = five-three (codes "solve") refl e
+
+pub serve-pbn : codes "serve" ≡ codes "pbn" → ⊥
+serve-pbn e = five-three (codes "serve") refl e
+
 -- the first part of a value's two
 first-part : {X A B : Type 0} (o : Option X) (f : X → A) (g : X → B) → option_map f o ≡ option_map (λ (p : A × B). p.0) (option_map (λ x. (f x, g x)) o)
 first-part None f g = refl
@@ -69,12 +88,13 @@ first-part (Some x) f g = refl
 same-name : (m : ArgMatches) → subcommand_name_of m ≡ option_map (λ p. p.0) (subcommand_rows_of m)
 same-name m = first-part (out-ArgMatches m).subcommand (λ b. (out-SubCommand (box_value b)).name.now) (λ b. rows_of (found_of (out-SubCommand (box_value b)).matches))
 
--- the parse of a line without a fault met `solve` or `serve`
+-- the parse of a line without a fault met `solve`, `serve` or `pbn`
 pub meets : (app : App) (arguments : List Text) (m : ArgMatches) → app ≡ program_app → fault_of app arguments ≡ [] → HasMatchesOf app arguments m
-    → (subcommand_name_of m ≡ Some (codes "solve")) ⊎ (subcommand_name_of m ≡ Some (codes "serve"))
+    → (subcommand_name_of m ≡ Some (codes "solve")) ⊎ ((subcommand_name_of m ≡ Some (codes "serve")) ⊎ (subcommand_name_of m ≡ Some (codes "pbn")))
 meets app arguments m is free matches = elim (line-free app arguments is free) [
   | inl s ↦ inl (same-name m ∙ ap (option_map (λ p. p.0)) (has-rows app arguments m is matches ∙ enters arguments s))
-  | inr s ↦ inr (same-name m ∙ ap (option_map (λ p. p.0)) (has-rows app arguments m is matches ∙ enters-serve arguments s))
+  | inr (inl s) ↦ inr (inl (same-name m ∙ ap (option_map (λ p. p.0)) (has-rows app arguments m is matches ∙ enters-serve arguments s)))
+  | inr (inr s) ↦ inr (inr (same-name m ∙ ap (option_map (λ p. p.0)) (has-rows app arguments m is matches ∙ enters-fill arguments s)))
 ]
 
 -- the name that the parse met, and its rows, are those of the line
@@ -94,9 +114,12 @@ asked-rows app arguments m rows is free matches named has = elim (line-free app 
   | inl s ↦
       let met = entered-is app arguments m (codes "solve") rows (codes "solve", solve_rows s.rest) is matches (enters arguments s) named has in
       subst (Asked arguments) (sym met.1) (asked-of s.program s.rest arguments _ s.line (faultless-runs s.rest [] s.faultless))
-  | inr s ↦
+  | inr (inl s) ↦
       let met = entered-is app arguments m (codes "solve") rows (codes "serve", serve_rows s.rest) is matches (enters-serve arguments s) named has in
       absurd (other-name met.0)
+  | inr (inr s) ↦
+      let met = entered-is app arguments m (codes "solve") rows (codes "pbn", fill_rows s.rest) is matches (enters-fill arguments s) named has in
+      absurd (solve-pbn met.0)
 ]
 
 -- the parse of a line of `serve` has the rows that the line has
@@ -107,9 +130,28 @@ serve-has app arguments m rows is free matches named has = elim (line-free app a
   | inl s ↦
       let met = entered-is app arguments m (codes "serve") rows (codes "solve", solve_rows s.rest) is matches (enters arguments s) named has in
       absurd (other-name (sym met.0))
-  | inr s ↦
+  | inr (inl s) ↦
       let met = entered-is app arguments m (codes "serve") rows (codes "serve", serve_rows s.rest) is matches (enters-serve arguments s) named has in
       (subst (λ a. fault_of a arguments ≡ []) is free, enters-serve arguments s ∙ ap (λ r. Some (codes "serve", r)) (sym met.1))
+  | inr (inr s) ↦
+      let met = entered-is app arguments m (codes "serve") rows (codes "pbn", fill_rows s.rest) is matches (enters-fill arguments s) named has in
+      absurd (serve-pbn met.0)
+]
+
+-- the parse of a line of `pbn` has the rows that the line has
+pub fill-has : (app : App) (arguments : List Text) (m : ArgMatches) (rows : List Row) → app ≡ program_app → fault_of app arguments ≡ [] → HasMatchesOf app arguments m
+    → subcommand_name_of m ≡ Some (codes "pbn") → Some rows ≡ option_map (λ p. p.1) (subcommand_rows_of m)
+    → (fault_of program_app arguments ≡ []) × (subcommand_of program_app arguments ≡ Some (codes "pbn", rows))
+fill-has app arguments m rows is free matches named has = elim (line-free app arguments is free) [
+  | inl s ↦
+      let met = entered-is app arguments m (codes "pbn") rows (codes "solve", solve_rows s.rest) is matches (enters arguments s) named has in
+      absurd (solve-pbn (sym met.0))
+  | inr (inl s) ↦
+      let met = entered-is app arguments m (codes "pbn") rows (codes "serve", serve_rows s.rest) is matches (enters-serve arguments s) named has in
+      absurd (serve-pbn (sym met.0))
+  | inr (inr s) ↦
+      let met = entered-is app arguments m (codes "pbn") rows (codes "pbn", fill_rows s.rest) is matches (enters-fill arguments s) named has in
+      (subst (λ a. fault_of a arguments ≡ []) is free, enters-fill arguments s ∙ ap (λ r. Some (codes "pbn", r)) (sym met.1))
 ]
 
 -- ---- the arguments
@@ -138,7 +180,15 @@ or-in-range most default (Some number) low high fits = fits
 pub asks-serve : (arguments : List Text) (rows : List Row) (args : Args) → (fault_of program_app arguments ≡ []) × (subcommand_of program_app arguments ≡ Some (codes "serve", rows))
     → AsksToServeBy rows args → Asks arguments args
 asks-serve arguments rows (Solve budget entries workers) line by = absurd by
+asks-serve arguments rows (Fill tags budget entries) line by = absurd by
 asks-serve arguments rows (Serve listen workers shards entries budget events idle websocket allow_stop) line by = (rows, line.0, line.1, by)
+
+-- the same of the rows of `pbn`
+pub asks-fill : (arguments : List Text) (rows : List Row) (args : Args) → (fault_of program_app arguments ≡ []) × (subcommand_of program_app arguments ≡ Some (codes "pbn", rows))
+    → AsksToFillBy rows args → Asks arguments args
+asks-fill arguments rows (Solve budget entries workers) line by = absurd by
+asks-fill arguments rows (Serve listen workers shards entries budget events idle websocket allow_stop) line by = absurd by
+asks-fill arguments rows (Fill tags budget entries) line by = (rows, line.0, line.1, by)
 
 -- the numbers of a line that asks lie in their ranges
 pub in-range : (arguments : List Text) (args : Args) → Asks arguments args → IsInRange args
@@ -159,6 +209,10 @@ in-range arguments (Serve listen workers shards entries budget events idle webso
     let budget-fit = subst (λ b. IfSome b IsBudget) (sym by.4.2) (limit-fits 1000000000000 50000000 by.4.0 (omega arith)) in
     let idle-fit = subst (λ i. IfSome i IsIdle) (sym by.6.2) (limit-fits MOST_IDLE 600 by.6.0 (omega arith)) in
     (workers-fit.0, workers-fit.1, shards-fit.0, shards-fit.1, entries-fit, budget-fit, events-fit, idle-fit)
+in-range arguments (Fill tags budget entries) (rows, free, line, by) =
+    let budget-fit = subst (λ b. IfSome b IsBudget) (sym by.1.2) (up-to-fits 1000000000000 by.1.0) in
+    let entries-fit = subst IsTableSize (sym by.0.2) (number-fits 1 MOST_SHAPES 4096 by.0.0 (omega arith) (omega arith)) in
+    (budget-fit, entries-fit)
 
 -- the name of what a line enters
 abbrev entered_name : Option (Text × List Row) → Text
@@ -175,6 +229,19 @@ solve-only arguments given rows asks line =
     let as-solve : subcommand_of program_app arguments ≡ Some (codes "solve", solve_rows asks.words) = ap (subcommand_of program_app) asks.line ∙ subcommand-rows asks.program asks.words in
     let both : codes "solve" ≡ codes "serve" = ap entered_name (sym as-solve ∙ line) in
     other-name both
+
+-- nor of `pbn`
+solve-no-fill : (arguments : List Text) (given : List (SolveOption × ℕ)) (rows : List Row) → AsksToSolve arguments given → subcommand_of program_app arguments ≡ Some (codes "pbn", rows) → ⊥
+solve-no-fill arguments given rows asks line =
+    let as-solve : subcommand_of program_app arguments ≡ Some (codes "solve", solve_rows asks.words) = ap (subcommand_of program_app) asks.line ∙ subcommand-rows asks.program asks.words in
+    let both : codes "solve" ≡ codes "pbn" = ap entered_name (sym as-solve ∙ line) in
+    solve-pbn both
+
+-- and a line of `serve` is none of `pbn`
+serve-no-fill : (arguments : List Text) (rows rows2 : List Row) → subcommand_of program_app arguments ≡ Some (codes "serve", rows) → subcommand_of program_app arguments ≡ Some (codes "pbn", rows2) → ⊥
+serve-no-fill arguments rows rows2 line line2 =
+    let both : codes "serve" ≡ codes "pbn" = ap entered_name (sym line ∙ line2) in
+    serve-pbn both
 
 -- a line asks for one thing
 pub asks-one : (arguments : List Text) (args other : Args) → Asks arguments args → Asks arguments other → IsSame other args
@@ -196,12 +263,19 @@ asks-one arguments (Serve l w s e b n i k a) (Serve m x t f c o h j d) (rows, fr
       also.7 ∙ sym by.7,
       also.8 ∙ sym by.8,
     )
+asks-one arguments (Solve b e w) (Fill u c f) asks also = solve-no-fill arguments asks.0 also.0 asks.1 also.2
+asks-one arguments (Fill t b e) (Solve c f x) asks also = solve-no-fill arguments also.0 asks.0 also.1 asks.2
+asks-one arguments (Serve l w s e b n i k a) (Fill u c f) asks also = serve-no-fill arguments asks.0 also.0 asks.2 also.2
+asks-one arguments (Fill t b e) (Serve m x s f c o h j d) asks also = serve-no-fill arguments also.0 asks.0 also.2 asks.2
+asks-one arguments (Fill t b e) (Fill u c f) (rows, free, line, by) (rows2, free2, line2, by2) =
+    let same : rows2 ≡ rows = ap entered_rows (sym line2 ∙ line) in
+    let also = subst (λ r. AsksToFillBy r (Fill u c f)) same by2 in (
+      also.2 ∙ sym by.2,
+      also.1.2 ∙ ap (limit_up_to 1000000000000) (given-one 64 (one_of (codes "budget") rows) also.1.0 by.1.0 also.1.1 by.1.1) ∙ sym by.1.2,
+      number-one (codes "entries") rows 1 MOST_SHAPES 4096 f e also.0 by.0,
+    )
 
 -- ---- what is left out
-
--- does the word begin with the option's name?
-abbrev begins : Text → Text → Bool
-begins option word = bytes_eq (take (length option) word) option
 
 -- a word of an option begins with it, with or without a text
 word-begins : (o : SolveOption) (text : Text) → (begins (word_of o) (word_of o) ≡ true) × (begins (word_of o) (word_of o ++ codes "=" ++ text) ≡ true)
@@ -249,77 +323,37 @@ serve-avoids o other = record {
     only-help x true is = rw is other
     only-help x false is = rw is tt
 
--- what two tests let through passes the second
-and-right : (a b : Bool) → (a && b) ≡ true → b ≡ true
-and-right true b e = e
-and-right false b e = absurd (true≢false (sym e))
-
-or-false : (a : Bool) → (a || false) ≡ true → a ≡ true
-or-false true e = refl
-or-false false e = e
-
--- an option with what follows it begins with the option
-begins-with : (o : Text) (v : Option Text) → bytes_eq (take (length (45 ∷ 45 ∷ o)) (45 ∷ 45 ∷ with_value o v)) (45 ∷ 45 ∷ o) ≡ true
-begins-with o None = (bytes_eq-Decides (take (length (45 ∷ 45 ∷ o)) (45 ∷ 45 ∷ o)) (45 ∷ 45 ∷ o)).1 (take-length (45 ∷ 45 ∷ o))
-begins-with o (Some value) =
-    (bytes_eq-Decides (take (length (45 ∷ 45 ∷ o)) ((45 ∷ 45 ∷ o) ++ 61 ∷ value)) (45 ∷ 45 ∷ o)).1 (take-append_seam (45 ∷ 45 ∷ o) (61 ∷ value))
-
--- the long name of each argument of `serve` is its id, and it has no other
-IsNamedById : Rule → Type 0
-IsNamedById a = (a.long ≡ Some a.id) × (a.aliases ≡ [])
-
 all-named : Each IsNamedById serve_rules
 unfolding IsNamedById
 all-named = ((refl, refl), ((refl, refl), ((refl, refl), ((refl, refl), ((refl, refl), ((refl, refl), ((refl, refl), ((refl, refl), ((refl, refl), ((refl, refl), tt))))))))))
-
--- so the argument that a long name finds has that name for its id
-long-found : (name : Text) (a : Rule) → arg_by_long serve_rules name ≡ Some a → a.id ≡ name
-unfolding IsNamedById
-long-found name a e =
-    let found = find-has (λ (r : Rule). not (is_some r.index) && has_long r name) IsNamedById serve_rules a e all-named in
-    let long : has_long a name ≡ true = and-right (not (is_some a.index)) (has_long a name) found.0 in
-    (bytes_eq-Decides a.id name).0 (or-false (bytes_eq a.id name) (rw (found.1.0, found.1.1) at long))
-
--- a word that does not begin with the option's name names another, or none
-word-other : (o word : Text) → bytes_eq (take (length (45 ∷ 45 ∷ o)) word) (45 ∷ 45 ∷ o) ≡ false → NamesOther serve_rules o word
-word-other o word out = first (long_of word) refl
-  where
-    begins-so : (v : Option Text) → word ≡ 45 ∷ 45 ∷ with_value o v → ⊥
-    begins-so v is = true≢false (sym (begins-with o v) ∙ sym (ap (λ w. bytes_eq (take (length (45 ∷ 45 ∷ o)) w) (45 ∷ 45 ∷ o)) is) ∙ out)
-
-    third : (name : Text) (v : Option Text) (a : Rule) → word ≡ 45 ∷ 45 ∷ with_value name v → a.id ≡ name → (b : Bool) → bytes_eq a.id o ≡ b → bytes_eq a.id o ≡ false
-    third name v a word-is named false is = is
-    third name v a word-is named true is =
-        let same : name ≡ o = sym named ∙ (bytes_eq-Decides a.id o).0 is in
-        absurd (begins-so v (word-is ∙ ap (λ n. 45 ∷ 45 ∷ with_value n v) same))
-
-    second : (name : Text) (v : Option Text) → word ≡ 45 ∷ 45 ∷ with_value name v → (found : Option Rule) → arg_by_long serve_rules name ≡ found → IfSome found (λ a. bytes_eq a.id o ≡ false)
-    second name v word-is None e = tt
-    second name v word-is (Some a) e = third name v a word-is (long-found name a e) (bytes_eq a.id o) refl
-
-    first : (p : Option (Text × Option Text)) → long_of word ≡ p → IfSome p (λ q. IfSome (arg_by_long serve_rules q.0) (λ a. bytes_eq a.id o ≡ false))
-    first None e = tt
-    first (Some (name, v)) e = second name v (long_of-is word name v e) (arg_by_long serve_rules name) refl
-
--- the same of each word of a line
-arguments-other : (o : Text) (arguments : List Text) → list_any (begins (45 ∷ 45 ∷ o)) arguments ≡ false → Each (NamesOther serve_rules o) arguments
-arguments-other o [] out = tt
-arguments-other o (word ∷ rest) out =
-    let parts = neither (begins (45 ∷ 45 ∷ o) word) (list_any (begins (45 ∷ 45 ∷ o)) rest) out in
-    (word-other o word parts.0, arguments-other o rest parts.1)
 
 -- an option that is left out has no row
 left-out : (arguments : List Text) (s : Serves arguments) (rows : List Row) (o : Text) → subcommand_of program_app arguments ≡ Some (codes "serve", rows) → bytes_eq (codes "help") o ≡ false
     → Each (λ a. (bytes_eq a.id o ≡ false) ⊎ (a.defaults ≡ [])) serve_rules → IsLeftOut (45 ∷ 45 ∷ o) arguments → one_of o rows ≡ None
 left-out arguments s rows o line other none out =
     let rows-are : rows ≡ serve_rows s.rest = ap entered_rows (sym line ∙ enters-serve arguments s) in
-    let from-line : list_any (begins (45 ∷ 45 ∷ o)) (s.program ∷ codes "serve" ∷ s.rest) ≡ false = subst (λ ws. list_any (begins (45 ∷ 45 ∷ o)) ws ≡ false) s.line out in
-    let after-program = (neither (begins (45 ∷ 45 ∷ o) s.program) _ from-line).1 in
-    let after-name = (neither (begins (45 ∷ 45 ∷ o) (codes "serve")) (list_any (begins (45 ∷ 45 ∷ o)) s.rest) after-program).1 in
-    let end = walk-clean serve_rules o (serve-avoids o other) s.rest (walk_from nothing_held) (arguments-other o s.rest after-name)
-    (record { goes_on = refl; lacks = (refl, tt); waits_other = tt }) in
-    let lacks : has_row o (serve_rows s.rest) ≡ false = defaults-lack o serve_rules _ none (settled-lacks serve_rules o (fold (walked serve_rules []) (walk_from nothing_held) s.rest).held end.lacks) in
-    no-row o rows (subst (λ r. has_row o r ≡ false) (sym rows-are) lacks)
+    no-row o rows (subst (λ r. has_row o r ≡ false) (sym rows-are) (row-left-out serve_rules arguments s.program (codes "serve") s.rest o s.line (serve-avoids o other) all-named none out))
+
+-- the same of `pbn`
+fill-avoids : (o : Text) → bytes_eq (codes "help") o ≡ false → Avoids fill_rules o
+fill-avoids o other = record {
+  short = λ x. only-help x (104 == x) refl;
+  index = λ i. refl;
+}
+  where
+    only-help : (x : ℕ) (b : Bool) → (104 == x) ≡ b → IfSome (arg_by_short fill_rules x) (λ a. bytes_eq a.id o ≡ false)
+    only-help x true is = rw is other
+    only-help x false is = rw is tt
+
+fill-named : Each IsNamedById fill_rules
+unfolding IsNamedById
+fill-named = ((refl, refl), ((refl, refl), ((refl, refl), ((refl, refl), tt))))
+
+fill-left-out : (arguments : List Text) (s : Fills arguments) (rows : List Row) (o : Text) → subcommand_of program_app arguments ≡ Some (codes "pbn", rows) → bytes_eq (codes "help") o ≡ false
+    → Each (λ a. (bytes_eq a.id o ≡ false) ⊎ (a.defaults ≡ [])) fill_rules → IsLeftOut (45 ∷ 45 ∷ o) arguments → has_row o rows ≡ false
+fill-left-out arguments s rows o line other none out =
+    let rows-are : rows ≡ fill_rows s.rest = ap entered_rows (sym line ∙ enters-fill arguments s) in
+    subst (λ r. has_row o r ≡ false) (sym rows-are) (row-left-out fill_rules arguments s.program (codes "pbn") s.rest o s.line (fill-avoids o other) fill-named none out)
 
 -- an option that is left out of a line that asks has its default
 pub has-defaults : (arguments : List Text) (args : Args) → Asks arguments args → HasDefaults arguments args
@@ -330,13 +364,23 @@ has-defaults arguments (Solve budget entries workers) (given, asks, budget-is, e
 )
 has-defaults arguments (Serve listen workers shards entries budget events idle websocket allow_stop) (rows, free, line, by) = elim (line-of arguments free) [
   | inl s ↦ absurd (other-name (ap entered_name (sym (enters arguments s) ∙ line)))
-  | inr s ↦ (
+  | inr (inr s) ↦ absurd (serve-pbn (ap entered_name (sym line ∙ enters-fill arguments s)))
+  | inr (inl s) ↦ (
     λ out. number-default (codes "workers") rows 1 MOST_WORKERS 4 workers (left-out arguments s rows (codes "workers") line refl (inr refl, (inr refl, (inr refl, (inr refl, (inr refl, (inr refl, (inr refl, (inl refl, (inl refl, (inr refl, tt)))))))))) out) by.1,
     λ out. number-default (codes "shards") rows 1 MOST_SHARDS 16 shards (left-out arguments s rows (codes "shards") line refl (inr refl, (inr refl, (inr refl, (inr refl, (inr refl, (inr refl, (inr refl, (inl refl, (inl refl, (inr refl, tt)))))))))) out) by.2,
     λ out. number-default (codes "entries") rows 1 MOST_SHAPES 4096 entries (left-out arguments s rows (codes "entries") line refl (inr refl, (inr refl, (inr refl, (inr refl, (inr refl, (inr refl, (inr refl, (inl refl, (inl refl, (inr refl, tt)))))))))) out) by.3,
     λ out. limit-default (codes "budget") rows 1000000000000 50000000 budget (left-out arguments s rows (codes "budget") line refl (inr refl, (inr refl, (inr refl, (inr refl, (inr refl, (inr refl, (inr refl, (inl refl, (inl refl, (inr refl, tt)))))))))) out) by.4,
     λ out. number-default (codes "events") rows LEAST_EVENTS MOST_EVENTS MOST_EVENTS events (left-out arguments s rows (codes "events") line refl (inr refl, (inr refl, (inr refl, (inr refl, (inr refl, (inr refl, (inr refl, (inl refl, (inl refl, (inr refl, tt)))))))))) out) by.5,
     λ out. limit-default (codes "idle") rows MOST_IDLE 600 idle (left-out arguments s rows (codes "idle") line refl (inr refl, (inr refl, (inr refl, (inr refl, (inr refl, (inr refl, (inr refl, (inl refl, (inl refl, (inr refl, tt)))))))))) out) by.6,
+  )
+]
+has-defaults arguments (Fill tags budget entries) (rows, free, line, by) = elim (line-of arguments free) [
+  | inl s ↦ absurd (solve-pbn (ap entered_name (sym (enters arguments s) ∙ line)))
+  | inr (inl s) ↦ absurd (serve-pbn (ap entered_name (sym (enters-serve arguments s) ∙ line)))
+  | inr (inr s) ↦ (
+    λ out. by.2 ∙ ap (λ (t : Option Text). unwrap_or t []) (no-first (codes "tags") rows (fill-left-out arguments s rows (codes "tags") line refl (inr refl, (inr refl, (inr refl, (inr refl, tt)))) out)),
+    λ out. by.1.2 ∙ ap (limit_up_to 1000000000000) (none-given 64 (one_of (codes "budget") rows) by.1.0 (no-row (codes "budget") rows (fill-left-out arguments s rows (codes "budget") line refl (inr refl, (inr refl, (inr refl, (inr refl, tt)))) out)) by.1.1),
+    λ out. number-default (codes "entries") rows 1 MOST_SHAPES 4096 entries (no-row (codes "entries") rows (fill-left-out arguments s rows (codes "entries") line refl (inr refl, (inr refl, (inr refl, (inr refl, tt)))) out)) by.0,
   )
 ]
 
@@ -348,6 +392,7 @@ asks-free app arguments (Solve budget entries workers) is (given, asks, budget-i
     let free = solves-free asks.program asks.words (walked-line arguments given asks).faultless in
     subst (λ a. fault_of a arguments ≡ []) (sym is) (subst (λ ws. fault_of program_app ws ≡ []) (sym asks.line) free)
 asks-free app arguments (Serve listen workers shards entries budget events idle websocket allow_stop) is asks = subst (λ a. fault_of a arguments ≡ []) (sym is) asks.1
+asks-free app arguments (Fill tags budget entries) is asks = subst (λ a. fault_of a arguments ≡ []) (sym is) asks.1
 
 -- the parser's error says that memory ran out, or the line asks for nothing
 abbrev pub Refuses : List Text → Error → Type 0

@@ -1,16 +1,16 @@
 -- What is told of runs, and how the serving of clients ends.
 use Rattle.std.proofs.Common.{◌≡◌, ◌∙◌, ◌<◌, ℕ, refl, sym, ap, subst, inl, inr, Bool, true, false, List, [], ◌∷◌, ◌++◌, append_assoc, length, Option, String, Global}
-use Rattle.std.specs.Prelude.{IsOk, Result, Ok, Err}
+use Rattle.std.specs.Prelude.{IsOk, Result, Ok, Err, string_bytes}
 use Rattle.std.proofs.KnownBytes.{Appends-nil, Appends-trans}
 use Rattle.dd_lines.specs.CountedDevices.{FailedOnce}
 use Rattle.dd_program.specs.declared.command_line.Args.{Args}
-use Rattle.dd_program.specs.declared.command_line.Args.TheVariants.{Serve}
+use Rattle.dd_program.specs.declared.command_line.Args.TheVariants.{Fill, Serve}
 use Rattle.dd_server.specs.declared.args.ServeFault.{ServeFault}
 use Rattle.dd_server.specs.declared.args.ServeFault.TheVariants.{Listen, OutOfMemory as NoMemoryLeft}
 use Rattle.dd_server.specs.Runs.{AreTold}
 use Rattle.dd_program.specs.declared.ending.Ending.{Ending}
 use Rattle.dd_program.specs.declared.ending.Ending.TheVariants.{WriteFailed}
-use Rattle.dd_program.specs.Endings.{AnswersUntil, AreRuns, Device, EndsSo, ServesUntil, Streams, TellingOf, TellsNext, TellsRun, TellsText, Writes, WritesAll, WritesBeginning, closed_text, closed_texts, line_of, listening_text, streams}
+use Rattle.dd_program.specs.Endings.{AnswersUntil, AreRuns, Device, EndsSo, FillsUntil, ServesUntil, Streams, TellingOf, TellsNext, TellsRun, TellsText, Writes, WritesAll, WritesBeginning, closed_text, closed_texts, line_of, listening_text, streams}
 
 -- ---- texts, one after another
 
@@ -116,3 +116,9 @@ untold-start events address line input before output errors errors2 ending line-
 pub as-serve : (args : Args) (listen : String Global) (workers shards entries : ℕ) (budget : Option ℕ) (events : ℕ) (idle : Option ℕ) (websocket allow_stop : Bool) (old new : Streams) (ending : Ending)
     → args ≡ Serve listen workers shards entries budget events idle websocket allow_stop → ServesUntil events old new ending → AnswersUntil args old new ending
 as-serve args listen workers shards entries budget events idle websocket allow_stop old new ending is serves = subst (λ a. AnswersUntil a old new ending) (sym is) serves
+
+-- and what those of `pbn` do
+pub as-fill : (args : Args) (tags : String Global) (budget : Option ℕ) (entries : ℕ) (text : List ℕ) (old new : Streams) (ending : Ending) → args ≡ Fill tags budget entries
+    → text ≡ string_bytes tags → FillsUntil text budget old new ending → AnswersUntil args old new ending
+as-fill args tags budget entries text old new ending is same fills =
+    subst (λ a. AnswersUntil a old new ending) (sym is) (subst (λ t. FillsUntil t budget old new ending) same fills)

@@ -1,10 +1,13 @@
 mod Asked
 mod Attended
+mod FilledUntil
 mod Given
 mod LeftOut
 mod Lines
+mod NamedTags
 mod Numbers
 mod Options
+mod OtherWords
 mod Programs
 mod Runs
 mod ServeWords

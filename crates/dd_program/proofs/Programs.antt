@@ -10,7 +10,7 @@ use Rattle.clap.specs.Simple.{Shape, built, built_leaf, entered, inherited, fill
 use Rattle.clap.specs.Kinds.{Kinds, or_else}
 use Rattle.clap.specs.Faults.{bundle_fault, check_fault, default_fault, defaults_fault, given_default_fault, entered_fault, fault_of, flag_word_fault, is_simple_and_free, level_fault, long_fault, settle_fault, short_fault, step_fault, turn_fault, walk_fault}
 use Rattle.clap.proofs.OnLiterals.{clap_on_literals}
-use Rattle.dd_program.specs.Program.{program_app, serve_app}
+use Rattle.dd_program.specs.Program.{fill_app, program_app, serve_app}
 use Rattle.dd_program.specs.CommandLine.{Budget, Entries, Workers}
 use Rattle.dd_program.proofs.Options.{IsFaultless, here, rows_at_end, rule_for, solve_rules, solve_shape}
 use Rattle.dd_program.proofs.Runs.{both-free}
@@ -93,17 +93,24 @@ program-other-fails : (word : Text) (long : Option (Text × Option Text))
 program-other-fails word None e = program-short-fails word (short_of word) e
 program-other-fails word (Some (name, value)) e = program-long-fails name value (first-free _ _ e)
 
--- the first word without a fault is `solve`, `serve` or `--`
-first-form : (word : Text) → turn_fault program_shape names (walk_from nothing_held) word ≡ [] → (word ≡ codes "solve") ⊎ ((word ≡ codes "serve") ⊎ (word ≡ codes "--"))
-first-form word e = go (bytes_eq (codes "solve") word) refl (bytes_eq (codes "serve") word) refl (bytes_eq (codes "help") word) refl (bytes_eq word (codes "--")) refl
+-- the word is one of these
+abbrev IsFirst : Text → Type 0
+IsFirst word = (word ≡ codes "solve") ⊎ ((word ≡ codes "serve") ⊎ ((word ≡ codes "pbn") ⊎ (word ≡ codes "--")))
+
+-- the first word without a fault is `solve`, `serve`, `pbn` or `--`
+first-form : (word : Text) → turn_fault program_shape names (walk_from nothing_held) word ≡ [] → IsFirst word
+first-form word e =
+    go (bytes_eq (codes "solve") word) refl (bytes_eq (codes "serve") word) refl (bytes_eq (codes "pbn") word) refl (bytes_eq (codes "help") word) refl
+    (bytes_eq word (codes "--")) refl
   where
-    go : (s : Bool) → bytes_eq (codes "solve") word ≡ s → (v : Bool) → bytes_eq (codes "serve") word ≡ v → (h : Bool) → bytes_eq (codes "help") word ≡ h
-        → (d : Bool) → bytes_eq word (codes "--") ≡ d → (word ≡ codes "solve") ⊎ ((word ≡ codes "serve") ⊎ (word ≡ codes "--"))
-    go true is-s v is-v h is-h d is-d = inl (sym ((bytes_eq-Decides (codes "solve") word).0 is-s))
-    go false is-s true is-v h is-h d is-d = inr (inl (sym ((bytes_eq-Decides (codes "serve") word).0 is-v)))
-    go false is-s false is-v true is-h d is-d = let bad = rw (is-s, is-v, is-h) at e in cc
-    go false is-s false is-v false is-h true is-d = inr (inr ((bytes_eq-Decides word (codes "--")).0 is-d))
-    go false is-s false is-v false is-h false is-d = absurd (program-other-fails word (long_of word) (rw (is-s, is-v, is-h, is-d) at e))
+    go : (s : Bool) → bytes_eq (codes "solve") word ≡ s → (v : Bool) → bytes_eq (codes "serve") word ≡ v → (p : Bool) → bytes_eq (codes "pbn") word ≡ p
+        → (h : Bool) → bytes_eq (codes "help") word ≡ h → (d : Bool) → bytes_eq word (codes "--") ≡ d → IsFirst word
+    go true is-s v is-v p is-p h is-h d is-d = inl (sym ((bytes_eq-Decides (codes "solve") word).0 is-s))
+    go false is-s true is-v p is-p h is-h d is-d = inr (inl (sym ((bytes_eq-Decides (codes "serve") word).0 is-v)))
+    go false is-s false is-v true is-p h is-h d is-d = inr (inr (inl (sym ((bytes_eq-Decides (codes "pbn") word).0 is-p))))
+    go false is-s false is-v false is-p true is-h d is-d = let bad = rw (is-s, is-v, is-p, is-h) at e in cc
+    go false is-s false is-v false is-p false is-h true is-d = inr (inr (inr ((bytes_eq-Decides word (codes "--")).0 is-d)))
+    go false is-s false is-v false is-p false is-h false is-d = absurd (program-other-fails word (long_of word) (rw (is-s, is-v, is-p, is-h, is-d) at e))
 
 -- ---- a line without a fault
 
@@ -119,7 +126,13 @@ serve-stops : (rest : List Text)
 unfolding walked
 serve-stops rest = stopped-walk (walk_from nothing_held) (codes "serve") [] rest
 
--- the walk's faults over such a line are those of `solve`
+-- and of `pbn`
+fill-stops : (rest : List Text)
+    → fold (walked program_rules names) (walk_from nothing_held) (codes "pbn" ∷ rest) ≡ record (walk_from nothing_held) { stopped = Some (codes "pbn", rest) }
+unfolding walked
+fill-stops rest = stopped-walk (walk_from nothing_held) (codes "pbn") [] rest
+
+-- the walk's faults over a line of `solve` are those of `solve`
 abbrev solve_faults : List Text → Kinds
 solve_faults rest = level_fault solve_shape [] nothing_held rest false []
 
@@ -163,9 +176,30 @@ pub record Serves (arguments : List Text) : Type 0 where
 pub serve-rows : (program : Text) (rest : List Text) → subcommand_of program_app (program ∷ codes "serve" ∷ rest) ≡ Some (codes "serve", serve_rows rest)
 serve-rows program rest = ap (λ (w : Walk). entered (built program_app) w.stopped) (serve-stops rest)
 
--- a line without a fault goes on after its first word as one of `solve` or of `serve`
-line-from : (program word : Text) (rest : List Text) → (word ≡ codes "solve") ⊎ ((word ≡ codes "serve") ⊎ (word ≡ codes "--")) → fault_of program_app (program ∷ word ∷ rest) ≡ []
-    → Solves (program ∷ word ∷ rest) ⊎ Serves (program ∷ word ∷ rest)
+-- the rules of `pbn` once it is built
+abbrev pub fill_rules : List Rule
+fill_rules = (built_leaf (inherited program_app.top fill_app.top)).rules
+
+-- `pbn` got these rows
+abbrev pub fill_rows : List Text → List Row
+fill_rows rest = rows_after fill_rules [] rest
+
+-- the arguments are the program's name, `pbn` and others
+pub record Fills (arguments : List Text) : Type 0 where
+  pub program : Text
+  pub rest : List Text
+  pub line : arguments ≡ program ∷ codes "pbn" ∷ rest
+
+-- the parse of a line of `pbn` enters it with its rows
+pub fill-rows : (program : Text) (rest : List Text) → subcommand_of program_app (program ∷ codes "pbn" ∷ rest) ≡ Some (codes "pbn", fill_rows rest)
+fill-rows program rest = ap (λ (w : Walk). entered (built program_app) w.stopped) (fill-stops rest)
+
+-- the line is one of `solve`, of `serve` or of `pbn`
+abbrev pub IsOneOf : List Text → Type 0
+IsOneOf arguments = Solves arguments ⊎ (Serves arguments ⊎ Fills arguments)
+
+-- a line without a fault goes on after its first word as one of these
+line-from : (program word : Text) (rest : List Text) → IsFirst word → fault_of program_app (program ∷ word ∷ rest) ≡ [] → IsOneOf (program ∷ word ∷ rest)
 unfolding clap_on_literals
 line-from program word rest (inl is) e =
     let free = solve-free program rest (subst (λ w. fault_of program_app (program ∷ w ∷ rest) ≡ []) is e) in
@@ -176,12 +210,13 @@ line-from program word rest (inl is) e =
       line = ap (λ w. program ∷ w ∷ rest) is;
       faultless = (first-free _ _ free, first-free _ _ after);
     })
-line-from program word rest (inr (inl is)) e = inr (record { program = program; rest = rest; line = ap (λ w. program ∷ w ∷ rest) is })
-line-from program word [] (inr (inr is)) e = let bad = subst (λ w. fault_of program_app (program ∷ w ∷ []) ≡ []) is e in cc
-line-from program word (x ∷ xs) (inr (inr is)) e = let bad = subst (λ w. fault_of program_app (program ∷ w ∷ x ∷ xs) ≡ []) is e in cc
+line-from program word rest (inr (inl is)) e = inr (inl (record { program = program; rest = rest; line = ap (λ w. program ∷ w ∷ rest) is }))
+line-from program word rest (inr (inr (inl is))) e = inr (inr (record { program = program; rest = rest; line = ap (λ w. program ∷ w ∷ rest) is }))
+line-from program word [] (inr (inr (inr is))) e = let bad = subst (λ w. fault_of program_app (program ∷ w ∷ []) ≡ []) is e in cc
+line-from program word (x ∷ xs) (inr (inr (inr is))) e = let bad = subst (λ w. fault_of program_app (program ∷ w ∷ x ∷ xs) ≡ []) is e in cc
 
--- a line without a fault is one of `solve` or of `serve`
-pub line-of : (arguments : List Text) → fault_of program_app arguments ≡ [] → Solves arguments ⊎ Serves arguments
+-- a line without a fault is one of these
+pub line-of : (arguments : List Text) → fault_of program_app arguments ≡ [] → IsOneOf arguments
 unfolding clap_on_literals
 line-of [] e = cc
 line-of (program ∷ []) e = cc

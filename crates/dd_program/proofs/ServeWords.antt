@@ -1,6 +1,6 @@
 -- What a line of `serve` asks for.
 use Rattle.std.proofs.Common.{◌≡◌, ◌∙◌, ◌≤◌, ◌&&◌, ◌||◌, true≢false, ℕ, zero, suc, Bool, cond, codes, true, false, refl, sym, ap, List, [], ◌∷◌, Option, Some, None, Result, Ok, Err, nat_le}
-use Rattle.std.specs.Prelude.{IfOk, IfSome, option_and_then, option_map, unwrap_or}
+use Rattle.std.specs.Prelude.{IfOk, IfSome, option_and_then, option_map, slice_get, unwrap_or}
 use Rattle.std.specs.List.{find, list_any}
 use Rattle.std.specs.Option.{option_map_or}
 use Rattle.std.specs.Str.{bytes_eq}
@@ -8,13 +8,14 @@ use Rattle.std.specs.Str.Parse.{ParsesUnsigned}
 use Rattle.std.specs.Borrow.{Bor}
 use Rattle.std.proofs.lemmas.Bool.{leb-true}
 use Rattle.clap.specs.Matches.{ReadsOne}
-use Rattle.clap.specs.Walk.{Row, Rule, Text, has_row, one_of, row_text, rule_of}
-use Rattle.clap.specs.Words.{AddsArg, App, app_of, with_rule}
+use Rattle.clap.specs.Walk.{Row, Rule, Text, first_of, has_row, one_of, row_text, rule_of}
+use Rattle.clap.specs.Words.{AddsArg, AddsSubcommand, App, Shape, app_of, shape_of, with_rule, with_subcommand}
 use Rattle.clap.specs.declared.builder.arg.Arg.{Arg}
 use Rattle.clap.specs.declared.builder.command.Command.{Command}
 use Rattle.clap.specs.declared.builder.command.Command.TheViews.{out-Command}
 use Rattle.std.specs.declared.alloc.AllocError.{AllocError}
 use Rattle.dd_program.specs.Program.{IsOption, IsSubcommand}
+use Rattle.dd_program.specs.FillWords.{limit_up_to}
 use Rattle.dd_program.specs.ServeWords.{IsGivenBy, HasLimit, HasNumber, limit_in, number_in}
 use Rattle.dd_program.proofs.Numbers.{value_of}
 
@@ -81,6 +82,17 @@ adds-last app rule old a (Ok new) added is before =
     (ap (λ (x : App). x.top) done.0, done.1)
 adds-last app rule old a (Err e) added is before = tt
 
+-- one subcommand more
+pub adds-command : (app : App) (shape : Shape) (old sub new : Command) → AddsSubcommand old sub new → IsSubcommand sub shape → app_of old ≡ app → app_of new ≡ with_subcommand app shape
+adds-command app shape old sub new added is before =
+    added.shape is.1 ∙ ap (λ x. with_subcommand x (shape_of sub)) before ∙ ap (with_subcommand app) is.0
+
+-- the last one
+pub adds-last-command : (app : App) (shape : Shape) (old sub : Command) (result : Result Command AllocError) → IfOk result (λ new. AddsSubcommand old sub new) → IsSubcommand sub shape
+    → app_of old ≡ app → IfOk result (λ command. app_of command ≡ with_subcommand app shape)
+adds-last-command app shape old sub (Ok new) added is before = adds-command app shape old sub new added is before
+adds-last-command app shape old sub (Err e) added is before = tt
+
 -- ---- one meaning
 
 -- a text gives one number
@@ -131,6 +143,15 @@ limit-fits most default (Some (suc number)) low = go (nat_le (suc number) most) 
     go true is = leb-true (suc number) most is
     go false is = low
 
+-- a limit that has no default lies in its range
+pub up-to-fits : (most : ℕ) (given : Option ℕ) → IfSome (limit_up_to most given) (λ number. number ≤ most)
+up-to-fits most None = tt
+up-to-fits most (Some number) = go (nat_le number most) refl
+  where
+    go : (b : Bool) → nat_le number most ≡ b → IfSome (cond b (Some number) None) (λ n. n ≤ most)
+    go true is = leb-true number most is
+    go false is = tt
+
 -- ---- what is left out
 
 -- an option without a row gives nothing
@@ -149,3 +170,7 @@ limit-default option rows most default limit none is = is.2 ∙ ap (limit_in mos
 -- no row of an option has no text of it
 pub no-row : (option : Text) (rows : List Row) → has_row option rows ≡ false → one_of option rows ≡ None
 no-row option rows lacks = ap (option_and_then row_text) (finds-none (λ (r : Row). bytes_eq r.id option) rows lacks)
+
+-- nor has it a first one
+pub no-first : (option : Text) (rows : List Row) → has_row option rows ≡ false → first_of option rows ≡ None
+no-first option rows lacks = ap (option_and_then (λ (r : Row). slice_get r.values 0)) (finds-none (λ (r : Row). bytes_eq r.id option) rows lacks)

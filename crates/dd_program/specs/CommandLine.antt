@@ -6,9 +6,10 @@ use Rattle.std.specs.Str.Parse.{IsNumeral, digits_value, without_leading_plus}
 use Rattle.dd_book.specs.declared.limits.TheConstants.{MOST_EVENTS}
 use Rattle.dd_shard.specs.declared.shard.TheConstants.{MOST_SHAPES}
 use Rattle.dd_program.specs.declared.command_line.Args.{Args}
-use Rattle.dd_program.specs.declared.command_line.Args.TheVariants.{Serve, Solve}
+use Rattle.dd_program.specs.declared.command_line.Args.TheVariants.{Fill, Serve, Solve}
 use Rattle.dd_program.specs.declared.command_line.TheConstants.{LEAST_EVENTS, MOST_IDLE, MOST_WORKERS}
 use Rattle.dd_table.specs.declared.shared_table.TheConstants.{MOST_SHARDS}
+use Rattle.dd_program.specs.FillWords.{AsksToFill}
 use Rattle.dd_program.specs.ServeWords.{AsksToServe}
 
 -- the bytes of a word
@@ -90,14 +91,20 @@ Asks arguments (Solve budget entries workers) =
     (given : List (SolveOption × ℕ)) × AsksToSolve arguments given × (budget ≡ given_to Budget given)
     × (entries ≡ unwrap_or (given_to Entries given) 4096) × (workers ≡ unwrap_or (given_to Workers given) 1)
 Asks arguments (Serve listen workers shards entries budget events idle websocket allow_stop) = AsksToServe arguments (Serve listen workers shards entries budget events idle websocket allow_stop)
+Asks arguments (Fill tags budget entries) = AsksToFill arguments (Fill tags budget entries)
 
--- the same is asked for: the same numbers, and an address of the same text
+-- the same is asked for: the same numbers, and an address or names of tags of the same text
 abbrev pub IsSame : Args → Args → Type 0
 IsSame (Solve b e w) (Solve c f x) = Solve b e w ≡ Solve c f x
 IsSame (Serve l w s e b n i k a) (Serve m x t f c o h j d) =
     (string_bytes l ≡ string_bytes m) × (w ≡ x) × (s ≡ t) × (e ≡ f) × (b ≡ c) × (n ≡ o) × (i ≡ h) × (k ≡ j) × (a ≡ d)
+IsSame (Fill t b e) (Fill u c f) = (string_bytes t ≡ string_bytes u) × (b ≡ c) × (e ≡ f)
 IsSame (Solve b e w) (Serve m x t f c o h j d) = ⊥
 IsSame (Serve l w s e b n i k a) (Solve c f x) = ⊥
+IsSame (Solve b e w) (Fill u c f) = ⊥
+IsSame (Fill t b e) (Solve c f x) = ⊥
+IsSame (Serve l w s e b n i k a) (Fill u c f) = ⊥
+IsSame (Fill t b e) (Serve m x s f c o h j d) = ⊥
 
 -- each number lies in its range
 abbrev pub IsInRange : Args → Type 0
@@ -105,6 +112,7 @@ IsInRange (Solve budget entries workers) = IfSome budget IsBudget × IsTableSize
 IsInRange (Serve listen workers shards entries budget events idle websocket allow_stop) =
     (1 ≤ workers) × (workers ≤ MOST_WORKERS) × (1 ≤ shards) × (shards ≤ MOST_SHARDS) × IsTableSize entries × IfSome budget IsBudget
     × IsEventCount events × IfSome idle IsIdle
+IsInRange (Fill tags budget entries) = IfSome budget IsBudget × IsTableSize entries
 
 -- no word is the option's name or begins with it
 abbrev pub IsLeftOut : Text → List Text → Type 0
@@ -119,3 +127,6 @@ HasDefaults arguments (Serve listen workers shards entries budget events idle we
     (IsLeftOut (codes "--workers") arguments → workers ≡ 4) × (IsLeftOut (codes "--shards") arguments → shards ≡ 16)
     × (IsLeftOut (codes "--entries") arguments → entries ≡ 4096) × (IsLeftOut (codes "--budget") arguments → budget ≡ Some 50000000)
     × (IsLeftOut (codes "--events") arguments → events ≡ MOST_EVENTS) × (IsLeftOut (codes "--idle") arguments → idle ≡ Some 600)
+HasDefaults arguments (Fill tags budget entries) =
+    (IsLeftOut (codes "--tags") arguments → string_bytes tags ≡ []) × (IsLeftOut (codes "--budget") arguments → budget ≡ None)
+    × (IsLeftOut (codes "--entries") arguments → entries ≡ 4096)

@@ -1,5 +1,5 @@
 -- To be believed: how the program ends, and what it leaves of its streams.
-use Rattle.std.specs.Prelude.{◌≡◌, ◌<◌, ◌⊎◌, ℕ, List, [], ◌∷◌, All, Bool, true, false, length, Option, Result, Ok, Err, Vec, String, codes, map, string_bytes, decimal, ◌++◌}
+use Rattle.std.specs.Prelude.{◌≡◌, ◌<◌, ◌⊎◌, ℕ, List, [], ◌∷◌, All, Bool, true, false, length, Option, Some, None, Result, Ok, Err, Vec, String, codes, map, string_bytes, decimal, ◌++◌}
 use Rattle.std.specs.Io.KnownBytes.{Appends}
 use Rattle.clap.specs.Kinds.{IsAmong}
 use Rattle.clap.specs.Faults.{fault_of}
@@ -10,15 +10,21 @@ use Rattle.dd_lines.specs.CountedDevices.{bytes_of, failures_of, FailedOnce}
 use Rattle.dd_lines.specs.Served.{WroteText}
 use Rattle.dd_tool.specs.Served.{ServedAll, ServedBeginning}
 use Rattle.dd_program.specs.declared.command_line.Args.{Args}
-use Rattle.dd_program.specs.declared.command_line.Args.TheVariants.{Serve, Solve}
+use Rattle.dd_program.specs.declared.command_line.Args.TheVariants.{Fill, Serve, Solve}
 use Rattle.dd_program.specs.declared.command_line.ArgumentsFault.{ArgumentsFault}
 use Rattle.dd_program.specs.declared.command_line.ArgumentsFault.TheVariants.{NotText, OutOfMemory as NoMemory}
 use Rattle.dd_program.specs.declared.ending.Ending.{Ending}
-use Rattle.dd_program.specs.declared.ending.Ending.TheVariants.{Answered, Shown, Closed, BadLine, ReadFailed, WriteFailed, CannotListen, ListenFailed, OutOfMemory}
+use Rattle.dd_program.specs.declared.ending.Ending.TheVariants.{Answered, Shown, Closed, Filled, BadLine, ReadFailed, WriteFailed, CannotListen, ListenFailed, OutOfMemory}
 use Rattle.dd_program.specs.CommandLine.{Text, Asks}
 use Rattle.dd_program.specs.ListenFaults.{line_of_fault}
 use Rattle.dd_program.specs.declared.listen_fault.ListenFault.{ListenFault}
 use Rattle.dd_program.specs.Program.{program_app}
+use Rattle.dd_program.specs.Tags.{wanted_by}
+use Rattle.dd_file.specs.Served.{FilledAll, FilledBeginning}
+use Rattle.dd_file.specs.declared.engine.FileFault.{FileFault}
+use Rattle.dd_file.specs.declared.engine.FileFault.TheVariants as file
+use Rattle.dd_file.specs.declared.wanted.Wanted.{Wanted}
+use Rattle.dd_fill.specs.Told.{IsTold, MaySpend}
 use Rattle.dd_server.specs.Histories.{IsLengthOfHistory}
 use Rattle.dd_server.specs.declared.args.ServeFault.{ServeFault}
 use Rattle.dd_server.specs.declared.args.ServeFault.TheVariants.{Listen, OutOfMemory as NoMemoryLeft}
@@ -30,6 +36,7 @@ abbrev pub status_of : Ending → ℕ
 status_of Answered = 0
 status_of Shown = 0
 status_of Closed = 0
+status_of Filled = 0
 status_of ReadFailed = 1
 status_of WriteFailed = 1
 status_of (CannotListen fault) = 1
@@ -249,10 +256,83 @@ EndsSo (Ok done) true errors errors2 ending = (ending ≡ WriteFailed) × Writes
 EndsSo (Err Listen) failed errors errors2 ending = (ending ≡ ListenFailed) × Writes (line_of ListenFailed) errors errors2
 EndsSo (Err NoMemoryLeft) failed errors errors2 ending = (ending ≡ OutOfMemory) × Writes (line_of OutOfMemory) errors errors2
 
+-- ---- a file is filled
+
+-- all that came was read and passed on with its lines, and no call failed
+pub record FillsFile (may_spend : Type 0) (wanted : Wanted) (old new : Streams) : Type 0 where
+  pub filled : FilledAll (IsTold may_spend) wanted old.input.bytes new.input.bytes old.output.bytes new.output.bytes
+  pub reads : new.input.failures ≡ old.input.failures
+  pub writes : new.output.failures ≡ old.output.failures
+
+-- what was written is a beginning of that for what was read
+abbrev pub FillsInPart : Type 0 → Wanted → Streams → Streams → Type 0
+FillsInPart may_spend wanted old new =
+    FilledBeginning (IsTold may_spend) wanted old.input.bytes new.input.bytes old.output.bytes new.output.bytes
+
+-- the text was said behind the notes of games
+abbrev pub SaysLast : List ℕ → Device → Type 0
+SaysLast text errors = (before : Device) × Writes text before errors
+
+-- a read failed, and what was written is a beginning of what was to come
+pub record FailsToReadFile (may_spend : Type 0) (wanted : Wanted) (old new : Streams) : Type 0 where
+  pub filled : FillsInPart may_spend wanted old new
+  pub reads : Fails old.input new.input
+  pub writes : new.output.failures ≡ old.output.failures
+  pub said : SaysLast (line_of ReadFailed) new.errors
+
+-- the same of a write
+pub record FailsToWriteFile (may_spend : Type 0) (wanted : Wanted) (old new : Streams) : Type 0 where
+  pub filled : FillsInPart may_spend wanted old new
+  pub reads : new.input.failures ≡ old.input.failures
+  pub writes : Fails old.output new.output
+  pub said : SaysLast (line_of WriteFailed) new.errors
+
+-- the same where memory ran out, and no call failed
+pub record RunsOutOfMemory (may_spend : Type 0) (wanted : Wanted) (old new : Streams) : Type 0 where
+  pub filled : FillsInPart may_spend wanted old new
+  pub reads : new.input.failures ≡ old.input.failures
+  pub writes : new.output.failures ≡ old.output.failures
+  pub said : SaysLast (line_of OutOfMemory) new.errors
+
+-- how it ends
+abbrev pub ending_of : Result (Unit {0}) FileFault → Ending
+ending_of (Ok done) = Filled
+ending_of (Err file.Read) = ReadFailed
+ending_of (Err file.Write) = WriteFailed
+ending_of (Err file.Memory) = OutOfMemory
+
+-- the input is passed on with the lines that are wanted, up to this ending
+abbrev pub EndsFilling : Type 0 → Wanted → Streams → Streams → Ending → Type 0
+EndsFilling may_spend wanted old new Filled = FillsFile may_spend wanted old new
+EndsFilling may_spend wanted old new ReadFailed = FailsToReadFile may_spend wanted old new
+EndsFilling may_spend wanted old new WriteFailed = FailsToWriteFile may_spend wanted old new
+EndsFilling may_spend wanted old new OutOfMemory = RunsOut old new ⊎ RunsOutOfMemory may_spend wanted old new
+EndsFilling may_spend wanted old new _ = ⊥
+
+-- what is said where a name is no tag's
+abbrev pub tags_line : List ℕ
+tags_line = codes "ddserve: --tags takes DoubleDummyTricks, OptimumScore, ParContract and OptimumResultTable, with commas between them\n"
+
+-- that is said, and nothing else is done
+pub record RefusesTags (ending : Ending) (old new : Streams) : Type 0 where
+  pub ends : ending ≡ BadLine
+  pub input : new.input ≡ old.input
+  pub output : new.output ≡ old.output
+  pub said : Writes tags_line old.errors new.errors
+
+-- the same of tags that a text names, or not
+abbrev pub FillsWanted : Option Wanted → Option ℕ → Streams → Streams → Ending → Type 0
+FillsWanted None budget old new ending = RefusesTags ending old new
+FillsWanted (Some wanted) budget old new ending = EndsFilling (MaySpend budget) wanted old new ending
+
+abbrev pub FillsUntil : List ℕ → Option ℕ → Streams → Streams → Ending → Type 0
+FillsUntil tags budget old new ending = FillsWanted (wanted_by tags) budget old new ending
+
 -- what the arguments ask for is done, up to this ending
 abbrev pub AnswersUntil : Args → Streams → Streams → Ending → Type 0
 AnswersUntil (Solve budget entries workers) old new ending = SolvesUntil budget old new ending
 AnswersUntil (Serve listen workers shards entries budget events idle websocket allow_stop) old new ending = ServesUntil events old new ending
+AnswersUntil (Fill tags budget entries) old new ending = FillsUntil (string_bytes tags) budget old new ending
 
 -- ---- an error is shown
 
@@ -287,7 +367,7 @@ ShowsUntil error old new _ = ⊥
 
 -- ---- the run
 
--- What a run does up to its ending: it answers lines or serves clients where the arguments ask for that, and else shows their error; or memory ran
+-- What a run does up to its ending: it answers lines, serves clients or fills a file where the arguments ask for that, and else shows their error; or memory ran
 -- out before either.
 abbrev pub Runs : Words → Streams → Streams → Ending → Type 0
 Runs arguments old new ending =

@@ -7,7 +7,7 @@ use Rattle.clap.specs.Words.{App, Row, Rule, Shape, new_app, new_rule, one_of, r
 use Rattle.clap.specs.declared.builder.arg.Arg.{Arg}
 use Rattle.clap.specs.declared.builder.command.Command.{Command}
 use Rattle.clap.specs.declared.builder.command.Command.TheViews.{out-Command}
-use Rattle.clap.specs.declared.builder.value_parser.ValueParser.TheVariants.{Signed, Unsigned}
+use Rattle.clap.specs.declared.builder.value_parser.ValueParser.TheVariants.{NonEmptyString, Signed, Unsigned}
 use Rattle.clap.specs.declared.builder.action.ArgAction.TheVariants.{SetTrue}
 use Rattle.dd_program.specs.declared.command_line.TheConstants.{LEAST_EVENTS, MOST_IDLE, MOST_WORKERS}
 use Rattle.dd_table.specs.declared.shared_table.TheConstants.{MOST_SHARDS}
@@ -100,13 +100,21 @@ serve_app =
     with_rule (with_rule (with_rule (with_rule (with_rule (with_rule (with_rule (with_rule (with_rule (new_app (codes "serve")) listen_rule) workers_rule) shards_rule) shard_entries_rule) budget_rule) events_rule) idle_rule) websocket_rule)
     allow_stop_rule
 
+-- `--tags NAME,..`
+abbrev pub tags_rule : Rule
+tags_rule = record (new_rule (codes "tags")) { long = Some (codes "tags"); value_names = 1; parser = Some NonEmptyString }
+
+-- `pbn` with its options
+abbrev pub fill_app : App
+fill_app = with_rule (with_rule (with_rule (new_app (codes "pbn")) tags_rule) budget_rule) shard_entries_rule
+
 -- the program without a subcommand, which it wants
 abbrev pub bare_app : App
 bare_app = record { top = record (new_app (codes "ddserve")).top { has_version = true; subcommand_required = true }; subs = [] }
 
 -- the program
 abbrev pub program_app : App
-program_app = with_subcommand (with_subcommand bare_app solve_app.top) serve_app.top
+program_app = with_subcommand (with_subcommand (with_subcommand bare_app solve_app.top) serve_app.top) fill_app.top
 
 -- the argument is that of the rule, at its own command alone
 abbrev pub IsOption : Arg → Rule → Type 0

@@ -6,7 +6,7 @@ use Rattle.clap.specs.Faults.{fault_of}
 use Rattle.dd_book.specs.declared.limits.TheConstants.{MOST_EVENTS}
 use Rattle.dd_shard.specs.declared.shard.TheConstants.{MOST_SHAPES}
 use Rattle.dd_program.specs.declared.command_line.Args.{Args}
-use Rattle.dd_program.specs.declared.command_line.Args.TheVariants.{Serve, Solve}
+use Rattle.dd_program.specs.declared.command_line.Args.TheVariants.{Fill, Serve, Solve}
 use Rattle.dd_program.specs.declared.command_line.TheConstants.{LEAST_EVENTS, MOST_IDLE, MOST_WORKERS}
 use Rattle.dd_table.specs.declared.shared_table.TheConstants.{MOST_SHARDS}
 use Rattle.dd_program.specs.Program.{program_app, FitsBits}
@@ -48,6 +48,7 @@ is_set flag rows = option_map_or (λ text. bytes_eq text (codes "true")) (first_
 -- what the options of `serve` ask for, by the rows that the parser of arguments gave them
 abbrev pub AsksToServeBy : List Row → Args → Type 0
 AsksToServeBy rows (Solve budget entries workers) = ⊥
+AsksToServeBy rows (Fill tags budget entries) = ⊥
 AsksToServeBy rows (Serve listen workers shards entries budget events idle websocket allow_stop) =
     (string_bytes listen ≡ unwrap_or (first_of (codes "listen") rows) [])
     × HasNumber (codes "workers") rows 1 MOST_WORKERS 4 workers

@@ -2,11 +2,13 @@
 ghost use Rattle.std.specs.Prelude.{◌≡◌, ◌⊎◌, ◌≤◌, IfOk, IfErr, Some, codes, map, string_bytes};
 ghost use Rattle.clap.specs.Words.{app_of, fault_of, found_of, kind_of, new_app, rows_of, HasKind};
 ghost use Rattle.dd_program.specs.CommandLine.{Asks, HasDefaults, IsInRange, IsSame};
-ghost use Rattle.dd_program.specs.Program.{allow_stop_rule, budget_rule, entries_rule, events_rule, idle_rule, line_workers_rule, listen_rule, program_app, serve_app, shard_entries_rule, shards_rule, solve_app, websocket_rule, workers_rule, number_of, HasNumbers, IsOption, IsSubcommand};
+ghost use Rattle.dd_program.specs.FillWords.{limit_up_to, AsksToFillBy};
+ghost use Rattle.dd_program.specs.Program.{allow_stop_rule, budget_rule, entries_rule, events_rule, fill_app, idle_rule, line_workers_rule, listen_rule, program_app, serve_app, shard_entries_rule, shards_rule, solve_app, tags_rule, websocket_rule, workers_rule, number_of, HasNumbers, IsOption, IsSubcommand};
 ghost use Rattle.dd_program.specs.ServeWords.{is_set, limit_in, number_in, AsksToServeBy, IsGiven};
 
-use crate::help::requests;
+use crate::help::{files, requests};
 use crate::jobs_help::jobs;
+use clap::builder::ValueParser;
 use clap::error::ErrorKind;
 use clap::{Arg, ArgAction, ArgMatches, Command, Error, value_parser};
 use dd_book::MOST_EVENTS;
@@ -71,6 +73,15 @@ pub enum Args {
         /// A client may stop the program.
         allow_stop: bool,
     },
+    /// Passes a file of PBN on, with the results and par of its deals.
+    Fill {
+        /// The names of the tags that are added, with commas between them. All four where it is empty.
+        tags: String,
+        /// The most positions that the search may come to for each result, 0 to 1,000,000,000,000. `None` is no limit.
+        budget: Option<u64>,
+        /// The entries of the transposition table, 1 to `MOST_SHAPES`.
+        entries: u32,
+    },
 }
 
 /// Why the arguments of the command line can't be had.
@@ -116,6 +127,7 @@ pub fn read_args(alloc: Global, arguments: &[String]) -> Result<Args, Error>
     match name {
         "solve" => Ok(solve_args(options)),
         "serve" => Ok(serve_args(alloc, options)?),
+        "pbn" => Ok(fill_args(alloc, options)?),
         _ => unreachable!(),
     }
 }
@@ -225,6 +237,27 @@ fn serve_args(alloc: Global, options: &ArgMatches) -> Result<Args, AllocError>
     })
 }
 
+/// What the options of `pbn` ask for.
+fn fill_args(alloc: Global, options: &ArgMatches) -> Result<Args, AllocError>
+    ensures { IfOk result (AsksToFillBy (rows_of (found_of options.now))) }
+{
+    Ok(Args::Fill {
+        tags: String::from_str(alloc, options.get_str("tags").unwrap_or(""))?,
+        budget: limit_up_to(limit_of(options, "budget"), MOST_POSITIONS as u64),
+        entries: number_in(number_of(options, "entries"), 1, MOST_SHAPES, 4_096),
+    })
+}
+
+/// The limit that was given, which the parser of arguments has held to its range.
+fn limit_up_to(given: Option<u64>, most: u64) -> Option<u64>
+    ensures { result ≡ limit_up_to most given }
+{
+    match given {
+        Some(number) if number <= most => given,
+        _ => None,
+    }
+}
+
 fn program<'a>(alloc: Global) -> Result<Command<'a>, AllocError>
     ensures { IfOk result (λ command. app_of command ≡ program_app) }
 {
@@ -236,7 +269,8 @@ fn program<'a>(alloc: Global) -> Result<Command<'a>, AllocError>
         .after_help("'ddserve solve --help' says what a request and a reply are.")
         .subcommand_required(true)
         .subcommand(solve_command(alloc)?)?
-        .subcommand(serve_command(alloc)?)
+        .subcommand(serve_command(alloc)?)?
+        .subcommand(fill_command(alloc)?)
 }
 
 fn solve_command<'a>(alloc: Global) -> Result<Command<'a>, AllocError>
@@ -277,6 +311,19 @@ fn bare_serve<'a>(alloc: Global) -> Command<'a>
             "Answers the clients of an address, with a job for each position and workers that search",
         )
         .after_help(jobs())
+}
+
+fn fill_command<'a>(alloc: Global) -> Result<Command<'a>, AllocError>
+    ensures { IfOk result (λ command. IsSubcommand command fill_app.top) }
+{
+    Command::new(alloc, "pbn")
+        .about(
+            "Passes a file of PBN on from the standard input to the standard output, with the twenty results and par of its deals",
+        )
+        .after_help(files())
+        .arg(tags_option(alloc))?
+        .arg(result_budget_option(alloc))?
+        .arg(file_entries_option(alloc))
 }
 
 fn budget_option<'a>(alloc: Global) -> Arg<'a>
@@ -402,4 +449,39 @@ fn allow_stop_flag<'a>(alloc: Global) -> Arg<'a>
         .long("allow-stop")
         .action(ArgAction::SetTrue)
         .help("Clients may stop the program")
+}
+
+fn tags_option<'a>(alloc: Global) -> Arg<'a>
+    ensures { IsOption result tags_rule }
+{
+    Arg::new(alloc, "tags")
+        .long("tags")
+        .value_name("NAME,..")
+        .value_parser(ValueParser::NonEmptyString)
+        .help(
+            "The tags to add, of DoubleDummyTricks, OptimumScore, ParContract and OptimumResultTable [default: all four]",
+        )
+}
+
+fn result_budget_option<'a>(alloc: Global) -> Arg<'a>
+    ensures { IsOption result budget_rule }
+{
+    Arg::new(alloc, "budget")
+        .long("budget")
+        .value_name("N")
+        .value_parser(value_parser!(u64).range(0..=MOST_POSITIONS))
+        .help(
+            "The most positions to come to for each of a deal's twenty results, 0 to 1000000000000 [default: no limit]",
+        )
+}
+
+fn file_entries_option<'a>(alloc: Global) -> Arg<'a>
+    ensures { IsOption result shard_entries_rule }
+{
+    let most = MOST_SHAPES as i64;
+    Arg::new(alloc, "entries")
+        .long("entries")
+        .value_name("N")
+        .value_parser(value_parser!(u32).range(1..=most))
+        .help("The entries of the transposition table, 1 to 65536 [default: 4096]")
 }

@@ -15,6 +15,8 @@ pub enum Ending {
     Shown,
     /// Clients were served until one of them stopped the program.
     Closed,
+    /// The file was passed on with its lines.
+    Filled,
     /// The arguments ask for nothing that the program does.
     BadLine,
     /// A read of the input failed.
@@ -41,7 +43,8 @@ impl Ending {
             Ending::CannotListen(fault) => fault.line(),
             Ending::ListenFailed => "ddserve: listen failed\n",
             Ending::OutOfMemory => "ddserve: out of memory\n",
-            Ending::Answered | Ending::Shown | Ending::Closed | Ending::BadLine => "",
+            Ending::Answered | Ending::Shown | Ending::Closed | Ending::Filled | Ending::BadLine =>
+                "",
         }
     }
 
@@ -51,7 +54,7 @@ impl Ending {
         ensures { result ≡ status_of self }
     {
         match self {
-            Ending::Answered | Ending::Shown | Ending::Closed => 0,
+            Ending::Answered | Ending::Shown | Ending::Closed | Ending::Filled => 0,
             Ending::ReadFailed
             | Ending::WriteFailed
             | Ending::CannotListen(_)

@@ -1,4 +1,4 @@
-//! What the help of `solve` says of requests and replies.
+//! What the help says of requests and replies, and of files.
 
 /// Requests, replies, faults and the status of the end.
 ///
@@ -128,4 +128,30 @@ shards, each with as many entries as --entries says.
 
 Exit status: 0 at the end of the input, 1 where a read or a write failed or memory ran out
 before any input was read, and 2 for a bad command line."
+}
+
+/// What is added to a file, what is said of a game that lacks it, and the status of the end.
+pub fn files() -> &'static str {
+    "\
+A game whose tag Deal has thirteen cards a hand gets, behind its last line:
+
+  DoubleDummyTricks   the twenty results as hexadecimal digits: declarers North, South, East, West,
+                      in each notrump, spades, hearts, diamonds, clubs
+  OptimumScore        par, for NS or EW, by the game's Dealer and Vulnerable
+  ParContract         the contracts of par, as NS 3NT=, or Pass
+  OptimumResultTable  the twenty results as a table
+
+Each is added where the game has no tag of that name. Nothing else of the file changes, and what was
+added, taken out again, leaves the file.
+
+Of each game that lacks one of them afterwards a line on the standard error says why:
+
+  ddserve: game 3 (board 7): no par: Dealer is missing
+
+The reasons are no deal; deal refused, with the number of the fault as `ddserve solve --help` lists
+them; no par, since Dealer or Vulnerable is missing; not closed, where a comment or a tag is open at
+the end of the file; and spent, with --budget.
+
+Exit status: 0 at the end of the input, whatever was said of games, 1 where a read or a write failed
+or memory ran out, and 2 for a bad command line."
 }

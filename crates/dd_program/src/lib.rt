@@ -4,11 +4,13 @@
 mod ahead;
 mod command_line;
 mod ending;
+mod filling;
 mod help;
 mod jobs_help;
 mod listen_fault;
 mod run;
 mod serving;
+mod tags;
 mod telling;
 
 pub use command_line::{

@@ -7,6 +7,7 @@ ghost use Rattle.dd_program.specs.Endings.{line_of, state_of, streams, arguments
 use crate::ahead::solve_ahead;
 use crate::command_line::{Args, ArgumentsFault, not_text, read_args};
 use crate::ending::Ending;
+use crate::filling::fill;
 use crate::serving::serve;
 use clap::Error;
 use clap::error::ErrorKind;
@@ -29,8 +30,9 @@ const GRACE: u64 = 600_000;
 /// The most bytes that one read takes.
 const PIECE: usize = 4_096;
 
-/// Does what the arguments ask for: answers the lines of the input on the output, serves the clients of an address, shows help
-/// or the version on the output, or says on the standard error what is wrong with the arguments.
+/// Does what the arguments ask for: answers the lines of the input on the output, serves the clients of an address, passes a
+/// file on with its lines, shows help or the version on the output, or says on the standard error what is wrong with the
+/// arguments.
 pub fn run_program<
     W: Threads + Wait + Clock + Eprint + Net<Listener = TcpListener, Stream = TcpStream> + Sync,
     R: Read,
@@ -90,6 +92,22 @@ pub fn run_program<
             };
             serve(rt, alloc, listen.as_str(), events, args, output, errors)
         }
+        Ok(
+            Args::Fill {
+                tags,
+                budget,
+                entries,
+            },
+        ) => fill(
+            rt,
+            alloc,
+            tags.as_str(),
+            budget,
+            entries,
+            reader,
+            output,
+            errors,
+        ),
         Err(error) => match error.kind() {
             ErrorKind::OutOfMemory => fail(errors, Ending::OutOfMemory),
             _ => show(alloc, &error, output, errors),

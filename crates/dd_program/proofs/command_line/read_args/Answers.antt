@@ -5,7 +5,7 @@ use Rattle.dd_program.specs.Program.{program_app}
 use Rattle.clap.specs.Faults.{fault_of, is_simple_and_free}
 use Rattle.dd_program.specs.CommandLine.{Asks}
 use Rattle.dd_program.proofs.Lines.{Asked}
-use Rattle.dd_program.proofs.Asked.{asked-rows, asks-args, asks-one, asks-serve, has-defaults, in-range, meets, serve-has, passed-up, refusal, some-same}
+use Rattle.dd_program.proofs.Asked.{asked-rows, asks-args, asks-fill, asks-one, asks-serve, fill-has, has-defaults, in-range, meets, serve-has, passed-up, refusal, some-same}
 use Rattle.dd_program.proofs.Programs.{program_is_simple}
 use Rattle.std.proofs.Common.{inl, inr, subst}
 use Rattle.clap.specs.Kinds.{HasKind}
@@ -42,6 +42,14 @@ serves c named =
     (free c) c.in_ok-matches.ensures.matches (sym c.subcommand.ensures.name ∙ ap (option_map (λ p. p.0.now)) c.unwrap.ensures ∙ ap Some named)
     (sym (ap (option_map (λ p. rows_of (found_of p.1.now))) c.unwrap.ensures) ∙ c.subcommand.ensures.rows)
 
+-- the rows that `pbn` got are those of the line
+fills : (c : After-unwrap) → c.unwrap.result.0.now ≡ codes "pbn"
+    → (fault_of program_app (map string_bytes c.args.arguments.now) ≡ []) × (subcommand_of program_app (map string_bytes c.args.arguments.now) ≡ Some (codes "pbn", rows_of (found_of c.unwrap.result.1.now)))
+fills c named =
+    fill-has (app_of c.in_ok-program.field-0) (map string_bytes c.args.arguments.now) c.in_ok-matches.matches (rows_of (found_of c.unwrap.result.1.now)) c.in_ok-program.ensures
+    (free c) c.in_ok-matches.ensures.matches (sym c.subcommand.ensures.name ∙ ap (option_map (λ p. p.0.now)) c.unwrap.ensures ∙ ap Some named)
+    (sym (ap (option_map (λ p. rows_of (found_of p.1.now))) c.unwrap.ensures) ∙ c.subcommand.ensures.rows)
+
 pub unreachable-requires : goal.unreachable-requires
 unreachable-requires c =
     let named = meets (app_of c.in_ok-program.field-0) (map string_bytes c.args.arguments.now) c.in_ok-matches.matches c.in_ok-program.ensures
@@ -50,7 +58,8 @@ unreachable-requires c =
     λ text is. sym (ap (option_map (λ p. p.0.now)) c.unwrap.ensures) ∙ c.subcommand.ensures.name ∙ is in
     elim named [
       | inl is ↦ c.in_default.not-solve (some-same (name (codes "solve") is))
-      | inr is ↦ c.in_default.not-serve (some-same (name (codes "serve") is))
+      | inr (inl is) ↦ c.in_default.not-serve (some-same (name (codes "serve") is))
+      | inr (inr is) ↦ c.in_default.not-pbn (some-same (name (codes "pbn") is))
     ]
 
 pub returns-in_err-matches-clause-kinds : goal.returns-in_err-matches-clause-kinds
@@ -96,3 +105,19 @@ returns-in-serve-clause-in_range c =
 pub returns-in-serve-clause-defaults : goal.returns-in-serve-clause-defaults
 returns-in-serve-clause-defaults c =
     has-defaults (map string_bytes c.args.arguments.now) c.in_ok-serve_args-in-serve.field-0 (asks-serve (map string_bytes c.args.arguments.now) (rows_of (found_of c.unwrap.result.1.now)) c.in_ok-serve_args-in-serve.field-0 (serves (goal.at.returns-in-serve-clause-defaults c).After-unwrap c.in-serve.is) c.in_ok-serve_args-in-serve.ensures)
+
+pub returns-in-pbn-clause-asked : goal.returns-in-pbn-clause-asked
+returns-in-pbn-clause-asked c =
+    asks-fill (map string_bytes c.args.arguments.now) (rows_of (found_of c.unwrap.result.1.now)) c.in_ok-fill_args-in-pbn.field-0 (fills (goal.at.returns-in-pbn-clause-asked c).After-unwrap c.in-pbn.is) c.in_ok-fill_args-in-pbn.ensures
+
+pub returns-in-pbn-clause-only : goal.returns-in-pbn-clause-only
+returns-in-pbn-clause-only c =
+    λ other asks-other. asks-one (map string_bytes c.args.arguments.now) c.in_ok-fill_args-in-pbn.field-0 other (asks-fill (map string_bytes c.args.arguments.now) (rows_of (found_of c.unwrap.result.1.now)) c.in_ok-fill_args-in-pbn.field-0 (fills (goal.at.returns-in-pbn-clause-only c).After-unwrap c.in-pbn.is) c.in_ok-fill_args-in-pbn.ensures) asks-other
+
+pub returns-in-pbn-clause-in_range : goal.returns-in-pbn-clause-in_range
+returns-in-pbn-clause-in_range c =
+    in-range (map string_bytes c.args.arguments.now) c.in_ok-fill_args-in-pbn.field-0 (asks-fill (map string_bytes c.args.arguments.now) (rows_of (found_of c.unwrap.result.1.now)) c.in_ok-fill_args-in-pbn.field-0 (fills (goal.at.returns-in-pbn-clause-in_range c).After-unwrap c.in-pbn.is) c.in_ok-fill_args-in-pbn.ensures)
+
+pub returns-in-pbn-clause-defaults : goal.returns-in-pbn-clause-defaults
+returns-in-pbn-clause-defaults c =
+    has-defaults (map string_bytes c.args.arguments.now) c.in_ok-fill_args-in-pbn.field-0 (asks-fill (map string_bytes c.args.arguments.now) (rows_of (found_of c.unwrap.result.1.now)) c.in_ok-fill_args-in-pbn.field-0 (fills (goal.at.returns-in-pbn-clause-defaults c).After-unwrap c.in-pbn.is) c.in_ok-fill_args-in-pbn.ensures)

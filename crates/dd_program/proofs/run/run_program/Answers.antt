@@ -1,6 +1,6 @@
 use Rattle.std.proofs.Common.{◌∙◌, inl, inr}
 use Rattle.dd_program.specs.Endings.{state_of, streams}
-use Rattle.dd_program.proofs.Attended.{as-serve}
+use Rattle.dd_program.proofs.Attended.{as-fill, as-serve}
 use Rattle.dd_program.proofs.run.run_program.Goals as goal
 
 pub returns : goal.returns
@@ -17,4 +17,14 @@ returns-in-Ok-Serve g c =
       c.in-Ok-Serve.ensures.asked,
       as-serve c.in-Ok-Serve.field-0 _ _ _ _ _ _ _ _ _ (streams input (state_of g.O.Write.contents c.args.output.now) (state_of g.E.Write.contents c.args.errors.now))
           (streams input (state_of g.O.Write.contents c.serve.new.output) (state_of g.E.Write.contents c.serve.new.errors)) c.serve.result c.in-Ok-Serve.field-0-is (c.serve.ensures input),
+    )
+
+pub returns-in-Ok-Fill : goal.returns-in-Ok-Fill
+returns-in-Ok-Fill g c =
+    let input = state_of g.R.Read.remaining in
+    inl (
+      c.in-Ok-Fill.field-0,
+      c.in-Ok-Fill.ensures.asked,
+      as-fill c.in-Ok-Fill.field-0 _ _ _ c.as_str-in-Ok-Fill.result.now (streams (input c.args.reader.now) (state_of g.O.Write.contents c.args.output.now) (state_of g.E.Write.contents c.args.errors.now))
+          (streams (input c.fill.new.reader) (state_of g.O.Write.contents c.fill.new.output) (state_of g.E.Write.contents c.fill.new.errors)) c.fill.result c.in-Ok-Fill.field-0-is c.as_str-in-Ok-Fill.ensures.value c.fill.ensures,
     )
