@@ -97,6 +97,7 @@ pub fn run_program<
                 tags,
                 budget,
                 entries,
+                workers,
             },
         ) => fill(
             rt,
@@ -104,6 +105,7 @@ pub fn run_program<
             tags.as_str(),
             budget,
             entries,
+            workers,
             reader,
             output,
             errors,
