@@ -6,6 +6,7 @@ mod deal;
 mod filling;
 mod limit;
 mod note;
+mod progress;
 mod solving;
 
 pub use filling::fill_deals;
