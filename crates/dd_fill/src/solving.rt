@@ -1,13 +1,13 @@
 //! The twenty results of a deal, found over a table.
-ghost use Rattle.std.specs.Prelude.{◌≡◌, IfNone, IfSome};
-ghost use Rattle.dd_solve.specs.Results.{tricks_of};
+ghost use Rattle.std.specs.Prelude.{◌≡◌, ◌<◌, IfNone, IfSome};
+ghost use Rattle.dd_solve.specs.Results.{contract_of, tricks_of};
 ghost use Rattle.dd_fill.specs.Told.{table_of, IsRowTold, IsTold, MaySpend};
 
 use crate::deal::Deal;
 use dd_cards::{Seat, Strain, Suit};
 use dd_score::Results;
 use dd_search::{Bounds, Budget, Endless};
-use dd_solve::{TableRequest, solve_part_from_guess};
+use dd_solve::{PARTS, TableRequest, solve_part_from_guess};
 
 /// The cards of a hand.
 const CARDS: u8 = 13;
@@ -100,10 +100,26 @@ fn solve_contract<B: Bounds>(
     table: &mut B,
     budget: Option<u64>,
 ) -> Option<u8>
-    ensures tricks { IfSome result (λ tricks. tricks ≡ tricks_of request.now (record { strain = strain; declarer = declarer })) }
+    ensures tricks { IfSome result (λ tricks. tricks
+        ≡ tricks_of request.now (record { strain = strain; declarer = declarer })) }
     ensures spent { IfNone result (MaySpend budget) }
 {
     let part = 4 * strain.code() + declarer.code();
+    solve_within(request, part, first_guess, table, budget)
+}
+
+// The result of a part of a table within the budget.
+fn solve_within<B: Bounds>(
+    request: &TableRequest,
+    part: u8,
+    first_guess: Option<u8>,
+    table: &mut B,
+    budget: Option<u64>,
+) -> Option<u8>
+    requires { part < PARTS }
+    ensures tricks { IfSome result (λ tricks. tricks ≡ tricks_of request.now (contract_of part)) }
+    ensures spent { IfNone result (MaySpend budget) }
+{
     let solved = match budget {
         Some(limit) => solve_part_from_guess(
             request,

@@ -1,7 +1,7 @@
 //! The strains of deals that were read and whose results were not yet asked for.
 ghost use Rattle.std.specs.Prelude.{◌≤◌, length};
 ghost use Rattle.dd_file.specs.Deals.{IsThirteen};
-ghost use Rattle.dd_fill.specs.declared.TheConstants.{MOST_AHEAD};
+ghost use Rattle.dd_fill.specs.declared.strain_queue.TheConstants.{MOST_AHEAD};
 
 use crate::answered::Answered;
 use crate::deal::Deal;
