@@ -1,5 +1,6 @@
 //! A file in, the file with the results of its deals out, which threads search for ahead.
-ghost use Rattle.std.specs.Prelude.{◌<◌, length};
+ghost use Rattle.std.specs.Prelude.{◌<◌, length, OnErr, OnOk};
+ghost use Rattle.dd_file.specs.Served.{FillsAll, FillsBeginning, StopsAtFirstFailure};
 ghost use Rattle.dd_fill.specs.Served.{Fills};
 ghost use Rattle.dd_fill.specs.Told.{IsRowTold, IsTold, MaySpend};
 
@@ -109,8 +110,11 @@ fn fill_ahead<W: Wait, R: Read, O: Write, E: Write, B: Bounds>(
     buffer: &mut [u8],
 ) -> Result<(), FileFault>
     requires { 0 < length buffer.old }
-    ensures { Fills R.remaining O.contents (MaySpend budget) wanted
-        reader.old reader.new writer.old writer.new result }
+    ensures ok { OnOk result (FillsAll R.remaining O.contents (IsTold (MaySpend budget)) wanted
+        reader.old reader.new writer.old writer.new) }
+    ensures err { OnErr result (FillsBeginning R.remaining O.contents (IsTold (MaySpend budget)) wanted
+        reader.old reader.new writer.old writer.new) }
+    ensures first { StopsAtFirstFailure reader.old reader.new writer.old writer.new result }
 {
     match budget {
         Some(positions) => fill_within(
@@ -145,8 +149,11 @@ fn fill_within<W: Wait, R: Read, O: Write, E: Write, B: Bounds, L: Limit>(
     buffer: &mut [u8],
 ) -> Result<(), FileFault>
     requires { 0 < length buffer.old }
-    ensures { Fills R.remaining O.contents L.may_spend wanted
-        reader.old reader.new writer.old writer.new result }
+    ensures ok { OnOk result (FillsAll R.remaining O.contents (IsTold L.may_spend) wanted
+        reader.old reader.new writer.old writer.new) }
+    ensures err { OnErr result (FillsBeginning R.remaining O.contents (IsTold L.may_spend) wanted
+        reader.old reader.new writer.old writer.new) }
+    ensures first { StopsAtFirstFailure reader.old reader.new writer.old writer.new result }
 {
     let mut analyst = AheadAnalyst {
         rt,
@@ -182,6 +189,38 @@ pub fn fill_deals_on<
     requires { 0 < length buffer.old }
     ensures { Fills R.remaining O.contents (MaySpend budget) wanted
         reader.old reader.new writer.old writer.new result }
+{
+    fill_with_help(
+        rt, alloc, wanted, reader, writer, errors, table, others, budget, buffer,
+    )
+}
+
+// The same, told in parts.
+fn fill_with_help<
+    W: Threads + Wait + Sync,
+    R: Read,
+    O: Write,
+    E: Write,
+    B: Bounds,
+    H: Bounds + Send,
+>(
+    rt: &W,
+    alloc: Global,
+    wanted: Wanted,
+    reader: &mut CountedDevice<R>,
+    writer: &mut CountedDevice<O>,
+    errors: &mut CountedDevice<E>,
+    table: &mut B,
+    others: &mut [H],
+    budget: Option<u64>,
+    buffer: &mut [u8],
+) -> Result<(), FileFault>
+    requires { 0 < length buffer.old }
+    ensures ok { OnOk result (FillsAll R.remaining O.contents (IsTold (MaySpend budget)) wanted
+        reader.old reader.new writer.old writer.new) }
+    ensures err { OnErr result (FillsBeginning R.remaining O.contents (IsTold (MaySpend budget)) wanted
+        reader.old reader.new writer.old writer.new) }
+    ensures first { StopsAtFirstFailure reader.old reader.new writer.old writer.new result }
 {
     let pool = Pool::new(alloc, budget);
     let (_, result) = join_mut(

@@ -1,5 +1,5 @@
 //! The strains of deals that were read and whose results were not yet asked for.
-ghost use Rattle.std.specs.Prelude.{◌≤◌, length};
+ghost use Rattle.std.specs.Prelude.{◌≡◌, ◌+◌, ◌≤◌, ◌++◌, [], ◌∷◌, drop, length, slice_get, slice_set, IfSome, OnErr, OnOk};
 ghost use Rattle.dd_file.specs.Deals.{IsThirteen};
 ghost use Rattle.dd_fill.specs.declared.strain_queue.TheConstants.{MOST_AHEAD};
 
@@ -57,7 +57,12 @@ impl StrainQueue {
         }
     }
 
-    fn push_strain(&mut self, deal: Deal, strain: Strain) -> Result<(), AllocError> {
+    // The strain waits, behind all others, if there is room.
+    fn push_strain(&mut self, deal: Deal, strain: Strain) -> Result<(), AllocError>
+        ensures ok { OnOk result (self.new.slots.items
+            ≡ self.old.slots.items ++ (Slot.Waits deal strain) ∷ []) }
+        ensures err { OnErr result (self.new.slots.items ≡ self.old.slots.items) }
+    {
         if self.slots.len() >= MOST_AHEAD {
             return Err(AllocError);
         }
@@ -70,8 +75,14 @@ impl StrainQueue {
         !self.closed && self.taken >= self.slots.len()
     }
 
-    /// The next strain that waits, with its number, for a thread to search.
-    pub(crate) fn take(&mut self) -> Option<(u64, Deal, Strain)> {
+    /// The next strain that waits, with its number, for a thread to search. It waits no more: no other thread takes it.
+    pub(crate) fn take(&mut self) -> Option<(u64, Deal, Strain)>
+        ensures waited { IfSome result (λ taken. slice_get self.old.slots.items self.old.taken
+            ≡ Some (Slot.Waits taken.1 taken.2)) }
+        ensures runs { IfSome result (λ _. self.new.slots.items
+            ≡ slice_set self.old.slots.items self.old.taken Slot.Runs) }
+        ensures next { IfSome result (λ _. self.new.taken ≡ self.old.taken + 1) }
+    {
         if self.closed {
             return None;
         }
@@ -80,7 +91,7 @@ impl StrainQueue {
         let Slot::Waits(deal, strain) = mem::replace(slot, Slot::Runs) else {
             return None;
         };
-        self.taken = self.taken.saturating_add(1);
+        self.taken += 1;
         Some((number, deal, strain))
     }
 
@@ -99,7 +110,11 @@ impl StrainQueue {
     }
 
     /// The results of the first strain are asked for: what a thread has found, if one has.
-    pub(crate) fn pop(&mut self) -> Option<Answered> {
+    pub(crate) fn pop(&mut self) -> Option<Answered>
+        ensures first { IfSome result (λ answered. slice_get self.old.slots.items 0
+            ≡ Some (Slot.Answered answered)) }
+        ensures rest { self.new.slots.items ≡ drop 1 self.old.slots.items }
+    {
         let slot = self.slots.pop_front()?;
         self.first = self.first.wrapping_add(1);
         self.taken = self.taken.saturating_sub(1);
