@@ -10,16 +10,25 @@ use std::io::Write;
 /// To the line's beginning, and nothing on it.
 const CLEAR: &[u8] = b"\r\x1b[K";
 
-/// Shows in place of the last line how many games have ended, and at which byte of the file.
-pub(crate) fn show_progress<E: Write>(games: u64, bytes: u64, errors: &mut CountedDevice<E>) {
-    let text = progress_of(games, bytes);
-    // Where it fails there is no place left to say so.
-    let _ = write_whole(errors, text.as_slice());
+/// Shows in place of the last line how many games have ended, and at which byte of the file, where that is to be shown.
+pub(crate) fn show_progress<E: Write>(
+    shows_progress: bool,
+    games: u64,
+    bytes: u64,
+    errors: &mut CountedDevice<E>,
+) {
+    if shows_progress {
+        let text = progress_of(games, bytes);
+        // Where it fails there is no place left to say so.
+        let _ = write_whole(errors, text.as_slice());
+    }
 }
 
-/// Shows nothing in the last line.
-pub(crate) fn clear_progress<E: Write>(errors: &mut CountedDevice<E>) {
-    let _ = write_whole(errors, CLEAR);
+/// Shows nothing in the last line, where that was to be shown.
+pub(crate) fn clear_progress<E: Write>(shows_progress: bool, errors: &mut CountedDevice<E>) {
+    if shows_progress {
+        let _ = write_whole(errors, CLEAR);
+    }
 }
 
 /// The line's text, which stands in place of what was there.

@@ -39,6 +39,7 @@ pub(crate) fn fill<W: Threads + Wait + Sync, R: Read, O: Write, E: Write>(
     reader: &mut CountedDevice<R>,
     output: &mut CountedDevice<O>,
     errors: &mut CountedDevice<E>,
+    shows_progress: bool,
 ) -> Ending
     requires { IsTableSize entries }
     ensures { FillsUntil tags.now budget
@@ -49,7 +50,16 @@ pub(crate) fn fill<W: Threads + Wait + Sync, R: Read, O: Write, E: Write>(
 {
     match wanted_by(tags.as_bytes()) {
         Some(wanted) => fill_wanted(
-            rt, alloc, wanted, budget, entries, workers, reader, output, errors,
+            rt,
+            alloc,
+            wanted,
+            budget,
+            entries,
+            workers,
+            reader,
+            output,
+            errors,
+            shows_progress,
         ),
         None => refuse_tags(errors),
     }
@@ -76,6 +86,7 @@ fn fill_wanted<W: Threads + Wait + Sync, R: Read, O: Write, E: Write>(
     reader: &mut CountedDevice<R>,
     output: &mut CountedDevice<O>,
     errors: &mut CountedDevice<E>,
+    shows_progress: bool,
 ) -> Ending
     requires { IsTableSize entries }
     ensures { EndsFilling (MaySpend budget) wanted
@@ -85,9 +96,28 @@ fn fill_wanted<W: Threads + Wait + Sync, R: Read, O: Write, E: Write>(
         (state_of E.contents errors.new)) result }
 {
     match workers {
-        1 => fill_alone(rt, alloc, wanted, budget, entries, reader, output, errors),
+        1 => fill_alone(
+            rt,
+            alloc,
+            wanted,
+            budget,
+            entries,
+            reader,
+            output,
+            errors,
+            shows_progress,
+        ),
         _ => fill_ahead(
-            rt, alloc, wanted, budget, entries, workers, reader, output, errors,
+            rt,
+            alloc,
+            wanted,
+            budget,
+            entries,
+            workers,
+            reader,
+            output,
+            errors,
+            shows_progress,
         ),
     }
 }
@@ -102,6 +132,7 @@ fn fill_alone<W: Wait, R: Read, O: Write, E: Write>(
     reader: &mut CountedDevice<R>,
     output: &mut CountedDevice<O>,
     errors: &mut CountedDevice<E>,
+    shows_progress: bool,
 ) -> Ending
     requires { IsTableSize entries }
     ensures { EndsFilling (MaySpend budget) wanted
@@ -116,7 +147,16 @@ fn fill_alone<W: Wait, R: Read, O: Write, E: Write>(
     let Ok(mut cache) = Cache::new(alloc, table.view(rt)) else {
         return fail(errors, Ending::OutOfMemory);
     };
-    fill_over(alloc, wanted, budget, reader, output, errors, &mut cache)
+    fill_over(
+        alloc,
+        wanted,
+        budget,
+        reader,
+        output,
+        errors,
+        shows_progress,
+        &mut cache,
+    )
 }
 
 /// The same with so many workers.
@@ -130,6 +170,7 @@ fn fill_ahead<W: Threads + Wait + Sync, R: Read, O: Write, E: Write>(
     reader: &mut CountedDevice<R>,
     output: &mut CountedDevice<O>,
     errors: &mut CountedDevice<E>,
+    shows_progress: bool,
 ) -> Ending
     requires { IsTableSize entries }
     ensures { EndsFilling (MaySpend budget) wanted
@@ -155,6 +196,7 @@ fn fill_ahead<W: Threads + Wait + Sync, R: Read, O: Write, E: Write>(
         reader,
         output,
         errors,
+        shows_progress,
         &mut cache,
         others.as_mut_slice(),
     )
@@ -169,6 +211,7 @@ fn fill_on<W: Threads + Wait + Sync, B: Bounds, H: Bounds + Send, R: Read, O: Wr
     reader: &mut CountedDevice<R>,
     output: &mut CountedDevice<O>,
     errors: &mut CountedDevice<E>,
+    shows_progress: bool,
     table: &mut B,
     others: &mut [H],
 ) -> Ending
@@ -186,6 +229,7 @@ fn fill_on<W: Threads + Wait + Sync, B: Bounds, H: Bounds + Send, R: Read, O: Wr
         reader,
         output,
         errors,
+        shows_progress,
         table,
         others,
         budget,
@@ -202,6 +246,7 @@ fn fill_over<B: Bounds, R: Read, O: Write, E: Write>(
     reader: &mut CountedDevice<R>,
     output: &mut CountedDevice<O>,
     errors: &mut CountedDevice<E>,
+    shows_progress: bool,
     table: &mut B,
 ) -> Ending
     ensures { EndsFilling (MaySpend budget) wanted
@@ -217,6 +262,7 @@ fn fill_over<B: Bounds, R: Read, O: Write, E: Write>(
         reader,
         output,
         errors,
+        shows_progress,
         table,
         budget,
         &mut buffer,

@@ -30,12 +30,8 @@ fn fill(alloc: Global, file: &[u8], budget: Option<u64>) -> Option<Outcome> {
         bytes: file,
         most: usize::MAX,
     });
-    let mut writer = CountedDevice::new(Taker {
-        taken: Vec::new(alloc),
-    });
-    let mut errors = CountedDevice::new(Taker {
-        taken: Vec::new(alloc),
-    });
+    let mut writer = CountedDevice::new(Taker::new(alloc));
+    let mut errors = CountedDevice::new(Taker::new(alloc));
     let mut buffer = [0; 4_096];
     fill_deals(
         alloc,
@@ -43,14 +39,16 @@ fn fill(alloc: Global, file: &[u8], budget: Option<u64>) -> Option<Outcome> {
         &mut reader,
         &mut writer,
         &mut errors,
+        false,
         &mut cache,
         budget,
         &mut buffer,
     )
     .ok()?;
-    let Taker { taken: file } = writer.into_inner();
-    let Taker { taken: notes } = errors.into_inner();
-    Some(Outcome { file, notes })
+    Some(Outcome {
+        file: writer.into_inner().taken,
+        notes: errors.into_inner().taken,
+    })
 }
 
 // Does the file come out as it is, and is this said of it?
