@@ -1,6 +1,6 @@
 //! A file in, the file with the results of its deals out, which threads search for ahead.
-ghost use Rattle.std.specs.Prelude.{◌<◌, length, OnErr, OnOk};
-ghost use Rattle.dd_file.specs.Served.{FillsAll, FillsBeginning, StopsAtFirstFailure};
+ghost use Rattle.std.specs.Prelude.{◌<◌, length};
+ghost use Rattle.dd_fill.specs.Ahead.{FillsFile};
 ghost use Rattle.dd_fill.specs.Served.{Fills};
 ghost use Rattle.dd_fill.specs.Told.{IsRowTold, IsTold, MaySpend};
 
@@ -103,6 +103,7 @@ fn row_of<W: Wait, B: Bounds>(
 }
 
 // Passes a file on, with the help of all that search ahead for this pool.
+#[tactic(auto, unfolding(crate::specs::Ahead::FillsFile))]
 fn fill_ahead<W: Wait, R: Read, O: Write, E: Write, B: Bounds>(
     rt: &W,
     alloc: Global,
@@ -117,11 +118,8 @@ fn fill_ahead<W: Wait, R: Read, O: Write, E: Write, B: Bounds>(
     buffer: &mut [u8],
 ) -> Result<(), FileFault>
     requires { 0 < length buffer.old }
-    ensures ok { OnOk result (FillsAll R.remaining O.contents (IsTold (MaySpend budget)) wanted
-        reader.old reader.new writer.old writer.new) }
-    ensures err { OnErr result (FillsBeginning R.remaining O.contents (IsTold (MaySpend budget)) wanted
-        reader.old reader.new writer.old writer.new) }
-    ensures first { StopsAtFirstFailure reader.old reader.new writer.old writer.new result }
+    ensures { FillsFile R.remaining O.contents (MaySpend budget) wanted
+        reader.old reader.new writer.old writer.new result }
 {
     match budget {
         Some(positions) => fill_within(
@@ -168,11 +166,8 @@ fn fill_within<W: Wait, R: Read, O: Write, E: Write, B: Bounds, L: Limit>(
     buffer: &mut [u8],
 ) -> Result<(), FileFault>
     requires { 0 < length buffer.old }
-    ensures ok { OnOk result (FillsAll R.remaining O.contents (IsTold L.may_spend) wanted
-        reader.old reader.new writer.old writer.new) }
-    ensures err { OnErr result (FillsBeginning R.remaining O.contents (IsTold L.may_spend) wanted
-        reader.old reader.new writer.old writer.new) }
-    ensures first { StopsAtFirstFailure reader.old reader.new writer.old writer.new result }
+    ensures { Fills R.remaining O.contents L.may_spend wanted
+        reader.old reader.new writer.old writer.new result }
 {
     let mut analyst = AheadAnalyst {
         rt,
@@ -187,6 +182,7 @@ fn fill_within<W: Wait, R: Read, O: Write, E: Write, B: Bounds, L: Limit>(
 
 /// The same as `fill_deals`, with a thread of its own for each of the tables in `others`, that searches ahead over it. Each
 /// thread has ended when it returns.
+#[tactic(auto, unfolding(crate::specs::Ahead::FillsFile))]
 pub fn fill_deals_on<
     W: Threads + Wait + Sync,
     R: Read,
@@ -228,7 +224,7 @@ pub fn fill_deals_on<
     filled
 }
 
-// The same, told in parts.
+// The same, by a word that its proof need not open.
 fn fill_with_help<
     W: Threads + Wait + Sync,
     R: Read,
@@ -250,11 +246,8 @@ fn fill_with_help<
     buffer: &mut [u8],
 ) -> Result<(), FileFault>
     requires { 0 < length buffer.old }
-    ensures ok { OnOk result (FillsAll R.remaining O.contents (IsTold (MaySpend budget)) wanted
-        reader.old reader.new writer.old writer.new) }
-    ensures err { OnErr result (FillsBeginning R.remaining O.contents (IsTold (MaySpend budget)) wanted
-        reader.old reader.new writer.old writer.new) }
-    ensures first { StopsAtFirstFailure reader.old reader.new writer.old writer.new result }
+    ensures { FillsFile R.remaining O.contents (MaySpend budget) wanted
+        reader.old reader.new writer.old writer.new result }
 {
     let pool = Pool::new(alloc, budget);
     let (_, result) = join_mut(

@@ -1,4 +1,5 @@
 //! Files whose deals several threads search.
+use super::deals::{ADDED, SUITS};
 use super::devices::{Pieces, Taker};
 use dd_cache::Cache;
 use dd_file::{FileFault, Wanted};
@@ -83,10 +84,11 @@ fn caches(alloc: Global, count: usize) -> Result<Vec<Cache<NoTable>>, AllocError
     Ok(caches)
 }
 
-// The outcome for the games by so many threads ahead, where the output takes so many bytes.
+// The outcome for a file by so many threads ahead, where the output takes so many bytes.
 fn fill_on<W: Threads + Wait + Sync>(
     rt: &W,
     alloc: Global,
+    file: &[u8],
     workers: usize,
     budget: Option<u64>,
     room: usize,
@@ -94,7 +96,7 @@ fn fill_on<W: Threads + Wait + Sync>(
     let mut cache = Cache::new(alloc, NoTable)?;
     let mut others = caches(alloc, workers)?;
     let mut reader = CountedDevice::new(Pieces {
-        bytes: games().as_bytes(),
+        bytes: file,
         most: PIECE,
     });
     let mut writer = CountedDevice::new(Taker::of_room(alloc, room));
@@ -124,10 +126,19 @@ fn fill_on<W: Threads + Wait + Sync>(
     })
 }
 
+// Is the text a beginning of one part and then another?
+fn is_beginning(text: &[u8], first: &[u8], second: &[u8]) -> bool {
+    match text.strip_prefix(first) {
+        Some(rest) => second.starts_with(rest),
+        None => first.starts_with(text),
+    }
+}
+
 #[test]
 fn several_threads_write_the_bytes_of_one(rt: HostRuntime) -> Result<(), Fail> {
+    let file = games().as_bytes();
     for workers in [0usize, 1, 2, 4] {
-        let outcome = fill_on(&rt, rt.alloc(), workers, None, usize::MAX)?;
+        let outcome = fill_on(&rt, rt.alloc(), file, workers, None, usize::MAX)?;
         assert!(rt; outcome.result == Ok(()), "{workers}");
         assert!(rt;
             outcome.file.as_slice() == filled_games().as_bytes(),
@@ -140,14 +151,12 @@ fn several_threads_write_the_bytes_of_one(rt: HostRuntime) -> Result<(), Fail> {
 
 #[test]
 fn an_output_that_fails_ends_the_run_of_several_threads(rt: HostRuntime) -> Result<(), Fail> {
-    for room in [0usize, 1, 200, 700] {
-        let outcome = fill_on(&rt, rt.alloc(), 3, None, room)?;
+    for room in [0usize, 1, 100, 150] {
+        let outcome = fill_on(&rt, rt.alloc(), SUITS, 3, None, room)?;
         assert!(rt; outcome.result == Err(FileFault::Write), "{room}");
         assert!(rt; outcome.file.len() == room, "{room}");
         assert!(rt;
-            filled_games()
-                .as_bytes()
-                .starts_with(outcome.file.as_slice()),
+            is_beginning(outcome.file.as_slice(), SUITS, ADDED),
             "{room}"
         );
     }
@@ -156,9 +165,10 @@ fn an_output_that_fails_ends_the_run_of_several_threads(rt: HostRuntime) -> Resu
 
 #[test]
 fn several_threads_keep_to_the_budget(rt: HostRuntime) -> Result<(), Fail> {
-    let outcome = fill_on(&rt, rt.alloc(), 3, Some(0), usize::MAX)?;
+    let file = games().as_bytes();
+    let outcome = fill_on(&rt, rt.alloc(), file, 3, Some(0), usize::MAX)?;
     assert!(rt; outcome.result == Ok(()));
-    assert!(rt; outcome.file.as_slice() == games().as_bytes());
+    assert!(rt; outcome.file.as_slice() == file);
     assert!(rt; outcome.notes.as_slice() == SPENT);
     Ok(())
 }

@@ -9,11 +9,11 @@ use dd_search::NoTable;
 use std::alloc::Global;
 
 // A suit in each hand: with its own suit as trumps a side takes all tricks, and at notrump the side that leads does.
-const SUITS: &[u8] =
+pub(crate) const SUITS: &[u8] =
     br#"[Dealer "N"][Vulnerable "None"][Deal "N:AKQJT98765432... .AKQJT98765432.. ..AKQJT98765432. ...AKQJT98765432"]"#;
 
 // Seven spades can't be bettered: seven notrump doubled costs East and West 3,500.
-const ADDED: &[u8] =
+pub(crate) const ADDED: &[u8] =
     b"\n[DoubleDummyTricks \"0d0d00d0d000d0d00d0d\"]\n[OptimumScore \"NS 1510\"]\n[ParContract \"NS 7S=\"]\n";
 
 // What is written for a file, and what is said of its games.

@@ -1,4 +1,4 @@
-use Rattle.std.proofs.Common.{◌≡◌, List, ℕ, Bool, true, false, sym, subst}
+use Rattle.std.proofs.Common.{◌≡◌, true, false, sym, subst}
 use Rattle.dd_score.specs.Tables.{IsTable}
 use Rattle.dd_fill.specs.Told.{table_of}
 use Rattle.dd_fill.proofs.Tables.{table-scored}
