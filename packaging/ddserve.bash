@@ -5,7 +5,7 @@ _ddserve() {
         case ${COMP_WORDS[1]} in
         solve) words='--budget --entries --workers --help' ;;
         serve) words='--listen --websocket --workers --shards --entries --budget --events --idle --allow-stop --help' ;;
-        pbn) words='--tags --budget --entries --help' ;;
+        pbn) words='--tags --budget --entries --workers --help' ;;
         help) words='solve serve pbn' ;;
         *) words='' ;;
         esac

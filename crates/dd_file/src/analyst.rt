@@ -64,6 +64,10 @@ pub trait Analyst {
         requires { IsThirteen _deal.now }
     {}
 
+    /// Is told how far it is, where a game ends before the end of the file: how many have ended, and how many bytes stand before
+    /// the place where it ends. No answer rests on it.
+    fn passed(&mut self, _games: u64, _bytes: u64) {}
+
     /// Is told why the game of this number, with this value of its tag Board, lacks a tag that was asked for.
     fn left(&mut self, game: u64, board: &[u8], reason: Reason);
 }

@@ -35,6 +35,8 @@ pub(crate) struct Filler {
     // The number of the game at hand, and what its tag Board says.
     number: u64,
     board: Vec<u8>,
+    // How many bytes were passed on.
+    passed: u64,
 }
 
 impl Filler {
@@ -53,6 +55,7 @@ impl Filler {
             alloc,
             number: 1,
             board: Vec::new(alloc),
+            passed: 0,
         }
     }
 
@@ -66,6 +69,7 @@ impl Filler {
             alloc: self.alloc,
             number: self.number,
             board: Vec::from_slice(self.alloc, self.board.as_slice())?,
+            passed: self.passed,
         })
     }
 
@@ -114,6 +118,7 @@ impl Filler {
             return Ok(());
         }
         self.add_lines_at(has_place(mark), analyst, out)?;
+        analyst.passed(self.number, self.passed);
         self.end_game();
         Ok(())
     }
@@ -139,6 +144,7 @@ impl Filler {
         self.state.pass(byte);
         self.left = left_within(self.left, mark);
         self.mode = self.mode.next(byte);
+        self.passed = self.passed.saturating_add(1);
         Ok(())
     }
 

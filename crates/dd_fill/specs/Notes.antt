@@ -31,3 +31,7 @@ board_text (byte ∷ bytes) = take 32 (byte ∷ bytes)
 abbrev pub note_text : ℕ → List ℕ → Reason → List ℕ
 note_text game board reason =
     codes "ddserve: game " ++ decimal game ++ codes " (board " ++ board_text board ++ codes "): " ++ reason_text reason ++ codes "\n"
+
+-- what a terminal's last line shows in place of what it had: how many games have ended, and at which byte of the file
+abbrev pub progress_text : ℕ → ℕ → List ℕ
+progress_text games bytes = (13 ∷ 27 ∷ codes "[K") ++ codes "ddserve: " ++ decimal games ++ codes " games, " ++ decimal bytes ++ codes " bytes"

@@ -4,6 +4,7 @@ ghost use Rattle.std.specs.Prelude.{◌≡◌};
 use crate::deal::Deal;
 use crate::limit::Limit;
 use crate::note::note_of;
+use crate::progress::{clear_progress, show_progress};
 use crate::solving::solve_deal;
 use dd_cards::Hands;
 use dd_file::{Analyst, Reason};
@@ -17,6 +18,7 @@ use std::io::Write;
 pub(crate) struct TableAnalyst<'t, 'e, B, E, L> {
     pub(crate) table: &'t mut B,
     pub(crate) errors: &'e mut CountedDevice<E>,
+    pub(crate) shows_progress: bool,
     pub(crate) limit: L,
 }
 
@@ -30,18 +32,24 @@ impl<'t, 'e, B: Bounds, E: Write, L: Limit> Analyst for TableAnalyst<'t, 'e, B, 
         solve_deal(&Deal::new(deal), &mut *self.table, budget)
     }
 
+    fn passed(&mut self, games: u64, bytes: u64) {
+        show_progress(self.shows_progress, games, bytes, &mut *self.errors);
+    }
+
     fn left(&mut self, game: u64, board: &[u8], reason: Reason) {
-        say(game, board, reason, &mut *self.errors);
+        say(game, board, reason, &mut *self.errors, self.shows_progress);
     }
 }
 
-/// Says why the game of this number, with this value of its tag Board, lacks a tag.
+/// Says why the game of this number, with this value of its tag Board, lacks a tag: in place of what is shown in the last line.
 pub(crate) fn say<E: Write>(
     game: u64,
     board: &[u8],
     reason: Reason,
     errors: &mut CountedDevice<E>,
+    shows_progress: bool,
 ) {
+    clear_progress(shows_progress, errors);
     let note = note_of(game, board, reason);
     // Where it fails there is no place left to say so.
     let _ = write_whole(errors, note.as_slice());

@@ -32,8 +32,8 @@ pub(crate) fn note_of(game: u64, board: &[u8], reason: Reason) -> Note
     note
 }
 
-// Appends bytes for which there is room.
-fn push(note: &mut Note, bytes: &[u8])
+/// Appends bytes for which there is room.
+pub(crate) fn push(note: &mut Note, bytes: &[u8])
     requires { array_vec_len note.old + length bytes.now ≤ LONGEST_NOTE }
     ensures items { note.new.items ≡ note.old.items ++ bytes.now }
     ensures len { array_vec_len note.new ≡ array_vec_len note.old + length bytes.now }

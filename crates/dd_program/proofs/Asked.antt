@@ -180,7 +180,7 @@ or-in-range most default (Some number) low high fits = fits
 pub asks-serve : (arguments : List Text) (rows : List Row) (args : Args) → (fault_of program_app arguments ≡ []) × (subcommand_of program_app arguments ≡ Some (codes "serve", rows))
     → AsksToServeBy rows args → Asks arguments args
 asks-serve arguments rows (Solve budget entries workers) line by = absurd by
-asks-serve arguments rows (Fill tags budget entries) line by = absurd by
+asks-serve arguments rows (Fill tags budget entries workers) line by = absurd by
 asks-serve arguments rows (Serve listen workers shards entries budget events idle websocket allow_stop) line by = (rows, line.0, line.1, by)
 
 -- the same of the rows of `pbn`
@@ -188,7 +188,7 @@ pub asks-fill : (arguments : List Text) (rows : List Row) (args : Args) → (fau
     → AsksToFillBy rows args → Asks arguments args
 asks-fill arguments rows (Solve budget entries workers) line by = absurd by
 asks-fill arguments rows (Serve listen workers shards entries budget events idle websocket allow_stop) line by = absurd by
-asks-fill arguments rows (Fill tags budget entries) line by = (rows, line.0, line.1, by)
+asks-fill arguments rows (Fill tags budget entries workers) line by = (rows, line.0, line.1, by)
 
 -- the numbers of a line that asks lie in their ranges
 pub in-range : (arguments : List Text) (args : Args) → Asks arguments args → IsInRange args
@@ -209,10 +209,11 @@ in-range arguments (Serve listen workers shards entries budget events idle webso
     let budget-fit = subst (λ b. IfSome b IsBudget) (sym by.4.2) (limit-fits 1000000000000 50000000 by.4.0 (omega arith)) in
     let idle-fit = subst (λ i. IfSome i IsIdle) (sym by.6.2) (limit-fits MOST_IDLE 600 by.6.0 (omega arith)) in
     (workers-fit.0, workers-fit.1, shards-fit.0, shards-fit.1, entries-fit, budget-fit, events-fit, idle-fit)
-in-range arguments (Fill tags budget entries) (rows, free, line, by) =
+in-range arguments (Fill tags budget entries workers) (rows, free, line, by) =
     let budget-fit = subst (λ b. IfSome b IsBudget) (sym by.1.2) (up-to-fits 1000000000000 by.1.0) in
     let entries-fit = subst IsTableSize (sym by.0.2) (number-fits 1 MOST_SHAPES 4096 by.0.0 (omega arith) (omega arith)) in
-    (budget-fit, entries-fit)
+    let workers-fit = subst (λ n. (1 ≤ n) × (n ≤ MOST_WORKERS)) (sym by.3.2) (number-fits 1 MOST_WORKERS 1 by.3.0 (omega arith) (omega arith)) in
+    (budget-fit, entries-fit, workers-fit.0, workers-fit.1)
 
 -- the name of what a line enters
 abbrev entered_name : Option (Text × List Row) → Text
@@ -263,16 +264,17 @@ asks-one arguments (Serve l w s e b n i k a) (Serve m x t f c o h j d) (rows, fr
       also.7 ∙ sym by.7,
       also.8 ∙ sym by.8,
     )
-asks-one arguments (Solve b e w) (Fill u c f) asks also = solve-no-fill arguments asks.0 also.0 asks.1 also.2
-asks-one arguments (Fill t b e) (Solve c f x) asks also = solve-no-fill arguments also.0 asks.0 also.1 asks.2
-asks-one arguments (Serve l w s e b n i k a) (Fill u c f) asks also = serve-no-fill arguments asks.0 also.0 asks.2 also.2
-asks-one arguments (Fill t b e) (Serve m x s f c o h j d) asks also = serve-no-fill arguments also.0 asks.0 also.2 asks.2
-asks-one arguments (Fill t b e) (Fill u c f) (rows, free, line, by) (rows2, free2, line2, by2) =
+asks-one arguments (Solve b e w) (Fill u c f x) asks also = solve-no-fill arguments asks.0 also.0 asks.1 also.2
+asks-one arguments (Fill t b e w) (Solve c f x) asks also = solve-no-fill arguments also.0 asks.0 also.1 asks.2
+asks-one arguments (Serve l w s e b n i k a) (Fill u c f x) asks also = serve-no-fill arguments asks.0 also.0 asks.2 also.2
+asks-one arguments (Fill t b e w) (Serve m x s f c o h j d) asks also = serve-no-fill arguments also.0 asks.0 also.2 asks.2
+asks-one arguments (Fill t b e w) (Fill u c f x) (rows, free, line, by) (rows2, free2, line2, by2) =
     let same : rows2 ≡ rows = ap entered_rows (sym line2 ∙ line) in
-    let also = subst (λ r. AsksToFillBy r (Fill u c f)) same by2 in (
+    let also = subst (λ r. AsksToFillBy r (Fill u c f x)) same by2 in (
       also.2 ∙ sym by.2,
       also.1.2 ∙ ap (limit_up_to 1000000000000) (given-one 64 (one_of (codes "budget") rows) also.1.0 by.1.0 also.1.1 by.1.1) ∙ sym by.1.2,
       number-one (codes "entries") rows 1 MOST_SHAPES 4096 f e also.0 by.0,
+      number-one (codes "workers") rows 1 MOST_WORKERS 1 x w also.3 by.3,
     )
 
 -- ---- what is left out
@@ -347,7 +349,7 @@ fill-avoids o other = record {
 
 fill-named : Each IsNamedById fill_rules
 unfolding IsNamedById
-fill-named = ((refl, refl), ((refl, refl), ((refl, refl), ((refl, refl), tt))))
+fill-named = ((refl, refl), ((refl, refl), ((refl, refl), ((refl, refl), ((refl, refl), tt)))))
 
 fill-left-out : (arguments : List Text) (s : Fills arguments) (rows : List Row) (o : Text) → subcommand_of program_app arguments ≡ Some (codes "pbn", rows) → bytes_eq (codes "help") o ≡ false
     → Each (λ a. (bytes_eq a.id o ≡ false) ⊎ (a.defaults ≡ [])) fill_rules → IsLeftOut (45 ∷ 45 ∷ o) arguments → has_row o rows ≡ false
@@ -374,13 +376,14 @@ has-defaults arguments (Serve listen workers shards entries budget events idle w
     λ out. limit-default (codes "idle") rows MOST_IDLE 600 idle (left-out arguments s rows (codes "idle") line refl (inr refl, (inr refl, (inr refl, (inr refl, (inr refl, (inr refl, (inr refl, (inl refl, (inl refl, (inr refl, tt)))))))))) out) by.6,
   )
 ]
-has-defaults arguments (Fill tags budget entries) (rows, free, line, by) = elim (line-of arguments free) [
+has-defaults arguments (Fill tags budget entries workers) (rows, free, line, by) = elim (line-of arguments free) [
   | inl s ↦ absurd (solve-pbn (ap entered_name (sym (enters arguments s) ∙ line)))
   | inr (inl s) ↦ absurd (serve-pbn (ap entered_name (sym (enters-serve arguments s) ∙ line)))
   | inr (inr s) ↦ (
-    λ out. by.2 ∙ ap (λ (t : Option Text). unwrap_or t []) (no-first (codes "tags") rows (fill-left-out arguments s rows (codes "tags") line refl (inr refl, (inr refl, (inr refl, (inr refl, tt)))) out)),
-    λ out. by.1.2 ∙ ap (limit_up_to 1000000000000) (none-given 64 (one_of (codes "budget") rows) by.1.0 (no-row (codes "budget") rows (fill-left-out arguments s rows (codes "budget") line refl (inr refl, (inr refl, (inr refl, (inr refl, tt)))) out)) by.1.1),
-    λ out. number-default (codes "entries") rows 1 MOST_SHAPES 4096 entries (no-row (codes "entries") rows (fill-left-out arguments s rows (codes "entries") line refl (inr refl, (inr refl, (inr refl, (inr refl, tt)))) out)) by.0,
+    λ out. by.2 ∙ ap (λ (t : Option Text). unwrap_or t []) (no-first (codes "tags") rows (fill-left-out arguments s rows (codes "tags") line refl (inr refl, (inr refl, (inr refl, (inr refl, (inr refl, tt))))) out)),
+    λ out. by.1.2 ∙ ap (limit_up_to 1000000000000) (none-given 64 (one_of (codes "budget") rows) by.1.0 (no-row (codes "budget") rows (fill-left-out arguments s rows (codes "budget") line refl (inr refl, (inr refl, (inr refl, (inr refl, (inr refl, tt))))) out)) by.1.1),
+    λ out. number-default (codes "entries") rows 1 MOST_SHAPES 4096 entries (no-row (codes "entries") rows (fill-left-out arguments s rows (codes "entries") line refl (inr refl, (inr refl, (inr refl, (inr refl, (inr refl, tt))))) out)) by.0,
+    λ out. number-default (codes "workers") rows 1 MOST_WORKERS 1 workers (no-row (codes "workers") rows (fill-left-out arguments s rows (codes "workers") line refl (inr refl, (inr refl, (inr refl, (inr refl, (inr refl, tt))))) out)) by.3,
   )
 ]
 
@@ -392,7 +395,7 @@ asks-free app arguments (Solve budget entries workers) is (given, asks, budget-i
     let free = solves-free asks.program asks.words (walked-line arguments given asks).faultless in
     subst (λ a. fault_of a arguments ≡ []) (sym is) (subst (λ ws. fault_of program_app ws ≡ []) (sym asks.line) free)
 asks-free app arguments (Serve listen workers shards entries budget events idle websocket allow_stop) is asks = subst (λ a. fault_of a arguments ≡ []) (sym is) asks.1
-asks-free app arguments (Fill tags budget entries) is asks = subst (λ a. fault_of a arguments ≡ []) (sym is) asks.1
+asks-free app arguments (Fill tags budget entries workers) is asks = subst (λ a. fault_of a arguments ≡ []) (sym is) asks.1
 
 -- the parser's error says that memory ran out, or the line asks for nothing
 abbrev pub Refuses : List Text → Error → Type 0

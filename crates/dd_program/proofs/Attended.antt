@@ -118,7 +118,7 @@ pub as-serve : (args : Args) (listen : String Global) (workers shards entries : 
 as-serve args listen workers shards entries budget events idle websocket allow_stop old new ending is serves = subst (λ a. AnswersUntil a old new ending) (sym is) serves
 
 -- and what those of `pbn` do
-pub as-fill : (args : Args) (tags : String Global) (budget : Option ℕ) (entries : ℕ) (text : List ℕ) (old new : Streams) (ending : Ending) → args ≡ Fill tags budget entries
+pub as-fill : (args : Args) (tags : String Global) (budget : Option ℕ) (entries workers : ℕ) (text : List ℕ) (old new : Streams) (ending : Ending) → args ≡ Fill tags budget entries workers
     → text ≡ string_bytes tags → FillsUntil text budget old new ending → AnswersUntil args old new ending
-as-fill args tags budget entries text old new ending is same fills =
+as-fill args tags budget entries workers text old new ending is same fills =
     subst (λ a. AnswersUntil a old new ending) (sym is) (subst (λ t. FillsUntil t budget old new ending) same fills)

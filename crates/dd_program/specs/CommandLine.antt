@@ -91,20 +91,20 @@ Asks arguments (Solve budget entries workers) =
     (given : List (SolveOption × ℕ)) × AsksToSolve arguments given × (budget ≡ given_to Budget given)
     × (entries ≡ unwrap_or (given_to Entries given) 4096) × (workers ≡ unwrap_or (given_to Workers given) 1)
 Asks arguments (Serve listen workers shards entries budget events idle websocket allow_stop) = AsksToServe arguments (Serve listen workers shards entries budget events idle websocket allow_stop)
-Asks arguments (Fill tags budget entries) = AsksToFill arguments (Fill tags budget entries)
+Asks arguments (Fill tags budget entries workers) = AsksToFill arguments (Fill tags budget entries workers)
 
 -- the same is asked for: the same numbers, and an address or names of tags of the same text
 abbrev pub IsSame : Args → Args → Type 0
 IsSame (Solve b e w) (Solve c f x) = Solve b e w ≡ Solve c f x
 IsSame (Serve l w s e b n i k a) (Serve m x t f c o h j d) =
     (string_bytes l ≡ string_bytes m) × (w ≡ x) × (s ≡ t) × (e ≡ f) × (b ≡ c) × (n ≡ o) × (i ≡ h) × (k ≡ j) × (a ≡ d)
-IsSame (Fill t b e) (Fill u c f) = (string_bytes t ≡ string_bytes u) × (b ≡ c) × (e ≡ f)
+IsSame (Fill t b e w) (Fill u c f x) = (string_bytes t ≡ string_bytes u) × (b ≡ c) × (e ≡ f) × (w ≡ x)
 IsSame (Solve b e w) (Serve m x t f c o h j d) = ⊥
 IsSame (Serve l w s e b n i k a) (Solve c f x) = ⊥
-IsSame (Solve b e w) (Fill u c f) = ⊥
-IsSame (Fill t b e) (Solve c f x) = ⊥
-IsSame (Serve l w s e b n i k a) (Fill u c f) = ⊥
-IsSame (Fill t b e) (Serve m x s f c o h j d) = ⊥
+IsSame (Solve b e w) (Fill u c f x) = ⊥
+IsSame (Fill t b e w) (Solve c f x) = ⊥
+IsSame (Serve l w s e b n i k a) (Fill u c f x) = ⊥
+IsSame (Fill t b e w) (Serve m x s f c o h j d) = ⊥
 
 -- each number lies in its range
 abbrev pub IsInRange : Args → Type 0
@@ -112,7 +112,7 @@ IsInRange (Solve budget entries workers) = IfSome budget IsBudget × IsTableSize
 IsInRange (Serve listen workers shards entries budget events idle websocket allow_stop) =
     (1 ≤ workers) × (workers ≤ MOST_WORKERS) × (1 ≤ shards) × (shards ≤ MOST_SHARDS) × IsTableSize entries × IfSome budget IsBudget
     × IsEventCount events × IfSome idle IsIdle
-IsInRange (Fill tags budget entries) = IfSome budget IsBudget × IsTableSize entries
+IsInRange (Fill tags budget entries workers) = IfSome budget IsBudget × IsTableSize entries × (1 ≤ workers) × (workers ≤ MOST_WORKERS)
 
 -- no word is the option's name or begins with it
 abbrev pub IsLeftOut : Text → List Text → Type 0
@@ -127,6 +127,6 @@ HasDefaults arguments (Serve listen workers shards entries budget events idle we
     (IsLeftOut (codes "--workers") arguments → workers ≡ 4) × (IsLeftOut (codes "--shards") arguments → shards ≡ 16)
     × (IsLeftOut (codes "--entries") arguments → entries ≡ 4096) × (IsLeftOut (codes "--budget") arguments → budget ≡ Some 50000000)
     × (IsLeftOut (codes "--events") arguments → events ≡ MOST_EVENTS) × (IsLeftOut (codes "--idle") arguments → idle ≡ Some 600)
-HasDefaults arguments (Fill tags budget entries) =
+HasDefaults arguments (Fill tags budget entries workers) =
     (IsLeftOut (codes "--tags") arguments → string_bytes tags ≡ []) × (IsLeftOut (codes "--budget") arguments → budget ≡ None)
-    × (IsLeftOut (codes "--entries") arguments → entries ≡ 4096)
+    × (IsLeftOut (codes "--entries") arguments → entries ≡ 4096) × (IsLeftOut (codes "--workers") arguments → workers ≡ 1)

@@ -5,6 +5,7 @@ use Rattle.clap.specs.Faults.{fault_of}
 use Rattle.dd_shard.specs.declared.shard.TheConstants.{MOST_SHAPES}
 use Rattle.dd_program.specs.declared.command_line.Args.{Args}
 use Rattle.dd_program.specs.declared.command_line.Args.TheVariants.{Fill, Serve, Solve}
+use Rattle.dd_program.specs.declared.command_line.TheConstants.{MOST_WORKERS}
 use Rattle.dd_program.specs.Program.{program_app}
 use Rattle.dd_program.specs.ServeWords.{HasNumber, IsGiven}
 
@@ -17,10 +18,11 @@ limit_up_to most (Some number) = (if nat_le number most then Some number else No
 abbrev pub AsksToFillBy : List Row → Args → Type 0
 AsksToFillBy rows (Solve budget entries workers) = ⊥
 AsksToFillBy rows (Serve listen workers shards entries budget events idle websocket allow_stop) = ⊥
-AsksToFillBy rows (Fill tags budget entries) =
+AsksToFillBy rows (Fill tags budget entries workers) =
     HasNumber (codes "entries") rows 1 MOST_SHAPES 4096 entries
     × ((given : Option ℕ) × IsGiven 64 (codes "budget") rows given × (budget ≡ limit_up_to 1000000000000 given))
     × (string_bytes tags ≡ unwrap_or (first_of (codes "tags") rows) [])
+    × HasNumber (codes "workers") rows 1 MOST_WORKERS 1 workers
 
 -- The line is one of `pbn`: the parser of arguments finds no fault in it, and the arguments are what it makes of the options.
 abbrev pub AsksToFill : List (List ℕ) → Args → Type 0

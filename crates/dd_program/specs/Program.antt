@@ -106,7 +106,7 @@ tags_rule = record (new_rule (codes "tags")) { long = Some (codes "tags"); value
 
 -- `pbn` with its options
 abbrev pub fill_app : App
-fill_app = with_rule (with_rule (with_rule (new_app (codes "pbn")) tags_rule) budget_rule) shard_entries_rule
+fill_app = with_rule (with_rule (with_rule (with_rule (new_app (codes "pbn")) tags_rule) budget_rule) shard_entries_rule) workers_rule
 
 -- the program without a subcommand, which it wants
 abbrev pub bare_app : App

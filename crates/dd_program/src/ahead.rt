@@ -19,7 +19,7 @@ use std::thread::Threads;
 const PIECE: usize = 65_536;
 
 /// The shards of the table that several threads share.
-const SHARDS: u32 = 16;
+pub(crate) const SHARDS: u32 = 16;
 
 /// Answers the lines of the input, each within the budget, by so many threads beside this one, which reads, writes and mostly
 /// waits, over a table that they share, each behind a cache of its own.
@@ -62,7 +62,7 @@ pub(crate) fn solve_ahead<W: Threads + Wait + Sync, R: Read, O: Write, E: Write>
 }
 
 /// So many caches that have learned nothing, each before a view of the table. The error says that memory ran out.
-fn caches<'a, W: Wait>(
+pub(crate) fn caches<'a, W: Wait>(
     rt: &'a W,
     alloc: Global,
     table: &'a SharedTable,

@@ -79,8 +79,10 @@ pub enum Args {
         tags: String,
         /// The most positions that the search may come to for each result, 0 to 1,000,000,000,000. `None` is no limit.
         budget: Option<u64>,
-        /// The entries of the transposition table, 1 to `MOST_SHAPES`.
+        /// The entries of each shard of the transposition table, 1 to `MOST_SHAPES`.
         entries: u32,
+        /// The threads that search, 1 to 64. One has a table of one shard, more have one of 16.
+        workers: u32,
     },
 }
 
@@ -245,6 +247,7 @@ fn fill_args(alloc: Global, options: &ArgMatches) -> Result<Args, AllocError>
         tags: String::from_str(alloc, options.get_str("tags").unwrap_or(""))?,
         budget: limit_up_to(limit_of(options, "budget"), MOST_POSITIONS as u64),
         entries: number_in(number_of(options, "entries"), 1, MOST_SHAPES, 4_096),
+        workers: number_in(number_of(options, "workers"), 1, MOST_WORKERS, 1),
     })
 }
 
@@ -323,7 +326,8 @@ fn fill_command<'a>(alloc: Global) -> Result<Command<'a>, AllocError>
         .after_help(files())
         .arg(tags_option(alloc))?
         .arg(result_budget_option(alloc))?
-        .arg(file_entries_option(alloc))
+        .arg(file_entries_option(alloc))?
+        .arg(file_workers_option(alloc))
 }
 
 fn budget_option<'a>(alloc: Global) -> Arg<'a>
@@ -484,4 +488,16 @@ fn file_entries_option<'a>(alloc: Global) -> Arg<'a>
         .value_name("N")
         .value_parser(value_parser!(u32).range(1..=most))
         .help("The entries of the transposition table, 1 to 65536 [default: 4096]")
+}
+
+fn file_workers_option<'a>(alloc: Global) -> Arg<'a>
+    ensures { IsOption result workers_rule }
+{
+    Arg::new(alloc, "workers")
+        .long("workers")
+        .value_name("N")
+        .value_parser(value_parser!(u32).range(1..=MOST_WORKERS as i64))
+        .help(
+            "The threads that search, 1 to 64; more than one share a table of 16 shards [default: 1]",
+        )
 }

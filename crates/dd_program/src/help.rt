@@ -150,7 +150,11 @@ Of each game that lacks one of them afterwards a line on the standard error says
 
 The reasons are no deal; deal refused, with the number of the fault as `ddserve solve --help` lists
 them; no par, since Dealer or Vulnerable is missing; not closed, where a comment or a tag is open at
-the end of the file; and spent, with --budget.
+the end of the file; and spent, with --budget. On a terminal a last line shows how many games have
+ended, and at which byte of the file.
+
+With --workers N, threads search ahead for the deals of what was read, 262144 bytes or so at a time.
+The file comes out the same, but for results that are spent.
 
 Exit status: 0 at the end of the input, whatever was said of games, 1 where a read or a write failed
 or memory ran out, and 2 for a bad command line."

@@ -32,7 +32,7 @@ const PIECE: usize = 4_096;
 
 /// Does what the arguments ask for: answers the lines of the input on the output, serves the clients of an address, passes a
 /// file on with its lines, shows help or the version on the output, or says on the standard error what is wrong with the
-/// arguments.
+/// arguments. Where the standard error is a terminal it shows how far a file has been passed on.
 pub fn run_program<
     W: Threads + Wait + Clock + Eprint + Net<Listener = TcpListener, Stream = TcpStream> + Sync,
     R: Read,
@@ -45,6 +45,7 @@ pub fn run_program<
     reader: &mut CountedDevice<R>,
     output: &mut CountedDevice<O>,
     errors: &mut CountedDevice<E>,
+    is_terminal: bool,
 ) -> Ending
     ensures { Runs (arguments_of arguments)
         (streams (state_of R.remaining reader.old) (state_of O.contents output.old)
@@ -97,6 +98,7 @@ pub fn run_program<
                 tags,
                 budget,
                 entries,
+                workers,
             },
         ) => fill(
             rt,
@@ -104,9 +106,11 @@ pub fn run_program<
             tags.as_str(),
             budget,
             entries,
+            workers,
             reader,
             output,
             errors,
+            is_terminal,
         ),
         Err(error) => match error.kind() {
             ErrorKind::OutOfMemory => fail(errors, Ending::OutOfMemory),

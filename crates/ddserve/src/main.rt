@@ -8,12 +8,14 @@
 use dd_lines::CountedDevice;
 use dd_program::{given_arguments, run_program};
 use std::io;
+use std::io::IsTerminal;
 use std::process::ExitCode;
 
 fn main(rt: HostRuntime) -> ExitCode {
     let mut input = CountedDevice::new(rt.reader());
     let mut output = CountedDevice::new(io::writer(&rt));
     let mut errors = CountedDevice::new(rt.stderr());
+    let is_terminal = rt.stderr().is_terminal();
     let arguments = given_arguments(&rt);
     run_program(
         &rt,
@@ -22,6 +24,7 @@ fn main(rt: HostRuntime) -> ExitCode {
         &mut input,
         &mut output,
         &mut errors,
+        is_terminal,
     )
     .exit_code()
 }

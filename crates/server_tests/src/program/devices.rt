@@ -108,7 +108,15 @@ pub fn run_over<
         taken: Vec::new(alloc),
         room: devices.errors,
     });
-    let ending = run_program(rt, alloc, words, &mut reader, &mut output, &mut errors);
+    let ending = run_program(
+        rt,
+        alloc,
+        words,
+        &mut reader,
+        &mut output,
+        &mut errors,
+        false,
+    );
     Outcome {
         ending,
         unread: reader.into_inner().bytes.len(),

@@ -81,6 +81,7 @@ fn a_call_is_shown_on_the_output_and_ends_with_0(rt: HostRuntime) -> Result<(), 
             "ddserve serve --help",
             "18  the server is closing and takes no more jobs",
         ),
+        ("ddserve pbn --help", "Usage: ddserve pbn [OPTIONS]"),
         ("ddserve --version", version.as_str()),
         ("ddserve -V", version.as_str()),
     ];
@@ -133,6 +134,11 @@ fn a_bad_line_is_explained_on_the_standard_error_and_ends_with_2(
         ("ddserve resolve", "unrecognized subcommand 'resolve'"),
         ("ddserve solve --entries 0", "0 is not in 1..=65536"),
         ("ddserve solve --limit 5", "unexpected argument '--limit'"),
+        (
+            "ddserve pbn --tags Deal",
+            "--tags takes DoubleDummyTricks, ",
+        ),
+        ("ddserve pbn --workers 65", "65 is not in 1..=64"),
         ("ddserve", "requires a subcommand"),
     ];
     let closed = Devices { errors: 0, ..SOUND };

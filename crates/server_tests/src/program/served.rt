@@ -54,7 +54,15 @@ fn run<W: Threads + Wait + Clock + Eprint + Net<Listener = TcpListener, Stream =
     let mut reader = CountedDevice::new(io::empty());
     let mut output = CountedDevice::new(Shared { rt, text });
     let mut errors = CountedDevice::new(Shared { rt, text });
-    Ok(run_program(rt, alloc, Ok(words), &mut reader, &mut output, &mut errors))
+    Ok(run_program(
+        rt,
+        alloc,
+        Ok(words),
+        &mut reader,
+        &mut output,
+        &mut errors,
+        false,
+    ))
 }
 
 // The address in the line that tells it.

@@ -1,0 +1,10 @@
+use Rattle.dd_fill.specs.Told.{MaySpend}
+use Rattle.dd_program.specs.Endings.{state_of}
+use Rattle.dd_program.proofs.FilledUntil.{ends-filling}
+use Rattle.dd_program.proofs.filling.fill_on.Goals as goal
+
+pub returns : goal.returns
+returns g c =
+    ends-filling (MaySpend c.args.budget) c.args.wanted g.R.Read.remaining g.O.Write.contents c.args.reader.now c.fill_deals_on-filled.new.reader c.args.output.now c.fill_deals_on-filled.new.writer
+    (state_of g.E.Write.contents c.args.errors.now) (state_of g.E.Write.contents c.fill_deals_on-filled.new.errors) (state_of g.E.Write.contents c.end.new.errors) c.fill_deals_on-filled.result c.end.result
+    c.end.ensures.ending c.fill_deals_on-filled.ensures c.end.ensures.says
