@@ -1,3 +1,4 @@
+pub mod Ahead
 pub mod Notes
 pub mod Served
 pub mod Told

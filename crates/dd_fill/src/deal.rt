@@ -1,5 +1,5 @@
 //! Deals of thirteen cards a hand.
-ghost use Rattle.std.specs.Prelude.{◌≡◌};
+ghost use Rattle.std.specs.Prelude.{◌≡◌, ◌↔◌, IsTrue};
 ghost use Rattle.dd_file.specs.Deals.{IsThirteen};
 
 use dd_cards::Hands;
@@ -43,5 +43,12 @@ impl Deal {
             Ok(request) => request,
             Err(_) => unreachable!(),
         }
+    }
+
+    /// Is it the same deal?
+    pub(crate) fn is_same(&self, other: &Deal) -> bool
+        ensures { IsTrue result ↔ (self.now ≡ other.now) }
+    {
+        self.request().is_same(&other.request())
     }
 }

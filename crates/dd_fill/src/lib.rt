@@ -1,11 +1,16 @@
 //! Files of PBN with the results of their deals, which are searched for.
 #![tactic(auto)]
 
+mod ahead;
 mod analyst;
+mod answered;
 mod deal;
 mod filling;
 mod limit;
 mod note;
+mod pool;
 mod solving;
+mod strain_queue;
 
+pub use ahead::fill_deals_on;
 pub use filling::fill_deals;

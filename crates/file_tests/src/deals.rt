@@ -9,11 +9,11 @@ use dd_search::NoTable;
 use std::alloc::Global;
 
 // A suit in each hand: with its own suit as trumps a side takes all tricks, and at notrump the side that leads does.
-const SUITS: &[u8] =
+pub(crate) const SUITS: &[u8] =
     br#"[Dealer "N"][Vulnerable "None"][Deal "N:AKQJT98765432... .AKQJT98765432.. ..AKQJT98765432. ...AKQJT98765432"]"#;
 
 // Seven spades can't be bettered: seven notrump doubled costs East and West 3,500.
-const ADDED: &[u8] =
+pub(crate) const ADDED: &[u8] =
     b"\n[DoubleDummyTricks \"0d0d00d0d000d0d00d0d\"]\n[OptimumScore \"NS 1510\"]\n[ParContract \"NS 7S=\"]\n";
 
 // What is written for a file, and what is said of its games.
@@ -30,12 +30,8 @@ fn fill(alloc: Global, file: &[u8], budget: Option<u64>) -> Option<Outcome> {
         bytes: file,
         most: usize::MAX,
     });
-    let mut writer = CountedDevice::new(Taker {
-        taken: Vec::new(alloc),
-    });
-    let mut errors = CountedDevice::new(Taker {
-        taken: Vec::new(alloc),
-    });
+    let mut writer = CountedDevice::new(Taker::new(alloc));
+    let mut errors = CountedDevice::new(Taker::new(alloc));
     let mut buffer = [0; 4_096];
     fill_deals(
         alloc,
@@ -48,9 +44,10 @@ fn fill(alloc: Global, file: &[u8], budget: Option<u64>) -> Option<Outcome> {
         &mut buffer,
     )
     .ok()?;
-    let Taker { taken: file } = writer.into_inner();
-    let Taker { taken: notes } = errors.into_inner();
-    Some(Outcome { file, notes })
+    Some(Outcome {
+        file: writer.into_inner().taken,
+        notes: errors.into_inner().taken,
+    })
 }
 
 // Does the file come out as it is, and is this said of it?

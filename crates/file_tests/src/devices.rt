@@ -1,6 +1,7 @@
 //! A reader and a writer of memory.
+use std::alloc::Global;
 use std::io;
-use std::io::{Read, Write};
+use std::io::{Error, ErrorKind, Read, Write};
 
 /// Gives its bytes in pieces.
 #[derive(Drop)]
@@ -19,16 +20,37 @@ impl Read for Pieces<'_> {
     }
 }
 
-/// Takes all bytes.
+/// Takes bytes, and fails once it has no more room.
 #[derive(Drop)]
 pub struct Taker {
     pub taken: Vec<u8>,
+    pub room: usize,
+}
+
+impl Taker {
+    /// Takes all bytes.
+    pub fn new(alloc: Global) -> Taker {
+        Taker::of_room(alloc, usize::MAX)
+    }
+
+    /// Takes so many bytes.
+    pub fn of_room(alloc: Global, room: usize) -> Taker {
+        Taker {
+            taken: Vec::new(alloc),
+            room,
+        }
+    }
 }
 
 impl Write for Taker {
     fn write(&mut self, buf: &[u8]) -> io::Result<usize> {
-        self.taken.extend_from_slice(buf)?;
-        Ok(buf.len())
+        if self.room == 0 {
+            return Err(Error::from(ErrorKind::BrokenPipe));
+        }
+        let count = buf.len().min(self.room);
+        self.taken.extend_from_slice(&buf[..count])?;
+        self.room -= count;
+        Ok(count)
     }
 
     fn flush(&mut self) -> io::Result<()> {

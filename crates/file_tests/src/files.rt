@@ -72,9 +72,7 @@ fn filled(
     known: &mut Known,
 ) -> Result<Vec<u8>, FileFault> {
     let mut reader = CountedDevice::new(Pieces { bytes: file, most });
-    let mut writer = CountedDevice::new(Taker {
-        taken: Vec::new(alloc),
-    });
+    let mut writer = CountedDevice::new(Taker::new(alloc));
     let mut buffer = [0; 4_096];
     fill_file(
         alloc,
@@ -84,8 +82,7 @@ fn filled(
         known,
         &mut buffer,
     )?;
-    let Taker { taken } = writer.into_inner();
-    Ok(taken)
+    Ok(writer.into_inner().taken)
 }
 
 // Why the last game of the file is left, and which one it is.
