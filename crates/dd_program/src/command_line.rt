@@ -6,6 +6,7 @@ ghost use Rattle.dd_program.specs.FillWords.{limit_up_to, AsksToFillBy};
 ghost use Rattle.dd_program.specs.Program.{allow_stop_rule, budget_rule, entries_rule, events_rule, fill_app, idle_rule, line_workers_rule, listen_rule, program_app, serve_app, shard_entries_rule, shards_rule, solve_app, tags_rule, websocket_rule, workers_rule, number_of, HasNumbers, IsOption, IsSubcommand};
 ghost use Rattle.dd_program.specs.ServeWords.{is_set, limit_in, number_in, AsksToServeBy, IsGiven};
 
+use crate::examples::{fill_examples, program_examples, serve_examples, solve_examples};
 use crate::help::{files, requests};
 use crate::jobs_help::jobs;
 use clap::builder::ValueParser;
@@ -265,9 +266,8 @@ fn program<'a>(alloc: Global) -> Result<Command<'a>, AllocError>
     ensures { IfOk result (λ command. app_of command ≡ program_app) }
 {
     Command::new(alloc, "ddserve")
-        .about(
-            "Solves bridge deals double dummy: how many tricks each card wins when all four hands are seen",
-        )
+        .before_help(program_examples())
+        .about("Solves bridge deals double dummy: what each card wins with all hands seen")
         .version(VERSION)
         .after_help("'ddserve solve --help' says what a request and a reply are.")
         .subcommand_required(true)
@@ -280,9 +280,8 @@ fn solve_command<'a>(alloc: Global) -> Result<Command<'a>, AllocError>
     ensures { IfOk result (λ command. IsSubcommand command solve_app.top) }
 {
     Command::new(alloc, "solve")
-        .about(
-            "Answers each request line of the standard input with a reply line on the standard output",
-        )
+        .before_help(solve_examples())
+        .about("Answers the request lines of the standard input, a reply line each")
         .after_help(requests())
         .arg(budget_option(alloc))?
         .arg(entries_option(alloc))?
@@ -310,9 +309,8 @@ fn bare_serve<'a>(alloc: Global) -> Command<'a>
     ensures top { IsSubcommand result (new_app (codes "serve")).top }
 {
     Command::new(alloc, "serve")
-        .about(
-            "Answers the clients of an address, with a job for each position and workers that search",
-        )
+        .before_help(serve_examples())
+        .about("Answers many clients over TCP or WebSocket, with threads that search")
         .after_help(jobs())
 }
 
@@ -320,9 +318,8 @@ fn fill_command<'a>(alloc: Global) -> Result<Command<'a>, AllocError>
     ensures { IfOk result (λ command. IsSubcommand command fill_app.top) }
 {
     Command::new(alloc, "pbn")
-        .about(
-            "Passes a file of PBN on from the standard input to the standard output, with the twenty results and par of its deals",
-        )
+        .before_help(fill_examples())
+        .about("Passes a file of PBN on with the twenty results and par of its deals")
         .after_help(files())
         .arg(tags_option(alloc))?
         .arg(result_budget_option(alloc))?
@@ -337,7 +334,9 @@ fn budget_option<'a>(alloc: Global) -> Arg<'a>
         .long("budget")
         .value_name("N")
         .value_parser(value_parser!(u64).range(0..=MOST_POSITIONS))
-        .help("The most positions to come to for each line, 0 to 1000000000000 [default: no limit]")
+        .help(
+            "The most positions to come to for each line,\n0 to 1000000000000 [default: no limit]",
+        )
 }
 
 fn entries_option<'a>(alloc: Global) -> Arg<'a>
@@ -348,7 +347,7 @@ fn entries_option<'a>(alloc: Global) -> Arg<'a>
         .value_name("N")
         .value_parser(value_parser!(u32).range(1..=MOST_SHAPES as i64))
         .default_value("4096")
-        .help("The entries of the transposition table, 1 to 65536")
+        .help("The entries of the transposition table,\n1 to 65536")
 }
 
 fn line_workers_option<'a>(alloc: Global) -> Arg<'a>
@@ -359,7 +358,7 @@ fn line_workers_option<'a>(alloc: Global) -> Arg<'a>
         .value_name("N")
         .value_parser(value_parser!(u32).range(1..=MOST_WORKERS as i64))
         .default_value("1")
-        .help("The threads that search, 1 to 64; more than one share a table of 16 shards")
+        .help("The threads that search, 1 to 64; more than one\nshare a table of 16 shards")
 }
 
 fn listen_option<'a>(alloc: Global) -> Arg<'a>
@@ -369,7 +368,7 @@ fn listen_option<'a>(alloc: Global) -> Arg<'a>
         .long("listen")
         .value_name("ADDR")
         .required(true)
-        .help("The address to listen at, as 127.0.0.1:4100; port 0 picks a free one")
+        .help("The address to listen at, as 127.0.0.1:4100;\nport 0 picks a free one")
 }
 
 fn workers_option<'a>(alloc: Global) -> Arg<'a>
@@ -389,7 +388,7 @@ fn shards_option<'a>(alloc: Global) -> Arg<'a>
         .long("shards")
         .value_name("N")
         .value_parser(value_parser!(u32).range(1..=MOST_SHARDS as i64))
-        .help("The shards of the transposition table, 1 to 256 [default: 16]")
+        .help("The shards of the transposition table,\n1 to 256 [default: 16]")
 }
 
 fn shard_entries_option<'a>(alloc: Global) -> Arg<'a>
@@ -411,7 +410,7 @@ fn job_budget_option<'a>(alloc: Global) -> Arg<'a>
         .value_name("N")
         .value_parser(value_parser!(u64).range(0..=MOST_POSITIONS))
         .help(
-            "The most positions for each job and each of a table's twenty results, 0 to 1000000000000, 0 for no limit [default: 50000000]",
+            "The most positions for each job and each of a table's\ntwenty results, 0 to 1000000000000, 0 for no limit\n[default: 50000000]",
         )
 }
 
@@ -422,7 +421,7 @@ fn events_option<'a>(alloc: Global) -> Arg<'a>
         .long("events")
         .value_name("N")
         .value_parser(value_parser!(u32).range(LEAST_EVENTS as i64..=MOST_EVENTS as i64))
-        .help("The most events of a run, 1024 to 1048576 [default: 1048576]; the next run follows")
+        .help("The most events of a run, 1024 to 1048576; the next\nrun follows [default: 1048576]")
 }
 
 fn idle_option<'a>(alloc: Global) -> Arg<'a>
@@ -433,7 +432,7 @@ fn idle_option<'a>(alloc: Global) -> Arg<'a>
         .value_name("SECONDS")
         .value_parser(value_parser!(u64).range(0..=MOST_IDLE as i64))
         .help(
-            "How long a connection without an open job may be silent, 0 to 86400, 0 for no limit [default: 600]",
+            "How long a connection without an open job may be\nsilent, 0 to 86400, 0 for no limit [default: 600]",
         )
 }
 
@@ -443,7 +442,7 @@ fn websocket_flag<'a>(alloc: Global) -> Arg<'a>
     Arg::new(alloc, "websocket")
         .long("websocket")
         .action(ArgAction::SetTrue)
-        .help("Each connection is a WebSocket, with a message for each line")
+        .help("Each connection is a WebSocket: a message is a line")
 }
 
 fn allow_stop_flag<'a>(alloc: Global) -> Arg<'a>
@@ -463,7 +462,7 @@ fn tags_option<'a>(alloc: Global) -> Arg<'a>
         .value_name("NAME,..")
         .value_parser(ValueParser::NonEmptyString)
         .help(
-            "The tags to add, of DoubleDummyTricks, OptimumScore, ParContract and OptimumResultTable [default: all four]",
+            "The tags to add, of DoubleDummyTricks, OptimumScore,\nParContract and OptimumResultTable [default: all four]",
         )
 }
 
@@ -475,7 +474,7 @@ fn result_budget_option<'a>(alloc: Global) -> Arg<'a>
         .value_name("N")
         .value_parser(value_parser!(u64).range(0..=MOST_POSITIONS))
         .help(
-            "The most positions to come to for each of a deal's twenty results, 0 to 1000000000000 [default: no limit]",
+            "The most positions to come to for each of a deal's\ntwenty results, 0 to 1000000000000 [default: no limit]",
         )
 }
 
@@ -487,7 +486,7 @@ fn file_entries_option<'a>(alloc: Global) -> Arg<'a>
         .long("entries")
         .value_name("N")
         .value_parser(value_parser!(u32).range(1..=most))
-        .help("The entries of the transposition table, 1 to 65536 [default: 4096]")
+        .help("The entries of the transposition table,\n1 to 65536 [default: 4096]")
 }
 
 fn file_workers_option<'a>(alloc: Global) -> Arg<'a>

@@ -5,27 +5,34 @@
 /// A function and no constant: what mentions it is then proved without its letters.
 pub fn jobs() -> &'static str {
     "\
-Each line that a client sends has one reply, in the order of the lines. The requests 'solve', 'table'
-and 'play' of 'ddserve solve --help', and 'par' of a table, are taken here too. The first three make
-a job, and its number is the reply; 'par' is answered at once:
+Jobs:
+
+Each line that a client sends has one reply, in the order of the lines. The
+requests 'solve', 'table' and 'play' of 'ddserve solve --help', and 'par' of a
+table, are taken here too. The first three make a job, and its number is the
+reply; 'par' is answered at once:
 
   {\"do\":\"solve\",\"deal\":\"N:32... K4... AQ... 65...\",\"trump\":4,\"first\":0,\"solutions\":3}
   {\"job\":1}
 
-  {\"do\":\"fetch\",\"job\":1}           what has become of it, as the reply says in `state`: waiting,
-                                   running, done, cancelled or spent; done comes with the answer
+  {\"do\":\"fetch\",\"job\":1}   what has become of it, as the reply says in `state`:
+                           waiting, running, done, cancelled or spent; done
+                           comes with the answer
   {\"do\":\"fetch\",\"job\":1,\"wait\":30000}
-                                   the same when the job has ended, or after 30000 milliseconds;
-                                   60000 at most
-  {\"do\":\"cancel\",\"job\":1}          gives the job up
-  {\"do\":\"stop\"}                    ends the program, with --allow-stop
+                           the same when the job has ended, or after 30000
+                           milliseconds; 60000 at most
+  {\"do\":\"cancel\",\"job\":1}  gives the job up
+  {\"do\":\"stop\"}            ends the program, with --allow-stop
 
   {\"cards\":[{\"equals\":4,\"rank\":3,\"score\":2,\"suit\":0}],\"job\":1,\"state\":\"done\"}
 
-A solve, table or play with a `wait` is answered as the fetch of its job would be: one line, one
-answer. A job belongs to its connection, and is cancelled when that ends.
+A solve, table or play with a `wait` is answered as the fetch of its job would
+be: one line, one answer. A job belongs to its connection, and is cancelled
+when that ends.
 
-Faults beside those of 'ddserve solve --help':
+Faults:
+
+Beside those of 'ddserve solve --help':
 
   13  64 jobs of this connection are open
   14  the run takes no more connections: connect anew
@@ -35,9 +42,11 @@ Faults beside those of 'ddserve solve --help':
   18  the server is closing and takes no more jobs
   19  memory ran out, and nothing was changed
 
-A run has at most --events events: a submit and a fetch are one each, and a search two. When three
-quarters are used the next connection begins a new run.
+Runs and limits:
 
-A connection of lines has 4096 bytes a line. Nothing asks who a client is: listen at an address of
-this machine's own, or behind a proxy."
+A run has at most --events events: a submit and a fetch are one each, and a
+search two. When three quarters are used the next connection begins a new run.
+
+A connection of lines has 4096 bytes a line. Nothing asks who a client is:
+listen at an address of this machine's own, or behind a proxy."
 }

@@ -4,6 +4,7 @@
 mod ahead;
 mod command_line;
 mod ending;
+mod examples;
 mod filling;
 mod help;
 mod jobs_help;

@@ -206,6 +206,27 @@ fn help_ends_with_status_0(rt: HostRuntime) {
     assert!(rt; end_with(rt.alloc(), lines, ErrorKind::DisplayHelp, 0));
 }
 
+// A line that shows one of JSON stays whole.
+#[test]
+fn help_begins_with_examples_and_is_eighty_columns_wide(rt: HostRuntime) -> Result<(), Fail> {
+    for line in [
+        "ddserve --help",
+        "ddserve solve --help",
+        "ddserve serve --help",
+        "ddserve pbn --help",
+    ] {
+        let help = read(rt.alloc(), line)
+            .err()
+            .ok_or("an error")?
+            .to_string(rt.alloc())?;
+        assert!(rt; help.starts_with("Examples:\n  ddserve "), "{line}");
+        for text in help.lines() {
+            assert!(rt; text.len() <= 80 || text.starts_with("  {"), "{text}");
+        }
+    }
+    Ok(())
+}
+
 #[test]
 fn the_texts_say_what_is_asked_and_what_is_wrong(rt: HostRuntime) -> Result<(), Fail> {
     let help = read(rt.alloc(), "ddserve solve --help")
