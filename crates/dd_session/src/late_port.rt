@@ -145,8 +145,13 @@ impl<'a, J: Naming, R: Wait + Clock> BookPort for LatePort<'a, J, R> {
         health_of(self.rt, self.desk, self.workers)
     }
 
-    // Who has no pass has no job.
-    fn leave(&mut self) {
+    // Who has no pass has no job, and takes none.
+    fn leave(&mut self)
+        ensures none { self.old.port ≡ None → self.new.port ≡ None }
+        ensures leaves { Leaves (HasEndedBy self.new.port)
+            (port_of (told_by self.old.port) (refusals_by self.old.refused self.old.port))
+            (port_of (told_by self.new.port) (refusals_by self.new.refused self.new.port)) }
+    {
         leave_at(&mut self.port)
     }
 }
