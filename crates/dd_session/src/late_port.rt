@@ -39,12 +39,7 @@ impl<'a, J: Naming, R: Wait + Clock> Model for LatePort<'a, J, R> {
 
 impl<'a, J: Naming, R: Wait + Clock> LatePort<'a, J, R> {
     /// A port without a pass that has refused nothing, to a desk with so many workers. It takes no memory, nor does the pass.
-    pub fn new(
-        rt: &'a R,
-        desk: &'a Desk<J>,
-        blank: BlankPass,
-        workers: u64,
-    ) -> LatePort<'a, J, R>
+    pub fn new(rt: &'a R, desk: &'a Desk<J>, blank: BlankPass, workers: u64) -> LatePort<'a, J, R>
         ensures { result ≡ new_late_port workers }
     {
         LatePort {

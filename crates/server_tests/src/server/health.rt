@@ -71,7 +71,10 @@ fn who_asks_for_health_or_nothing_takes_no_pass_and_makes_no_event(
             || converse(&rt, alloc, address, way).ok(),
         );
         let told = told.expect(&rt, "what the clients are told");
-        assert_eq!(rt; told.as_str(), "{\"events_left\":100,\"jobs\":0,\"workers\":1}\n{\"fault\":16}\n{\"events_left\":99,\"jobs\":0,\"workers\":1}\n{\"closing\":true}\n");
+        assert_eq!(rt;
+            told.as_str(),
+            "{\"events_left\":100,\"jobs\":0,\"workers\":1}\n{\"fault\":16}\n{\"events_left\":99,\"jobs\":0,\"workers\":1}\n{\"closing\":true}\n"
+        );
         // A fetch, the shut, and the last claim of the worker.
         assert!(rt; ended == Some(Ok(3)));
     }
