@@ -26,8 +26,8 @@ NO_EVENT = {f'{{"fault":{number}}}' for number in (*range(1, 13), 15, *range(19,
 
 
 def is_event(reply):
-    """Not par, either: it is told without a call."""
-    return reply not in NO_EVENT and not reply.startswith('{"contracts"')
+    """Not par, either, nor how a run is: they are told without a call."""
+    return reply not in NO_EVENT and not reply.startswith(('{"contracts"', '{"events_left"'))
 
 
 def check(what, got, wanted):

@@ -1,13 +1,14 @@
 -- To be believed: what a look at the desk sees, which makes no event, and what a cancel tells that may need none.
-use Rattle.std.specs.Prelude.{◌≡◌, ◌⊎◌, ℕ, Bool, true, false, not, Option, None, Some, Result, Ok, Err, List, nat_le}
+use Rattle.std.specs.Prelude.{◌≡◌, ◌⊎◌, ℕ, ◌+◌, length, Bool, true, false, not, Option, None, Some, Result, Ok, Err, List, nat_le}
 use Rattle.dd_book.specs.declared.call.Call.TheVariants.{Cancel}
 use Rattle.dd_book.specs.declared.call.Refusal.TheVariants.{UnknownJob}
 use Rattle.dd_book.specs.declared.call.Reply.{Reply}
 use Rattle.dd_book.specs.declared.call.Reply.TheVariants.{Cancelled, Fault}
 use Rattle.dd_book.specs.Limits.{LimitsOf}
-use Rattle.dd_book.specs.Jobs.{JobOf, is_open, open_of, own_job}
+use Rattle.dd_book.specs.Jobs.{JobOf, is_open, open_in, open_of, own_job}
 use Rattle.dd_book.specs.Running.{runs_at}
 use Rattle.dd_desk.specs.declared.fault.DeskFault.{DeskFault}
+use Rattle.dd_desk.specs.declared.tally.Tally.{Tally}
 use Rattle.dd_desk.specs.Events.{EventOf, IsLegal, replay}
 use Rattle.dd_desk.specs.Faults.{IsOfCall}
 use Rattle.dd_desk.specs.Receipts.{PassOf}
@@ -26,6 +27,14 @@ pub record SeesOpen (caller : ℕ) (has : Bool) : Type 0 where
   pub journal : List EventOf
   pub legal : IsLegal limits journal
   pub sees : has ≡ nat_le 1 (open_of caller (replay limits journal).jobs)
+
+-- Of a journal of these limits that one thread could have made so many events have still room, and after it so many jobs are
+-- open, whoever owns them.
+pub record SeesTally (limits : LimitsOf) (tally : Tally) : Type 0 where
+  pub journal : List EventOf
+  pub legal : IsLegal limits journal
+  pub left : tally.events_left + length journal ≡ limits.events
+  pub jobs : tally.open_jobs ≡ open_in (replay limits journal).jobs
 
 -- is the job there, and no longer open?
 abbrev pub is_ended_job : Option JobOf → Bool

@@ -1,17 +1,17 @@
 //! What lies under the desk's lock.
 ghost use Rattle.std.specs.Prelude.{◌≡◌, ◌+◌, ◌<◌, ◌≤◌, true, false, [], length, map, take, vec_len, vec_capacity, Some, ◌⊎◌, MatchResult, MatchBool, IfOk};
 ghost use Rattle.dd_book.specs.Calls.{IsIdle};
-ghost use Rattle.dd_book.specs.Jobs.{is_open_job, own_job};
-ghost use Rattle.dd_desk.specs.Faults.{MatchPassFault};
-ghost use Rattle.dd_desk.specs.Looks.{SeesOpen, SeesRunning};
+ghost use Rattle.dd_book.specs.Jobs.{is_open_job, open_in, own_job};
+ghost use Rattle.dd_desk.specs.Looks.{SeesOpen, SeesRunning, SeesTally};
 ghost use Rattle.dd_desk.specs.Receipts.{below};
 
 use crate::bells::{Concerns, Rings};
+use crate::blank_pass::BlankPass;
 use crate::event::Event;
-use crate::fault::DeskFault;
 use crate::history::History;
 use crate::names::{Naming, PlaceSums, ReceiptCounts};
 use crate::receipt_log::{CountedLog, ReceiptLog};
+use crate::tally::Tally;
 use dd_book::Limits;
 use once_cell::race::Note;
 use std::alloc::Global;
@@ -77,16 +77,14 @@ impl<J: Naming> LockedState<J> {
         }
     }
 
-    /// A new pass, under the next number: refused with `NoPass` exactly where as many were given as there
-    /// may be.
-    pub(crate) fn enrol(&mut self, alloc: Global) -> Result<CountedLog<J>, DeskFault>
+    /// A new pass, under the next number. The blank comes back exactly where as many were given as there may be.
+    pub(crate) fn enrol(&mut self, blank: BlankPass) -> Result<CountedLog<J>, BlankPass>
         ensures pass { IfOk result (λ held. (held.log.number ≡ self.old.given + 1)
             × (held.log.receipts.items ≡ [])) }
         ensures given { MatchResult result (λ _. self.new.given ≡ self.old.given + 1)
             (λ _. self.new.given ≡ self.old.given) }
         ensures full { MatchResult result (λ _. self.old.given < self.old.history.limits.passes)
-            (λ f. MatchPassFault f (self.old.given ≡ self.old.history.limits.passes)
-            (self.old.given < self.old.history.limits.passes)) }
+            (λ _. self.old.given ≡ self.old.history.limits.passes) }
         ensures same { self.new.history ≡ self.old.history }
     {
         let LockedState {
@@ -99,11 +97,9 @@ impl<J: Naming> LockedState<J> {
             spare_sum,
         } = self;
         if *given >= history.limits.passes() {
-            return Err(DeskFault::NoPass);
+            return Err(blank);
         }
-        let Ok(log) = ReceiptLog::new(alloc, *given + 1) else {
-            return Err(DeskFault::OutOfMemory);
-        };
+        let log = ReceiptLog::new(blank, *given + 1);
         let count = spare_count.split_off(1, 0);
         let sum = spare_sum.split_off(1, 0);
         *given += 1;
@@ -129,6 +125,16 @@ impl<J: Naming> LockedState<J> {
         ensures { SeesOpen caller result }
     {
         self.history.has_open(caller)
+    }
+
+    /// How many events the journal still has room for, and how many jobs are open.
+    pub(crate) fn tally(&self) -> Tally
+        ensures left { result.events_left + vec_len self.now.history.journal
+            ≡ self.now.history.limits.events }
+        ensures jobs { result.open_jobs ≡ open_in self.now.history.book.jobs }
+        ensures sees { SeesTally J.limits result }
+    {
+        self.history.tally()
     }
 
     /// Has this worker a part of the job of this number under this claim number?

@@ -1,9 +1,10 @@
 //! The receipts of one caller.
-ghost use Rattle.std.specs.Prelude.{◌≡◌, ◌<◌, ◌≤◌, ◌+◌, [], map, true, false, vec_len, vec_capacity, Some, slice_index_or, IfOk, IsOk, OnOk, OnErr};
+ghost use Rattle.std.specs.Prelude.{◌≡◌, ◌<◌, ◌≤◌, ◌+◌, [], map, true, false, vec_len, vec_capacity, Some, slice_index_or, IsOk, OnOk, OnErr};
 ghost use Rattle.dd_desk.specs.Receipts.{has_shut, told_by, rises, next_of};
 ghost use Rattle.dd_desk.specs.Ready.{IsReady};
 ghost use Rattle.dd_desk.specs.Closing.{sum_of_places};
 
+use crate::blank_pass::BlankPass;
 use crate::event::{Event, Receipt, blank};
 use crate::names::{Naming, PlaceSums, ReceiptCounts};
 use once_cell::race::Note;
@@ -36,15 +37,16 @@ pub(crate) struct ReceiptLog<J: Naming> {
 
 impl<J: Naming> ReceiptLog<J> {
     /// No receipt yet, and what a shut needs.
-    pub(crate) fn new(alloc: Global, number: u64) -> Result<ReceiptLog<J>, AllocError>
-        ensures number { IfOk result (λ log. log.number ≡ number) }
-        ensures receipts { IfOk result (λ log.
-            (log.receipts.items ≡ []) × (vec_len log.receipts ≡ 0)) }
+    pub(crate) fn new(blank: BlankPass, number: u64) -> ReceiptLog<J>
+        ensures number { result.number ≡ number }
+        ensures receipts { (result.receipts.items ≡ []) × (vec_len result.receipts ≡ 0) }
     {
-        let receipts = Vec::with_capacity(alloc, 1)?;
-        let marks = Vec::with_capacity(alloc, 1)?;
-        let spare = blank(alloc)?;
-        Ok(ReceiptLog {
+        let BlankPass {
+            receipts,
+            marks,
+            spare,
+        } = blank;
+        ReceiptLog {
             number,
             receipts,
             marks,
@@ -52,7 +54,7 @@ impl<J: Naming> ReceiptLog<J> {
             next: 0,
             places: 0,
             of: PhantomData,
-        })
+        }
     }
 }
 

@@ -9,17 +9,17 @@ use crate::run_port::RunPort;
 use crate::run_state::RunState;
 use crate::session_stream::SessionStream;
 use crate::socket_stream::SocketStream;
-use dd_desk::{DeskFault, Naming, Pass};
+use dd_desk::{BlankPass, DeskFault, Naming, Pass};
 use dd_lines::{CountedDevice, write_whole};
 use dd_session::{BookPort, serve_lines, serve_socket, write_refusal};
+use std::cell::Cell;
 use std::net::TcpStream;
 use std::sync::Wait;
-use std::sync::atomic::Ordering;
 use std::time::{Clock, Duration};
 
-/// Serves a connection to its end, by a pass of its own. Where none can be had the client is told why, unless it is to shake
-/// hands first.
-pub(crate) fn serve_connection<J: Naming, R: Wait + Clock + Eprint>(
+/// Serves a connection to its end, by a pass of its own, which it has once it needs one. Where there is no memory for one the
+/// client is told so, unless it is to shake hands first.
+pub(crate) fn serve_connection<J: Naming, R: Wait + Clock>(
     rt: &R,
     state: &RunState<'_, J>,
     stream: &TcpStream,
@@ -27,35 +27,35 @@ pub(crate) fn serve_connection<J: Naming, R: Wait + Clock + Eprint>(
     // Without these it is served too.
     let _ = stream.set_nodelay(true);
     let _ = stream.set_write_timeout(Some(Duration::from_secs(CALL_WAIT)));
-    match state.enrol(rt) {
-        Ok(pass) => {
-            state.note_passes(pass.number());
-            let pass = serve_session(rt, state, stream, pass);
-            state.take_back(rt, pass)
-        }
-        Err(fault) => refuse(rt, state, stream, fault),
+    match state.blank_pass(rt) {
+        Ok(blank) => match serve_session(rt, state, stream, blank) {
+            Some(pass) => state.take_back(rt, pass),
+            None => state.expect_one_less(rt),
+        },
+        Err(_) => refuse(state, stream),
     }
 }
 
-// The session of a pass, which comes back.
+// The session of a pass, which comes back, if there is one by then.
 fn serve_session<J: Naming, R: Wait + Clock>(
     rt: &R,
     state: &RunState<'_, J>,
     stream: &TcpStream,
-    pass: Pass<J>,
-) -> Pass<J> {
-    let caller = pass.number();
-    let mut port = RunPort::new(rt, state, pass);
-    serve_port(rt, state, stream, caller, &mut port);
+    blank: BlankPass,
+) -> Option<Pass<J>> {
+    let caller = Cell::new(None);
+    let mut port = RunPort::new(rt, state, blank, &caller);
+    serve_port(rt, state, stream, &caller, &mut port);
     port.into_pass()
 }
 
-// The session over the port of this caller, as the run was asked for: by lines or by messages, with leave to stop or without.
+// The session over the port of a caller, whose number is told here once it has a pass, as the run was asked for: by lines or by
+// messages, with leave to stop or without.
 fn serve_port<J: Naming, R: Wait + Clock, P: BookPort>(
     rt: &R,
     state: &RunState<'_, J>,
     stream: &TcpStream,
-    caller: u64,
+    caller: &Cell<Option<u64>>,
     port: &mut P,
 )
     ensures leave { state.now.server.now.args.allow_stop ≡ false
@@ -77,20 +77,10 @@ fn serve_port<J: Naming, R: Wait + Clock, P: BookPort>(
     }
 }
 
-// The one line of a connection that gets no pass.
-fn refuse<J: Naming, R: Eprint>(
-    rt: &R,
-    state: &RunState<'_, J>,
-    stream: &TcpStream,
-    fault: DeskFault,
-) {
-    if matches!(fault, DeskFault::NoPass) && !state.told_full.swap(true, Ordering::SeqCst) {
-        let _ = rt.eprintln(
-            "ddserve: as many connections were served as there may be; each more is refused",
-        );
-    }
+// The one line of a connection for whose pass there is no memory.
+fn refuse<J: Naming>(state: &RunState<'_, J>, stream: &TcpStream) {
     if !state.server.args.websocket {
-        let mut line = write_refusal(fault);
+        let mut line = write_refusal(DeskFault::OutOfMemory);
         line.push_str("\n");
         let _ = write_whole(&mut CountedDevice::new(stream), line.as_bytes());
     }

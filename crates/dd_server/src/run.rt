@@ -91,7 +91,6 @@ fn serve_row<
         returned: Mutex::new(Returned::new(server.alloc)),
         stop: RunStop::new(server.alloc),
         worn: AtomicBool::new(false),
-        told_full: AtomicBool::new(false),
         lacks_memory: AtomicBool::new(false),
     };
     let ended = keep_open(rt, &state, runs, stream, gate);
@@ -102,7 +101,6 @@ fn serve_row<
         returned,
         stop: _,
         worn: _,
-        told_full: _,
         lacks_memory,
     } = state;
     let closed = close(desk, returned.into_inner().into_passes())?;

@@ -1,53 +1,67 @@
 //! The port of a run.
-ghost use Rattle.std.specs.Prelude.{◌≡◌, true, Err, IsTrue, ◌↔◌};
+ghost use Rattle.std.specs.Prelude.{◌≡◌, true, Err, IsTrue, ◌↔◌, option_and_then};
 ghost use Rattle.dd_wire.specs.declared.want.Want.TheVariants.{Stop as StopWant};
 ghost use Rattle.dd_desk.specs.Receipts.{has_shut};
-ghost use Rattle.dd_session.specs.Ports.{Tells, last_place, port_of, told_at};
+ghost use Rattle.dd_session.specs.Ports.{Tells, last_place, new_late_port, port_of, receipts_by, refusals_by, told_by};
 ghost use Rattle.dd_server.specs.Worn.{KnowsWorn, is_submit};
 
 use crate::run_state::RunState;
 use crate::wear::are_events_used;
 use dd_book::{Limits, Reply};
-use dd_desk::{DeskFault, Naming, Pass};
-use dd_session::{BookPort, DeskPort};
-use dd_wire::Want;
+use dd_desk::{BlankPass, DeskFault, Naming, Pass};
+use dd_session::{BookPort, LatePort};
+use dd_wire::{Health, Want};
+use std::cell::Cell;
 use std::sync::Wait;
 use std::time::Clock;
 
-/// A port whose stop ends the run and the server, and which takes no submit once the run is worn.
+/// A port whose stop ends the run and the server, and which takes no submit once the run is worn. It has no pass before a call
+/// needs one.
 pub(crate) struct RunPort<'a, J: Naming, R: Wait + Clock> {
-    port: DeskPort<'a, J, R>,
+    port: LatePort<'a, J, R>,
     rt: &'a R,
     state: &'a RunState<'a, J>,
     limits: Limits,
+    // Here the number of the pass is told.
+    caller: &'a Cell<Option<u64>>,
 }
 
 impl<'a, J: Naming, R: Wait + Clock> RunPort<'a, J, R> {
-    pub(crate) fn new(rt: &'a R, state: &'a RunState<'a, J>, pass: Pass<J>) -> RunPort<'a, J, R>
-        ensures { result.limits ≡ state.now.server.now.limits }
+    pub(crate) fn new(
+        rt: &'a R,
+        state: &'a RunState<'a, J>,
+        blank: BlankPass,
+        caller: &'a Cell<Option<u64>>,
+    ) -> RunPort<'a, J, R>
+        ensures limits { result.limits ≡ state.now.server.now.limits }
+        ensures port { result.port ≡ new_late_port state.now.server.now.args.workers }
     {
+        let workers = state.server.args.workers;
         RunPort {
-            port: DeskPort::new(rt, &state.desk, pass),
+            port: LatePort::new(rt, &state.desk, blank, workers as u64),
             rt,
             state,
             limits: state.server.limits,
+            caller,
         }
     }
 
-    /// The pass within.
-    pub(crate) fn into_pass(self) -> Pass<J> {
+    /// The pass within, if there is one.
+    pub(crate) fn into_pass(self) -> Option<Pass<J>> {
         let RunPort {
             port,
             rt: _,
             state: _,
             limits: _,
+            caller: _,
         } = self;
         port.into_pass()
     }
 
     // Does the run take no submit? It may be another session that saw that first.
     fn is_worn(&self) -> bool
-        ensures { KnowsWorn self.now.limits (last_place self.now.port) → IsTrue result }
+        ensures { KnowsWorn self.now.limits (option_and_then last_place self.now.port.port)
+            → IsTrue result }
     {
         match self.port.last_place() {
             Some(place) if are_events_used(self.limits, place) => true,
@@ -55,19 +69,31 @@ impl<'a, J: Naming, R: Wait + Clock> RunPort<'a, J, R> {
         }
     }
 
-    // Tells the run where the journal stands.
+    // Tells the run where the journal stands, and once which pass the session has.
     fn note(&self) {
         if let Some(place) = self.port.last_place() {
             self.state.note_place(place);
+        }
+        if self.caller.get().is_none() {
+            self.note_pass(self.port.number())
+        }
+    }
+
+    fn note_pass(&self, number: Option<u64>) {
+        if let Some(number) = number {
+            self.state.note_passes(number);
+            self.caller.set(Some(number));
         }
     }
 
     // A call at the desk, and where it is a stop, that of the server.
     fn ask_desk(&mut self, want: Want) -> Result<Reply, DeskFault>
-        ensures told { Tells (port_of (told_at self.old.port) self.old.port.refusals) want result
-            (port_of (told_at self.new.port) self.new.port.refusals) }
+        ensures told { Tells (port_of (told_by self.old.port.port)
+            (refusals_by self.old.port.refused self.old.port.port)) want result
+            (port_of (told_by self.new.port.port)
+            (refusals_by self.new.port.refused self.new.port.port)) }
         ensures stop { want ≡ StopWant → result ≡ Err DeskFault.OutOfMemory
-            → has_shut self.old.port.pass.receipts ≡ true }
+            → has_shut (receipts_by self.old.port.port) ≡ true }
     {
         let stops = is_stop(&want);
         let reply = self.port.ask(want);
@@ -81,22 +107,26 @@ impl<'a, J: Naming, R: Wait + Clock> RunPort<'a, J, R> {
 }
 
 impl<'a, J: Naming, R: Wait + Clock> BookPort for RunPort<'a, J, R> {
-    ghost use Rattle.dd_desk.specs.Looks.{SeesEnd};
-    ghost use Rattle.dd_session.specs.Ports.{told_at};
+    ghost use Rattle.dd_session.specs.Healths.{IsHealth};
+    ghost use Rattle.dd_session.specs.Ports.{HasEndedBy, refusals_by, told_by};
 
-    ghost told = { λ s. told_at s.port };
+    ghost told = { λ s. told_by s.port.port };
 
-    ghost refusals = { λ s. s.port.refusals };
+    ghost refusals = { λ s. refusals_by s.port.refused s.port.port };
 
-    ghost ended = { λ s job. SeesEnd s.port.pass.number job };
+    ghost ended = { λ s job. HasEndedBy s.port.port job };
+
+    ghost shows = { λ s health. IsHealth J.limits s.port.workers health };
 
     fn ask(&mut self, want: Want) -> Result<Reply, DeskFault>
-        ensures told { Tells (port_of (told_at self.old.port) self.old.port.refusals) want result
-            (port_of (told_at self.new.port) self.new.port.refusals) }
-        ensures worn { KnowsWorn self.old.limits (last_place self.old.port) → is_submit want ≡ true
-            → result ≡ Err DeskFault.JournalFull }
+        ensures told { Tells (port_of (told_by self.old.port.port)
+            (refusals_by self.old.port.refused self.old.port.port)) want result
+            (port_of (told_by self.new.port.port)
+            (refusals_by self.new.port.refused self.new.port.port)) }
+        ensures worn { KnowsWorn self.old.limits (option_and_then last_place self.old.port.port)
+            → is_submit want ≡ true → result ≡ Err DeskFault.JournalFull }
         ensures stop { want ≡ StopWant → result ≡ Err DeskFault.OutOfMemory
-            → has_shut self.old.port.pass.receipts ≡ true }
+            → has_shut (receipts_by self.old.port.port) ≡ true }
     {
         if is_submit(&want) && self.is_worn() {
             return Err(self.port.refuse());
@@ -108,6 +138,10 @@ impl<'a, J: Naming, R: Wait + Clock> BookPort for RunPort<'a, J, R> {
         let reply = self.port.fetch_within(job, wait);
         self.note();
         reply
+    }
+
+    fn health(&self) -> Health {
+        self.port.health()
     }
 
     fn leave(&mut self) {

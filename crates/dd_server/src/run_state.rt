@@ -5,7 +5,8 @@ use crate::returned::Returned;
 use crate::server_state::ServerState;
 use crate::stop::RunStop;
 use crate::wear::{are_events_used, are_passes_used};
-use dd_desk::{Desk, DeskFault, Naming, Pass};
+use dd_desk::{BlankPass, Desk, DeskFault, Naming, Pass};
+use std::alloc::AllocError;
 use std::sync::atomic::{AtomicBool, Ordering};
 use std::sync::{Mutex, Wait};
 
@@ -19,8 +20,6 @@ pub(crate) struct RunState<'a, J: Naming> {
     pub(crate) stop: RunStop,
     // The run is used up: it takes no more jobs, nor connections.
     pub(crate) worn: AtomicBool,
-    // It was said that no pass is left.
-    pub(crate) told_full: AtomicBool,
     // A worker left since memory stays out.
     pub(crate) lacks_memory: AtomicBool,
 }
@@ -35,9 +34,24 @@ impl<'a, J: Naming> RunState<'a, J> {
         }
         let pass = self.desk.enrol(rt);
         if pass.is_err() {
-            self.returned.lock(rt).expect_one_less();
+            self.expect_one_less(rt);
         }
         pass
+    }
+
+    /// What a pass needs, with room kept for its return.
+    pub(crate) fn blank_pass<R: Wait>(&self, rt: &R) -> Result<BlankPass, AllocError> {
+        self.returned.lock(rt).expect_one()?;
+        let blank = BlankPass::new(self.server.alloc);
+        if blank.is_err() {
+            self.expect_one_less(rt);
+        }
+        blank
+    }
+
+    /// A pass for whose return room was kept was never had.
+    pub(crate) fn expect_one_less<R: Wait>(&self, rt: &R) {
+        self.returned.lock(rt).expect_one_less();
     }
 
     /// The pass comes back.

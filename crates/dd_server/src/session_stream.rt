@@ -1,10 +1,11 @@
 //! A connection's stream, as its session sees it.
-ghost use Rattle.std.specs.Prelude.{◌≡◌, ◌+◌, MatchResult};
+ghost use Rattle.std.specs.Prelude.{◌≡◌, ◌+◌, false, MatchOption, MatchResult};
 ghost use Rattle.std.specs.Io.{ReadsAtMost};
 ghost use Rattle.dd_desk.specs.Looks.{SeesOpen};
 
 use crate::run_state::RunState;
 use dd_desk::Naming;
+use std::cell::Cell;
 use std::io;
 use std::io::{Error, ErrorKind, Read};
 use std::net::TcpStream;
@@ -22,8 +23,8 @@ pub(crate) struct SessionStream<'a, J: Naming, R> {
     rt: &'a R,
     state: &'a RunState<'a, J>,
     stream: &'a TcpStream,
-    // The number of the session's pass.
-    caller: u64,
+    // The number of the session's pass, once it has one.
+    caller: &'a Cell<Option<u64>>,
     // The bytes that may be read after a stop.
     left: usize,
 }
@@ -33,7 +34,7 @@ impl<'a, J: Naming, R> SessionStream<'a, J, R> {
         rt: &'a R,
         state: &'a RunState<'a, J>,
         stream: &'a TcpStream,
-        caller: u64,
+        caller: &'a Cell<Option<u64>>,
     ) -> SessionStream<'a, J, R> {
         SessionStream {
             rt,
@@ -64,10 +65,18 @@ impl<'a, J: Naming, R> SessionStream<'a, J, R> {
 
 impl<J: Naming, R: Wait> SessionStream<'_, J, R> {
     // May the session be silent still?
-    fn has_open_job(&self) -> bool
-        ensures { SeesOpen self.now.caller result }
+    fn has_open_job(&self) -> bool {
+        self.is_open(self.caller.get())
+    }
+
+    // Has this caller an open job? Who has no pass has none.
+    fn is_open(&self, caller: Option<u64>) -> bool
+        ensures { MatchOption caller (result ≡ false) (λ number. SeesOpen number result) }
     {
-        self.state.desk.has_open(self.rt, self.caller)
+        match caller {
+            Some(number) => self.state.desk.has_open(self.rt, number),
+            None => false,
+        }
     }
 }
 

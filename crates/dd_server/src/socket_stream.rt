@@ -3,6 +3,7 @@ use crate::reply_stream::ReplyStream;
 use crate::run_state::RunState;
 use crate::session_stream::SessionStream;
 use dd_desk::Naming;
+use std::cell::Cell;
 use std::io;
 use std::io::{Error, ErrorKind, Read, Write};
 use std::net::TcpStream;
@@ -28,7 +29,7 @@ impl<'a, J: Naming, R> SocketStream<'a, J, R> {
         rt: &'a R,
         state: &'a RunState<'a, J>,
         stream: &'a TcpStream,
-        caller: u64,
+        caller: &'a Cell<Option<u64>>,
     ) -> SocketStream<'a, J, R> {
         SocketStream {
             rt,

@@ -52,8 +52,11 @@ no-stops (line ∷ rest) bytes told refused (text, more, split, way) =
       | inl (fault, has, is, later) ↦ no-stops rest more told refused later
       | inr other ↦ elim other [
         | inl (par, means, is, later) ↦ no-stops rest more told refused later
-        | inr (wish, said, news, later, here, others, means, says, is, tells, refuses, replies) ↦ subst AreNoStops (sym tells)
-            (both-no-stops news later (says-no-stop wish said news here (λ stops. no-stop-line line wish stops means) says) (no-stops rest more later others replies))
+        | inr further ↦ elim further [
+          | inl (health, means, is, later) ↦ no-stops rest more told refused later
+          | inr (wish, said, news, later, here, others, means, says, is, tells, refuses, replies) ↦ subst AreNoStops (sym tells)
+              (both-no-stops news later (says-no-stop wish said news here (λ stops. no-stop-line line wish stops means) says) (no-stops rest more later others replies))
+        ]
       ]
     ]
 

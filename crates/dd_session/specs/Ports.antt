@@ -1,9 +1,10 @@
 -- To be believed: what a port tells of the book behind it.
-use Rattle.std.specs.Prelude.{◌≡◌, ℕ, zero, suc, List, [], ◌∷◌, ◌++◌, length, drop, ◌-◌, Option, option_map, slice_get, Result, Ok, Err}
+use Rattle.std.specs.Prelude.{◌≡◌, ℕ, zero, suc, List, [], ◌∷◌, ◌++◌, length, drop, ◌-◌, Option, None, Some, option_map, slice_get, Result, Ok, Err}
 use Rattle.dd_book.specs.declared.call.Call.{Call}
 use Rattle.dd_book.specs.declared.call.Reply.{Reply}
 use Rattle.dd_desk.specs.declared.fault.DeskFault.{DeskFault}
 use Rattle.dd_desk.specs.Faults.{IsOfCall}
+use Rattle.dd_desk.specs.Looks.{SeesEnd}
 use Rattle.dd_desk.specs.Receipts.{ReceiptOf, PassOf}
 use Rattle.dd_lines.specs.CountedDevices.{one_more}
 use Rattle.dd_wire.specs.declared.want.Want.{Want}
@@ -71,15 +72,17 @@ abbrev pub told_in : List ReceiptOf → List Exchange
 told_in [] = []
 told_in (r ∷ rs) = told_of r.call r.reply ++ told_in rs
 
--- a port over a desk: its pass, how many receipts this had when the port was made, and how many calls were refused
+-- a port over a desk: its pass, how many receipts this had when the port was made, how many calls were refused, and how many
+-- workers the desk has
 pub record DeskPortOf : Type 0 where
   pub pass : PassOf
   pub before : ℕ
   pub refusals : ℕ
+  pub workers : ℕ
 
--- such a port that has just been made
-abbrev pub new_port : PassOf → DeskPortOf
-new_port pass = record { pass = pass; before = length pass.receipts; refusals = 0 }
+-- such a port that has just been made, to a desk with so many workers, after so many refusals
+abbrev pub new_port : ℕ → ℕ → PassOf → DeskPortOf
+new_port workers refusals pass = record { pass = pass; before = length pass.receipts; refusals = refusals; workers = workers }
 
 -- what it tells: the receipts that the pass has gained in the port
 abbrev pub told_at : DeskPortOf → List Exchange
@@ -92,3 +95,39 @@ refused port = record port { refusals = one_more port.refusals }
 -- the place in the journal of the last event of its pass
 abbrev pub last_place : DeskPortOf → Option ℕ
 last_place port = option_map (λ (r : ReceiptOf). r.place) (slice_get port.pass.receipts (length port.pass.receipts - 1))
+
+-- ---- over a desk that gives the pass at the first call
+
+-- such a port: the port over the desk, if it has its pass; how many calls were refused before; and how many workers the desk has
+pub record LatePortOf : Type 0 where
+  pub port : Option DeskPortOf
+  pub refused : ℕ
+  pub workers : ℕ
+
+-- such a port that has just been made: it has no pass
+abbrev pub new_late_port : ℕ → LatePortOf
+new_late_port workers = record { port = None; refused = 0; workers = workers }
+
+-- what a port tells that may be there: nothing, if it isn't
+abbrev pub told_by : Option DeskPortOf → List Exchange
+told_by None = []
+told_by (Some port) = told_at port
+
+-- how many calls were refused, where so many were before the port was there
+abbrev pub refusals_by : ℕ → Option DeskPortOf → ℕ
+refusals_by before None = before
+refusals_by before (Some port) = port.refusals
+
+-- the receipts of its pass
+abbrev pub receipts_by : Option DeskPortOf → List ReceiptOf
+receipts_by None = []
+receipts_by (Some port) = port.pass.receipts
+
+-- what it has seen of a job that it made: the job has ended
+abbrev pub HasEndedBy : Option DeskPortOf → ℕ → Type 0
+HasEndedBy None job = ⊥
+HasEndedBy (Some port) job = SeesEnd port.pass.number job
+
+-- the number of its pass
+abbrev pub number_of : Option DeskPortOf → Option ℕ
+number_of port = option_map (λ (p : DeskPortOf). p.pass.number) port

@@ -5,13 +5,14 @@ ghost use Rattle.dd_desk.specs.Replies.{IsTold};
 ghost use Rattle.dd_desk.specs.Receipts.{has_shut};
 ghost use Rattle.dd_desk.specs.declared.fault.DeskFault.TheVariants.{JournalFull, OutOfMemory};
 ghost use Rattle.dd_lines.specs.CountedDevices.{one_more};
+ghost use Rattle.dd_session.specs.Healths.{IsHealth};
 ghost use Rattle.dd_session.specs.Ports.{Tells, call_by, last_place, new_port, port_of, refused, told_at};
 ghost use Rattle.dd_wire.specs.declared.want.Want.TheVariants.{Stop as StopWant};
 
 use crate::leaving::give_up_jobs;
 use dd_book::Reply;
 use dd_desk::{Desk, DeskFault, Naming, Pass};
-use dd_wire::Want;
+use dd_wire::{Health, Want};
 use std::marker::Model;
 use std::sync::Wait;
 use std::time::{Clock, Duration};
@@ -21,6 +22,7 @@ pub trait BookPort {
     ghost use Rattle.std.specs.Prelude.{ℕ, List};
     ghost use Rattle.dd_session.specs.Leaving.{Leaves};
     ghost use Rattle.dd_session.specs.Ports.{Exchange, Tells, port_of};
+    ghost use Rattle.dd_wire.specs.declared.health.Health.{Health};
     ghost use Rattle.dd_wire.specs.declared.want.Want.TheVariants.{Fetch};
 
     /// the calls that were made, each with its reply, in order
@@ -29,6 +31,8 @@ pub trait BookPort {
     ghost refusals: { Self → ℕ };
     /// what the port has seen of a job that it made: the job has ended
     ghost ended: { Self → ℕ → Type 0 };
+    /// what the port sees of its run when it looks
+    ghost shows: { Self → Health → Type 0 };
 
     /// Makes the call, or refuses it and counts that: with `JournalFull` or `OutOfMemory`, and nothing else changes.
     fn ask(&mut self, want: Want) -> Result<Reply, DeskFault>
@@ -39,6 +43,10 @@ pub trait BookPort {
     fn fetch_within(&mut self, job: u64, wait: u64) -> Result<Reply, DeskFault>
         ensures { Tells (port_of (told self.old) (refusals self.old)) (Fetch job) result
             (port_of (told self.new) (refusals self.new)) };
+
+    /// How the run is. It is no call of the book, and nothing changes.
+    fn health(&self) -> Health
+        ensures { shows self.now result };
 
     /// Cancels the jobs that were made over the port, each that has not ended: nobody is left who
     /// could fetch them.
@@ -57,6 +65,8 @@ pub struct DeskPort<'a, J: Naming, R: Wait + Clock> {
     // The receipts that the pass had when the port was made.
     before: usize,
     refusals: u64,
+    // Of the run.
+    workers: u64,
 }
 
 impl<'a, J: Naming, R: Wait + Clock> Model for DeskPort<'a, J, R> {
@@ -65,15 +75,28 @@ impl<'a, J: Naming, R: Wait + Clock> Model for DeskPort<'a, J, R> {
 
     ghost Value = { DeskPortOf };
 
-    ghost view = { λ p. record { pass = p.pass; before = p.before; refusals = p.refusals } };
+    ghost view = { λ p. record { pass = p.pass; before = p.before; refusals = p.refusals; workers = p.workers } };
 
     ghost invariant = { λ p. p.before ≤ length p.pass.receipts };
 }
 
 impl<'a, J: Naming, R: Wait + Clock> DeskPort<'a, J, R> {
-    /// A port that has told nothing and refused nothing. It takes no memory.
-    pub fn new(rt: &'a R, desk: &'a Desk<J>, pass: Pass<J>) -> DeskPort<'a, J, R>
-        ensures { result ≡ new_port pass }
+    /// A port that has told nothing and refused nothing, to a desk with so many workers. It takes no memory.
+    pub fn new(rt: &'a R, desk: &'a Desk<J>, pass: Pass<J>, workers: u64) -> DeskPort<'a, J, R>
+        ensures { result ≡ new_port workers 0 pass }
+    {
+        DeskPort::after(rt, desk, pass, workers, 0)
+    }
+
+    /// A port that has told nothing, and refused so many calls before it had its pass.
+    pub(crate) fn after(
+        rt: &'a R,
+        desk: &'a Desk<J>,
+        pass: Pass<J>,
+        workers: u64,
+        refusals: u64,
+    ) -> DeskPort<'a, J, R>
+        ensures { result ≡ new_port workers refusals pass }
     {
         let before = pass.receipts().len();
         DeskPort {
@@ -81,7 +104,8 @@ impl<'a, J: Naming, R: Wait + Clock> DeskPort<'a, J, R> {
             desk,
             pass,
             before,
-            refusals: 0,
+            refusals,
+            workers,
         }
     }
 
@@ -104,6 +128,13 @@ impl<'a, J: Naming, R: Wait + Clock> DeskPort<'a, J, R> {
         }
     }
 
+    /// The number of its pass.
+    pub fn number(&self) -> u64
+        ensures { result ≡ self.now.pass.number }
+    {
+        self.pass.number()
+    }
+
     /// The pass, with a receipt for each call that was made.
     pub fn into_pass(self) -> Pass<J>
         ensures { result ≡ self.entry.pass }
@@ -114,6 +145,7 @@ impl<'a, J: Naming, R: Wait + Clock> DeskPort<'a, J, R> {
             pass,
             before: _,
             refusals: _,
+            workers: _,
         } = self;
         pass
     }
@@ -121,6 +153,7 @@ impl<'a, J: Naming, R: Wait + Clock> DeskPort<'a, J, R> {
 
 impl<'a, J: Naming, R: Wait + Clock> BookPort for DeskPort<'a, J, R> {
     ghost use Rattle.dd_desk.specs.Looks.{SeesEnd};
+    ghost use Rattle.dd_session.specs.Healths.{IsHealth};
     ghost use Rattle.dd_session.specs.Ports.{told_at};
 
     ghost told = { λ p. told_at p };
@@ -128,6 +161,8 @@ impl<'a, J: Naming, R: Wait + Clock> BookPort for DeskPort<'a, J, R> {
     ghost refusals = { λ p. p.refusals };
 
     ghost ended = { λ p job. SeesEnd p.pass.number job };
+
+    ghost shows = { λ p health. IsHealth J.limits p.workers health };
 
     fn ask(&mut self, want: Want) -> Result<Reply, DeskFault>
         ensures told { Tells (port_of (told_at self.old) self.old.refusals) want result
@@ -152,6 +187,10 @@ impl<'a, J: Naming, R: Wait + Clock> BookPort for DeskPort<'a, J, R> {
                 Err(fault)
             }
         }
+    }
+
+    fn health(&self) -> Health {
+        health_of(self.rt, self.desk, self.workers)
     }
 
     fn leave(&mut self) {
@@ -195,6 +234,18 @@ fn fetch_within<J: Naming, R: Wait + Clock>(
 {
     let (told, _) = desk.fetch_within(rt, pass, job, Duration::from_millis(wait));
     told
+}
+
+/// How the run of a desk with so many workers is.
+pub(crate) fn health_of<J: Naming, R: Wait>(rt: &R, desk: &Desk<J>, workers: u64) -> Health
+    ensures { IsHealth J.limits workers result }
+{
+    let tally = desk.tally(rt);
+    Health {
+        events_left: tally.events_left,
+        jobs: tally.open_jobs,
+        workers,
+    }
 }
 
 /// The count of one refusal more.

@@ -16,6 +16,7 @@ use Rattle.dd_solve.specs.declared.asked.Asked.TheVariants.{Solve, Table}
 use Rattle.dd_wire.specs.declared.fault.Fault.TheVariants.{NoCard}
 use Rattle.dd_solve.specs.ScoredClasses.{ScoredClass, answer, all_scores}
 use Rattle.dd_solve.specs.Results.{results, contracts, tricks_of}
+use Rattle.dd_wire.specs.HealthReplies.{health_text}
 use Rattle.dd_wire.specs.LineReplies.{asked_text}
 use Rattle.dd_wire.specs.Replies.{class_text, fault_text}
 
@@ -92,6 +93,11 @@ class-spelled = refl
 fault-spelled : fault_text NoCard ≡ codes "{\"fault\":8}"
 unfolding digits
 fault-spelled = refl
+
+-- how a run is
+health-spelled : health_text (record { events_left = 799000; jobs = 3; workers = 4 }) ≡ codes "{\"events_left\":799000,\"jobs\":3,\"workers\":4}"
+unfolding digits
+health-spelled = refl
 
 -- the text of an answer
 answer-spelled : asked_text (Solve record { board = board (spade 14 ∷ []) (spade 13 ∷ []) (spade 12 ∷ []) (spade 11 ∷ []) Notrump North []; solutions = 3 }) ≡ codes "{\"cards\":[{\"equals\":0,\"rank\":14,\"score\":1,\"suit\":0}]}"

@@ -10,13 +10,13 @@ use Rattle.dd_lines.specs.Line.{longest_line}
 use Rattle.dd_wire.specs.declared.fault.Fault.{Fault}
 use Rattle.dd_wire.specs.declared.par_request.ParOfResults.{ParOfResults}
 use Rattle.dd_wire.specs.declared.session_asked.SessionAsked.{SessionAsked}
-use Rattle.dd_wire.specs.declared.session_asked.SessionAsked.TheVariants.{Book, Par}
+use Rattle.dd_wire.specs.declared.session_asked.SessionAsked.TheVariants.{Book, Par, Health}
 use Rattle.dd_wire.specs.declared.want.Want.{Want}
 use Rattle.dd_wire.specs.declared.want.Want.TheVariants.{Submit, Cancel, Fetch, Stop}
 use Rattle.dd_wire.specs.declared.wish.Wish.{Wish}
 use Rattle.dd_wire.specs.ParLines.{par_fields, table_par_of}
 use Rattle.dd_wire.specs.Requests.{asked_as, object_of, text_at, wait_at}
-use Rattle.dd_wire.specs.Wants.{MeansOther, MeansWant, MeansWanted, called, fetch_keys, is_alone, job_keys, named_job, session_call, submitted}
+use Rattle.dd_wire.specs.Wants.{MeansOther, MeansUncalled, MeansWant, MeansWanted, asks_health, called, fetch_keys, is_alone, job_keys, named_job, session_call, submitted}
 
 -- ---- what members stand for
 
@@ -51,6 +51,7 @@ no-stop-call members =
 abbrev wanted : Result SessionAsked Fault → Option Want
 wanted (Ok (Book wish)) = Some wish.want
 wanted (Ok (Par par)) = None
+wanted (Ok Health) = None
 wanted (Err fault) = None
 
 -- of one meaning it is one want
@@ -82,9 +83,12 @@ no-stop-other wait members wish stops =
     by-option (par_fields members) _ _ (λ means. no-stop-submitted wait wish means.0 means.2 stops)
     (λ fields is e. no-stop-par wish (table_par_of fields.given fields) e)
 
+no-stop-uncalled : (wait : ℕ) (members : Members) (wish : Wish) → wish.want ≡ Stop → MeansUncalled wait members (Ok (Book wish)) → ⊥
+no-stop-uncalled wait members wish stops = by-test (asks_health members) _ _ (λ e. cc) (no-stop-other wait members wish stops)
+
 no-stop-members : (wait : ℕ) (members : Members) (wish : Wish) → wish.want ≡ Stop → MeansWanted false wait members (Ok (Book wish)) → ⊥
 no-stop-members wait members wish stops =
-    by-option (session_call false members) _ _ (no-stop-other wait members wish stops)
+    by-option (session_call false members) _ _ (no-stop-uncalled wait members wish stops)
     (λ want is same. no-stop-call members (is ∙ ap Some (asked-want wait wish want (Ok (Book wish)) refl same ∙ stops)))
 
 pub no-stop-line : (line : List ℕ) (wish : Wish) → wish.want ≡ Stop → MeansWant false line (Ok (Book wish)) → ⊥

@@ -1,4 +1,5 @@
 pub mod Faults
+pub mod HealthReplies
 pub mod Requests
 pub mod ParLines
 pub mod PlayLines

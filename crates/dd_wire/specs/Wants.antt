@@ -1,5 +1,5 @@
--- To be believed: what a line of a session means: what it wants of the job book, par of given results, or its first fault.
-use Rattle.std.specs.Prelude.{◌≡◌, ℕ, ◌&&◌, Bool, List, [], ◌∷◌, nat_lt, length, codes, Option, None, Some, option_map, Result, Ok, Err, MatchOption, if◌then◌else◌}
+-- To be believed: what a line of a session means: what it wants of the job book, how the run is, par of given results, or its first fault.
+use Rattle.std.specs.Prelude.{◌≡◌, ℕ, ◌&&◌, Bool, false, List, [], ◌∷◌, nat_lt, length, codes, Option, None, Some, option_map, Result, Ok, Err, MatchOption, if◌then◌else◌}
 use Rattle.std.specs.Bool.{MatchBool}
 use Rattle.std.specs.Str.{bytes_eq}
 use Rattle.serde_json.specs.Data.{Members}
@@ -10,7 +10,7 @@ use Rattle.dd_wire.specs.declared.fault.Fault.TheVariants.{LineTooLong, NotAnObj
 use Rattle.dd_wire.specs.declared.want.Want.{Want}
 use Rattle.dd_wire.specs.declared.want.Want.TheVariants.{Submit, Cancel, Fetch, Stop}
 use Rattle.dd_wire.specs.declared.session_asked.SessionAsked.{SessionAsked}
-use Rattle.dd_wire.specs.declared.session_asked.SessionAsked.TheVariants.{Book, Par}
+use Rattle.dd_wire.specs.declared.session_asked.SessionAsked.TheVariants.{Book, Par, Health}
 use Rattle.dd_wire.specs.ParLines.{par_fields, table_par_of}
 use Rattle.dd_wire.specs.PlayLines.{MeansAsked}
 use Rattle.dd_wire.specs.Requests.{asked_as, object_of, keys_of, are_among, text_at, wait_at, whole_number_at}
@@ -45,6 +45,13 @@ session_call allow_stop members = do
       else if bytes_eq task (codes "fetch") then option_map Fetch (named_job fetch_keys members)
       else if bytes_eq task (codes "stop") && (allow_stop && is_alone members) then Some Stop else None
 
+-- `do` asks how the run is, and stands there alone
+abbrev pub asks_health : Members → Bool
+asks_health members = elim (text_at members (codes "do")) [
+  | None ↦ false
+  | Some task ↦ bytes_eq task (codes "health") && is_alone members
+]
+
 -- a call of the book, whose reply may so long wait
 abbrev pub called : ℕ → Want → SessionAsked
 called wait want = Book (record { want = want; wait = wait })
@@ -53,17 +60,22 @@ called wait want = Book (record { want = want; wait = wait })
 abbrev pub submitted : ℕ → Asked → SessionAsked
 submitted wait asked = called wait (Submit asked)
 
--- what members ask that are no such call: par of given results, or else that the request is submitted which they are
+-- what other members ask: par of given results, or else that the request is submitted which they are
 abbrev pub MeansOther : ℕ → Members → Result SessionAsked Fault → Type 0
 MeansOther wait members meaning =
     MatchOption (par_fields members)
     ((asked : Result Asked Fault) × MeansAsked members asked × (meaning ≡ asked_as (submitted wait) asked))
     (λ fields. meaning ≡ asked_as Par (table_par_of fields.given fields))
 
+-- what members ask that are no such call: how the run is, or else one of these
+abbrev pub MeansUncalled : ℕ → Members → Result SessionAsked Fault → Type 0
+MeansUncalled wait members meaning =
+    MatchBool (asks_health members) (meaning ≡ Ok Health) (MeansOther wait members meaning)
+
 -- what the members of an object ask: such a call, or else one of these
 abbrev pub MeansWanted : Bool → ℕ → Members → Result SessionAsked Fault → Type 0
 MeansWanted allow_stop wait members meaning =
-    MatchOption (session_call allow_stop members) (MeansOther wait members meaning) (λ want. meaning ≡ Ok (called wait want))
+    MatchOption (session_call allow_stop members) (MeansUncalled wait members meaning) (λ want. meaning ≡ Ok (called wait want))
 
 -- what a line of a session means: its length is looked at first, then that it is a JSON object, then its wait, then the other
 -- members

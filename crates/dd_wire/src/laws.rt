@@ -67,6 +67,7 @@ pub fn worked_lines()
         (Err Fault.WrongField) }
     ensures wait { Means (codes "{\"do\":\"table\",\"deal\":\"N:A.2.. K.A.. Q.K.. J.Q..\",\"wait\":9}")
         (Ok (LineAsked.Cards (Asked.Table two_suits))) }
+    ensures health { Means (codes "{\"do\":\"health\"}") (Err Fault.WrongField) }
     ensures wait_below_zero { Means (codes "{\"do\":\"solve\",\"deal\":\"N:A... - Q... J...\",\"trump\":4,\"first\":0,\"solutions\":3,\"wait\":-1}")
         (Err Fault.WrongField) }
 {}
@@ -127,6 +128,12 @@ pub fn worked_wants()
     ensures solve_that_waits { (leave : Bool) → MeansWant leave
         (codes "{\"do\":\"solve\",\"deal\":\"N:A.2.. K.A.. Q.K.. J.Q..\",\"trump\":4,\"first\":1,\"solutions\":2,\"wait\":500}")
         (Ok (SessionAsked.Book record { want = Want.Submit (Asked.Solve record { board = board_of two_suits Notrump East []; solutions = 2 }); wait = 500 })) }
+    ensures health { (leave : Bool) → MeansWant leave (codes "{\"do\":\"health\"}")
+        (Ok SessionAsked.Health) }
+    ensures health_of_a_job { MeansWant true (codes "{\"do\":\"health\",\"job\":1}")
+        (Err Fault.WrongField) }
+    ensures health_that_waits { MeansWant true (codes "{\"do\":\"health\",\"wait\":1}")
+        (Err Fault.WrongField) }
     ensures table_that_waits { (leave : Bool) → MeansWant leave
         (codes "{\"do\":\"table\",\"deal\":\"N:A.2.. K.A.. Q.K.. J.Q..\",\"wait\":60001}")
         (Ok (SessionAsked.Book record { want = Want.Submit (Asked.Table two_suits); wait = 60000 })) }

@@ -2,6 +2,7 @@
 #![tactic(auto)]
 
 mod fault;
+mod health;
 mod laws;
 mod line_asked;
 mod line_reply;
@@ -19,6 +20,7 @@ mod want_reader;
 mod wish;
 
 pub use fault::Fault;
+pub use health::{Health, write_health};
 pub use laws::{one_meaning, one_want, worked_lines, worked_wants};
 pub use line_asked::LineAsked;
 pub use line_reply::reply_to_line;

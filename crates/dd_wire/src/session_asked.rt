@@ -8,4 +8,6 @@ pub enum SessionAsked {
     Book(Wish),
     /// Par of twenty results, which is no job.
     Par(ParOfResults),
+    /// How the run is, which is no job either.
+    Health,
 }

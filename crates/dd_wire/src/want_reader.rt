@@ -5,7 +5,7 @@ ghost use Rattle.std.specs.Str.{bytes_eq};
 ghost use Rattle.serde_json.specs.View.{members_view};
 ghost use Rattle.dd_wire.specs.Requests.{are_among, keys_of};
 ghost use Rattle.dd_lines.specs.Line.{longest_line};
-ghost use Rattle.dd_wire.specs.Wants.{MeansWant, MeansWanted, MeansOther, session_call, named_job, is_alone, job_keys, fetch_keys, alone_keys};
+ghost use Rattle.dd_wire.specs.Wants.{MeansWant, MeansWanted, MeansUncalled, MeansOther, asks_health, session_call, named_job, is_alone, job_keys, fetch_keys, alone_keys};
 
 use crate::fault::Fault;
 use crate::par_reader::{par_fields, table_par_asked};
@@ -46,11 +46,32 @@ fn wanted_by(
 {
     match session_call(object, allow_stop) {
         Some(want) => Ok(SessionAsked::Book(Wish { want, wait })),
-        None => other_asked(object, wait),
+        None => uncalled_asked(object, wait),
     }
 }
 
-// What members ask that are no call of a session alone, or their first fault: par, or else what is submitted.
+// What members ask that are no call of a session alone, or their first fault: how the run is, or else another thing.
+fn uncalled_asked(object: &Map<String, Value>, wait: u64) -> Result<SessionAsked, Fault>
+    ensures { MeansUncalled wait (members_view object.now.entries) result }
+{
+    if asks_health(object) {
+        Ok(SessionAsked::Health)
+    } else {
+        other_asked(object, wait)
+    }
+}
+
+// Do the members ask how the run is, and no other field is there?
+fn asks_health(object: &Map<String, Value>) -> bool
+    ensures { result ≡ asks_health (members_view object.now.entries) }
+{
+    match text_at(object, "do") {
+        Some("health") => is_alone(object),
+        _ => false,
+    }
+}
+
+// What other members ask, or their first fault: par, or else what is submitted.
 fn other_asked(object: &Map<String, Value>, wait: u64) -> Result<SessionAsked, Fault>
     ensures { MeansOther wait (members_view object.now.entries) result }
 {

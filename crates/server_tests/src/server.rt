@@ -3,6 +3,7 @@ pub mod client;
 mod clients;
 mod descriptors;
 mod gate;
+mod health;
 mod idle;
 mod pages;
 mod pieces;

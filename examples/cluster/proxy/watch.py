@@ -16,15 +16,15 @@ FAILURES = 2
 PATIENCE = 2
 # What is sent, and what is waited for before the next.
 ASKED = {
-    "lines": [(b'{"do":"par","table":[[7,6,7,6],[6,7,6,7],[10,3,10,3],[7,6,7,6],[9,3,9,3]],"dealer":0,"vulnerable":0}\n', b'"score":400}\n')],
+    "lines": [(b'{"do":"health"}\n', b"}\n")],
     "sockets": [
         (
             b"GET / HTTP/1.1\r\nHost: check\r\nUpgrade: websocket\r\nConnection: Upgrade\r\nSec-WebSocket-Version: 13\r\n"
             b"Sec-WebSocket-Key: AAAAAAAAAAAAAAAAAAAAAA==\r\n\r\n",
             b"\r\n\r\n",
         ),
-        # A frame with the line `?`, which is fault 1.
-        (b"\x81\x81\0\0\0\0?", b'{"fault":1}'),
+        # A frame with that line, under a mask of zeros.
+        (b'\x81\x8f\0\0\0\0{"do":"health"}', b'"workers":'),
     ],
 }
 

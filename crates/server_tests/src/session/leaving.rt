@@ -57,7 +57,7 @@ fn left<J: Naming, R: Wait + Clock>(
     let mut other = desk.enrol(rt).ok()?;
     submit(rt, alloc, &desk, &mut other);
     let pass = desk.enrol(rt).ok()?;
-    let mut port = DeskPort::new(rt, &desk, pass);
+    let mut port = DeskPort::new(rt, &desk, pass, 4);
     let _ = serve_port(alloc, client, &mut port);
     let pass = port.into_pass();
     let mut jobs = Vec::new(alloc);

@@ -38,6 +38,11 @@ cancel 7|{"do":"fetch","job":7,"do":"cancel"}
 stop|{"do":"stop"}
 {"fault":3}|{"do":"stop","job":1}
 {"fault":3}|{"do":"stopped"}
+health|{"do":"health"}
+health|{"do":"stop","do":"health"}
+{"fault":3}|{"do":"health","job":1}
+{"fault":3}|{"do":"health","wait":1}
+{"fault":3}|{"do":"Health"}
 {"fault":3}|{"do":"claim"}
 {"fault":3}|{"do":"shut"}
 play|{"do":"play","deal":"N:32... K4... AQ... 65...","trump":4,"first":0,"cards":[[0,2],[0,4],[0,14],[0,5]]}
@@ -138,6 +143,7 @@ fn asks_or_is_refused(session: &Session, line: &[u8]) -> (bool, bool) {
     match session.on_line(line) {
         Step::Ask(wish) => (matches!(wish.want, Want::Submit(_)), false),
         Step::Say(text) => (false, text.as_str() == r#"{"fault":19}"#),
+        Step::Look => (false, false),
     }
 }
 

@@ -93,7 +93,7 @@ fn serve_row<J: Naming, R: Wait + Clock>(
 {
     let desk = Desk::<J>::new(row);
     let pass = desk.enrol(rt).ok()?;
-    let mut port = DeskPort::new(rt, &desk, pass);
+    let mut port = DeskPort::new(rt, &desk, pass, 4);
     let (end, written) = serve_port(alloc, client, &mut port);
     let mut passes = Vec::new(alloc);
     passes.push(port.into_pass()).ok()?;

@@ -9,6 +9,7 @@ pub fn plain(alloc: Global, step: &Step) -> Result<String, AllocError> {
     match step {
         Step::Say(text) => String::from_str(alloc, text.as_str()),
         Step::Ask(wish) => wished(alloc, wish),
+        Step::Look => String::from_str(alloc, "health"),
     }
 }
 

@@ -79,6 +79,33 @@ fn par_is_told_at_once_and_leaves_no_event(rt: HostRuntime) -> Result<(), Fail> 
 }
 
 #[test]
+fn how_the_run_is_is_told_at_once_and_leaves_no_event(rt: HostRuntime) -> Result<(), Fail> {
+    let lines = br#"{"do":"health"}
+{"do":"solve","deal":"N:A... K... Q... J...","trump":4,"first":0,"solutions":3}
+{"do":"table","deal":"N:A... K... Q... J..."}
+{"do":"health"}
+{"do":"cancel","job":1}
+{"do":"health"}
+{"do":"health"}
+{"do":"cancel","job":1}
+{"do":"health"}
+"#;
+    let replies = br#"{"events_left":100,"jobs":0,"workers":4}
+{"job":1}
+{"job":2}
+{"events_left":98,"jobs":2,"workers":4}
+{"job":1,"state":"cancelled"}
+{"events_left":97,"jobs":1,"workers":4}
+{"events_left":97,"jobs":1,"workers":4}
+{"fault":17}
+{"events_left":96,"jobs":1,"workers":4}
+"#;
+    // The cancel of the table at the end is the fifth.
+    assert!(rt; serves(&rt, rt.alloc(), lines, replies, 5)?);
+    Ok(())
+}
+
+#[test]
 fn lines_with_a_fault_ask_nothing(rt: HostRuntime) -> Result<(), Fail> {
     let mut lines = Vec::from_slice(rt.alloc(), b"\n{}\n")?;
     for _ in 0..4_097 {

@@ -31,6 +31,10 @@ pub returns-clause-trump_of_a_table : goal.returns-clause-trump_of_a_table
 unfolding is_utf8 chars serde_json_on_literals
 returns-clause-trump_of_a_table c = (Err WrongField, refl, refl)
 
+pub returns-clause-health : goal.returns-clause-health
+unfolding is_utf8 chars serde_json_on_literals
+returns-clause-health c = (Err WrongField, refl, refl)
+
 pub returns-clause-no_object : goal.returns-clause-no_object
 unfolding is_utf8 chars serde_json_on_literals
 returns-clause-no_object c = refl

@@ -100,6 +100,18 @@ pub returns-clause-solve_that_waits : goal.returns-clause-solve_that_waits
 unfolding is_utf8 chars serde_json_on_literals
 returns-clause-solve_that_waits c = λ leave. (_, (_, inl (two_suits, spades-and-hearts.0, spades-and-hearts.1, (board_of two_suits Notrump East [], record { hands = refl; strain = refl; first = refl; trick = refl }, asks-best)), refl), refl)
 
+pub returns-clause-health : goal.returns-clause-health
+unfolding is_utf8 chars serde_json_on_literals
+returns-clause-health c = λ leave. refl
+
+pub returns-clause-health_of_a_job : goal.returns-clause-health_of_a_job
+unfolding is_utf8 chars serde_json_on_literals
+returns-clause-health_of_a_job c = (Err WrongField, refl, refl)
+
+pub returns-clause-health_that_waits : goal.returns-clause-health_that_waits
+unfolding is_utf8 chars serde_json_on_literals
+returns-clause-health_that_waits c = (Err WrongField, refl, refl)
+
 pub returns-clause-table_that_waits : goal.returns-clause-table_that_waits
 unfolding is_utf8 chars serde_json_on_literals
 returns-clause-table_that_waits c = λ leave. (_, (_, inl (two_suits, spades-and-hearts.0, spades-and-hearts.1, means-table two_suits (refl, refl, refl) (omega arith)), refl), refl)
