@@ -286,7 +286,7 @@ fn answer_by_choices<B: Bounds, M: Meter>(
         let winning_ranks = found.cards();
         cards = cards.union(winning_ranks);
         untried = still_untried(untried, card, winning_ranks);
-        leading.go_on(position, strings, settling, card.suit, untried);
+        leading.go_on(position, strings, card.suit, untried);
     }
     Ok(Verdict::new(!north_south, whole_at(position, turn.cards_before(), cards)))
 }
