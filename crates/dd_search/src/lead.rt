@@ -3,6 +3,7 @@ ghost use Rattle.std.specs.Prelude.{◌≡◌, ◌≤◌, true, IfSome};
 ghost use Rattle.dd_cards.specs.Cards.{has_card};
 
 use crate::holdings::{code_of_highest, lowest};
+use crate::suit_lanes::{LOWEST, LOWEST_FOUR, at, has_lowest, nonzero, place, several};
 use crate::table::LeadHistory;
 use dd_cards::{Card, Hand, Holding, Rank, Strain, Suit};
 use dd_play::Position;
@@ -360,11 +361,6 @@ struct StartView {
     leader_ruffs: u64,
 }
 
-// The lowest bit of each suit, and the lowest four.
-const LOWEST: u64 = 0x0001_0001_0001_0001;
-
-const LOWEST_FOUR: u64 = 0x000F_000F_000F_000F;
-
 // Who could ruff, of the hands' trumps, and what each suit is led for.
 impl StartView {
     #[inline]
@@ -400,7 +396,7 @@ impl StartView {
             .wrapping_add(opponents_ruff.wrapping_mul(OPPONENT_RUFFS));
         let partner = (lengths >> 8) & LOWEST_FOUR;
         let single = LOWEST ^ nonzero((lengths & LOWEST_FOUR) ^ LOWEST);
-        let more = nonzero((partner >> 1) & LOWEST_FOUR);
+        let more = several(partner);
         StartView {
             lengths,
             weights: settled_before(settling)
@@ -423,36 +419,10 @@ impl StartView {
     #[inline]
     fn weight(self, suit: Suit, tops: TopTwo) -> u16 {
         let weight = ((self.weights >> place(suit)) & 0xFFFF) as u16;
-        let single = tops.first == PARTNER && of_suit(self.leader_ruffs, suit);
+        let single = tops.first == PARTNER && has_lowest(self.leader_ruffs, suit);
         let single = if single { SINGLETON_TO_TOP } else { 0 };
         weight.wrapping_add(tops.weight).wrapping_add(single)
     }
-}
-
-// By how many places the suit's bits are above the lowest.
-#[inline]
-fn place(suit: Suit) -> u8
-    ensures { result ≤ 48 }
-{
-    48 - 16 * suit.code()
-}
-
-// This number in the suit's bits.
-#[inline]
-fn at(suit: Suit, number: u64) -> u64 {
-    number << place(suit)
-}
-
-// Is the lowest bit of the suit set?
-#[inline]
-fn of_suit(bits: u64, suit: Suit) -> bool {
-    (bits >> place(suit)) & 1 == 1
-}
-
-// The lowest bit of each suit whose four bits are not zero.
-#[inline]
-fn nonzero(numbers: u64) -> u64 {
-    (numbers.wrapping_add(LOWEST_FOUR) >> 4) & LOWEST
 }
 
 // These bits where the lowest four of the number are not zero.
@@ -495,8 +465,8 @@ fn best_of(
     };
     let tops = TOP_TWO[tops.of_suit(suit) as usize];
     let weight = start.weight(suit, tops).wrapping_add(more);
-    let opponents = of_suit(start.opponents_ruff, suit);
-    let partner = of_suit(start.partner_ruffs, suit);
+    let opponents = has_lowest(start.opponents_ruff, suit);
+    let partner = has_lowest(start.partner_ruffs, suit);
     let lone = start.is_lone(suit, tops.first);
     if !lone && !tops.alike {
         let ruffs = Ruffs { opponents, partner };

@@ -3,6 +3,7 @@
 ghost use Rattle.std.specs.Prelude.{IfSome};
 ghost use Rattle.dd_quick.specs.SecondHand.{Opposes};
 
+use crate::quick_limit::quick_limit;
 use dd_cards::{Card, Hand, Seat, Strain, Suit};
 use dd_play::Position;
 use dd_rank::{OwnerStrings, Signature};
@@ -17,6 +18,7 @@ const LAST_TWO: u8 = 8;
 pub(crate) struct SecondHands {
     // none where no card is led
     tops: Option<Signature>,
+    lengths: u64,
     // the leads of suits of which nobody was asked yet
     unasked: Hand,
     // which opponents were asked of a side suit in vain: they have too few winners for any
@@ -28,12 +30,13 @@ impl SecondHands {
     /// At the start with these strings, where these cards may be led.
     #[inline(always)]
     pub(crate) fn of(strings: Option<&OwnerStrings>, choices: Hand) -> SecondHands {
-        let tops = match strings {
-            Some(strings) => Some(strings.signature()),
-            None => None,
+        let (tops, lengths) = match strings {
+            Some(strings) => (Some(strings.signature()), strings.shape().lengths()),
+            None => (None, 0),
         };
         SecondHands {
             tops,
+            lengths,
             unasked: choices,
             left_fails: false,
             right_fails: false,
@@ -68,6 +71,20 @@ impl SecondHands {
             Some(leader.right())
         } else {
             Some(leader.left())
+        }
+    }
+
+    /// No more quick tricks has this opponent.
+    #[inline]
+    pub(crate) fn limit(&self, position: &Position, seat: Seat, left: u8) -> u8 {
+        let places = if seat == position.first().left() {
+            1
+        } else {
+            3
+        };
+        match self.tops {
+            Some(tops) => quick_limit(self.lengths, tops, position.strain(), places, left),
+            None => left,
         }
     }
 

@@ -156,7 +156,7 @@ fn answer_at_start<B: Bounds, M: Meter>(
     if let Some(answer) = told_answer(start, &strings, hint, need, table) {
         return Ok(answer);
     }
-    if let Some(answer) = quick_answer(start, need) {
+    if let Some(answer) = quick_answer(start, &strings, need) {
         return Ok(answer);
     }
     let answer = answer_by_play(
