@@ -16,7 +16,7 @@ ghost use Rattle.dd_search.specs.ClaimsBy.{IsAnswerAfter, IsAnswerBy, IsWindow, 
 ghost use Rattle.dd_search.specs.Turns.{cards_before};
 
 use crate::claim::Claim;
-use crate::quick_limit::{others_may_have, quick_limit};
+use crate::quick_limit::{may_have_quick_tricks, others_may_have};
 use crate::second_hands::SecondHands;
 use crate::table::{Bounds, ProbeHint};
 use crate::turn::Turn;
@@ -27,7 +27,7 @@ use dd_quick::{against_leader, bounds as quick_bounds, for_leader, for_second_ha
 use dd_rank::{Depths, OwnerStrings};
 
 /// Do North and South take at least `need` of the tricks left, where the quick tricks of a side settle it? With the winners
-/// that they are. It costs less than a look.
+/// that they are. They are counted where there may be so many.
 #[inline]
 pub(crate) fn quick_answer(start: &TrickStart, strings: &OwnerStrings, need: u8) -> Option<Verdict>
     requires { need ≤ tricks_left start.now }
@@ -41,15 +41,9 @@ pub(crate) fn quick_answer(start: &TrickStart, strings: &OwnerStrings, need: u8)
     let leaders = if leads { need } else { others };
     let against = if leads { others } else { need };
     let shape = strings.shape();
-    if leaders
-        <= quick_limit(
-            shape.lengths(),
-            strings.signature(),
-            position.strain(),
-            0,
-            left,
-        )
-    {
+    let tops = strings.signature();
+    let strain = position.strain();
+    if may_have_quick_tricks(shape.lengths(), tops, strain, 0, left, leaders) {
         if let Some(cards) = for_leader(start, leaders) {
             return Some(Verdict::new(leads, cards));
         }
@@ -127,7 +121,7 @@ fn answer_by_second_hand(
     let leads = position.first().is_north_south();
     let left = position.tricks_left();
     let others = if leads { left + 1 - need } else { need };
-    if others > seconds.limit(position, seat, left) {
+    if !seconds.may_take(position, seat, left, others) {
         seconds.was_in_vain(position, seat, card.suit);
         return None;
     }

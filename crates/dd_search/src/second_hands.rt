@@ -3,7 +3,7 @@
 ghost use Rattle.std.specs.Prelude.{IfSome};
 ghost use Rattle.dd_quick.specs.SecondHand.{Opposes};
 
-use crate::quick_limit::quick_limit;
+use crate::quick_limit::may_have_quick_tricks;
 use dd_cards::{Card, Hand, Seat, Strain, Suit};
 use dd_play::Position;
 use dd_rank::{OwnerStrings, Signature};
@@ -18,6 +18,7 @@ const LAST_TWO: u8 = 8;
 pub(crate) struct SecondHands {
     // none where no card is led
     tops: Option<Signature>,
+    // the lengths of all hands at this start
     lengths: u64,
     // the leads of suits of which nobody was asked yet
     unasked: Hand,
@@ -74,18 +75,18 @@ impl SecondHands {
         }
     }
 
-    /// No more quick tricks has this opponent.
+    /// May this opponent have so many quick tricks with the lead, where so many tricks are left?
     #[inline]
-    pub(crate) fn limit(&self, position: &Position, seat: Seat, left: u8) -> u8 {
+    pub(crate) fn may_take(&self, position: &Position, seat: Seat, left: u8, need: u8) -> bool {
+        let Some(tops) = self.tops else {
+            return true;
+        };
         let places = if seat == position.first().left() {
             1
         } else {
             3
         };
-        match self.tops {
-            Some(tops) => quick_limit(self.lengths, tops, position.strain(), places, left),
-            None => left,
-        }
+        may_have_quick_tricks(self.lengths, tops, position.strain(), places, left, need)
     }
 
     /// It was asked in vain of a lead of this suit.
