@@ -3,7 +3,7 @@ use Rattle.std.proofs.Common.{◌≡◌, ℕ, zero, suc, ◌+◌, ◌-◌, ◌*�
 use lib.Lanes.{zip2}
 use Rattle.std.specs.Int.{bit_at}
 use mathlib.Core.Path.{ap₂}
-use Rattle.std.proofs.lemmas.Nat.{mod_below, shr-shr, and_shr, and_mod, and_mask, and_le_l, and_le_r}
+use Rattle.std.proofs.lemmas.Nat.{mod_below, shr-shr, and_shr, and_mod, and_mask, and_le_l, and_le_r, and_assoc}
 use Rattle.std.proofs.lemmas.Nat.Bits.{bit_at-lt, bit_at_and, bit_at_ones}
 use Rattle.std.specs.Int.Bits.{and_zero_r}
 use Rattle.std.proofs.Math.Nat.{pow-le-pow_right, add-mul, mul_assoc}
@@ -313,6 +313,44 @@ both-step odd far gone rank gaps both masks_odd masks_far apart low is w = recor
 
     whole : (x : ℕ) → x < 2 ^ 64 → x % 2 ^ 64 ≡ x
     whole x fits = omega (arith, fits)
+
+-- the gaps of ranks alone are those of all bits
+pub gaps-of-ranks : (gone k : ℕ) → k < 13 → bit_and (bit_and gone 9222386859403673596 / 2 ^ (k + 2)) 281479271743489 ≡ bit_and (gone / 2 ^ (k + 2)) 281479271743489
+gaps-of-ranks gone k few =
+    ap (λ n. bit_and n 281479271743489) (and_shr gone 9222386859403673596 (k + 2))
+    ∙ and_assoc 281479271743489 (gone / 2 ^ (k + 2)) (9222386859403673596 / 2 ^ (k + 2))
+    ∙ ap (bit_and (gone / 2 ^ (k + 2))) (ones k few)
+  where
+    ones : (k : ℕ) → k < 13 → bit_and (9222386859403673596 / 2 ^ (k + 2)) 281479271743489 ≡ 281479271743489
+    ones zero few = refl
+    ones (suc zero) few = refl
+    ones (suc (suc zero)) few = refl
+    ones (suc (suc (suc zero))) few = refl
+    ones (suc (suc (suc (suc zero)))) few = refl
+    ones (suc (suc (suc (suc (suc zero))))) few = refl
+    ones (suc (suc (suc (suc (suc (suc zero)))))) few = refl
+    ones (suc (suc (suc (suc (suc (suc (suc zero))))))) few = refl
+    ones (suc (suc (suc (suc (suc (suc (suc (suc zero)))))))) few = refl
+    ones (suc (suc (suc (suc (suc (suc (suc (suc (suc zero))))))))) few = refl
+    ones (suc (suc (suc (suc (suc (suc (suc (suc (suc (suc zero)))))))))) few = refl
+    ones (suc (suc (suc (suc (suc (suc (suc (suc (suc (suc (suc zero))))))))))) few = refl
+    ones (suc (suc (suc (suc (suc (suc (suc (suc (suc (suc (suc (suc zero)))))))))))) few = refl
+    ones (suc (suc (suc (suc (suc (suc (suc (suc (suc (suc (suc (suc (suc k))))))))))))) few = absurd (omega (arith, few))
+
+-- The code takes the gaps of the second number from the bits of ranks alone.
+pub ranks-step : (odd far gone rank gaps : ℕ) (both : List ℕ) → ((u : Suit) → IsMask (lane odd u)) → ((u : Suit) → IsMask (lane far u))
+    → ((u : Suit) (r : ℕ) → r < 16 → bit_at (lane gone u) r ≡ 1 → (bit_at (lane odd u) r ≡ 0) × (bit_at (lane far u) r ≡ 0))
+    → rank < 15 → gaps ≡ bit_and (bit_and gone 9222386859403673596 / 2 ^ rank) 281479271743489 → AreClosing odd far gone rank both
+    → AreClosing odd far gone (rank + 1) (zip2 (λ x y. (x + y) % 2 ^ 64) both (zip2 (λ x y. bit_and x y) both
+    ((bit_and (gone / 2 ^ rank) 281479271743489 * 2 ^ rank % 2 ^ 64 + (2 ^ 64 - bit_and (gone / 2 ^ rank) 281479271743489)) % 2 ^ 64 ∷ (gaps * 2 ^ rank % 2 ^ 64 + (2 ^ 64 - gaps)) % 2 ^ 64 ∷ [])))
+ranks-step odd far gone rank gaps both masks_odd masks_far apart low is w =
+    subst (λ g. AreClosing odd far gone (rank + 1) (zip2 (λ x y. (x + y) % 2 ^ 64) both (zip2 (λ x y. bit_and x y) both
+    ((bit_and (gone / 2 ^ rank) 281479271743489 * 2 ^ rank % 2 ^ 64 + (2 ^ 64 - bit_and (gone / 2 ^ rank) 281479271743489)) % 2 ^ 64 ∷ (g * 2 ^ rank % 2 ^ 64 + (2 ^ 64 - g)) % 2 ^ 64 ∷ []))))
+    (sym (is ∙ same)) (both-step odd far gone rank (bit_and (gone / 2 ^ rank) 281479271743489) both masks_odd masks_far apart low refl w)
+  where
+    same : bit_and (bit_and gone 9222386859403673596 / 2 ^ rank) 281479271743489 ≡ bit_and (gone / 2 ^ rank) 281479271743489
+    same = subst (λ r. bit_and (bit_and gone 9222386859403673596 / 2 ^ r) 281479271743489 ≡ bit_and (gone / 2 ^ r) 281479271743489) (sym w.closing.at)
+        (gaps-of-ranks gone w.closing.k (let e = w.closing.at in omega (arith, e, low)))
 
 -- and at the end none is open in either
 pub both-end : (odd far gone rank : ℕ) (both : List ℕ) → ((u : Suit) → IsMask (lane odd u)) → ((u : Suit) → IsMask (lane far u)) → rank ≡ 15 → AreClosing odd far gone rank both

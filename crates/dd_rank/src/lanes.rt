@@ -13,6 +13,9 @@ use std::simd::{u64x2, u64x4};
 // The lowest bit of each suit.
 const LOWEST: u64 = 0x0001_0001_0001_0001;
 
+// The bits of the ranks in each suit.
+const RANKS: u64 = 0x7FFC_7FFC_7FFC_7FFC;
+
 // The product with it has the two lowest bits of each suit's sixteen in its upper sixteen, side by side.
 const GATHER: u64 = 0x0001_0004_0010_0040;
 
@@ -53,7 +56,8 @@ impl OwnerPlanes {
             ≡ places_of (lane odd u) (lane far u) (filter (is_clear (lane gone u)) all_ranks) }
     {
         let lowest = u64x2::splat(LOWEST);
-        let both_gone = u64x2::splat(gone);
+        // Two numbers that differ outside the ranks: of equal ones a compiler makes one, and each step would bring it over to the pair.
+        let both_gone = u64x2::from_array([gone, gone & RANKS]);
         let mut places = u64x2::from_array([odd, far]);
         for rank in 3..15u64 {
             let places_up = u64x2::splat(rank);

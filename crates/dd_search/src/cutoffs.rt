@@ -16,6 +16,7 @@ ghost use Rattle.dd_search.specs.ClaimsBy.{IsAnswerAfter, IsAnswerBy, IsWindow, 
 ghost use Rattle.dd_search.specs.Turns.{cards_before};
 
 use crate::claim::Claim;
+use crate::quick_limit::{may_have_quick_tricks, others_may_have};
 use crate::second_hands::SecondHands;
 use crate::table::{Bounds, ProbeHint};
 use crate::turn::Turn;
@@ -26,9 +27,9 @@ use dd_quick::{against_leader, bounds as quick_bounds, for_leader, for_second_ha
 use dd_rank::{Depths, OwnerStrings};
 
 /// Do North and South take at least `need` of the tricks left, where the quick tricks of a side settle it? With the winners
-/// that they are. It costs less than a look.
+/// that they are. They are counted where there may be so many.
 #[inline]
-pub(crate) fn quick_answer(start: &TrickStart, need: u8) -> Option<Verdict>
+pub(crate) fn quick_answer(start: &TrickStart, strings: &OwnerStrings, need: u8) -> Option<Verdict>
     requires { need ≤ tricks_left start.now }
     ensures answer { IfSome result (λ answer. IsAnswerBy start.now need answer.cards answer.yes) }
     ensures board { IsBoard start.now }
@@ -39,8 +40,16 @@ pub(crate) fn quick_answer(start: &TrickStart, need: u8) -> Option<Verdict>
     let others = left + 1 - need;
     let leaders = if leads { need } else { others };
     let against = if leads { others } else { need };
-    if let Some(cards) = for_leader(start, leaders) {
-        return Some(Verdict::new(leads, cards));
+    let shape = strings.shape();
+    let tops = strings.signature();
+    let strain = position.strain();
+    if may_have_quick_tricks(shape.lengths(), tops, strain, 0, left, leaders) {
+        if let Some(cards) = for_leader(start, leaders) {
+            return Some(Verdict::new(leads, cards));
+        }
+    }
+    if !others_may_have(shape, against) {
+        return None;
     }
     let cards = against_leader(start, against)?;
     Some(Verdict::new(!leads, cards))
@@ -112,6 +121,10 @@ fn answer_by_second_hand(
     let leads = position.first().is_north_south();
     let left = position.tricks_left();
     let others = if leads { left + 1 - need } else { need };
+    if !seconds.may_take(position, seat, left, others) {
+        seconds.was_in_vain(position, seat, card.suit);
+        return None;
+    }
     let Some(cards) = for_second_hand(position, seat, card.suit, others) else {
         seconds.was_in_vain(position, seat, card.suit);
         return None;

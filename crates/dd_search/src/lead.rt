@@ -3,10 +3,11 @@ ghost use Rattle.std.specs.Prelude.{◌≡◌, ◌≤◌, true, IfSome};
 ghost use Rattle.dd_cards.specs.Cards.{has_card};
 
 use crate::holdings::{code_of_highest, lowest};
+use crate::suit_lanes::{LOWEST, LOWEST_FOUR, at, has_lowest, nonzero, place, several};
 use crate::table::LeadHistory;
 use dd_cards::{Card, Hand, Holding, Rank, Strain, Suit};
 use dd_play::Position;
-use dd_rank::{OwnerStrings, Shape, Signature};
+use dd_rank::{OwnerStrings, Signature};
 use std::marker::Model;
 
 /// A card to try, and how good it looks.
@@ -51,6 +52,7 @@ impl Move {
 /// other: so the next of a suit is weighed where that failed.
 #[derive(Debug, Drop)]
 pub(crate) struct Leading {
+    start: StartView,
     spades: Move,
     hearts: Move,
     diamonds: Move,
@@ -98,21 +100,23 @@ const ANY_OTHER: LeadWorth = LeadWorth {
     loses: 10,
 };
 
-// What a suit is worth, from which the reasons against it are taken.
-const SUIT: u16 = 400;
-// For it: partner takes the leader's single card, and the leader ruffs the next.
-const SINGLETON_TO_TOP: u16 = 15;
-// For it: the highest card plays before partner, who has the second highest, so one of the two tricks is partner's.
+// What speaks for a suit, by whose its two highest cards are.
+const SUIT: u16 = 15;
+// More: the highest card plays before partner, who has the second highest, so one of the two tricks is partner's.
 const THROUGH_TOP_TO_SECOND: u16 = 10;
-// Against it: the last hand has the second highest card and plays it when it has seen what partner played.
+// Less: the last hand has the second highest card and plays it when it has seen what partner played.
 const LAST_HAND_HAS_SECOND: u16 = 15;
-// Against it: the last hand has the highest card, which wins whatever partner plays.
+// Less: the last hand has the highest card, which wins whatever partner plays.
 const LAST_HAND_HAS_TOP: u16 = 10;
+// More: partner takes the leader's single card, and the leader ruffs the next.
+const SINGLETON_TO_TOP: u16 = 15;
+// For each suit more than all that speaks against it.
+const ANY_SUIT: u64 = 400;
 // Against it: an opponent has none of it and ruffs.
-const OPPONENT_RUFFS: u16 = 10;
+const OPPONENT_RUFFS: u64 = 10;
 // Against it, for each card of it that an opponent has, and of an opponent who has none of it for each card: the fewer
 // answers there are to try, the sooner the suit is settled.
-const OPPONENTS_CARD: u16 = 10;
+const OPPONENTS_CARD: u64 = 10;
 
 // More than any rank.
 const RUFF: u8 = 15;
@@ -122,17 +126,18 @@ const BEST_OF_ITS_SUIT: u16 = 30;
 
 // What the cards of a suit weigh more that settled the last start of a trick of the same shape, of the same outline, or of the
 // same leader with as many tricks left.
-const SETTLED_SHAPE: u16 = 40;
+const SETTLED_SHAPE: u64 = 40;
 
-const SETTLED_OUTLINE: u16 = 40;
+const SETTLED_OUTLINE: u64 = 40;
 
-const SETTLED_LEADER: u16 = 10;
+const SETTLED_LEADER: u64 = 10;
 
 impl Leading {
     /// No cards.
     #[inline]
     pub(crate) fn new() -> Leading {
         Leading {
+            start: StartView::nothing(),
             spades: Move::default(),
             hearts: Move::default(),
             diamonds: Move::default(),
@@ -149,44 +154,43 @@ impl Leading {
         choices: Hand,
     ) {
         let start = StartView::of(position, strings, settling);
+        let tops = strings.signature();
         let more = BEST_OF_ITS_SUIT;
-        self.spades = best_of(position, &start, Suit::Spades, choices, more);
-        self.hearts = best_of(position, &start, Suit::Hearts, choices, more);
-        self.diamonds = best_of(position, &start, Suit::Diamonds, choices, more);
-        self.clubs = best_of(position, &start, Suit::Clubs, choices, more);
+        self.spades = best_of(position, start, tops, Suit::Spades, choices, more);
+        self.hearts = best_of(position, start, tops, Suit::Hearts, choices, more);
+        self.diamonds = best_of(position, start, tops, Suit::Diamonds, choices, more);
+        self.clubs = best_of(position, start, tops, Suit::Clubs, choices, more);
+        self.start = start;
     }
 
-    /// Weighs those of a suit anew, of which a card failed, where these cards are still to be tried.
-    fn weigh_again(
-        &mut self,
-        position: &Position,
-        strings: &OwnerStrings,
-        settling: LeadHistory,
-        suit: Suit,
-        untried: Hand,
-    ) {
-        let start = StartView::of(position, strings, settling);
-        let next = best_of(position, &start, suit, untried, 0);
-        match suit {
-            Suit::Spades => self.spades = next,
-            Suit::Hearts => self.hearts = next,
-            Suit::Diamonds => self.diamonds = next,
-            Suit::Clubs => self.clubs = next,
-        }
-    }
-
-    /// Takes note that a card of this suit failed, and these are still to be tried. It does nothing where no card is led.
+    /// Takes note that a card of this suit failed, and weighs those of the suit that are still to be tried. It does nothing where no
+    /// card is led.
     #[inline(always)]
     pub(crate) fn go_on(
         &mut self,
         position: &Position,
         strings: Option<&OwnerStrings>,
-        settling: LeadHistory,
         suit: Suit,
         untried: Hand,
     ) {
         if let Some(strings) = strings {
-            self.weigh_again(position, strings, settling, suit, untried);
+            self.weigh_again(position, strings, suit, untried);
+        }
+    }
+
+    fn weigh_again(
+        &mut self,
+        position: &Position,
+        strings: &OwnerStrings,
+        suit: Suit,
+        untried: Hand,
+    ) {
+        let next = best_of(position, self.start, strings.signature(), suit, untried, 0);
+        match suit {
+            Suit::Spades => self.spades = next,
+            Suit::Hearts => self.hearts = next,
+            Suit::Diamonds => self.diamonds = next,
+            Suit::Clubs => self.clubs = next,
         }
     }
 
@@ -343,153 +347,148 @@ static TOP_TWO: [TopTwo; 16] = [
     RIGHTS,
 ];
 
-// How many cards of a suit the four hands have.
+// What is seen of a start of a trick. Where a word speaks of all suits it has sixteen bits for each, the spades' on top.
 #[derive(Clone, Copy, Debug)]
-struct Lengths {
-    own: u8,
-    left: u8,
-    partner: u8,
-    right: u8,
-}
-
-const NO_CARDS: Lengths = Lengths {
-    own: 0,
-    left: 0,
-    partner: 0,
-    right: 0,
-};
-
-#[inline]
-fn lengths_of(shape: Shape, suit: Suit) -> Lengths {
-    Lengths {
-        own: shape.length(suit, LEADER),
-        left: shape.length(suit, LEFT),
-        partner: shape.length(suit, PARTNER),
-        right: shape.length(suit, RIGHT),
-    }
-}
-
-// What is seen of a start of a trick, the same for each suit.
-#[derive(Debug, Drop)]
 struct StartView {
-    shape: Shape,
-    tops: Signature,
-    tricks: u8,
-    trump: Option<Suit>,
-    trumps: Lengths,
-    settling: LeadHistory,
+    // how many cards of each suit the hands have, four bits each, the leader's the lowest
+    lengths: u64,
+    // how good each suit looks by lengths, by ruffs and by what settled starts like this one
+    weights: u64,
+    // the lowest bit of a suit: whether an opponent could ruff it at once, and whether partner could
+    opponents_ruff: u64,
+    partner_ruffs: u64,
+    // whether the leader could ruff it after its one card of it, where partner has more of them
+    leader_ruffs: u64,
 }
 
+// Who could ruff, of the hands' trumps, and what each suit is led for.
 impl StartView {
     #[inline]
-    fn of(position: &Position, strings: &OwnerStrings, settling: LeadHistory) -> StartView {
-        let shape = strings.shape();
-        let (trump, trumps) = match position.strain() {
-            Strain::Trump(trump) => (Some(trump), lengths_of(shape, trump)),
-            Strain::Notrump => (None, NO_CARDS),
-        };
+    fn nothing() -> StartView {
         StartView {
-            shape,
-            tops: strings.signature(),
-            tricks: position.tricks_left(),
-            trump,
-            trumps,
-            settling,
+            lengths: 0,
+            weights: 0,
+            opponents_ruff: 0,
+            partner_ruffs: 0,
+            leader_ruffs: 0,
         }
+    }
+
+    #[inline]
+    fn of(position: &Position, strings: &OwnerStrings, settling: LeadHistory) -> StartView {
+        let lengths = strings.shape().lengths();
+        let left = (lengths >> 4) & LOWEST_FOUR;
+        let right = (lengths >> 12) & LOWEST_FOUR;
+        let without_left = LOWEST ^ nonzero(left);
+        let without_right = LOWEST ^ nonzero(right);
+        let (side, trumps) = match position.strain() {
+            Strain::Trump(trump) => (LOWEST & !at(trump, 1), lengths >> place(trump)),
+            Strain::Notrump => (0, 0),
+        };
+        let opponents_ruff = where_any(trumps >> 4, side & without_left)
+            | where_any(trumps >> 12, side & without_right);
+        let without = without_left.wrapping_add(without_right);
+        let answers = left
+            .wrapping_add(right)
+            .wrapping_add(without.wrapping_mul(position.tricks_left() as u64));
+        let against = answers
+            .wrapping_mul(OPPONENTS_CARD)
+            .wrapping_add(opponents_ruff.wrapping_mul(OPPONENT_RUFFS));
+        let partner = (lengths >> 8) & LOWEST_FOUR;
+        let single = LOWEST ^ nonzero((lengths & LOWEST_FOUR) ^ LOWEST);
+        let more = several(partner);
+        StartView {
+            lengths,
+            weights: settled_before(settling)
+                .wrapping_add(LOWEST * ANY_SUIT)
+                .wrapping_sub(against),
+            opponents_ruff,
+            partner_ruffs: where_any(trumps >> 8, side & (LOWEST ^ nonzero(partner))),
+            leader_ruffs: where_any(trumps, side & single & more),
+        }
+    }
+
+    // Is the highest card of the suit, which this hand has, an opponent's only card of it?
+    #[inline]
+    fn is_lone(self, suit: Suit, first: u8) -> bool {
+        let length = self.lengths >> place(suit) >> (4 * (first % 4));
+        first % 2 == 1 && length % 16 == 1
+    }
+
+    // How good the suit looks.
+    #[inline]
+    fn weight(self, suit: Suit, tops: TopTwo) -> u16 {
+        let weight = ((self.weights >> place(suit)) & 0xFFFF) as u16;
+        let single = tops.first == PARTNER && has_lowest(self.leader_ruffs, suit);
+        let single = if single { SINGLETON_TO_TOP } else { 0 };
+        weight.wrapping_add(tops.weight).wrapping_add(single)
     }
 }
 
-// Who could ruff a suit: opponents and partner at once, the leader later on.
-#[derive(Clone, Copy, Debug)]
-struct Ruffs {
-    opponents: bool,
-    partner: bool,
-    leader: bool,
+// These bits where the lowest four of the number are not zero.
+#[inline]
+fn where_any(number: u64, bits: u64) -> u64 {
+    if number % 16 == 0 { 0 } else { bits }
 }
 
+// What speaks for each suit by what settled starts of a trick like this one.
 #[inline]
-fn ruffs_of(start: &StartView, suit: Suit, of: Lengths) -> Ruffs {
-    let side = start.trump != Some(suit);
-    let trumps = start.trumps;
-    let left = of.left == 0 && trumps.left > 0;
-    let right = of.right == 0 && trumps.right > 0;
-    Ruffs {
-        opponents: side && (left || right),
-        partner: side && of.partner == 0 && trumps.partner > 0,
-        leader: side && trumps.own > 0,
+fn settled_before(settling: LeadHistory) -> u64 {
+    settled(settling.of_shape, SETTLED_SHAPE)
+        .wrapping_add(settled(settling.of_outline, SETTLED_OUTLINE))
+        .wrapping_add(settled(settling.of_leader, SETTLED_LEADER))
+}
+
+// So much for the suit of the lead that settled.
+#[inline]
+fn settled(lead: Option<Suit>, weight: u64) -> u64 {
+    match lead {
+        Some(suit) => at(suit, weight),
+        None => 0,
     }
 }
 
 // The card of this suit that looks best of these choices, of weight 0 where there is none; each weighs so much more.
 // Once for each suit: a call of its own for all costs 1.5 % instructions.
 #[inline(always)]
-fn best_of(position: &Position, start: &StartView, suit: Suit, choices: Hand, more: u16) -> Move {
+fn best_of(
+    position: &Position,
+    start: StartView,
+    tops: Signature,
+    suit: Suit,
+    choices: Hand,
+    more: u16,
+) -> Move {
     let ranks = choices.holding(suit);
     let Some(low) = lowest(ranks) else {
         return Move::default();
     };
-    let of = lengths_of(start.shape, suit);
-    let ruffs = ruffs_of(start, suit, of);
-    let tops = TOP_TWO[start.tops.of_suit(suit) as usize];
-    let weight = suit_weight(start, of, ruffs, tops).saturating_add(more);
-    let weight = weight.saturating_add(settled_before(start.settling, suit));
-    let lone = tops.first == LEFT && of.left == 1 || tops.first == RIGHT && of.right == 1;
+    let tops = TOP_TWO[tops.of_suit(suit) as usize];
+    let weight = start.weight(suit, tops).wrapping_add(more);
+    let opponents = has_lowest(start.opponents_ruff, suit);
+    let partner = has_lowest(start.partner_ruffs, suit);
+    let lone = start.is_lone(suit, tops.first);
     if !lone && !tops.alike {
+        let ruffs = Ruffs { opponents, partner };
         return best_by_rank(position, suit, ranks, weight, ruffs, tops);
     }
     let worth = if lone { LONE_TOP_CARD } else { tops.worth };
-    let wins = !ruffs.opponents && (ruffs.partner || tops.first == PARTNER);
+    let wins = !opponents && (partner || tops.first == PARTNER);
     weighed(suit, low, weight, worth, wins)
 }
 
-// How good the suit looks.
-#[inline]
-fn suit_weight(start: &StartView, of: Lengths, ruffs: Ruffs, tops: TopTwo) -> u16 {
-    let left = opponents_cards(of.left, start.tricks);
-    let right = opponents_cards(of.right, start.tricks);
-    let ruffed = if ruffs.opponents { OPPONENT_RUFFS } else { 0 };
-    let single = of.own == 1 && of.partner > 1 && tops.first == PARTNER && ruffs.leader;
-    let single = if single { SINGLETON_TO_TOP } else { 0 };
-    tops.weight
-        .saturating_add(single)
-        .saturating_sub(OPPONENTS_CARD * (left + right) + ruffed)
-}
-
-// The cards of the suit, and where an opponent has none of it all that it has.
-#[inline]
-fn opponents_cards(length: u8, tricks: u8) -> u16
-    ensures { result ≤ 255 }
-{
-    if length == 0 {
-        tricks as u16
-    } else {
-        length as u16
-    }
-}
-
-// What speaks for the suit by what settled starts of a trick like this one.
-#[inline]
-fn settled_before(settling: LeadHistory, suit: Suit) -> u16 {
-    settled(settling.of_shape, suit, SETTLED_SHAPE)
-        + settled(settling.of_outline, suit, SETTLED_OUTLINE)
-        + settled(settling.of_leader, suit, SETTLED_LEADER)
-}
-
-// So much where the lead that settled is of the suit.
-#[inline]
-fn settled(lead: Option<Suit>, suit: Suit, weight: u16) -> u16
-    ensures { result ≤ weight }
-{
-    if lead == Some(suit) { weight } else { 0 }
+// Who could ruff a suit at once.
+#[derive(Clone, Copy, Debug)]
+struct Ruffs {
+    opponents: bool,
+    partner: bool,
 }
 
 // A card of the suit, and how good it looks.
 #[inline]
 fn weighed(suit: Suit, rank: Rank, weight: u16, worth: LeadWorth, wins: bool) -> Move {
     let worth = if wins { worth.wins } else { worth.loses };
-    let weight = weight
-        .saturating_add(worth)
-        .saturating_sub(rank.code() as u16);
+    let weight = weight.wrapping_add(worth).wrapping_sub(rank.code() as u16);
     Move {
         card: Card { suit, rank },
         weight,

@@ -3,6 +3,7 @@
 ghost use Rattle.std.specs.Prelude.{IfSome};
 ghost use Rattle.dd_quick.specs.SecondHand.{Opposes};
 
+use crate::quick_limit::may_have_quick_tricks;
 use dd_cards::{Card, Hand, Seat, Strain, Suit};
 use dd_play::Position;
 use dd_rank::{OwnerStrings, Signature};
@@ -17,6 +18,8 @@ const LAST_TWO: u8 = 8;
 pub(crate) struct SecondHands {
     // none where no card is led
     tops: Option<Signature>,
+    // the lengths of all hands at this start
+    lengths: u64,
     // the leads of suits of which nobody was asked yet
     unasked: Hand,
     // which opponents were asked of a side suit in vain: they have too few winners for any
@@ -28,12 +31,13 @@ impl SecondHands {
     /// At the start with these strings, where these cards may be led.
     #[inline(always)]
     pub(crate) fn of(strings: Option<&OwnerStrings>, choices: Hand) -> SecondHands {
-        let tops = match strings {
-            Some(strings) => Some(strings.signature()),
-            None => None,
+        let (tops, lengths) = match strings {
+            Some(strings) => (Some(strings.signature()), strings.shape().lengths()),
+            None => (None, 0),
         };
         SecondHands {
             tops,
+            lengths,
             unasked: choices,
             left_fails: false,
             right_fails: false,
@@ -69,6 +73,20 @@ impl SecondHands {
         } else {
             Some(leader.left())
         }
+    }
+
+    /// May this opponent have so many quick tricks with the lead, where so many tricks are left?
+    #[inline]
+    pub(crate) fn may_take(&self, position: &Position, seat: Seat, left: u8, need: u8) -> bool {
+        let Some(tops) = self.tops else {
+            return true;
+        };
+        let places = if seat == position.first().left() {
+            1
+        } else {
+            3
+        };
+        may_have_quick_tricks(self.lengths, tops, position.strain(), places, left, need)
     }
 
     /// It was asked in vain of a lead of this suit.

@@ -42,7 +42,7 @@ pub(crate) fn zero_window<B: Bounds, M: Meter>(
     ensures ends { EndsAs (M.says meter.new) result }
 {
     match Turn::of(position) {
-        Turn::First => zero_window_at_start(position, need, table, meter),
+        Turn::First => zero_window_at_first_hand(position, need, table, meter),
         Turn::Second => zero_window_at_second_hand(position, need, table, meter),
         Turn::Third => zero_window_at_third_hand(position, need, table, meter),
         Turn::Fourth => zero_window_at_fourth_hand(position, need, table, meter),
@@ -50,8 +50,10 @@ pub(crate) fn zero_window<B: Bounds, M: Meter>(
 }
 
 // The question where the first hand is to lead.
+// The start is made where the caller has written the position, so that it is written once.
 #[cycle(zero_window)]
-fn zero_window_at_start<B: Bounds, M: Meter>(
+#[inline(always)]
+fn zero_window_at_first_hand<B: Bounds, M: Meter>(
     position: &Position,
     need: u8,
     table: &mut B,
@@ -65,11 +67,29 @@ fn zero_window_at_start<B: Bounds, M: Meter>(
     ensures ticked { OnOk result (M.ticked meter.old meter.new) }
     ensures ends { EndsAs (M.says meter.new) result }
 {
-    go_on(meter)?;
     let Some(start) = TrickStart::of(position) else {
         unreachable!()
     };
-    answer_at_start(&start, need, table, meter)
+    zero_window_at_start(&start, need, table, meter)
+}
+
+// The same at a start of a trick.
+#[cycle(zero_window)]
+fn zero_window_at_start<B: Bounds, M: Meter>(
+    start: &TrickStart,
+    need: u8,
+    table: &mut B,
+    meter: &mut M,
+) -> Result<Verdict, Halt>
+    requires low { 1 ≤ need }
+    requires high { need ≤ tricks_left start.now }
+    ensures answer { IfOk result (λ answer. IsAnswer start.now need answer.yes) }
+    ensures winning_ranks { IfOk result (λ answer. IsAnswerBy start.now need answer.cards answer.yes) }
+    ensures ticked { OnOk result (M.ticked meter.old meter.new) }
+    ensures ends { EndsAs (M.says meter.new) result }
+{
+    go_on(meter)?;
+    answer_at_start(start, need, table, meter)
 }
 
 // The question where the second hand is to play.
@@ -156,7 +176,7 @@ fn answer_at_start<B: Bounds, M: Meter>(
     if let Some(answer) = told_answer(start, &strings, hint, need, table) {
         return Ok(answer);
     }
-    if let Some(answer) = quick_answer(start, need) {
+    if let Some(answer) = quick_answer(start, &strings, need) {
         return Ok(answer);
     }
     let answer = answer_by_play(
@@ -286,7 +306,7 @@ fn answer_by_choices<B: Bounds, M: Meter>(
         let winning_ranks = found.cards();
         cards = cards.union(winning_ranks);
         untried = still_untried(untried, card, winning_ranks);
-        leading.go_on(position, strings, settling, card.suit, untried);
+        leading.go_on(position, strings, card.suit, untried);
     }
     Ok(Verdict::new(!north_south, whole_at(position, turn.cards_before(), cards)))
 }
@@ -399,7 +419,7 @@ fn answer_after_trick<B: Bounds, M: Meter>(
 {
     match answer_by_counting(position, need) {
         Some(yes) => Ok(Verdict::new(yes, Hand::new())),
-        None => zero_window_at_start(position, need, table, meter),
+        None => zero_window_at_first_hand(position, need, table, meter),
     }
 }
 

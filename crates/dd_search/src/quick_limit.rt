@@ -1,0 +1,141 @@
+//! Whether a side may have so many quick tricks, by the lengths of all hands and by whose the two highest cards of each suit are. To tell
+//! costs less than half of counting them, and where it may not, nothing is counted. No answer rests on it: where it told of too few, more
+//! cards would be tried.
+
+use crate::suit_lanes::{
+    LOWEST, LOWEST_FOUR, at, has_lowest, nonzero, place, several, sum, where_set,
+};
+use dd_cards::{Strain, Suit};
+use dd_rank::{Shape, Signature};
+
+// What a hand that has the lead, or is to have it, sees of the suits.
+#[derive(Clone, Copy, Debug)]
+struct SuitsSeen {
+    // how many cards the hand has of each, and its partner
+    own: u64,
+    partner: u64,
+    // those of which an opponent has two cards or more
+    long: u64,
+    // whose the two highest cards are, four bits a suit, of which the lowest two are set where an opponent has the second highest and
+    // the highest, the next two where the partner has it or the hand after it
+    owners: u64,
+    // those beside trumps of which the side has the highest card
+    heads: u64,
+}
+
+/// May the hand so many places, 0 to 3, after the leader's have so many quick tricks, where it has the lead and so many tricks are left?
+#[inline(never)]
+pub(crate) fn may_have_quick_tricks(
+    lengths: u64,
+    tops: Signature,
+    strain: Strain,
+    places: u8,
+    left: u8,
+    need: u8,
+) -> bool {
+    let seen = SuitsSeen::of(lengths, tops, strain, places);
+    let (trumps, kept, partners) = match strain {
+        Strain::Trump(trump) => {
+            let own = length(seen.own, trump);
+            let partners = length(seen.partner, trump);
+            let longer = own.max(partners);
+            let over = has_lowest(seen.owners >> 1, trump);
+            (
+                longer.saturating_sub(if over { 1 } else { 0 }),
+                longer,
+                partners,
+            )
+        }
+        Strain::Notrump => (0, 0, 0),
+    };
+    let cashed = seen.cashed().min(left.saturating_sub(partners));
+    let sure = cashed.wrapping_add(trumps);
+    if need <= sure {
+        return true;
+    }
+    let most = left.saturating_sub(cashed.wrapping_add(kept));
+    need <= sure.wrapping_add(seen.crossed().min(most))
+}
+
+/// May the opponents of the leader have so many? Where a hand has a trump they have no more than trumps in one hand, but for one.
+#[inline]
+pub(crate) fn others_may_have(shape: Shape, need: u8) -> bool {
+    match shape.strain() {
+        Strain::Trump(trump) => {
+            let lengths = shape.lengths() >> place(trump);
+            let left = length(lengths >> 4, Suit::Clubs);
+            let right = length(lengths >> 12, Suit::Clubs);
+            need <= left.max(right).max(1) || lengths & 0xFFFF == 0
+        }
+        Strain::Notrump => true,
+    }
+}
+
+impl SuitsSeen {
+    #[inline(always)]
+    fn of(lengths: u64, tops: Signature, strain: Strain, places: u8) -> SuitsSeen {
+        let opponents = lengths >> (4 - 4 * (places % 2));
+        let owners = owners_seen_from(tops, places);
+        let side = match strain {
+            Strain::Trump(trump) => LOWEST & !at(trump, 1),
+            Strain::Notrump => LOWEST,
+        };
+        SuitsSeen {
+            own: (lengths >> (4 * (places % 4))) & LOWEST_FOUR,
+            partner: (lengths >> (4 * ((places ^ 2) % 4))) & LOWEST_FOUR,
+            long: several((opponents | opponents >> 8) & LOWEST_FOUR),
+            owners,
+            heads: side & !(owners >> 1),
+        }
+    }
+
+    // No more than this the hand cashes: all its cards of a suit where it has the two highest or the others have one each, and else
+    // one.
+    #[inline(always)]
+    fn cashed(self) -> u8 {
+        let heads = self.heads & !(self.owners >> 3);
+        let alone = !(self.long | several(self.partner));
+        let all = heads & (!self.owners & !(self.owners >> 2) | alone);
+        sum(where_set(self.own, all) | (heads ^ all))
+    }
+
+    // No more than this its partner takes besides: no card that falls under the hand's highest.
+    #[inline(always)]
+    fn crossed(self) -> u8 {
+        let heads = self.heads & !(self.owners >> 3);
+        let partners = self.heads & self.owners >> 3;
+        let alone = !(self.long | several(self.own));
+        let next = heads & (!self.owners | alone);
+        let all = partners & (!self.owners & self.owners >> 2 | alone);
+        let entries = (next & several(self.own) & several(self.partner))
+            | (partners & nonzero(self.own));
+        if entries == 0 {
+            return 0;
+        }
+        let rest = self.partner.wrapping_sub(nonzero(self.partner));
+        sum(where_set(rest, next) | where_set(self.partner, all) | (partners ^ all))
+    }
+}
+
+// How many cards of the suit are among these.
+#[inline]
+fn length(lengths: u64, suit: Suit) -> u8 {
+    ((lengths >> place(suit)) & 15) as u8
+}
+
+// The owners as the hand sees them that is so many places after the leader's.
+#[inline]
+fn owners_seen_from(tops: Signature, places: u8) -> u64 {
+    let owners = owners_in(tops, Suit::Spades)
+        | owners_in(tops, Suit::Hearts)
+        | owners_in(tops, Suit::Diamonds)
+        | owners_in(tops, Suit::Clubs);
+    let odd = if places % 2 == 1 { LOWEST * 3 } else { 0 };
+    let far = if places >= 2 { LOWEST * 12 } else { 0 };
+    owners ^ odd ^ far
+}
+
+#[inline]
+fn owners_in(tops: Signature, suit: Suit) -> u64 {
+    at(suit, tops.of_suit(suit) as u64)
+}

@@ -1,0 +1,54 @@
+//! Four suits side by side in a word: sixteen bits for each, the spades' on top.
+ghost use Rattle.std.specs.Prelude.{◌≤◌};
+
+use dd_cards::Suit;
+
+/// The lowest bit of each suit.
+pub(crate) const LOWEST: u64 = 0x0001_0001_0001_0001;
+
+/// The lowest four bits of each suit.
+pub(crate) const LOWEST_FOUR: u64 = 0x000F_000F_000F_000F;
+
+/// By how many places the suit's bits are above the lowest.
+#[inline]
+pub(crate) fn place(suit: Suit) -> u8
+    ensures { result ≤ 48 }
+{
+    48 - 16 * suit.code()
+}
+
+/// This number in the suit's bits.
+#[inline]
+pub(crate) fn at(suit: Suit, number: u64) -> u64 {
+    number << place(suit)
+}
+
+/// Is the lowest bit of the suit set?
+#[inline]
+pub(crate) fn has_lowest(bits: u64, suit: Suit) -> bool {
+    (bits >> place(suit)) & 1 == 1
+}
+
+/// The lowest bit of each suit whose number, 0 to 15, is not zero.
+#[inline]
+pub(crate) fn nonzero(numbers: u64) -> u64 {
+    (numbers.wrapping_add(LOWEST_FOUR) >> 4) & LOWEST
+}
+
+/// The lowest bit of each suit whose number, 0 to 15, is two or more.
+#[inline]
+pub(crate) fn several(numbers: u64) -> u64 {
+    nonzero((numbers >> 1) & LOWEST_FOUR)
+}
+
+/// These numbers, 0 to 15, where the lowest bit of the suit is set.
+#[inline]
+pub(crate) fn where_set(numbers: u64, bits: u64) -> u64 {
+    numbers & bits.wrapping_mul(15)
+}
+
+/// The sum of the four suits' numbers, which are small.
+#[inline]
+pub(crate) fn sum(numbers: u64) -> u8 {
+    ((numbers.wrapping_mul(LOWEST) >> 48) & 0xFF) as u8
+}
