@@ -7,17 +7,18 @@
 # through a pipe to each program in one run, over a table of 65,536 entries: the least time of each reply in as many such runs,
 # of these the mean, the geometric mean and the slowest, and the most memory that each program had. Then in the same way one
 # best lead of each deal, where the replies agree that have one score; one lead that reaches a target, the best score and then
-# one more, which none reaches; and in three runs at most the twenty results, beside DDS's CalcDDtable. Ratios are to each of
-# the two. Deals are from fixed seeds; it says whether the replies agree, and ends with status 1 where some don't.
+# one more, which none reaches; one best lead against notrump by South, with a fixed strong hand of South's, and with 26 points
+# of North and South together; and in three runs at most the twenty results, beside DDS's CalcDDtable. Ratios are to each of the
+# two. Deals are from fixed seeds; it says whether the replies agree, and ends with status 1 where some don't.
 # Words: the number of runs (5), of full deals (40), the seed of the full deals (1013), and the parts, with commas between them
-# (small,leads,best,targets,tables). `DDS_PEER` names a folder in which the built DDS is kept.
+# (small,leads,best,targets,declarers,tables). `DDS_PEER` names a folder in which the built DDS is kept.
 set -eu
 here=$(cd -- "$(dirname -- "$0")" && pwd)
 top=$(cd -- "$here/../.." && pwd)
 runs=${1:-5}
 full=${2:-40}
 seed=${3:-1013}
-parts=${4:-small,leads,best,targets,tables}
+parts=${4:-small,leads,best,targets,declarers,tables}
 
 for tool in python3 g++; do
     command -v "$tool" > /dev/null || { echo "bench/dds: the command $tool is missing" >&2; exit 1; }
@@ -38,6 +39,11 @@ for cards in 6 8 9; do
 done
 python3 "$top/bench/tools/deals.py" 13 "$full" --seed "$seed" --requests > "$work/13.jsonl"
 sed 's/"solutions":3/"solutions":1/' "$work/13.jsonl" > "$work/one.jsonl"
+against_notrump() {
+    python3 "$top/bench/tools/deals.py" 13 "$full" --seed "$seed" --strain 4 --first 3 "$@" --requests | sed 's/"solutions":3/"solutions":1/'
+}
+against_notrump --south AQ7.KQ5.AKJ4.KJ3 > "$work/south.jsonl"
+against_notrump --points 26 > "$work/games.jsonl"
 sed 's/"do":"solve"/"do":"table"/; s/,"trump".*}$/}/' "$work/13.jsonl" > "$work/tables.jsonl"
 
 python3 - "$runs" "$top/crates/ddserve/out/ddserve" "$work" "$parts" <<'PY'
@@ -204,6 +210,9 @@ if "targets" in parts:
     reached, missed = with_targets(lines_of("one"))
     one_by_one("one lead that reaches the best score", reached, "SHDCN", runs, scores)
     one_by_one("one lead that reaches a trick more", missed, "SHDCN", runs, scores)
+if "declarers" in parts:
+    one_by_one("one best lead against a fixed strong South", lines_of("south"), "N", runs, scores)
+    one_by_one("one best lead against 26 points", lines_of("games"), "N", runs, scores)
 if "tables" in parts:
     one_by_one("twenty results", lines_of("tables"), ["all"], min(runs, 3))
 sys.exit(1 if differing else 0)

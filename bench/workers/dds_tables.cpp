@@ -1,6 +1,6 @@
 // The twenty results of deals by DDS's CalcAllTables, with so many threads: reads request lines for tables, and prints their
-// reply lines; then, on the standard error, the nanoseconds of the call and how many threads DDS says that it has. At most 40
-// lines. It takes good input for granted.
+// reply lines; then, on the standard error, the nanoseconds of its calls, each of 40 deals at most, and how many threads DDS
+// says that it has. It takes good input for granted.
 #include <dds/dll.h>
 
 #include <chrono>
@@ -14,22 +14,15 @@ static ddTableDealsPBN asked;
 static ddTablesRes solved;
 static allParResults pars;
 
-int main(int count, char **words) {
-    SetMaxThreads(count > 1 ? atoi(words[1]) : 1);
-    std::string line;
-    while (std::getline(std::cin, line) && asked.noOfTables < MAXNOOFTABLES) {
-        size_t from = line.find("\"deal\":\"") + 8;
-        std::string deal = line.substr(from, line.find('"', from) - from);
-        char *cards = asked.deals[asked.noOfTables++].cards;
-        std::strncpy(cards, deal.c_str(), sizeof asked.deals[0].cards - 1);
-    }
+// The results of what is asked.
+static long long call() {
     int all_strains[DDS_STRAINS] = {0, 0, 0, 0, 0};
     auto start = std::chrono::steady_clock::now();
     int status = CalcAllTablesPBN(&asked, -1, all_strains, &solved, &pars);
     auto taken = std::chrono::duration_cast<std::chrono::nanoseconds>(std::chrono::steady_clock::now() - start);
     if (status != RETURN_NO_FAULT) {
         std::fprintf(stderr, "DDS: %d\n", status);
-        return 1;
+        std::exit(1);
     }
     for (int i = 0; i < asked.noOfTables; i++) {
         std::printf("{\"table\":[");
@@ -39,7 +32,25 @@ int main(int count, char **words) {
         }
         std::printf("]}\n");
     }
+    asked.noOfTables = 0;
+    return taken.count();
+}
+
+int main(int count, char **words) {
+    SetMaxThreads(count > 1 ? atoi(words[1]) : 1);
+    long long taken = 0;
+    std::string line;
+    while (std::getline(std::cin, line)) {
+        size_t from = line.find("\"deal\":\"") + 8;
+        std::string deal = line.substr(from, line.find('"', from) - from);
+        char *cards = asked.deals[asked.noOfTables++].cards;
+        std::strncpy(cards, deal.c_str(), sizeof asked.deals[0].cards - 1);
+        if (asked.noOfTables == MAXNOOFTABLES)
+            taken += call();
+    }
+    if (asked.noOfTables)
+        taken += call();
     DDSInfo info;
     GetDDSInfo(&info);
-    std::fprintf(stderr, "%lld %d\n", static_cast<long long>(taken.count()), info.noOfThreads);
+    std::fprintf(stderr, "%lld %d\n", taken, info.noOfThreads);
 }

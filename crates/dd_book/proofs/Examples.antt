@@ -56,6 +56,14 @@ module _ (hands : FourHands) where
   second-strain : due (row (Table hands) 7 1 (Running 9 1 ∷ Waiting ∷ Waiting ∷ Waiting ∷ Waiting ∷ Waiting ∷ Waiting ∷ Waiting ∷ []) ∷ []) ≡ Some (1, 4)
   second-strain = refl
 
+  -- each strain has a worker, and the owner's next table has free ones
+  next-table : due (row (Table hands) 7 2 (Running 9 1 ∷ Waiting ∷ Waiting ∷ Waiting ∷ Running 8 2 ∷ Waiting ∷ Waiting ∷ Waiting ∷ []) ∷ row (Table hands) 7 0 (Waiting ∷ Waiting ∷ Waiting ∷ Waiting ∷ []) ∷ []) ≡ Some (2, 0)
+  next-table = refl
+
+  -- it is another owner's, that was claimed for lately
+  next-table_of_other : due (row (Table hands) 7 2 (Running 9 1 ∷ Waiting ∷ Waiting ∷ Waiting ∷ []) ∷ row (Table hands) 5 3 (Running 6 3 ∷ Waiting ∷ Waiting ∷ Waiting ∷ Waiting ∷ Waiting ∷ Waiting ∷ Waiting ∷ []) ∷ []) ≡ Some (1, 1)
+  next-table_of_other = refl
+
   -- its part has ended: so does the first strain
   same-strain : due (row (Table hands) 7 2 (Number 9 ∷ Waiting ∷ Waiting ∷ Waiting ∷ Running 8 2 ∷ Waiting ∷ Waiting ∷ Waiting ∷ []) ∷ []) ≡ Some (1, 1)
   same-strain = refl
@@ -69,6 +77,11 @@ module _ (play : plays.Play) where
   last-part : due (row (Play play) 7 0 (Waiting ∷ Waiting ∷ Waiting ∷ Number 1 ∷ []) ∷ []) ≡ Some (1, 2)
   unfolding from_last
   last-part = refl
+
+  -- a worker has a part of the first: the owner's next play
+  next-play : due (row (Play play) 7 1 (Waiting ∷ Waiting ∷ Running 9 1 ∷ Number 1 ∷ []) ∷ row (Play play) 7 0 (Waiting ∷ Waiting ∷ []) ∷ []) ≡ Some (2, 1)
+  unfolding from_last
+  next-play = refl
 
   part-before : due (row (Play play) 7 1 (Waiting ∷ Waiting ∷ Running 9 1 ∷ Number 1 ∷ []) ∷ []) ≡ Some (1, 1)
   unfolding from_last

@@ -1,7 +1,7 @@
 -- Places by their owners.
-use Rattle.std.proofs.Common.{◌≡◌, ℕ, ◌≤◌, Bool, true, false, cond, refl, ap, ◌∙◌, subst, arith, List, [], ◌∷◌, nat_eq, nat_lt}
+use Rattle.std.proofs.Common.{◌≡◌, ℕ, ◌≤◌, Bool, true, false, cond, refl, sym, ap, ◌∙◌, subst, arith, List, [], ◌∷◌, nat_eq, nat_lt, Some, None}
 use Rattle.std.specs.BTreeMap.Range.{IsInRange}
-use Rattle.std.specs.Prelude.{slice_get, IfSome, IsTrue, ◌&&◌, ◌==◌}
+use Rattle.std.specs.Prelude.{Option, slice_get, IfSome, IsTrue, ◌&&◌, ◌==◌}
 use Rattle.std.specs.declared.cmp.Ordering.TheVariants.{Less, Equal, Greater}
 use Rattle.std.specs.declared.ops.Bound.TheVariants.{Included, Unbounded}
 use Rattle.std.specs.Ordering.{is_eq, is_gt, ordering_then}
@@ -9,7 +9,7 @@ use Rattle.std.specs.BTreeMap.{is_at}
 use Rattle.std.specs.BTreeSet.{BTreeSet, contains, IsKeyRangeOf, Updates}
 use Rattle.std.proofs.lemmas.Bool.Decides.{nat_tests}
 use Rattle.std.proofs.lemmas.Grind.{common_steps}
-use Rattle.dd_book.specs.Waiting.{IsFirstOf, SetsOnly, has_place, pair_cmp}
+use Rattle.dd_book.specs.Waiting.{IsFirstFrom, IsFirstPlace, IsNextPlace, SetsOnly, has_place, pair_cmp}
 
 -- ---- the order of pairs
 
@@ -38,34 +38,40 @@ le-tells a b h = (grind (arith, common_steps, nat_tests), λ e. grind (arith, co
 pub le-from : (o p q : ℕ) → p ≤ q → is_gt (pair_cmp (o, p) (o, q)) ≡ false
 le-from o p q h = grind (arith, common_steps, nat_tests)
 
--- ---- the first place of an owner
+-- ---- the first place of an owner from one on
 
-module _ (waiting : BTreeSet (ℕ × ℕ)) (owner : ℕ) (found : List (ℕ × ℕ)) (of : IsKeyRangeOf pair_cmp (Included (owner, 0)) Unbounded waiting found) where
+module _ (waiting : BTreeSet (ℕ × ℕ)) (owner from : ℕ) (found : List (ℕ × ℕ)) (of : IsKeyRangeOf pair_cmp (Included (owner, from)) Unbounded waiting found) where
   lacks-from : (p : ℕ) (b : Bool) → has_place waiting owner p ≡ b → (b ≡ true → ⊥) → has_place waiting owner p ≡ false
   lacks-from p true is never = absurd (never refl)
   lacks-from p false is never = is
 
   -- what is found first stands before each place of the owner
-  first-before : (k : ℕ × ℕ) (rest : List (ℕ × ℕ)) → found ≡ k ∷ rest → (p : ℕ) → has_place waiting owner p ≡ true → (k.0 ≤ owner) × (k.0 ≡ owner → k.1 ≤ p)
-  first-before k rest is p has = le-tells k (owner, p)
-      (subst (λ (ks : List (ℕ × ℕ)). IfSome (slice_get ks 0) (λ x. is_gt (pair_cmp x (owner, p)) ≡ false)) is (of.2 (owner, p) (le-from owner 0 p (omega arith), tt) has))
+  first-before : (k : ℕ × ℕ) (rest : List (ℕ × ℕ)) → found ≡ k ∷ rest → (p : ℕ) → from ≤ p → has_place waiting owner p ≡ true → (k.0 ≤ owner) × (k.0 ≡ owner → k.1 ≤ p)
+  first-before k rest is p past has = le-tells k (owner, p)
+      (subst (λ (ks : List (ℕ × ℕ)). IfSome (slice_get ks 0) (λ x. is_gt (pair_cmp x (owner, p)) ≡ false)) is (of.2 (owner, p) (le-from owner from p past, tt) has))
 
   -- it is the owner's
-  pub first-own : (k : ℕ × ℕ) (rest : List (ℕ × ℕ)) → found ≡ k ∷ rest → k.0 ≡ owner → IsFirstOf (has_place waiting) owner k.1
+  pub first-own : (k : ℕ × ℕ) (rest : List (ℕ × ℕ)) → found ≡ k ∷ rest → k.0 ≡ owner → IsFirstFrom (has_place waiting) owner from k.1
   first-own k rest is own =
-      let there = subst (λ (ks : List (ℕ × ℕ)). IfSome (slice_get ks 0) (λ x. IsInRange pair_cmp (Included (owner, 0)) Unbounded x × IsTrue (contains pair_cmp waiting x))) is of.1 in (
+      let there = subst (λ (ks : List (ℕ × ℕ)). IfSome (slice_get ks 0) (λ x. IsInRange pair_cmp (Included (owner, from)) Unbounded x × IsTrue (contains pair_cmp waiting x))) is of.1 in (
+        (le-tells (owner, from) k there.0.0).1 (sym own),
         subst (λ o. has_place waiting o k.1 ≡ true) own there.1,
-        λ p less. lacks-from p (has_place waiting owner p) refl (λ has. omega (arith, (first-before k rest is p has).1 own)),
+        λ p past less. lacks-from p (has_place waiting owner p) refl (λ has. omega (arith, (first-before k rest is p past has).1 own)),
       )
 
   -- it is another owner's
-  pub first-other : (k : ℕ × ℕ) (rest : List (ℕ × ℕ)) → found ≡ k ∷ rest → (k.0 ≡ owner → ⊥) → (p : ℕ) → has_place waiting owner p ≡ false
-  first-other k rest is other p =
-      let there = subst (λ (ks : List (ℕ × ℕ)). IfSome (slice_get ks 0) (λ x. IsInRange pair_cmp (Included (owner, 0)) Unbounded x × IsTrue (contains pair_cmp waiting x))) is of.1 in
-      lacks-from p (has_place waiting owner p) refl (λ has. other (omega (arith, (le-tells (owner, 0) k there.0.0).0, (first-before k rest is p has).0)))
+  pub first-other : (k : ℕ × ℕ) (rest : List (ℕ × ℕ)) → found ≡ k ∷ rest → (k.0 ≡ owner → ⊥) → (p : ℕ) → from ≤ p → has_place waiting owner p ≡ false
+  first-other k rest is other p past =
+      let there = subst (λ (ks : List (ℕ × ℕ)). IfSome (slice_get ks 0) (λ x. IsInRange pair_cmp (Included (owner, from)) Unbounded x × IsTrue (contains pair_cmp waiting x))) is of.1 in
+      lacks-from p (has_place waiting owner p) refl (λ has. other (omega (arith, (le-tells (owner, from) k there.0.0).0, (first-before k rest is p past has).0)))
 
-  pub first-none : found ≡ [] → (p : ℕ) → has_place waiting owner p ≡ false
-  first-none is p = of.5 is (owner, p) (le-from owner 0 p (omega arith), tt)
+  pub first-none : found ≡ [] → (p : ℕ) → from ≤ p → has_place waiting owner p ≡ false
+  first-none is p past = of.5 is (owner, p) (le-from owner from p past, tt)
+
+-- the first place of all
+pub first-of_all : (waiting : BTreeSet (ℕ × ℕ)) (owner : ℕ) (found : Option ℕ) → IsNextPlace waiting owner 0 found → IsFirstPlace waiting owner found
+first-of_all waiting owner None none = λ p. none p (omega arith)
+first-of_all waiting owner (Some place) next = (next.1, λ p less. next.2 p (omega arith) less)
 
 -- ---- a place changes
 

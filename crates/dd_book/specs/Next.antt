@@ -1,5 +1,6 @@
 -- To be believed: which part of a job is claimed next.
-use Rattle.std.specs.Prelude.{ℕ, zero, suc, ◌+◌, ◌*◌, ◌/◌, ◌&&◌, not, Bool, false, List, [], ◌∷◌, length, slice_get, Option, None, Some}
+use Rattle.std.specs.Prelude.{ℕ, zero, suc, ◌+◌, ◌*◌, ◌/◌, ◌&&◌, not, Bool, true, false, List, [], ◌∷◌, length, slice_get, Option, None, Some}
+use Rattle.std.specs.Option.{is_some}
 use Rattle.std.specs.List.{find, list_any, position, range_with_len, slice_range}
 use Rattle.dd_solve.specs.declared.asked.Asked.{Asked}
 use Rattle.dd_solve.specs.declared.asked.Asked.TheVariants.{Solve, Table, Target, Play}
@@ -36,6 +37,14 @@ from_last (suc n) = n ∷ from_last n
 -- the last part of a play that waits: what a search learns of a position serves those before it
 abbrev pub next_of_play : List Part → Option ℕ
 next_of_play parts = find (waits_at parts) (from_last (length parts))
+
+-- the part that is claimed next learns from none that a worker has: of a table one is free, of a play no part runs
+abbrev pub starts_apart : Asked → List Part → Bool
+starts_apart (Solve question) parts = true
+starts_apart (Target question) parts = true
+starts_apart (Table hands) parts =
+    is_some (find (is_free parts) (range_with_len 0 (length parts)))
+starts_apart (Play play) parts = not (list_any is_running parts)
 
 -- the place of the part of a job that is claimed next
 abbrev pub next_part : Asked → List Part → Option ℕ

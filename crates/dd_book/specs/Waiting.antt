@@ -1,5 +1,5 @@
 -- The places that wait, by their owners.
-use Rattle.std.specs.Prelude.{◌≡◌, ℕ, ◌<◌, ◌&&◌, Bool, true, false, nat_eq, Option, None, Some, if◌then◌else◌}
+use Rattle.std.specs.Prelude.{◌≡◌, ℕ, ◌<◌, ◌≤◌, ◌&&◌, Bool, true, false, nat_eq, Option, None, Some, if◌then◌else◌}
 use Rattle.std.specs.declared.cmp.Ordering.{Ordering}
 use Rattle.std.specs.Ordering.{nat_cmp, ordering_then}
 use Rattle.std.specs.BTreeSet.{BTreeSet, contains}
@@ -21,6 +21,16 @@ SetsOnly old new owner place b =
 abbrev pub IsFirstOf : (ℕ → ℕ → Bool) → ℕ → ℕ → Type 0
 IsFirstOf waits owner place =
     (waits owner place ≡ true) × ((p : ℕ) → p < place → waits owner p ≡ false)
+
+-- the first place of an owner from this one on, of those that wait
+abbrev pub IsFirstFrom : (ℕ → ℕ → Bool) → ℕ → ℕ → ℕ → Type 0
+IsFirstFrom waits owner from place =
+    (from ≤ place) × (waits owner place ≡ true) × ((p : ℕ) → from ≤ p → p < place → waits owner p ≡ false)
+
+-- the first place of this owner in the set from that one on, if there is one
+abbrev pub IsNextPlace : BTreeSet (ℕ × ℕ) → ℕ → ℕ → Option ℕ → Type 0
+IsNextPlace waiting owner from None = (place : ℕ) → from ≤ place → has_place waiting owner place ≡ false
+IsNextPlace waiting owner from (Some place) = IsFirstFrom (has_place waiting) owner from place
 
 -- the first place of this owner in the set, if it has one
 abbrev pub IsFirstPlace : BTreeSet (ℕ × ℕ) → ℕ → Option ℕ → Type 0

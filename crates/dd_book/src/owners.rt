@@ -5,11 +5,11 @@ ghost use Rattle.std.specs.Option.{ForSome};
 ghost use Rattle.dd_book.specs.Jobs.{JobOf, has_waiting, is_due};
 ghost use Rattle.dd_book.specs.Indexes.{AreOwners, IsKnown, count_of};
 ghost use Rattle.dd_book.specs.Tournaments.{with_key};
-ghost use Rattle.dd_book.specs.Waiting.{IsFirstPlace, has_place};
+ghost use Rattle.dd_book.specs.Waiting.{IsFirstPlace, IsNextPlace, has_place};
 
 use crate::counts::{Counts, count, know, raise};
 use crate::tournament::Tournament;
-use crate::waiting::{Waiting, first_of, keep, put, take};
+use crate::waiting::{Waiting, first_of, keep, next_of, put, take};
 use std::alloc::{AllocError, Global};
 use std::collections::{BTreeMap, BTreeSet};
 
@@ -46,6 +46,13 @@ impl Owners {
             Some((_, place)) => Some(place),
             None => None,
         }
+    }
+
+    /// The first place of this owner's jobs that wait, from this one on.
+    pub(crate) fn next_of(&self, owner: u64, from: usize) -> Option<usize>
+        ensures { IsNextPlace self.now.waiting owner from result }
+    {
+        next_of(&self.waiting, owner, from)
     }
 
     /// Keeps room for a job of this owner at the end. No job changes here.

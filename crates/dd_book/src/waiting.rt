@@ -1,7 +1,7 @@
 //! The places that wait, by their owners.
 ghost use Rattle.std.specs.Prelude.{◌≡◌, true, false, OnOk, OnErr};
 ghost use Rattle.std.specs.BTreeSet.{IsUnchanged};
-ghost use Rattle.dd_book.specs.Waiting.{IsFirstPlace, SetsOnly, has_place};
+ghost use Rattle.dd_book.specs.Waiting.{IsFirstPlace, IsNextPlace, SetsOnly, has_place};
 
 use std::alloc::AllocError;
 use std::collections::BTreeSet;
@@ -13,7 +13,14 @@ pub(crate) type Waiting = BTreeSet<(u64, usize)>;
 pub(crate) fn first_of(waiting: &Waiting, owner: u64) -> Option<usize>
     ensures { IsFirstPlace waiting.now owner result }
 {
-    match waiting.range((owner, 0)..).next() {
+    next_of(waiting, owner, 0)
+}
+
+/// The first place of this owner that waits, from this one on.
+pub(crate) fn next_of(waiting: &Waiting, owner: u64, from: usize) -> Option<usize>
+    ensures { IsNextPlace waiting.now owner from result }
+{
+    match waiting.range((owner, from)..).next() {
         Some((whose, place)) if *whose == owner => Some(*place),
         _ => None,
     }

@@ -28,7 +28,7 @@ use Rattle.dd_book.specs.declared.parts.Part.TheVariants.{Waiting, Ended, Number
 use Rattle.dd_book.specs.Next.{next_part}
 use Rattle.dd_book.specs.Parts.{is_ended, runs_by}
 use Rattle.dd_book.specs.Same.{same_question, same_target, same_hands, is_of_play}
-use Rattle.dd_book.specs.Jobs.{JobOf, Turn, if_owned, is_due, is_open, job_after, job_at, job_with, new_job, next_turn, own_job, parts_of, play_stage, shown_stage, stage_after, table_stage, turn, turn_at, turn_of, with_claim, with_job, with_stage}
+use Rattle.dd_book.specs.Jobs.{JobOf, Turn, chosen, if_owned, is_open, job_after, job_at, job_with, new_job, next_turn, own_job, parts_of, play_stage, shown_stage, stage_after, table_stage, turn, turn_at, turn_of, with_claim, with_job, with_stage}
 use Rattle.dd_book.specs.Calls.{BookOf, after, book_claimed, cancel_told, claim_told, claimed, fetch_told, jobs_after_finish, jobs_cancelled, reply_of, with_jobs}
 use Rattle.dd_book.proofs.CallerLemmas.{job_at-place, next-within, refused, same_question-is, same_target-is}
 use Rattle.dd_runs.specs.Steps.{CarriesRight, IsRight}
@@ -149,7 +149,7 @@ own-is jobs caller number job h = owned-is caller (job_at jobs number) job h
 
 -- the job whose turn is next, with a part that waits
 turn-there : (jobs : List JobOf) (t : Turn) → next_turn jobs ≡ Some t → (slice_get jobs (t.number - 1) ≡ Some t.job) × (next_part t.job.asked (parts_of t.job.stage) ≡ Some t.part)
-turn-there jobs t h = first (position (is_due jobs) jobs) h
+turn-there jobs t h = first (chosen jobs) h
   where
     of_job : (place : ℕ) (job : JobOf) (o : Option ℕ) → slice_get jobs place ≡ Some job → next_part job.asked (parts_of job.stage) ≡ o → option_map (turn place job) o ≡ Some t
         → (slice_get jobs (t.number - 1) ≡ Some t.job) × (next_part t.job.asked (parts_of t.job.stage) ≡ Some t.part)

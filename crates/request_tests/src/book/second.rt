@@ -46,6 +46,19 @@ impl Job {
         self.parts.iter().any(|part| *part == Part::Waiting)
     }
 
+    // Does a part wait that learns from none that a worker has? Of a table one of a strain without a worker, of a play any while
+    // none of its parts runs.
+    fn has_free(&self) -> bool {
+        let mut parts = self.parts.iter();
+        match self.asks {
+            Asks::Play => {
+                self.waits() && !parts.any(|part| matches!(*part, Part::Running(_, _)))
+            }
+            Asks::Table => self.parts.chunks(4).any(is_free),
+            _ => self.waits(),
+        }
+    }
+
     // The part that is claimed next: of a play the last one that waits; of a table the first of a strain without a worker, else
     // the first that waits.
     fn next_part(&self) -> Option<usize> {
@@ -218,6 +231,15 @@ impl Second {
         due
     }
 
+    // The place of the job that is claimed next: the first of that owner that has a free part, else the first that waits.
+    fn next(&self) -> Option<usize> {
+        let due = self.due()?;
+        let owner = self.jobs.get(due)?.owner;
+        let mut jobs = self.jobs.iter();
+        let free = jobs.position(|job| job.owner == owner && job.has_free());
+        Some(free.unwrap_or(due))
+    }
+
     fn claim(&mut self, worker: u64) -> Result<MadeReply, AllocError> {
         let claim = self.given.len() as u64 + 1;
         let idle = if self.shut {
@@ -225,7 +247,7 @@ impl Second {
         } else {
             MadeReply::NothingWaits
         };
-        let Some(place) = self.due() else {
+        let Some(place) = self.next() else {
             return Ok(idle);
         };
         let Some(found) = self.jobs.get_mut(place) else {

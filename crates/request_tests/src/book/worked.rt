@@ -199,6 +199,44 @@ fn a_strain_is_left_to_its_worker_while_another_waits(rt: HostRuntime) -> Result
 }
 
 #[test]
+fn a_strain_is_split_only_where_no_job_of_the_owner_has_a_free_one(
+    rt: HostRuntime,
+) -> Result<(), AllocError> {
+    let rows = "1 submits T: job 1
+1 submits T: job 2
+1 claims: job 1 part 0 claim 1
+2 claims: job 1 part 4 claim 2
+3 claims: job 1 part 8 claim 3
+4 claims: job 1 part 12 claim 4
+5 claims: job 1 part 16 claim 5
+6 claims: job 2 part 0 claim 6
+1 finishes 1 1 a: recorded
+1 claims: job 1 part 1 claim 7
+7 claims: job 2 part 4 claim 8
+2 submits B: job 3
+8 claims: job 3 claim 9
+8 claims: job 2 part 8 claim 10
+9 claims: job 2 part 12 claim 11
+10 claims: job 2 part 16 claim 12
+11 claims: job 1 part 2 claim 13";
+    follow(&rt, rt.alloc(), ample(&rt), rows)
+}
+
+#[test]
+fn a_play_is_left_to_its_worker_while_another_waits(rt: HostRuntime) -> Result<(), AllocError> {
+    let rows = "1 submits Q: job 1
+1 submits Q: job 2
+1 submits B: job 3
+7 claims: job 1 after 4 claim 1
+8 claims: job 2 after 4 claim 2
+7 finishes 1 1 Q4: recorded
+7 claims: job 1 after 3 claim 3
+9 claims: job 3 claim 4
+6 claims: job 1 after 2 claim 5";
+    follow(&rt, rt.alloc(), ample(&rt), rows)
+}
+
+#[test]
 fn a_target_is_one_part_and_ends_with_its_own_answer(rt: HostRuntime) -> Result<(), AllocError> {
     let rows = "1 submits G: job 1
 1 submits U: job 2
@@ -234,7 +272,6 @@ fn a_target_is_one_part_and_ends_with_its_own_answer(rt: HostRuntime) -> Result<
 #[test]
 fn a_play_is_done_when_each_of_its_numbers_is_there(rt: HostRuntime) -> Result<(), AllocError> {
     let rows = "1 submits Q: job 1
-1 submits A: job 2
 1 fetches 1: waiting
 8 claims: job 1 after 4 claim 1
 9 claims: job 1 after 3 claim 2
@@ -262,6 +299,7 @@ fn a_play_is_done_when_each_of_its_numbers_is_there(rt: HostRuntime) -> Result<(
 2 fetches 1: fault 16
 1 cancels 1: fault 17
 8 finishes 1 5 Q1: stale
+1 submits A: job 2
 9 claims: job 2 claim 7
 9 finishes 2 7 Q0: stale";
     follow(&rt, rt.alloc(), ample(&rt), rows)
@@ -270,9 +308,7 @@ fn a_play_is_done_when_each_of_its_numbers_is_there(rt: HostRuntime) -> Result<(
 #[test]
 fn a_play_of_all_cards_starts_with_its_last_number(rt: HostRuntime) -> Result<(), AllocError> {
     let rows = "1 submits P: job 1
-1 submits W: job 2
 1 fetches 1: running
-1 fetches 2: waiting
 9 claims: job 1 after 7 claim 1
 9 claims: job 1 after 6 claim 2
 9 claims: job 1 after 5 claim 3
@@ -281,6 +317,8 @@ fn a_play_of_all_cards_starts_with_its_last_number(rt: HostRuntime) -> Result<()
 9 claims: job 1 after 2 claim 6
 9 claims: job 1 after 1 claim 7
 9 claims: job 1 after 0 claim 8
+1 submits W: job 2
+1 fetches 2: waiting
 9 claims: job 2 after 0 claim 9
 9 claims: nothing waits
 9 finishes 2 9 W0: recorded
