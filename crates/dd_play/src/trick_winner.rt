@@ -8,7 +8,19 @@ use dd_cards::{Card, Seat, Strain, Suit};
 
 /// The seat that wins a full trick, in the order of play from the card that `first` led (Laws 44E and 44F).
 /// Of two like cards, which no pack has, the earlier counts as the higher.
+// Twice the same code: whether there are trumps is asked once a trick, and not of each card.
 pub fn winner(trick: &[Card; 4], first: Seat, strain: Strain) -> Seat
+    ensures { result ≡ winner_of trick.now first strain }
+{
+    match strain {
+        Strain::Trump(trump) => winner_at(trick, first, Strain::Trump(trump)),
+        Strain::Notrump => winner_at(trick, first, Strain::Notrump),
+    }
+}
+
+// The same at this strain.
+#[inline(always)]
+fn winner_at(trick: &[Card; 4], first: Seat, strain: Strain) -> Seat
     ensures { result ≡ winner_of trick.now first strain }
 {
     let [a, b, c, d] = *trick;

@@ -8,6 +8,7 @@ mod cutoffs;
 mod discard;
 mod follow;
 mod guess;
+mod halt_word;
 mod holdings;
 mod known_tricks;
 mod laws;

@@ -24,7 +24,7 @@ struct SuitsSeen {
 }
 
 /// May the hand so many places, 0 to 3, after the leader's have so many quick tricks, where it has the lead and so many tricks are left?
-#[inline(never)]
+#[inline(always)]
 pub(crate) fn may_have_quick_tricks(
     lengths: u64,
     tops: Signature,

@@ -12,6 +12,7 @@ ghost use Rattle.dd_search.specs.Turns.{cards_before};
 ghost use Rattle.dd_search.specs.declared.turn.Turn.{Turn};
 
 use crate::cutoffs::{note_answer, quick_answer, second_hands_answer, told_answer};
+use crate::halt_word::{HaltWord, answer_or_halt, tick};
 use crate::lead::Leading;
 use crate::meter::{Halt, Meter, go_on};
 use crate::order::{MovePicker, Order};
@@ -27,13 +28,29 @@ use dd_rank::{OwnerStrings, Shape};
 
 /// Do North and South take at least `need` of the tricks left? It ticks first; at a start of a trick a look or the quick
 /// bounds may settle it, and a lead second hand's winners; else play does, and what that taught at a start is noted.
-// Each hand of a trick has a question of its own: where whose turn it is is a constant, the code looks at it nowhere.
 pub(crate) fn zero_window<B: Bounds, M: Meter>(
     position: &Position,
     need: u8,
     table: &mut B,
     meter: &mut M,
 ) -> Result<Verdict, Halt>
+    requires low { 1 ≤ need }
+    requires high { need ≤ tricks_left position.now }
+    ensures answer { IfOk result (λ answer. IsAnswer position.now need answer.yes) }
+    ensures winning_ranks { IfOk result (λ answer. IsAnswerBy position.now need answer.cards answer.yes) }
+    ensures ticked { OnOk result (M.ticked meter.old meter.new) }
+    ensures ends { EndsAs (M.says meter.new) result }
+{
+    answer_or_halt(zero_window_by_turn(position, need, table, meter))
+}
+
+// Each hand of a trick has a question of its own: where whose turn it is is a constant, the code looks at it nowhere.
+fn zero_window_by_turn<B: Bounds, M: Meter>(
+    position: &Position,
+    need: u8,
+    table: &mut B,
+    meter: &mut M,
+) -> Result<Verdict, HaltWord>
     requires low { 1 ≤ need }
     requires high { need ≤ tricks_left position.now }
     ensures answer { IfOk result (λ answer. IsAnswer position.now need answer.yes) }
@@ -58,7 +75,7 @@ fn zero_window_at_first_hand<B: Bounds, M: Meter>(
     need: u8,
     table: &mut B,
     meter: &mut M,
-) -> Result<Verdict, Halt>
+) -> Result<Verdict, HaltWord>
     requires turn { length position.now.trick ≡ cards_before Turn.First }
     requires low { 1 ≤ need }
     requires high { need ≤ tricks_left position.now }
@@ -80,7 +97,7 @@ fn zero_window_at_start<B: Bounds, M: Meter>(
     need: u8,
     table: &mut B,
     meter: &mut M,
-) -> Result<Verdict, Halt>
+) -> Result<Verdict, HaltWord>
     requires low { 1 ≤ need }
     requires high { need ≤ tricks_left start.now }
     ensures answer { IfOk result (λ answer. IsAnswer start.now need answer.yes) }
@@ -88,7 +105,7 @@ fn zero_window_at_start<B: Bounds, M: Meter>(
     ensures ticked { OnOk result (M.ticked meter.old meter.new) }
     ensures ends { EndsAs (M.says meter.new) result }
 {
-    go_on(meter)?;
+    tick(meter)?;
     answer_at_start(start, need, table, meter)
 }
 
@@ -99,7 +116,7 @@ fn zero_window_at_second_hand<B: Bounds, M: Meter>(
     need: u8,
     table: &mut B,
     meter: &mut M,
-) -> Result<Verdict, Halt>
+) -> Result<Verdict, HaltWord>
     requires turn { length position.now.trick ≡ cards_before Turn.Second }
     requires low { 1 ≤ need }
     requires high { need ≤ tricks_left position.now }
@@ -108,7 +125,7 @@ fn zero_window_at_second_hand<B: Bounds, M: Meter>(
     ensures ticked { OnOk result (M.ticked meter.old meter.new) }
     ensures ends { EndsAs (M.says meter.new) result }
 {
-    go_on(meter)?;
+    tick(meter)?;
     answer_by_play(position, Turn::Second, None, need, table, meter)
 }
 
@@ -119,7 +136,7 @@ fn zero_window_at_third_hand<B: Bounds, M: Meter>(
     need: u8,
     table: &mut B,
     meter: &mut M,
-) -> Result<Verdict, Halt>
+) -> Result<Verdict, HaltWord>
     requires turn { length position.now.trick ≡ cards_before Turn.Third }
     requires low { 1 ≤ need }
     requires high { need ≤ tricks_left position.now }
@@ -128,7 +145,7 @@ fn zero_window_at_third_hand<B: Bounds, M: Meter>(
     ensures ticked { OnOk result (M.ticked meter.old meter.new) }
     ensures ends { EndsAs (M.says meter.new) result }
 {
-    go_on(meter)?;
+    tick(meter)?;
     answer_by_play(position, Turn::Third, None, need, table, meter)
 }
 
@@ -139,7 +156,7 @@ fn zero_window_at_fourth_hand<B: Bounds, M: Meter>(
     need: u8,
     table: &mut B,
     meter: &mut M,
-) -> Result<Verdict, Halt>
+) -> Result<Verdict, HaltWord>
     requires turn { length position.now.trick ≡ cards_before Turn.Fourth }
     requires low { 1 ≤ need }
     requires high { need ≤ tricks_left position.now }
@@ -148,7 +165,7 @@ fn zero_window_at_fourth_hand<B: Bounds, M: Meter>(
     ensures ticked { OnOk result (M.ticked meter.old meter.new) }
     ensures ends { EndsAs (M.says meter.new) result }
 {
-    go_on(meter)?;
+    tick(meter)?;
     answer_by_play(position, Turn::Fourth, None, need, table, meter)
 }
 
@@ -160,7 +177,7 @@ fn answer_at_start<B: Bounds, M: Meter>(
     need: u8,
     table: &mut B,
     meter: &mut M,
-) -> Result<Verdict, Halt>
+) -> Result<Verdict, HaltWord>
     requires low { 1 ≤ need }
     requires high { need ≤ tricks_left start.now }
     ensures answer { IfOk result (λ answer. IsAnswer start.now need answer.yes) }
@@ -202,7 +219,7 @@ fn answer_by_play<B: Bounds, M: Meter>(
     need: u8,
     table: &mut B,
     meter: &mut M,
-) -> Result<Verdict, Halt>
+) -> Result<Verdict, HaltWord>
     requires turn { length position.now.trick ≡ cards_before turn }
     requires low { 1 ≤ need }
     requires high { need ≤ tricks_left position.now }
@@ -241,7 +258,7 @@ fn answer_by_only_choice<B: Bounds, M: Meter>(
     need: u8,
     table: &mut B,
     meter: &mut M,
-) -> Result<Verdict, Halt>
+) -> Result<Verdict, HaltWord>
     requires only { tops position.now ≡ card ∷ [] }
     requires turn { length position.now.trick ≡ cards_before turn }
     requires low { 1 ≤ need }
@@ -277,7 +294,7 @@ fn answer_by_choices<B: Bounds, M: Meter>(
     need: u8,
     table: &mut B,
     meter: &mut M,
-) -> Result<Verdict, Halt>
+) -> Result<Verdict, HaltWord>
     requires choices { choices ≡ tops position.now }
     requires turn { length position.now.trick ≡ cards_before turn }
     requires low { 1 ≤ need }
@@ -332,7 +349,8 @@ pub(crate) fn zero_window_in_order<B: Bounds, M: Meter>(
             go_on(meter)?;
             let turn = Turn::of(position);
             let choices = tops_at(position, turn.cards_before());
-            answer_by_choices(position, turn, None, order, choices, need, table, meter)
+            let found = answer_by_choices(position, turn, None, order, choices, need, table, meter);
+            answer_or_halt(found)
         }
     }
 }
@@ -375,7 +393,7 @@ fn answer_after<B: Bounds, M: Meter>(
     seconds: &mut SecondHands,
     table: &mut B,
     meter: &mut M,
-) -> Result<Verdict, Halt>
+) -> Result<Verdict, HaltWord>
     requires legal { has_card (legal position.now) card ≡ true }
     requires turn { length position.now.trick ≡ cards_before turn }
     requires low { 1 ≤ need }
@@ -411,7 +429,7 @@ fn answer_after_trick<B: Bounds, M: Meter>(
     need: u8,
     table: &mut B,
     meter: &mut M,
-) -> Result<Verdict, Halt>
+) -> Result<Verdict, HaltWord>
     requires turn { length position.now.trick ≡ cards_before Turn.First }
     ensures winning_ranks { IfOk result (λ answer. IsAnswerBy position.now need answer.cards answer.yes) }
     ensures ticked { (m : M) → M.ticked m meter.old → OnOk result (M.ticked m meter.new) }

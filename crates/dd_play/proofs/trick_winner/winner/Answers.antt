@@ -1,11 +1,10 @@
-use Rattle.std.proofs.Common.{ap, ◌∙◌}
-use Rattle.dd_cards.specs.PlayingCard.{PlayingCard}
-use Rattle.dd_play.proofs.Strengths.{winner-strongest}
+use Rattle.std.proofs.Common.{ap, sym, ◌∙◌}
+use Rattle.dd_cards.specs.declared.strain.Strain.{Strain}
+use Rattle.dd_play.specs.Tricks.{winner_of}
 use Rattle.dd_play.proofs.trick_winner.winner.Goals as goal
 
-pub returns : goal.returns
-returns c =
-    c.seat_after.ensures
-    ∙ winner-strongest c.args.strain c.args.first c.args.trick.now _ _ _ _ c.a.inside.suit c.strongest_place-place.result c.type_inv.trick (ap (λ (card : PlayingCard). card.suit) c.a.view_is)
-    c.strength.ensures.rank c.strength-2.ensures.rank c.strength-3.ensures.rank c.strength-4.ensures.rank
-    (rw (← c.strength.ensures.value, ← c.strength-2.ensures.value, ← c.strength-3.ensures.value, ← c.strength-4.ensures.value) c.strongest_place-place.ensures.value)
+pub returns-in-Trump : goal.returns-in-Trump
+returns-in-Trump c = c.winner_at.ensures ∙ ap (λ (strain : Strain). winner_of c.args.trick.now c.args.first strain) (sym c.in-Trump.is)
+
+pub returns-in-Notrump : goal.returns-in-Notrump
+returns-in-Notrump c = c.winner_at-in-Notrump.ensures ∙ ap (λ (strain : Strain). winner_of c.args.trick.now c.args.first strain) (sym c.in-Notrump.is)
