@@ -497,6 +497,6 @@ fn file_workers_option<'a>(alloc: Global) -> Arg<'a>
         .value_name("N")
         .value_parser(value_parser!(u32).range(1..=MOST_WORKERS as i64))
         .help(
-            "The threads that search, 1 to 64; more than one share a table of 16 shards [default: 1]",
+            "The threads that search, 1 to 64; more than one\nshare a table of 16 shards [default: 1]",
         )
 }

@@ -22,6 +22,7 @@ reply; 'par' is answered at once:
                            the same when the job has ended, or after 30000
                            milliseconds; 60000 at most
   {\"do\":\"cancel\",\"job\":1}  gives the job up
+  {\"do\":\"health\"}          tells workers, open jobs and the events left of the run
   {\"do\":\"stop\"}            ends the program, with --allow-stop
 
   {\"cards\":[{\"equals\":4,\"rank\":3,\"score\":2,\"suit\":0}],\"job\":1,\"state\":\"done\"}
