@@ -18,7 +18,7 @@ FAULTS: dict[int, Tuple[str, Tuple[str, ...]]] = {
     11: ("played has more than three cards, cards more than 52, or one of them is no card", ("played", "cards")),
     12: ("solutions is not 1 to 3, or not 1 or 2 beside a target", ("solutions",)),
     13: ("64 jobs of this connection are open", ()),
-    14: ("the run of this connection has no more connections", ()),
+    14: ("the run of this connection has no room for more jobs", ()),
     15: ("the run of this connection is used up", ()),
     16: ("this connection has no job of that number", ("job",)),
     17: ("the job has ended: there is nothing to cancel", ("job",)),
