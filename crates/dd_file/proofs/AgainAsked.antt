@@ -9,7 +9,7 @@ use Rattle.dd_file.specs.declared.fill_state.FillState.{FillState}
 use Rattle.dd_file.specs.declared.mode.Mode.{Mode}
 use Rattle.dd_file.specs.declared.mode.Mode.TheVariants.{Head, Mark1, Mark2, Start, Plain, Escaped, Remark, Braced, Quoted, Backslash}
 use Rattle.dd_file.specs.declared.wanted.Wanted.{Wanted}
-use Rattle.dd_file.specs.Again.{AllAnswered, HasAnswer, HasPar}
+use Rattle.dd_file.proofs.AgainAnswers.{AllAnswered, HasAnswer, HasPar}
 use Rattle.dd_file.specs.Filled.{Ask, Found, added_text, answers_after, ask_at, ask_of, asked_here, asks_from, ends_last, filled_from, first_of, has_place, state_here, text_here, text_of}
 use Rattle.dd_file.specs.Games.{after_end, conditions_of, ends, first_state, has_name, is_required, lacks, next_state}
 use Rattle.dd_file.specs.Kepts.{value_of}

@@ -4,7 +4,7 @@ use Rattle.dd_file.specs.declared.fill_state.FillState.{FillState}
 use Rattle.dd_file.specs.declared.mode.Mode.{Mode}
 use Rattle.dd_file.specs.declared.mode.Mode.TheVariants.{Head, Start, Plain}
 use Rattle.dd_file.specs.declared.wanted.Wanted.{Wanted}
-use Rattle.dd_file.specs.Again.{AllAnswered, HasAnswer}
+use Rattle.dd_file.proofs.AgainAnswers.{AllAnswered, HasAnswer}
 use Rattle.dd_file.specs.Filled.{Ask, Found, added_text, answers_after, ask_at, asks_from, ends_last, filled_from, first_of, has_place, state_here, text_here}
 use Rattle.dd_file.specs.Games.{ends, lacks, next_state}
 use Rattle.dd_file.specs.Marked.{begins, begins_within, is_closed, left_of, left_within, marked}

@@ -15,7 +15,7 @@ use Rattle.dd_file.specs.declared.tag_reader.Miss.{Miss}
 use Rattle.dd_file.specs.declared.tag_reader.Miss.TheVariants.{NoTag, Ends}
 use Rattle.dd_file.specs.declared.value.Unfit.{Unfit}
 use Rattle.dd_file.specs.declared.wanted.Wanted.{Wanted}
-use Rattle.dd_file.specs.Again.{AllAnswered, HasAnswer, HasPar}
+use Rattle.dd_file.proofs.AgainAnswers.{AllAnswered, HasAnswer, HasPar}
 use Rattle.dd_file.specs.Filled.{Ask, Found, ParFound, added_text, answers_after, ask_at, ask_of, ask_with, asked_here, first_of, has_place, needs, text_here, text_of}
 use Rattle.dd_file.specs.Games.{conditions_of, ends, has_name, is_required, lacks}
 use Rattle.dd_file.specs.Kepts.{value_of}
@@ -30,9 +30,6 @@ use Rattle.dd_file.proofs.AgainMiss.{IsAtStart}
 use Rattle.dd_file.proofs.AgainStates.{Sound}
 
 -- ---- answers
-pub Few : List (List ℕ) → Type 0
-Few table = (strain : Strain) (declarer : Seat) → tricks_of table strain declarer ≤ 13
-
 -- what is answered here, and of the games after it
 pub answered-split : (here : Bool) (ask : Option Ask) (asks : List (Option Ask)) (answers : List (Option Found)) → AllAnswered (asked_here here ask ++ asks) answers
     → (here ≡ true → HasAnswer ask (first_of answers)) × AllAnswered asks (answers_after here answers)

@@ -1,3 +1,4 @@
+pub mod AgainAnswers
 pub mod AgainAsked
 pub mod AgainBehind
 pub mod AgainContents
