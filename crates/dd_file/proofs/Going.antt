@@ -9,9 +9,9 @@ use Rattle.dd_file.specs.declared.filler.Filler.{Filler}
 use Rattle.dd_file.specs.declared.mark.TheConstants.{NEAR}
 use Rattle.dd_file.specs.declared.mode.Mode.{Mode}
 use Rattle.dd_file.specs.declared.wanted.Wanted.{Wanted}
-use Rattle.dd_file.specs.Filled.{Ask, Found, AreAnswers, IsAnswer, answers_after, ask_at, asked_here, asks_from, ends_last, ask_of, filled_from, has_place, state_here, text_here}
+use Rattle.dd_file.specs.Filled.{Ask, Found, AreAnswers, answers_after, ask_at, asked_here, asks_from, ends_last, ask_of, filled_from, has_place, state_here, text_here}
 use Rattle.dd_file.specs.Games.{ends, next_state}
-use Rattle.dd_file.specs.Marked.{Marked, byte, end, begins, begins_within, is_closed, left_within, marked}
+use Rattle.dd_file.specs.Marked.{byte, begins, begins_within, is_closed, left_within, marked}
 use Rattle.dd_file.specs.Marks.{Begins, mark_at}
 use Rattle.dd_file.specs.Modes.{next_mode}
 use Rattle.dd_file.specs.Passing.{PassesByte, begins_now}
@@ -59,7 +59,7 @@ begins_within-near zero mode is_all window rest room follows = begins-near mode 
 begins_within-near (suc more) mode is_all window rest room follows = refl
 
 -- ---- one byte
-filled-byte : (wanted : Wanted) (answers : List (Option Found)) (state : FillState) (left : ℕ) (mode : Mode) (b : ℕ) (rest : List ℕ) (mark : Begins) → begins_within left mode (b ∷ rest) ≡ mark
+pub filled-byte : (wanted : Wanted) (answers : List (Option Found)) (state : FillState) (left : ℕ) (mode : Mode) (b : ℕ) (rest : List ℕ) (mark : Begins) → begins_within left mode (b ∷ rest) ≡ mark
     → filled_from wanted answers state (marked left mode (b ∷ rest))
     ≡ text_here (ends state mark) wanted state answers
     ++ b ∷ filled_from wanted (answers_after (ends state mark) answers) (next_state (state_here (ends state mark) state) mark b) (marked (left_within left mark) (next_mode mode b) rest)
@@ -67,7 +67,7 @@ unfolding filled_from marked
 filled-byte wanted answers state left mode b rest mark is =
     ap (λ m. filled_from wanted answers state (byte m b (marked (left_within left m) (next_mode mode b) rest))) is
 
-asks-byte : (wanted : Wanted) (state : FillState) (left : ℕ) (mode : Mode) (b : ℕ) (rest : List ℕ) (mark : Begins) → begins_within left mode (b ∷ rest) ≡ mark
+pub asks-byte : (wanted : Wanted) (state : FillState) (left : ℕ) (mode : Mode) (b : ℕ) (rest : List ℕ) (mark : Begins) → begins_within left mode (b ∷ rest) ≡ mark
     → asks_from wanted state (marked left mode (b ∷ rest))
     ≡ asked_here (ends state mark) (ask_at (has_place mark) wanted state)
     ++ asks_from wanted (next_state (state_here (ends state mark) state) mark b) (marked (left_within left mark) (next_mode mode b) rest)

@@ -1,3 +1,15 @@
+pub mod AgainAnswers
+pub mod AgainAsked
+pub mod AgainBehind
+pub mod AgainContents
+pub mod AgainFilled
+pub mod AgainLines
+pub mod AgainMarks
+pub mod AgainMiss
+pub mod AgainOver
+pub mod AgainStates
+pub mod AgainTagLines
+pub mod AgainTags
 pub mod Going
 pub mod Joined
 pub mod Passed

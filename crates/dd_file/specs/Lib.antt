@@ -1,3 +1,4 @@
+pub mod Again
 pub mod Deals
 pub mod Filled
 pub mod Games

@@ -36,7 +36,7 @@ Faults:
 Beside those of 'ddserve solve --help':
 
   13  64 jobs of this connection are open
-  14  the run takes no more connections: connect anew
+  14  the run's list of jobs is full: connect anew
   15  the run is used up: fetch what you have, then connect anew
   16  this connection has no job of that number
   17  the job has ended: there is nothing to cancel

@@ -1,0 +1,261 @@
+-- Lines of tags and of rows are passed over, with their ends.
+use Rattle.std.proofs.Common.{◌≡◌, ◌∙◌, ℕ, suc, ◌==◌, ◌-◌, ◌≤◌, Bool, true, false, List, [], ◌∷◌, ◌++◌, length, take, refl, sym, ap, subst, arith, append_assoc, append-nil, length-append, take_all, true≢false, inr, Option, None, Result, Ok, Err}
+use Rattle.std.specs.Prelude.{if◌then◌else◌, slice_set}
+use Rattle.dd_file.specs.declared.fill_state.FillState.{FillState}
+use Rattle.dd_file.specs.declared.mode.Mode.{Mode}
+use Rattle.dd_file.specs.declared.mode.Mode.TheVariants.{Head, Mark1, Mark2, Start, Plain, Escaped, Remark, Braced, Quoted, Backslash}
+use Rattle.dd_file.specs.declared.tag_reader.Miss.{Miss}
+use Rattle.dd_file.specs.declared.tag_reader.Miss.TheVariants.{NoTag}
+use Rattle.dd_file.specs.declared.wanted.Wanted.{Wanted}
+use Rattle.dd_file.specs.Filled.{ask_at, asked_here, asks_from, state_here}
+use Rattle.dd_file.specs.Games.{has_name, is_required, next_state, with_byte, with_tag}
+use Rattle.dd_file.specs.Lines.{line_with}
+use Rattle.dd_file.specs.Marked.{begins, marked}
+use Rattle.dd_file.specs.Marks.{tag, line_mark, mark_at, mark_read}
+use Rattle.dd_file.specs.Modes.{next_mode}
+use Rattle.dd_file.specs.Tags.{◌>>=◌, after_gap, after_name, after_string, byte_at, front_of, is_gap, is_name, tag_at}
+use Rattle.dd_file.proofs.AgainMarks.{blank-stop, is_all, line-begins, line-read, take-over}
+use Rattle.dd_file.proofs.AgainMiss.{gap-step, gap-stop, name-step, name-stop, read-first, read_end, read_name, read_string, read_value, tag-steps}
+use Rattle.dd_file.proofs.AgainOver.{Goes, Spot, at_spot, goes-byte, goes-then, goes-within, is_quiet, last_of, last-append, modes, modes-append, plain-nothing, quiet-append, spot}
+use Rattle.dd_file.proofs.AgainTags.{as_tag, byte-found, front-is}
+use Rattle.dd_file.proofs.Going.{asks-byte}
+
+-- ---- line ends
+-- where a line end ends the line, and no tag begins at it
+abbrev pub IsOpen : Mode → Type 0
+IsOpen Plain = Unit {0}
+IsOpen Escaped = Unit {0}
+IsOpen Remark = Unit {0}
+IsOpen Quoted = Unit {0}
+IsOpen Backslash = Unit {0}
+IsOpen Start = ⊥
+IsOpen Braced = ⊥
+IsOpen Head = ⊥
+IsOpen Mark1 = ⊥
+IsOpen Mark2 = ⊥
+
+module _ (wanted : Wanted) (state : FillState) where
+  goes-feed : (names : List Bool) (last : ℕ) (has : Bool) (mode : Mode) → IsOpen mode → Goes wanted state (10 ∷ []) (spot names last has 0 mode) (spot names 10 (last == 13) 0 Start)
+  unfolding mark_at
+  goes-feed names last has Plain free = goes-byte wanted state 10 (spot names last has 0 Plain) (λ r. plain-nothing 10 r refl)
+  goes-feed names last has Escaped free = goes-byte wanted state 10 (spot names last has 0 Escaped) (λ r. refl)
+  goes-feed names last has Remark free = goes-byte wanted state 10 (spot names last has 0 Remark) (λ r. refl)
+  goes-feed names last has Quoted free = goes-byte wanted state 10 (spot names last has 0 Quoted) (λ r. refl)
+  goes-feed names last has Backslash free = goes-byte wanted state 10 (spot names last has 0 Backslash) (λ r. refl)
+  goes-feed names last has Start free = absurd free
+  goes-feed names last has Braced free = absurd free
+  goes-feed names last has Head free = absurd free
+  goes-feed names last has Mark1 free = absurd free
+  goes-feed names last has Mark2 free = absurd free
+
+  goes-return : (names : List Bool) (last : ℕ) (has : Bool) (mode : Mode) → IsOpen mode → Goes wanted state (13 ∷ []) (spot names last has 0 mode) (spot names 13 has 0 (next_mode mode 13))
+  unfolding mark_at
+  goes-return names last has Plain free = goes-byte wanted state 13 (spot names last has 0 Plain) (λ r. plain-nothing 13 r refl)
+  goes-return names last has Escaped free = goes-byte wanted state 13 (spot names last has 0 Escaped) (λ r. refl)
+  goes-return names last has Remark free = goes-byte wanted state 13 (spot names last has 0 Remark) (λ r. refl)
+  goes-return names last has Quoted free = goes-byte wanted state 13 (spot names last has 0 Quoted) (λ r. refl)
+  goes-return names last has Backslash free = goes-byte wanted state 13 (spot names last has 0 Backslash) (λ r. refl)
+  goes-return names last has Start free = absurd free
+  goes-return names last has Braced free = absurd free
+  goes-return names last has Head free = absurd free
+  goes-return names last has Mark1 free = absurd free
+  goes-return names last has Mark2 free = absurd free
+
+  free-return : (mode : Mode) → IsOpen mode → IsOpen (next_mode mode 13)
+  free-return Plain free = tt
+  free-return Escaped free = tt
+  free-return Remark free = tt
+  free-return Quoted free = tt
+  free-return Backslash free = tt
+  free-return Start free = absurd free
+  free-return Braced free = absurd free
+  free-return Head free = absurd free
+  free-return Mark1 free = absurd free
+  free-return Mark2 free = absurd free
+
+  -- whether the last line end had a carriage return, behind one that has it or not
+  abbrev pub return_behind : Bool → ℕ → Bool
+  return_behind true last = true
+  return_behind false last = last == 13
+
+  goes-end : (has_return : Bool) (names : List Bool) (last : ℕ) (has : Bool) (mode : Mode) → IsOpen mode
+      → Goes wanted state (if has_return then 13 ∷ 10 ∷ [] else 10 ∷ []) (spot names last has 0 mode) (spot names 10 (return_behind has_return last) 0 Start)
+  goes-end false names last has mode free = goes-feed names last has mode free
+  goes-end true names last has mode free =
+      goes-then wanted state (13 ∷ []) (10 ∷ []) (spot names last has 0 mode) (spot names 13 has 0 (next_mode mode 13)) (spot names 10 true 0 Start)
+      (goes-return names last has mode free) (goes-feed names 13 has (next_mode mode 13) (free-return mode free))
+
+  -- ---- lines
+  -- from the start of a line to its end, the names changed so
+  abbrev pub IsBody : List ℕ → (List Bool → List Bool) → Type 0
+  IsBody body f = (names : List Bool) (last : ℕ) (has : Bool) → (after : ℕ) × ((after == 13) ≡ false) × Goes wanted state body (spot names last has 0 Start) (spot (f names) after has 0 Plain)
+
+  -- lines with their ends behind them leave the start of a line, those with ends before them are begun where a line can end, and end so
+  abbrev pub Passes : Bool → Bool → List ℕ → (List Bool → List Bool) → Type 0
+  Passes false has_return p f = (names : List Bool) → Goes wanted state p (spot names 10 has_return 0 Start) (spot (f names) 10 has_return 0 Start)
+  Passes true has_return p f =
+      (names : List Bool) (last : ℕ) (has : Bool) (mode : Mode) → IsOpen mode
+      → (after : ℕ) × (had : Bool) × (next : Mode) × IsOpen next × Goes wanted state p (spot names last has 0 mode) (spot (f names) after had 0 next)
+
+  pub passes-none : (leads has_return : Bool) → Passes leads has_return [] (λ names. names)
+  passes-none false has_return = λ names r. refl
+  passes-none true has_return = λ names last has mode free. (last, has, mode, free, λ r. refl)
+
+  pub passes-then : (leads has_return : Bool) (p q : List ℕ) (f g : List Bool → List Bool) → Passes leads has_return p f → Passes leads has_return q g → Passes leads has_return (p ++ q) (λ names. g (f names))
+  passes-then false has_return p q f g first second =
+      λ names. goes-then wanted state p q (spot names 10 has_return 0 Start) (spot (f names) 10 has_return 0 Start) (spot (g (f names)) 10 has_return 0 Start) (first names) (second (f names))
+  passes-then true has_return p q f g first second =
+      λ names last has mode free. (
+      let one = first names last has mode free in
+      let two = second (f names) one.0 one.1 one.2 one.3 in (
+        two.0,
+        two.1,
+        two.2,
+        two.3,
+        goes-then wanted state p q (spot names last has 0 mode) (spot (f names) one.0 one.1 0 one.2) (spot (g (f names)) two.0 two.1 0 two.2) one.4 two.4,
+      ))
+
+  pub passes-line : (leads has_return : Bool) (body : List ℕ) (f : List Bool → List Bool) → IsBody body f
+      → Passes leads has_return (line_with (record { has_return = has_return; leads = leads }) body) f
+  unfolding line_with
+  passes-line false has_return body f is =
+      λ names. (
+      let one = is names 10 has_return in
+      let behind : return_behind has_return one.0 ≡ has_return = same has_return one.0 one.1 in
+      let e : List ℕ = (if has_return then 13 ∷ 10 ∷ [] else 10 ∷ []) in
+      goes-then wanted state body e (spot names 10 has_return 0 Start) (spot (f names) one.0 has_return 0 Plain) (spot (f names) 10 has_return 0 Start) one.2
+      (subst (λ (b : Bool). Goes wanted state e (spot (f names) one.0 has_return 0 Plain) (spot (f names) 10 b 0 Start)) behind (goes-end has_return (f names) one.0 has_return Plain tt)))
+    where
+      same : (h : Bool) (last : ℕ) → (last == 13) ≡ false → return_behind h last ≡ h
+      same true last e = refl
+      same false last e = e
+  passes-line true has_return body f is =
+      λ names last has mode free. (
+      let e : List ℕ = (if has_return then 13 ∷ 10 ∷ [] else 10 ∷ []) in
+      let one = is names 10 (return_behind has_return last) in
+      let after : Spot = spot (f names) one.0 (return_behind has_return last) 0 Plain in (
+        one.0,
+        return_behind has_return last,
+        Plain,
+        tt,
+        subst (λ (l : List ℕ). Goes wanted state l (spot names last has 0 mode) after) (sym (append-nil (e ++ body)))
+            (goes-then wanted state e body (spot names last has 0 mode) (spot names 10 (return_behind has_return last) 0 Start) after (goes-end has_return names last has mode free) one.2),
+      ))
+
+  -- ---- tags
+  abbrev pub are_names : List ℕ → Bool
+  are_names [] = true
+  are_names (b ∷ p) = (if is_name b then are_names p else false)
+
+  name-run : (name : List ℕ) (t : List ℕ) → are_names name ≡ true → after_name (name ++ 32 ∷ t) ≡ 32 ∷ t
+  name-run [] t all = name-stop 32 t refl
+  name-run (b ∷ name) t all = go (is_name b) refl all (name-run name t)
+    where
+      go : (g : Bool) → is_name b ≡ g → (if g then are_names name else false) ≡ true → (are_names name ≡ true → after_name (name ++ 32 ∷ t) ≡ 32 ∷ t) → after_name (b ∷ (name ++ 32 ∷ t)) ≡ 32 ∷ t
+      go true e all more = name-step b (name ++ 32 ∷ t) e ∙ more all
+      go false e all more = absurd (true≢false (sym all))
+
+  -- a tag's bytes behind its bracket
+  abbrev pub tag_rest : List ℕ → List ℕ → List ℕ
+  tag_rest name content = name ++ 32 ∷ 34 ∷ (content ++ 34 ∷ 93 ∷ [])
+
+  tag-rest : (name content r : List ℕ) → tag_rest name content ++ r ≡ name ++ 32 ∷ 34 ∷ (content ++ 34 ∷ 93 ∷ r)
+  tag-rest name content r = append_assoc name (32 ∷ 34 ∷ (content ++ 34 ∷ 93 ∷ [])) r ∙ ap (λ l. name ++ 32 ∷ 34 ∷ l) (append_assoc content (34 ∷ 93 ∷ []) r)
+
+  -- what a tag's name has to be, which is seen by looking
+  pub record IsTagName (c : ℕ) (name : List ℕ) (number : ℕ) : Type 0 where
+    pub names : are_names (c ∷ name) ≡ true
+    pub first : is_name c ≡ true
+    pub gap : is_gap Plain c ≡ false
+    pub quiet : is_quiet (c ∷ name) ≡ true
+    pub plain : modes Plain (c ∷ name) ≡ Plain
+    pub optional : is_required (c ∷ name) ≡ None
+    pub tells : (quoted : List ℕ) (st : FillState) → with_tag (c ∷ name) quoted st ≡ record st { begun = true; names = slice_set st.names number true }
+
+  -- a string's bytes
+  pub record IsContent (content : List ℕ) : Type 0 where
+    pub read : (t : List ℕ) → after_string Quoted (content ++ 34 ∷ t) ≡ Ok t
+    pub quoted : modes Quoted content ≡ Quoted
+    pub quiet : is_quiet content ≡ true
+
+  rest-names : (c : ℕ) (name : List ℕ) → are_names (c ∷ name) ≡ true → are_names name ≡ true
+  rest-names c name all = go (is_name c) all
+    where
+      go : (g : Bool) → (if g then are_names name else false) ≡ true → are_names name ≡ true
+      go true all = all
+      go false all = absurd (true≢false (sym all))
+
+  value-read : (called string r : List ℕ) → after_string Quoted string ≡ Ok (93 ∷ r) → read_value called (32 ∷ 34 ∷ string) ≡ as_tag called (front_of string (93 ∷ r) 1) r
+  value-read called string r is =
+      ap (λ l. byte_at 34 l >>= (λ k. read_string called k)) (gap-step Plain 32 (34 ∷ string) refl ∙ gap-stop Plain 34 string refl)
+      ∙ ap (λ (t : Result (List ℕ) Miss). t >>= (λ k. read_string called k)) (byte-found 34 34 string refl)
+      ∙ ap (λ (t : Result (List ℕ) Miss). t >>= (λ l. read_end called (front_of string l 1) l)) is
+      ∙ ap (λ l. byte_at 93 l >>= (λ k. as_tag called (front_of string (93 ∷ r) 1) k)) (gap-stop Plain 93 r refl)
+      ∙ ap (λ (t : Result (List ℕ) Miss). t >>= (λ k. as_tag called (front_of string (93 ∷ r) 1) k)) (byte-found 93 93 r refl)
+
+  name-read : (c : ℕ) (name string : List ℕ) → are_names (c ∷ name) ≡ true → is_name c ≡ true → read_name (c ∷ (name ++ 32 ∷ string)) ≡ read_value (c ∷ name) (32 ∷ string)
+  name-read c name string all first =
+      read-first c (name ++ 32 ∷ string)
+      ∙ ap (λ (g : Bool). (if g then Ok (after_name (name ++ 32 ∷ string)) else Err NoTag) >>= (λ k. read_value (front_of (c ∷ (name ++ 32 ∷ string)) k 0) k)) first
+      ∙ ap (λ k. read_value (front_of (c ∷ (name ++ 32 ∷ string)) k 0) k) (name-run name string (rest-names c name all))
+      ∙ ap (λ n. read_value n (32 ∷ string)) (front-is (c ∷ name) (32 ∷ string) 0 ∙ (let whole : length (c ∷ name) ≤ length (c ∷ name) - 0 = omega arith in take_all (length (c ∷ name) - 0) (c ∷ name) whole))
+
+  opened-read : (c : ℕ) (text : List ℕ) → is_gap Plain c ≡ false → tag_at (91 ∷ c ∷ text) ≡ read_name (c ∷ text)
+  opened-read c text gap =
+      tag-steps (91 ∷ c ∷ text) ∙ ap (λ (t : Result (List ℕ) Miss). t >>= (λ bracket. read_name (after_gap Plain bracket))) (byte-found 91 91 (c ∷ text) refl) ∙ ap read_name (gap-stop Plain c text gap)
+
+  near-split : (n : ℕ) (p r : List ℕ) → length p ≤ n → 91 ∷ take n (p ++ r) ≡ 91 ∷ (p ++ take (n - length p) r)
+  near-split n p r few = ap (λ l. 91 ∷ l) (take-over n p r few)
+
+  split-size : (near p rest : List ℕ) → near ≡ 91 ∷ (p ++ rest) → length near - length rest ≡ suc (length p)
+  split-size near p rest e = let lengths : length near ≡ length (91 ∷ (p ++ rest)) = ap (λ (l : List ℕ). length l) e in omega (arith, length-append {A = ℕ})
+
+  tag-begins : (p called : List ℕ) → ((r : List ℕ) → (quoted : List ℕ) × (tag_at (91 ∷ (p ++ r)) ≡ as_tag called quoted r)) → length p ≤ 65535 → (r : List ℕ)
+      → (quoted : List ℕ) × (begins Start (91 ∷ (p ++ r)) ≡ tag true (suc (length p)) called quoted)
+  tag-begins p called reads few r = (
+    quoted,
+    line-begins Start 91 (p ++ r) (inr refl) ∙ ap (λ k. line_mark (is_all 91 (p ++ r)) (91 ∷ take 65535 (p ++ r)) k) (blank-stop 91 (take 65535 (p ++ r)) refl)
+        ∙ line-read (is_all 91 (p ++ r)) (91 ∷ take 65535 (p ++ r)) 91 (take 65535 (p ++ r))
+        ∙ ap (mark_read true (is_all 91 (p ++ r)) (91 ∷ take 65535 (p ++ r))) read
+        ∙ ap (λ (n : ℕ). tag true n called quoted) (split-size (91 ∷ take 65535 (p ++ r)) p (take (65535 - length p) r) (near-split 65535 p r few)),
+  )
+    where
+      quoted : List ℕ
+      quoted = (reads (take (65535 - length p) r)).0
+
+      read : tag_at (91 ∷ take 65535 (p ++ r)) ≡ as_tag called (reads (take (65535 - length p) r)).0 (take (65535 - length p) r)
+      read = ap tag_at (near-split 65535 p r few) ∙ (reads (take (65535 - length p) r)).1
+
+  tag-body : (p called : List ℕ) (number : ℕ) → ((r : List ℕ) → (quoted : List ℕ) × (tag_at (91 ∷ (p ++ r)) ≡ as_tag called quoted r)) → length p ≤ 65535
+      → is_required called ≡ None → ((quoted : List ℕ) (st : FillState) → with_tag called quoted st ≡ record st { begun = true; names = slice_set st.names number true })
+      → is_quiet p ≡ true → modes Plain p ≡ Plain → (last_of 91 p == 13) ≡ false → IsBody (91 ∷ p) (λ names. slice_set names number true)
+  tag-body p called number reads few optional tells quiet plain other = λ names last has. (last_of 91 p, other, λ r. steps names last has r (tag-begins p called reads few r))
+    where
+      steps : (names : List Bool) (last : ℕ) (has : Bool) (r : List ℕ) → (quoted : List ℕ) × (begins Start (91 ∷ (p ++ r)) ≡ tag true (suc (length p)) called quoted)
+          → asks_from wanted (at_spot state (spot names last has 0 Start)) (marked 0 Start (91 ∷ (p ++ r)))
+          ≡ asks_from wanted (at_spot state (spot (slice_set names number true) (last_of 91 p) has 0 Plain)) (marked 0 Plain r)
+      steps names last has r mark =
+          let s : FillState = at_spot state (spot names last has 0 Start) in
+          let after : FillState = at_spot state (spot (slice_set names number true) 91 has (suc (length p) - 1) Plain) in
+          asks-byte wanted s 0 Start 91 (p ++ r) (tag true (suc (length p)) called mark.0) mark.1
+          ∙ ap (λ (o : Option ℕ). asked_here (has_name o names) (ask_at true wanted s)
+          ++ asks_from wanted (next_state (state_here (has_name o names) s) (tag true (suc (length p)) called mark.0) 91) (marked (suc (length p) - 1) Plain (p ++ r))) optional
+          ∙ ap (λ (t : FillState). asks_from wanted (with_byte 91 t) (marked (suc (length p) - 1) Plain (p ++ r))) (tells mark.0 s)
+          ∙ goes-within wanted state p (spot (slice_set names number true) 91 has (suc (length p) - 1) Plain) (let e : suc (length p) - 1 ≡ length p = omega arith in e) quiet r
+          ∙ ap (λ (m : Mode). asks_from wanted (at_spot state (spot (slice_set names number true) (last_of 91 p) has 0 m)) (marked 0 m r)) plain
+
+  pub tag-line : (c : ℕ) (name content : List ℕ) (number : ℕ) → IsTagName c name number → IsContent content → length (tag_rest (c ∷ name) content) ≤ 65535
+      → IsBody (91 ∷ tag_rest (c ∷ name) content) (λ names. slice_set names number true)
+  tag-line c name content number named is few =
+      tag-body (tag_rest (c ∷ name) content) (c ∷ name) number reads few named.optional named.tells
+      (quiet-append (c ∷ name) (32 ∷ 34 ∷ (content ++ 34 ∷ 93 ∷ [])) named.quiet (quiet-append content (34 ∷ 93 ∷ []) is.quiet refl))
+      (modes-append Plain (c ∷ name) (32 ∷ 34 ∷ (content ++ 34 ∷ 93 ∷ [])) ∙ ap (λ (m : Mode). modes m (32 ∷ 34 ∷ (content ++ 34 ∷ 93 ∷ []))) named.plain
+      ∙ modes-append Quoted content (34 ∷ 93 ∷ []) ∙ ap (λ (m : Mode). modes m (34 ∷ 93 ∷ [])) is.quoted)
+      (ap (λ (n : ℕ). n == 13) (last-append 91 (c ∷ name) (32 ∷ 34 ∷ (content ++ 34 ∷ 93 ∷ [])) ∙ last-append 34 content (34 ∷ 93 ∷ [])))
+    where
+      reads : (r : List ℕ) → (quoted : List ℕ) × (tag_at (91 ∷ (tag_rest (c ∷ name) content ++ r)) ≡ as_tag (c ∷ name) quoted r)
+      reads r = (
+        front_of (content ++ 34 ∷ 93 ∷ r) (93 ∷ r) 1,
+        ap (λ l. tag_at (91 ∷ l)) (tag-rest (c ∷ name) content r) ∙ opened-read c (name ++ 32 ∷ 34 ∷ (content ++ 34 ∷ 93 ∷ r)) named.gap
+            ∙ name-read c name (34 ∷ (content ++ 34 ∷ 93 ∷ r)) named.names named.first ∙ value-read (c ∷ name) (content ++ 34 ∷ 93 ∷ r) r (is.read (93 ∷ r)),
+      )
