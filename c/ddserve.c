@@ -1,4 +1,5 @@
-/* The client: a solver is whatever answers at the other end of a pair of sockets. A write to an end that is closed raises no signal. */
+/* Solvers that are processes of the program, each at the other end of a pair of sockets. A write to an end that is closed raises no
+   signal. */
 #define _GNU_SOURCE
 #include "ddserve.h"
 #include "ddserve_start.h"
@@ -12,7 +13,7 @@
 #include <unistd.h>
 
 struct ddserve_solver {
-    struct ddserve_end end;
+    pid_t program;
     pid_t owner; /* who opened it: after a fork it is still the parent's */
     int stream;
     char reply[DDSERVE_LONGEST_REPLY + 1]; /* with its line feed */
@@ -36,7 +37,7 @@ static int connect_end(ddserve_solver *solver, unsigned entries) {
     int other = above_standard(ends[1]);
     if (!error && other < 0) error = errno;
     if (!error) {
-        error = ddserve_start(&solver->end, other, entries);
+        error = ddserve_start(&solver->program, other, entries);
         other = -1;
     }
     if (error && solver->stream >= 0) close(solver->stream);
@@ -105,6 +106,6 @@ void ddserve_close(ddserve_solver *solver) {
     /* Not by closing alone: a process that was forked from this one may have the stream too. */
     if (is_own) shutdown(solver->stream, SHUT_RDWR);
     close(solver->stream);
-    ddserve_stop(&solver->end, is_own);
+    ddserve_stop(solver->program, is_own);
     free(solver);
 }

@@ -1,7 +1,8 @@
 /* Double-dummy answers of ddserve for C and C++: a line in, its reply out. Lines and replies are those of docs/PROTOCOL.md.
 
    A solver is a process of the program `ddserve` with a table of its own. The program is the one that the variable DDSERVE names,
-   or else the one on the PATH. Any number of solvers may be open, in any threads. One solver serves one thread at a time. */
+   or else the one on the PATH. In the static form it is a cache in memory, and a line is answered on the thread that asks. Any number
+   of solvers may be open, in any threads. One solver serves one thread at a time. */
 #ifndef DDSERVE_H
 #define DDSERVE_H
 
@@ -23,8 +24,8 @@ enum {
     DDSERVE_FORKED = -4   /* the solver is that of the parent of this process */
 };
 
-/* A solver whose table keeps so many shapes, 1 to 65,536, or 0 for the program's default. NULL where the program can't be
-   started, and errno says why. */
+/* A solver whose table keeps so many shapes, 1 to 65,536, or 0 for the program's default; the static form has no table. NULL where the
+   program can't be started, or where there is no memory, and errno says why. */
 ddserve_solver *ddserve_open(unsigned entries);
 
 /* Answers a line of so many bytes, without a line feed: writes the reply as a text that ends with NUL, and returns its length, or

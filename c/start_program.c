@@ -43,16 +43,16 @@ static int spawn(pid_t *program, int stream, unsigned entries) {
     return error;
 }
 
-int ddserve_start(struct ddserve_end *end, int stream, unsigned entries) {
-    int error = spawn(&end->program, stream, entries);
+int ddserve_start(pid_t *program, int stream, unsigned entries) {
+    int error = spawn(program, stream, entries);
     close(stream);
     return error;
 }
 
-void ddserve_stop(struct ddserve_end *end, bool is_own) {
+void ddserve_stop(pid_t program, bool is_own) {
     /* It has nothing to lose, and may be within a search. Where the host has waited for it already it is no child any more, and its
        number may be another's. */
-    if (!is_own || waitpid(end->program, NULL, WNOHANG) != 0) return;
-    kill(end->program, SIGKILL);
-    while (waitpid(end->program, NULL, 0) < 0 && errno == EINTR) {}
+    if (!is_own || waitpid(program, NULL, WNOHANG) != 0) return;
+    kill(program, SIGKILL);
+    while (waitpid(program, NULL, 0) < 0 && errno == EINTR) {}
 }

@@ -127,10 +127,10 @@ if [ "${1:-}" != quick ]; then
     done
     echo 'valgrind: nothing to say'
 fi
-sources=("$here"/dds*.c "$here/start_program.c")
-build client_checked -fsanitize=address,undefined -fno-sanitize-recover=all "$here/tests/client.c" "${sources[@]}"
-build calls_checked -fsanitize=address,undefined -fno-sanitize-recover=all "$here/tests/calls.c" "${sources[@]}"
-build compare_checked -fsanitize=address,undefined -fno-sanitize-recover=all "$here/tests/compare.c" "${sources[@]}"
+over_program=("$here"/dds_*.c "$here/ddserve.c" "$here/start_program.c")
+build client_checked -fsanitize=address,undefined -fno-sanitize-recover=all "$here/tests/client.c" "${over_program[@]}"
+build calls_checked -fsanitize=address,undefined -fno-sanitize-recover=all "$here/tests/calls.c" "${over_program[@]}"
+build compare_checked -fsanitize=address,undefined -fno-sanitize-recover=all "$here/tests/compare.c" "${over_program[@]}"
 "$work/client_checked" "$data/written.jsonl" "$data/written.expected"
 "$work/calls_checked"
 "$work/compare_checked" faults 1000 7 > /dev/null
@@ -164,5 +164,13 @@ if [ "${1:-}" != quick ]; then
         UNDER_VALGRIND=1 valgrind -q --leak-check=full --show-leak-kinds=all --errors-for-leak-kinds=all --error-exitcode=9 --child-silent-after-fork=yes "$work/"$test
     done
 fi
+over_library=("$here"/dds_*.c "$here/ddserve_alone.c" "$library")
+for test in client calls compare; do
+    build "${test}_alone_checked" -DALONE -fsanitize=address,undefined -fno-sanitize-recover=all "$here/tests/$test.c" "${over_library[@]}"
+done
+"$work/client_alone_checked" "$data/written.jsonl" "$data/written.expected"
+"$work/calls_alone_checked"
+"$work/compare_alone_checked" plays 100 8 > /dev/null
+"$work/compare_alone_checked" tables 2 9 > /dev/null
 "$work/cost_alone" 40
 echo 'alone: the library without the program answers the same'

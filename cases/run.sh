@@ -7,7 +7,7 @@
 set -eu
 here=$(cd -- "$(dirname -- "$0")" && pwd)
 data=$here/data
-for tool in cmp rustc; do
+for tool in cmp python3 rustc; do
     command -v "$tool" > /dev/null || { echo "cases: the command $tool is missing" >&2; exit 1; }
 done
 work=$(mktemp -d)
@@ -24,6 +24,30 @@ for workers in 2 4; do
     done
     echo "with $workers workers the same replies"
 done
+# The same with ids and words: each line gets the number of its place as its id, its reply has that id first, and is the recorded
+# one behind it but for faults, which keep their number.
+python3 - "$here/../ddserve" "$data" <<'END'
+import json, subprocess, sys
+program, data = sys.argv[1:]
+checked = 0
+for name in "written small tables targets target_faults plays play_faults".split():
+    lines = open(f"{data}/{name}.jsonl").read().splitlines()
+    wanted = open(f"{data}/{name}.expected").read().splitlines()
+    asked = "".join(line.rstrip()[:-1] + f',"id":{place}' + "}\n" for place, line in enumerate(lines))
+    for workers in "1", "4":
+        told = subprocess.run([program, "solve", "--explain", "--workers", workers], input=asked, capture_output=True, text=True, check=True).stdout.splitlines()
+        assert len(told) == len(wanted), name
+        for place, (reply, plain) in enumerate(zip(told, wanted)):
+            begin = '{"id":%d,' % place
+            assert reply.startswith(begin), reply
+            if "fault" in json.loads(plain):
+                fault = json.loads(reply)
+                assert fault["fault"] == json.loads(plain)["fault"] and fault["text"], reply
+            else:
+                assert "{" + reply[len(begin):] == plain, reply
+            checked += 1
+print(f"explained: {checked} replies have their ids, and are the recorded ones behind them")
+END
 # How the built program ends: its status and what it says.
 ends() { # STATUS TEXT COMMAND..
     status=$1 said=$2

@@ -3,7 +3,7 @@ _ddserve() {
     local cur=${COMP_WORDS[COMP_CWORD]} words='solve serve pbn help --help --version'
     if [ "$COMP_CWORD" -gt 1 ]; then
         case ${COMP_WORDS[1]} in
-        solve) words='--budget --entries --workers --help' ;;
+        solve) words='--budget --entries --workers --explain --help' ;;
         serve) words='--listen --websocket --workers --shards --entries --budget --events --idle --allow-stop --help' ;;
         pbn) words='--tags --budget --entries --workers --help' ;;
         help) words='solve serve pbn' ;;

@@ -49,7 +49,7 @@ static void threads(void) {
 
 static void forks(void) {
 #ifdef ALONE
-    /* What the parent's threads had would be lost in the child, as valgrind sees it. */
+    /* What the library has for the parent is lost in the child, as valgrind sees it. */
     if (getenv("UNDER_VALGRIND")) return;
 #endif
     CHECK(is_solved());

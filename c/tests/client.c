@@ -6,6 +6,8 @@
 #include <dirent.h>
 #include <errno.h>
 #include <pthread.h>
+#include <stdbool.h>
+#include <stdint.h>
 #include <stdio.h>
 #include <stdlib.h>
 #include <string.h>
@@ -69,6 +71,21 @@ static void buffers(void) {
     ddserve_close(solver);
 }
 
+/* The buffer of a reply may be that of the line. */
+static void one_buffer(void) {
+    ddserve_solver *solver = ddserve_open(0);
+    char text[8192];
+    for (size_t before = 0; before < 200; before += 50) {
+        strcpy(text + before, lines[0]);
+        CHECK(ddserve_line(solver, text + before, strlen(lines[0]), text, sizeof text) == (long)strlen(replies[0]));
+        CHECK(strcmp(text, replies[0]) == 0);
+        strcpy(text, lines[1]);
+        CHECK(ddserve_line(solver, text, strlen(lines[1]), text + before, sizeof text - before) == (long)strlen(replies[1]));
+        CHECK(strcmp(text + before, replies[1]) == 0);
+    }
+    ddserve_close(solver);
+}
+
 /* Lines that are none, and lines longer than a socket takes at once. */
 static void odd_lines(void) {
     ddserve_solver *solver = ddserve_open(65536);
@@ -116,7 +133,7 @@ static void threads(void) {
 /* A solver is of the process that opened it. A child may close it, and the parent's goes on. */
 static void forks(void) {
 #ifdef ALONE
-    /* What the parent's threads had would be lost in the child, as valgrind sees it. */
+    /* What the library has for the parent is lost in the child, as valgrind sees it. */
     if (getenv("UNDER_VALGRIND")) return;
 #endif
     ddserve_solver *solver = ddserve_open(0);
@@ -190,9 +207,6 @@ static void ends(void) {
 
 /* A host without an input and an output: the stream takes neither's number. */
 static void closed_streams(void) {
-#ifdef ALONE
-    if (getenv("UNDER_VALGRIND")) return;
-#endif
     pid_t child = fork();
     if (child == 0) {
         close(STDIN_FILENO);
@@ -210,17 +224,46 @@ static void closed_streams(void) {
     CHECK(waitpid(child, &status, 0) == child && status == 0);
 }
 
+#ifdef ALONE
+/* The library's own calls: a solver that is not open answers nothing, one that is opened or closed twice leaves nothing behind. */
+static void library(void) {
+    struct ddserve_c_solver {
+        bool is_open;
+        void *held;
+    } solver = {0};
+    extern bool ddserve_c_open(struct ddserve_c_solver *);
+    extern int64_t ddserve_c_line(struct ddserve_c_solver *, const uint8_t *, size_t, uint8_t *, size_t);
+    extern void ddserve_c_close(struct ddserve_c_solver *);
+    uint8_t buffer[DDSERVE_LONGEST_REPLY + 1] = "#";
+    const uint8_t *line = (const uint8_t *)lines[0];
+    size_t length = strlen(lines[0]);
+    ddserve_c_close(&solver);
+    CHECK(ddserve_c_line(&solver, line, length, buffer, sizeof buffer) == -1 && buffer[0] == '#');
+    for (int at = 0; at < 2; at++) {
+        CHECK(ddserve_c_open(&solver));
+        CHECK(ddserve_c_line(&solver, line, length, buffer, sizeof buffer) == (int64_t)strlen(replies[0]));
+        CHECK(strcmp((char *)buffer, replies[0]) == 0);
+    }
+    for (int at = 0; at < 2; at++) ddserve_c_close(&solver);
+    CHECK(ddserve_c_line(&solver, line, length, buffer, sizeof buffer) == -1 && !solver.is_open);
+}
+#endif
+
 int main(int words, char **word) {
     CHECK(words == 3 && getenv("DDSERVE"));
     count = read_lines(word[1], lines);
     CHECK(count > 20 && read_lines(word[2], replies) == count);
     recorded();
     buffers();
+    one_buffer();
     odd_lines();
     threads();
     forks();
     ends();
     closed_streams();
+#ifdef ALONE
+    library();
+#endif
     for (int at = 0; at < count; at++) {
         free(lines[at]);
         free(replies[at]);

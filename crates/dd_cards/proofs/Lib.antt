@@ -14,7 +14,6 @@ pub mod Sequences
 pub mod Heads
 pub mod Kept
 pub mod FromTop
-pub mod Others
 pub mod Lowest
 pub mod SideLaws
 pub mod MaskRanks

@@ -35,11 +35,6 @@ with_hand hands West cards = record hands { west = cards }
 abbrev pub hands_without : FourHands → PlayingCard → FourHands
 hands_without hands c = dealt (without hands.north c) (without hands.east c) (without hands.south c) (without hands.west c)
 
--- has another seat the card?
-abbrev pub is_anothers : FourHands → Seat → PlayingCard → Bool
-is_anothers hands seat c =
-    (has_card (hand_of hands (seat_after seat 1)) c || has_card (hand_of hands (seat_after seat 2)) c) || has_card (hand_of hands (seat_after seat 3)) c
-
 -- no card stands in two hands
 abbrev pub AreDisjoint : FourHands → Type 0
 AreDisjoint hands = (c : PlayingCard) (s t : Seat) → has_card (hand_of hands s) c ≡ true → has_card (hand_of hands t) c ≡ true → s ≡ t

@@ -1,6 +1,6 @@
 ghost use Rattle.std.specs.Prelude.{◌≡◌, [], ◌↔◌, Bool, true, false, IsTrue, IfSome, IfNone, if◌then◌else◌, map, filter, length};
 ghost use Rattle.dd_cards.specs.Cards.{card_of, is_of, has_card, with_card, without, deck};
-ghost use Rattle.dd_cards.specs.Hands.{dealt, hand_of, with_hand, hands_without, is_anothers, AreHands};
+ghost use Rattle.dd_cards.specs.Hands.{dealt, hand_of, with_hand, hands_without, AreHands};
 
 use crate::card::Card;
 use crate::hand::Hand;
@@ -55,16 +55,6 @@ impl Hands {
         ensures hands { AreHands self.now }
     {
         Hand::of_mask(self.masks[seat.code() as usize])
-    }
-
-    /// The cards of the other three hands.
-    #[inline]
-    pub fn others(&self, seat: Seat) -> Hand
-        ensures { result ≡ filter (is_anothers self.now seat) deck }
-    {
-        let [north, east, south, west] = self.masks;
-        let own = self.masks[seat.code() as usize];
-        Hand::of_mask((north | east | south | west) ^ own)
     }
 
     /// The number of cards in this hand, 0 to 52.

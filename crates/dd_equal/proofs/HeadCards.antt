@@ -3,6 +3,7 @@ use Rattle.std.proofs.Common.{◌≡◌, ℕ, ◌<◌, Bool, true, false, refl, 
 use Rattle.std.specs.Prelude.{filter, nat_lt, ◌&&◌, ◌||◌}
 use Rattle.std.specs.List.{list_any}
 use mathlib.Core.Bool.{not}
+use mathlib.Core.Path.{ap₂}
 use Rattle.std.proofs.lemmas.Bool.{eqb-true, ltb-true}
 use Rattle.dd_cards.specs.PlayingCard.{PlayingCard}
 use Rattle.dd_cards.specs.Ranks.{IsRank}
@@ -10,13 +11,16 @@ use Rattle.dd_cards.specs.Suits.{suit_code}
 use Rattle.dd_cards.specs.Cards.{deck, is_of, same_card, has_card}
 use Rattle.dd_cards.specs.Sequences.{is_above, is_headed, heads}
 use Rattle.dd_cards.proofs.CallerLemmas.{and-left, and-right, and-both, or-left, or-right, or-split, both-ways, filter-same, has_card-deck, has_card-filter, real-set, same_card-eq}
-use Rattle.dd_cards.specs.Hands.{is_anothers}
+use Rattle.dd_cards.specs.declared.seat.Seat.{Seat}
+use Rattle.dd_cards.specs.declared.seat.Seat.TheVariants.{North, East, South, West}
+use Rattle.dd_cards.specs.Hands.{FourHands, hand_of}
 use Rattle.dd_cards.specs.Seats.{seat_after}
 use Rattle.dd_play.specs.Board.{Board, IsBoard, cards_at, mover}
+use Rattle.dd_play.specs.InPlay.{is_in_hands, is_in_play}
 use Rattle.dd_play.specs.Play.{legal}
 use Rattle.dd_equal.specs.EqualCards.{other_cards, is_between, are_equal, is_top, tops}
 use Rattle.dd_equal.proofs.ClassTops.{some-card}
-use Rattle.dd_equal.proofs.Suits.{others-split}
+use Rattle.dd_equal.proofs.Suits.{others-differ, others-split}
 
 pub any-of : (t : PlayingCard → Bool) (d : PlayingCard) (cards : List PlayingCard) → has_card cards d ≡ true → t d ≡ true → list_any t cards ≡ true
 any-of t d [] has e = absurd (cc)
@@ -86,36 +90,67 @@ tops-heads p cards others are same =
 
 -- ---- the other cards as a set
 
-kept-of-deck : (p : PlayingCard → Bool) (c : PlayingCard) → (p c ≡ true → IsRank c.rank) → has_card (filter p deck) c ≡ p c
-kept-of-deck p c real = has_card-filter p deck c ∙ go (p c) refl
+-- has another seat the card?
+abbrev is_anothers : FourHands → Seat → PlayingCard → Bool
+is_anothers hands seat c =
+    (has_card (hand_of hands (seat_after seat 1)) c || has_card (hand_of hands (seat_after seat 2)) c) || has_card (hand_of hands (seat_after seat 3)) c
+
+-- all cards in play but the mover's
+pub others-in-play : (p : Board) (all own cards : List PlayingCard) → IsBoard p → ((c : PlayingCard) → has_card all c ≡ is_in_play p c) → own ≡ cards_at p (mover p)
+    → cards ≡ filter (λ c. not (has_card own c)) all → (c : PlayingCard) → has_card cards c ≡ has_card (other_cards p) c
+others-in-play p all own cards valid play mine left c =
+    ap (λ xs. has_card xs c) left ∙ has_card-filter (λ d. not (has_card own d)) all c
+    ∙ ap₂ (λ x y. not x && y) (ap (λ xs. has_card xs c) mine) (play c)
+    ∙ go (has_card (cards_at p (mover p)) c) (has_card (other_cards p) c) refl refl
   where
-    go : (b : Bool) → p c ≡ b → (b && has_card deck c) ≡ b
-    go true e = has_card-deck c (real e)
-    go false e = refl
+    one : (e s w : Bool) → ((false || e) || (s || w)) ≡ ((e || s) || w)
+    one true true true = refl
+    one true true false = refl
+    one true false true = refl
+    one true false false = refl
+    one false true true = refl
+    one false true false = refl
+    one false false true = refl
+    one false false false = refl
 
--- the other hands and the trick
-pub others-all : (p : Board) (three trick cards : List PlayingCard) → IsBoard p → three ≡ filter (is_anothers p.hands (mover p)) deck → ((c : PlayingCard) → has_card trick c ≡ has_card p.trick c)
-    → cards ≡ filter (λ c. has_card three c || has_card trick c) deck → (c : PlayingCard) → has_card cards c ≡ has_card (other_cards p) c
-others-all p three trick cards valid are same union c =
-    ap (λ xs. has_card xs c) union
-    ∙ kept-of-deck (λ d. has_card three d || has_card trick d) c (λ h. elim (or-split (has_card three c) (has_card trick c) h) [
-      | inl theirs ↦ anothers (sym hands ∙ theirs)
-      | inr there ↦ valid.real c (sym (same c) ∙ there)
-    ])
-    ∙ ap (λ b. b || has_card trick c) hands ∙ ap (λ b. is_anothers p.hands (mover p) c || b) (same c)
-    ∙ sym (others-split p c)
-  where
-    hand : ℕ → Bool
-    hand k = has_card (cards_at p (seat_after (mover p) k)) c
+    two : (n s w : Bool) → ((n || false) || (s || w)) ≡ ((s || w) || n)
+    two true true true = refl
+    two true true false = refl
+    two true false true = refl
+    two true false false = refl
+    two false true true = refl
+    two false true false = refl
+    two false false true = refl
+    two false false false = refl
 
-    real : (k : ℕ) → hand k ≡ true → IsRank c.rank
-    real k h = real-set (cards_at p (seat_after (mover p) k)) c (valid.sets (seat_after (mover p) k)) h
+    three : (n e w : Bool) → ((n || e) || (false || w)) ≡ ((w || n) || e)
+    three true true true = refl
+    three true true false = refl
+    three true false true = refl
+    three true false false = refl
+    three false true true = refl
+    three false true false = refl
+    three false false true = refl
+    three false false false = refl
 
-    anothers : is_anothers p.hands (mover p) c ≡ true → IsRank c.rank
-    anothers h = elim (or-split (hand 1 || hand 2) (hand 3) h) [
-      | inl two ↦ elim (or-split (hand 1) (hand 2) two) [ inl a ↦ real 1 a | inr b ↦ real 2 b ]
-      | inr d ↦ real 3 d
-    ]
+    four : (n e s : Bool) → ((n || e) || (s || false)) ≡ ((n || e) || s)
+    four true true true = refl
+    four true true false = refl
+    four true false true = refl
+    four true false false = refl
+    four false true true = refl
+    four false true false = refl
+    four false false true = refl
+    four false false false = refl
 
-    hands : has_card three c ≡ is_anothers p.hands (mover p) c
-    hands = ap (λ xs. has_card xs c) are ∙ kept-of-deck (is_anothers p.hands (mover p)) c anothers
+    -- the hands but the mover's, and the trick
+    round : (hands : FourHands) (s : Seat) (t : Bool) (c : PlayingCard) → has_card (hand_of hands s) c ≡ false → (is_in_hands hands c || t) ≡ (is_anothers hands s c || t)
+    round hands North t c e = ap (λ b. b || t) (ap (λ x. (x || has_card hands.east c) || (has_card hands.south c || has_card hands.west c)) e ∙ one (has_card hands.east c) (has_card hands.south c) (has_card hands.west c))
+    round hands East t c e = ap (λ b. b || t) (ap (λ x. (has_card hands.north c || x) || (has_card hands.south c || has_card hands.west c)) e ∙ two (has_card hands.north c) (has_card hands.south c) (has_card hands.west c))
+    round hands South t c e = ap (λ b. b || t) (ap (λ x. (has_card hands.north c || has_card hands.east c) || (x || has_card hands.west c)) e ∙ three (has_card hands.north c) (has_card hands.east c) (has_card hands.west c))
+    round hands West t c e = ap (λ b. b || t) (ap (λ x. (has_card hands.north c || has_card hands.east c) || (has_card hands.south c || x)) e ∙ four (has_card hands.north c) (has_card hands.east c) (has_card hands.south c))
+
+    go : (a b : Bool) → has_card (cards_at p (mover p)) c ≡ a → has_card (other_cards p) c ≡ b → (not (has_card (cards_at p (mover p)) c) && is_in_play p c) ≡ has_card (other_cards p) c
+    go true true e f = absurd (others-differ p c valid e f)
+    go true false e f = ap (λ x. not x && is_in_play p c) e ∙ sym f
+    go false b e f = ap (λ x. not x && is_in_play p c) e ∙ round p.hands (mover p) (has_card p.trick c) c e ∙ sym (others-split p c)

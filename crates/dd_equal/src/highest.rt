@@ -19,13 +19,12 @@ pub fn tops_at(position: &Position, played: u8) -> Hand
 }
 
 /// The cards in the other hands and on the trick, where so many are known to lie on it.
+// All that are in play but the mover's: the trick's own cards are looked at nowhere.
 #[inline(always)]
 pub(crate) fn others_at(position: &Position, played: u8) -> Hand
     requires { length position.now.trick ≡ played }
     ensures { (c : PlayingCard) → has_card result c ≡ has_card (other_cards position.now) c }
 {
-    position
-        .hands()
-        .others(position.mover_at(played))
-        .union(position.trick_cards_at(played))
+    let own = position.hands().hand(position.mover_at(played));
+    position.in_play().difference(own)
 }

@@ -1,18 +1,14 @@
 -- The results of a deal by strains.
-use Rattle.std.proofs.Common.{◌≡◌, ◌+◌, ◌*◌, ◌≤◌, arith, length, refl, true}
+use Rattle.std.proofs.Common.{◌≡◌, ◌≤◌, arith, length, true}
 use Rattle.std.specs.Prelude.{nat_le}
 use Rattle.std.proofs.lemmas.Bool.{le-leb}
 use Rattle.dd_cards.specs.declared.seat.Seat.{Seat}
 use Rattle.dd_cards.specs.declared.seat.Seat.TheVariants.{North, East, South, West}
-use Rattle.dd_cards.specs.declared.strain.Strain.{Strain}
-use Rattle.dd_cards.specs.declared.strain.Strain.TheVariants.{Trump, Notrump}
-use Rattle.dd_cards.specs.declared.suit.Suit.TheVariants.{Spades, Hearts, Diamonds, Clubs}
-use Rattle.dd_cards.specs.Seats.{next_seat, seat_code}
-use Rattle.dd_cards.specs.Strains.{strain_code}
+use Rattle.dd_cards.specs.Seats.{next_seat}
 use Rattle.dd_cards.specs.Hands.{FourHands, hand_of}
 use Rattle.dd_file.specs.Deals.{IsThirteen}
 use Rattle.dd_score.specs.Tables.{IsTable}
-use Rattle.dd_solve.specs.Results.{Contract, contract_of, contracts, tricks_of}
+use Rattle.dd_solve.specs.Results.{Contract, tricks_of}
 use Rattle.dd_fill.specs.Told.{table_of}
 
 hand-thirteen : (hands : FourHands) (seat : Seat) → IsThirteen hands → length (hand_of hands seat) ≡ 13
@@ -32,28 +28,3 @@ module _ (hands : FourHands) (thirteen : IsThirteen hands) where
 
   pub table-scored : IsTable (table_of hands)
   table-scored = simp tricks-test
-
--- the part that is a contract: four times the strain's code, and the declarer's
-pub contract-part : (strain : Strain) (declarer : Seat)
-    → contract_of (4 * strain_code strain + seat_code declarer) ≡ record { strain = strain; declarer = declarer }
-unfolding contract_of contracts
-contract-part (Trump Spades) North = refl
-contract-part (Trump Spades) East = refl
-contract-part (Trump Spades) South = refl
-contract-part (Trump Spades) West = refl
-contract-part (Trump Hearts) North = refl
-contract-part (Trump Hearts) East = refl
-contract-part (Trump Hearts) South = refl
-contract-part (Trump Hearts) West = refl
-contract-part (Trump Diamonds) North = refl
-contract-part (Trump Diamonds) East = refl
-contract-part (Trump Diamonds) South = refl
-contract-part (Trump Diamonds) West = refl
-contract-part (Trump Clubs) North = refl
-contract-part (Trump Clubs) East = refl
-contract-part (Trump Clubs) South = refl
-contract-part (Trump Clubs) West = refl
-contract-part Notrump North = refl
-contract-part Notrump East = refl
-contract-part Notrump South = refl
-contract-part Notrump West = refl

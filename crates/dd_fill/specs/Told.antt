@@ -2,15 +2,11 @@
 use Rattle.std.specs.Prelude.{◌≡◌, ℕ, List, map, Option, None, Some}
 use Rattle.dd_cards.specs.declared.strain.Strain.{Strain}
 use Rattle.dd_cards.specs.Hands.{FourHands}
-use Rattle.dd_solve.specs.Results.{all_seats, all_strains, tricks_of}
+use Rattle.dd_solve.specs.Results.{all_strains, strain_results}
 
--- the results of a deal in a strain: the tricks of North, East, South and West
-abbrev pub row_of : FourHands → Strain → List ℕ
-row_of hands strain = map (λ declarer. tricks_of hands (record { strain = strain; declarer = declarer })) all_seats
-
--- its twenty results: a list for each strain
+-- the twenty results of a deal: a list for each strain
 abbrev pub table_of : FourHands → List (List ℕ)
-table_of hands = map (row_of hands) all_strains
+table_of hands = map (strain_results hands) all_strains
 
 -- The deal's results are told; or none are, which may be where a search may be given up.
 abbrev pub IsTold : Type 0 → FourHands → Option (List (List ℕ)) → Type 0
@@ -20,7 +16,7 @@ IsTold may_spend hands (Some table) = table ≡ table_of hands
 -- the same of its results in a strain
 abbrev pub IsRowTold : Type 0 → FourHands → Strain → Option (List ℕ) → Type 0
 IsRowTold may_spend hands strain None = may_spend
-IsRowTold may_spend hands strain (Some row) = row ≡ row_of hands strain
+IsRowTold may_spend hands strain (Some row) = row ≡ strain_results hands strain
 
 -- a search may be given up where there is a budget
 abbrev pub MaySpend : Option ℕ → Type 0

@@ -1,35 +1,58 @@
-//! Who searches for the results of deals, and says which games are left.
-ghost use Rattle.std.specs.Prelude.{◌≡◌};
+//! Who knows the results of deals, and says which games are left.
+ghost use Rattle.std.specs.Prelude.{◌≡◌, IfSome};
+ghost use Rattle.dd_fill.specs.Told.{IsRowTold, IsTold, MaySpend};
 
 use crate::deal::Deal;
 use crate::limit::Limit;
 use crate::note::note_of;
+use crate::pool::Pool;
 use crate::progress::{clear_progress, show_progress};
-use crate::solving::solve_deal;
-use dd_cards::Hands;
+use crate::solving::{CLUBS, DIAMONDS, HEARTS, Row, SPADES, results_by_strains, solve_row};
+use dd_cards::{Hands, Strain};
 use dd_file::{Analyst, Reason};
 use dd_lines::{CountedDevice, write_whole};
 use dd_score::Results;
 use dd_search::Bounds;
 use std::io::Write;
+use std::sync::Wait;
 
-/// Searches over a table, each time within a limit, and says on a device which games are left.
+/// Takes results from those that search ahead for a pool, if there is one. Where they have none it searches over a table, each
+/// time within a limit. It says on a device which games are left.
 #[derive(Drop)]
-pub(crate) struct TableAnalyst<'t, 'e, B, E, L> {
+pub(crate) struct DealAnalyst<'r, 'p, 't, 'e, W, B, E, L> {
+    pub(crate) rt: &'r W,
+    pub(crate) pool: Option<&'p Pool>,
     pub(crate) table: &'t mut B,
     pub(crate) errors: &'e mut CountedDevice<E>,
     pub(crate) shows_progress: bool,
     pub(crate) limit: L,
 }
 
-impl<'t, 'e, B: Bounds, E: Write, L: Limit> Analyst for TableAnalyst<'t, 'e, B, E, L> {
+impl<'r, 'p, 't, 'e, W: Wait, B: Bounds, E: Write, L: Limit> Analyst
+    for DealAnalyst<'r, 'p, 't, 'e, W, B, E, L> {
     ghost use Rattle.dd_fill.specs.Told.{IsTold};
 
     ghost gives = { IsTold L.may_spend };
 
     fn results(&mut self, deal: &Hands) -> Option<Results> {
         let budget = self.limit.positions();
-        solve_deal(&Deal::new(deal), &mut *self.table, budget)
+        results_of(
+            self.rt,
+            self.pool,
+            &Deal::new(deal),
+            &mut *self.table,
+            budget,
+        )
+    }
+
+    fn foresees(&self) -> bool {
+        self.pool.is_some()
+    }
+
+    fn foresee(&mut self, deal: &Hands) {
+        if let Some(pool) = self.pool {
+            pool.take_in(self.rt, deal);
+        }
     }
 
     fn passed(&mut self, games: u64, bytes: u64) {
@@ -41,8 +64,56 @@ impl<'t, 'e, B: Bounds, E: Write, L: Limit> Analyst for TableAnalyst<'t, 'e, B, 
     }
 }
 
-/// Says why the game of this number, with this value of its tag Board, lacks a tag: in place of what is shown in the last line.
-pub(crate) fn say<E: Write>(
+// The results of a deal. Once those of a strain are given up the others are not asked for.
+fn results_of<W: Wait, B: Bounds>(
+    rt: &W,
+    pool: Option<&Pool>,
+    deal: &Deal,
+    table: &mut B,
+    budget: Option<u64>,
+) -> Option<Results>
+    ensures { IsTold (MaySpend budget) deal.now result }
+{
+    let spades = row_of(rt, pool, deal, SPADES, table, budget)?;
+    let hearts = row_of(rt, pool, deal, HEARTS, table, budget)?;
+    let diamonds = row_of(rt, pool, deal, DIAMONDS, table, budget)?;
+    let clubs = row_of(rt, pool, deal, CLUBS, table, budget)?;
+    let notrump = row_of(rt, pool, deal, Strain::Notrump, table, budget)?;
+    Some(results_by_strains(deal, [spades, hearts, diamonds, clubs, notrump]))
+}
+
+// The results of a deal in a strain.
+fn row_of<W: Wait, B: Bounds>(
+    rt: &W,
+    pool: Option<&Pool>,
+    deal: &Deal,
+    strain: Strain,
+    table: &mut B,
+    budget: Option<u64>,
+) -> Option<Row>
+    ensures { IsRowTold (MaySpend budget) deal.now strain result }
+{
+    match found_ahead(rt, pool, deal, strain, budget) {
+        Some(told) => told,
+        None => solve_row(deal, strain, table, budget),
+    }
+}
+
+// What a thread has found for them, if one searched for them.
+fn found_ahead<W: Wait>(
+    rt: &W,
+    pool: Option<&Pool>,
+    deal: &Deal,
+    strain: Strain,
+    budget: Option<u64>,
+) -> Option<Option<Row>>
+    ensures { IfSome result (IsRowTold (MaySpend budget) deal.now strain) }
+{
+    pool?.row_of(rt, deal, strain, budget)
+}
+
+// Says why the game of this number, with this value of its tag Board, lacks a tag: in place of what is shown in the last line.
+fn say<E: Write>(
     game: u64,
     board: &[u8],
     reason: Reason,

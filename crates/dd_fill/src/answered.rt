@@ -3,7 +3,7 @@ ghost use Rattle.std.specs.Prelude.{◌≡◌, IfSome};
 ghost use Rattle.dd_fill.specs.Told.{IsRowTold, MaySpend};
 
 use crate::deal::Deal;
-use crate::solving::{Row, solve_strain};
+use crate::solving::{Row, solve_row};
 use dd_cards::Strain;
 use dd_search::Bounds;
 use std::marker::Model;
@@ -36,7 +36,7 @@ impl Answered {
         table: &mut B,
         budget: Option<u64>,
     ) -> Answered {
-        let row = solve_strain(&deal, strain, table, budget);
+        let row = solve_row(&deal, strain, table, budget);
         Answered {
             deal,
             strain,

@@ -1,71 +1,70 @@
 //! A file in, the file with the results of its deals out.
 ghost use Rattle.std.specs.Prelude.{◌<◌, length};
+ghost use Rattle.dd_fill.specs.Ahead.{FillsFile};
 ghost use Rattle.dd_fill.specs.Served.{Fills};
 ghost use Rattle.dd_fill.specs.Told.{MaySpend};
 
-use crate::analyst::TableAnalyst;
+use crate::analyst::DealAnalyst;
 use crate::limit::{Limit, NoLimit, Within};
+use crate::pool::{Pool, search_ahead};
 use crate::progress::clear_progress;
 use dd_file::{FileFault, Wanted, fill_file};
 use dd_lines::CountedDevice;
 use dd_search::Bounds;
 use std::alloc::Global;
 use std::io::{Read, Write};
+use std::sync::Wait;
+use std::thread::{Threads, for_each_mut, join_mut};
 
 /// Passes a file on, with those lines that its games lack of the ones that are wanted. The results of its deals are searched
 /// for over the table. The budget is the most positions that the search for one result comes to, and `None` lets each search go
-/// on to its end. Of each game that still lacks a tag which is wanted a line on `errors` says why, and where that is a terminal its
-/// last line may show how far it is.
-pub fn fill_deals<R: Read, W: Write, E: Write, B: Bounds>(
+/// on to its end. For each of the tables in `others` a thread of its own searches ahead over it, and has ended when this returns;
+/// where there are none no thread is made. Of each game that still lacks a tag which is wanted a line on `errors` says why, and
+/// where that is a terminal its last line may show how far it is.
+#[tactic(auto, unfolding(crate::specs::Ahead::FillsFile))]
+pub fn fill_deals<
+    W: Threads + Wait + Sync,
+    R: Read,
+    O: Write,
+    E: Write,
+    B: Bounds,
+    H: Bounds + Send,
+>(
+    rt: &W,
     alloc: Global,
     wanted: Wanted,
     reader: &mut CountedDevice<R>,
-    writer: &mut CountedDevice<W>,
+    writer: &mut CountedDevice<O>,
     errors: &mut CountedDevice<E>,
     shows_progress: bool,
     table: &mut B,
+    others: &mut [H],
     budget: Option<u64>,
     buffer: &mut [u8],
 ) -> Result<(), FileFault>
     requires { 0 < length buffer.old }
     // All was read, and what was written is the file with its lines, by the results of its deals, of which none were given up
     // without a budget; or a beginning of that, where a call failed or memory ran out.
-    ensures { Fills R.remaining W.contents (MaySpend budget) wanted
+    ensures { Fills R.remaining O.contents (MaySpend budget) wanted
         reader.old reader.new writer.old writer.new result }
 {
-    let filled = fill_by(
-        alloc,
-        wanted,
-        reader,
-        writer,
-        errors,
-        shows_progress,
-        table,
-        budget,
-        buffer,
-    );
-    clear_progress(shows_progress, errors);
-    filled
-}
-
-// The same, up to what is shown at the end.
-fn fill_by<R: Read, W: Write, E: Write, B: Bounds>(
-    alloc: Global,
-    wanted: Wanted,
-    reader: &mut CountedDevice<R>,
-    writer: &mut CountedDevice<W>,
-    errors: &mut CountedDevice<E>,
-    shows_progress: bool,
-    table: &mut B,
-    budget: Option<u64>,
-    buffer: &mut [u8],
-) -> Result<(), FileFault>
-    requires { 0 < length buffer.old }
-    ensures { Fills R.remaining W.contents (MaySpend budget) wanted
-        reader.old reader.new writer.old writer.new result }
-{
-    match budget {
-        Some(positions) => fill_within(
+    if others.is_empty() {
+        fill_by(
+            rt,
+            alloc,
+            wanted,
+            reader,
+            writer,
+            errors,
+            shows_progress,
+            None,
+            table,
+            budget,
+            buffer,
+        )
+    } else {
+        fill_with_help(
+            rt,
             alloc,
             wanted,
             reader,
@@ -73,16 +72,114 @@ fn fill_by<R: Read, W: Write, E: Write, B: Bounds>(
             errors,
             shows_progress,
             table,
-            Within { positions },
+            others,
+            budget,
             buffer,
-        ),
-        None => fill_within(
+        )
+    }
+}
+
+// The same with a thread for each of the others, by a word that its proof need not open.
+fn fill_with_help<
+    W: Threads + Wait + Sync,
+    R: Read,
+    O: Write,
+    E: Write,
+    B: Bounds,
+    H: Bounds + Send,
+>(
+    rt: &W,
+    alloc: Global,
+    wanted: Wanted,
+    reader: &mut CountedDevice<R>,
+    writer: &mut CountedDevice<O>,
+    errors: &mut CountedDevice<E>,
+    shows_progress: bool,
+    table: &mut B,
+    others: &mut [H],
+    budget: Option<u64>,
+    buffer: &mut [u8],
+) -> Result<(), FileFault>
+    requires { 0 < length buffer.old }
+    ensures { FillsFile R.remaining O.contents (MaySpend budget) wanted
+        reader.old reader.new writer.old writer.new result }
+{
+    let pool = Pool::new(alloc, budget);
+    let (_, result) = join_mut(
+        rt,
+        // Where no thread can be had, this comes last, and leaves at once.
+        &mut || help(rt, &pool, others),
+        &mut || -> Result<(), FileFault> {
+            let result = fill_by(
+                rt,
+                alloc,
+                wanted,
+                reader,
+                writer,
+                errors,
+                shows_progress,
+                Some(&pool),
+                table,
+                budget,
+                buffer,
+            );
+            pool.close(rt);
+            result
+        },
+    );
+    result
+}
+
+// Searches ahead over each of these tables, in a thread of its own where one can be had.
+fn help<W: Threads + Wait + Sync, H: Bounds + Send>(rt: &W, pool: &Pool, others: &mut [H]) {
+    let count = others.len();
+    if count > 0 {
+        for_each_mut(rt, others, count, &|_, other| search_ahead(rt, pool, other));
+    }
+}
+
+// The same with the help of all that search ahead for the pool, if there is one.
+#[tactic(auto, unfolding(crate::specs::Ahead::FillsFile))]
+fn fill_by<W: Wait, R: Read, O: Write, E: Write, B: Bounds>(
+    rt: &W,
+    alloc: Global,
+    wanted: Wanted,
+    reader: &mut CountedDevice<R>,
+    writer: &mut CountedDevice<O>,
+    errors: &mut CountedDevice<E>,
+    shows_progress: bool,
+    pool: Option<&Pool>,
+    table: &mut B,
+    budget: Option<u64>,
+    buffer: &mut [u8],
+) -> Result<(), FileFault>
+    requires { 0 < length buffer.old }
+    ensures { FillsFile R.remaining O.contents (MaySpend budget) wanted
+        reader.old reader.new writer.old writer.new result }
+{
+    match budget {
+        Some(positions) => fill_within(
+            rt,
             alloc,
             wanted,
             reader,
             writer,
             errors,
             shows_progress,
+            pool,
+            table,
+            Within { positions },
+            buffer,
+        ),
+        None => fill_within(
+            rt,
+            alloc,
+            wanted,
+            reader,
+            writer,
+            errors,
+            shows_progress,
+            pool,
             table,
             NoLimit,
             buffer,
@@ -91,26 +188,32 @@ fn fill_by<R: Read, W: Write, E: Write, B: Bounds>(
 }
 
 // The same, each search within a limit.
-fn fill_within<R: Read, W: Write, E: Write, B: Bounds, L: Limit>(
+fn fill_within<W: Wait, R: Read, O: Write, E: Write, B: Bounds, L: Limit>(
+    rt: &W,
     alloc: Global,
     wanted: Wanted,
     reader: &mut CountedDevice<R>,
-    writer: &mut CountedDevice<W>,
+    writer: &mut CountedDevice<O>,
     errors: &mut CountedDevice<E>,
     shows_progress: bool,
+    pool: Option<&Pool>,
     table: &mut B,
     limit: L,
     buffer: &mut [u8],
 ) -> Result<(), FileFault>
     requires { 0 < length buffer.old }
-    ensures { Fills R.remaining W.contents L.may_spend wanted
+    ensures { Fills R.remaining O.contents L.may_spend wanted
         reader.old reader.new writer.old writer.new result }
 {
-    let mut analyst = TableAnalyst {
+    let mut analyst = DealAnalyst {
+        rt,
+        pool,
         table,
-        errors,
+        errors: &mut *errors,
         shows_progress,
         limit,
     };
-    fill_file(alloc, wanted, reader, writer, &mut analyst, buffer)
+    let filled = fill_file(alloc, wanted, reader, writer, &mut analyst, buffer);
+    clear_progress(shows_progress, errors);
+    filled
 }

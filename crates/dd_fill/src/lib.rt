@@ -1,7 +1,6 @@
 //! Files of PBN with the results of their deals, which are searched for.
 #![tactic(auto)]
 
-mod ahead;
 mod analyst;
 mod answered;
 mod deal;
@@ -13,5 +12,4 @@ mod progress;
 mod solving;
 mod strain_queue;
 
-pub use ahead::fill_deals_on;
 pub use filling::fill_deals;

@@ -45,7 +45,7 @@ impl Pool {
     }
 
     /// What was found for this strain of the deal, which is the next whose results are asked for, if a thread searched for it;
-    /// where one still does it waits.
+    /// where one still does it waits. Strains before it, of a deal whose results were given up, are not asked for any more.
     pub(crate) fn row_of<R: Wait>(
         &self,
         rt: &R,
@@ -55,9 +55,11 @@ impl Pool {
     ) -> Option<Option<Row>>
         ensures { IfSome result (IsRowTold (MaySpend budget) deal.now strain) }
     {
+        let mut queue = self.queue.lock(rt);
+        queue.pass_to(strain);
         let mut queue = self.answered.wait_while(
             rt,
-            self.queue.lock(rt),
+            queue,
             |queue: &mut StrainQueue| queue.is_first_running(),
         );
         let popped = queue.pop();

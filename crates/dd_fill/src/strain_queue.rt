@@ -14,6 +14,9 @@ use std::mem;
 /// The most strains of deals that are held: those of 4,096 deals.
 const MOST_AHEAD: usize = 20_480;
 
+/// The strains of a deal.
+const STRAINS: u64 = 5;
+
 // A strain of a deal.
 #[derive(Drop)]
 enum Slot {
@@ -54,6 +57,16 @@ impl StrainQueue {
     {
         for strain in [SPADES, HEARTS, DIAMONDS, CLUBS, Strain::Notrump] {
             let _ = self.push_strain(Deal::new(deal), strain);
+        }
+    }
+
+    /// What stands before the next place of this strain is left out: each deal has five places, by the codes of the strains.
+    pub(crate) fn pass_to(&mut self, strain: Strain) {
+        for _ in 0..STRAINS {
+            if self.first % STRAINS == strain.code() as u64 {
+                return;
+            }
+            let _ = self.pop();
         }
     }
 

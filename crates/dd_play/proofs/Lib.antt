@@ -13,6 +13,7 @@ pub mod Steps
 pub mod Twins
 pub mod ClaimRules
 pub mod HandsAfter
+pub mod InPlay
 pub mod Fewer
 pub mod Worth
 pub mod Contests

@@ -9,5 +9,6 @@ pub mod Deals
 pub mod Won
 pub mod Simulations
 pub mod Covers
+pub mod InPlay
 pub mod Claims
 pub mod Reach

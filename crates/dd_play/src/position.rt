@@ -6,6 +6,7 @@ ghost use Rattle.dd_cards.specs.Ranks.{IsRank};
 ghost use Rattle.dd_cards.specs.Seats.{seat_after};
 ghost use Rattle.dd_cards.specs.Hands.{hand_of, times, AreHands};
 ghost use Rattle.dd_play.specs.Board.{board_of, IsBoard, mover, tricks_left, times_in};
+ghost use Rattle.dd_play.specs.InPlay.{is_in_hands, is_in_play};
 ghost use Rattle.dd_play.specs.Tricks.{winner_of};
 ghost use Rattle.dd_play.specs.Play.{legal, completes, trick_with, after, hands_after};
 ghost use Rattle.dd_play.specs.Covers.{IsSettled, count_of};
@@ -21,6 +22,8 @@ use std::marker::Model;
 #[derive(Drop)]
 pub struct Position {
     hands: Hands,
+    // the cards in the hands and on the trick, which are the same while it lasts
+    in_play: Hand,
     strain: Strain,
     first: Seat,
     trick: [Card; 3],
@@ -29,14 +32,19 @@ pub struct Position {
 
 impl Model for Position {
     ghost use Rattle.std.specs.Prelude.{take, length, ◌≡◌, ◌≤◌};
+    ghost use Rattle.dd_cards.specs.PlayingCard.{PlayingCard};
+    ghost use Rattle.dd_cards.specs.Cards.{has_card};
     ghost use Rattle.dd_play.specs.Board.{Board, board_of, IsBoard};
+    ghost use Rattle.dd_play.specs.InPlay.{is_in_play};
 
     ghost Value = { Board };
 
     ghost view = { λ p. board_of p.hands p.strain p.first (take p.played p.trick) };
 
     ghost invariant = { λ p. (p.played ≤ 3) × (length p.trick ≡ 3)
-        × IsBoard (board_of p.hands p.strain p.first (take p.played p.trick)) };
+        × IsBoard (board_of p.hands p.strain p.first (take p.played p.trick))
+        × ((c : PlayingCard) → has_card p.in_play c
+        ≡ is_in_play (board_of p.hands p.strain p.first (take p.played p.trick)) c) };
 }
 
 impl Position {
@@ -70,11 +78,14 @@ impl Position {
         if left == 0 {
             return Err(PlayFault::Empty);
         }
+        let places = three_places(trick);
+        let in_play = in_hands(&hands).union(of_trick(places, played));
         Ok(Position {
             hands,
+            in_play,
             strain,
             first,
-            trick: three_places(trick),
+            trick: places,
             played,
         })
     }
@@ -86,6 +97,7 @@ impl Position {
     {
         Position {
             hands: self.hands.copy(),
+            in_play: self.in_play,
             strain: self.strain,
             first: self.first,
             trick: self.trick,
@@ -122,18 +134,13 @@ impl Position {
         &self.trick[..self.played as usize]
     }
 
-    /// The cards on the current trick, as a set, where so many are known to lie there.
-    // Without a branch on how many there are: each place has some card.
+    /// The cards in the hands and on the trick, as a set.
     #[inline(always)]
-    pub fn trick_cards_at(&self, played: u8) -> Hand
-        requires { length self.now.trick ≡ played }
-        ensures { (c : PlayingCard) → has_card result c ≡ has_card self.now.trick c }
+    pub fn in_play(&self) -> Hand
+        ensures cards { (c : PlayingCard) → has_card result c ≡ is_in_play self.now c }
+        ensures board { IsBoard self.now }
     {
-        let [first, second, third] = self.trick;
-        Hand::new()
-            .with_if(first, played > 0)
-            .with_if(second, played > 1)
-            .with_if(third, played > 2)
+        self.in_play
     }
 
     /// The seat to play.
@@ -249,8 +256,10 @@ impl Position {
         if played == 3 {
             let trick = [self.trick[0], self.trick[1], self.trick[2], card];
             let seat = winner(&trick, self.first, self.strain);
+            let in_play = in_hands(&hands);
             let next = Position {
                 hands,
+                in_play,
                 strain: self.strain,
                 first: seat,
                 trick: self.trick,
@@ -260,6 +269,7 @@ impl Position {
         } else {
             let next = Position {
                 hands,
+                in_play: self.in_play,
                 strain: self.strain,
                 first: self.first,
                 trick: with_place(self.trick, played, card),
@@ -302,6 +312,30 @@ impl Position {
     {
         self.hands.without(card)
     }
+}
+
+// The cards in the four hands, as a set.
+#[inline(always)]
+fn in_hands(hands: &Hands) -> Hand
+    ensures { (c : PlayingCard) → has_card result c ≡ is_in_hands hands.now c }
+{
+    let north_east = hands.hand(Seat::North).union(hands.hand(Seat::East));
+    let south_west = hands.hand(Seat::South).union(hands.hand(Seat::West));
+    north_east.union(south_west)
+}
+
+// The cards of a trick, as a set: so many of these.
+// Without a branch on how many there are: each place has some card.
+fn of_trick(places: [Card; 3], played: u8) -> Hand
+    requires places { length places ≡ 3 }
+    requires few { played ≤ 3 }
+    ensures { (c : PlayingCard) → has_card result c ≡ has_card (take played places) c }
+{
+    let [first, second, third] = places;
+    Hand::new()
+        .with_if(first, played > 0)
+        .with_if(second, played > 1)
+        .with_if(third, played > 2)
 }
 
 // The card at this place of four: two choices, and no branch to one of four places.

@@ -15,9 +15,9 @@ use Rattle.clap.specs.declared.error.Error.{Error}
 use Rattle.clap.specs.declared.error.kind.ErrorKind.TheVariants.{OutOfMemory}
 use Rattle.clap.specs.declared.parser.matches.ArgMatches.{ArgMatches}
 use Rattle.clap.specs.declared.parser.matches.ArgMatches.TheViews.{out-ArgMatches, out-SubCommand}
-use Rattle.dd_program.specs.CommandLine.{SolveOption, Budget, Entries, Workers, Asks, AsksToSolve, GiveOptions, HasDefaults, IsBudget, IsEventCount, IsIdle, IsInRange, IsLeftOut, IsSame, IsTableSize, given_to, is_option, word_of}
+use Rattle.dd_program.specs.CommandLine.{SolveOption, Budget, Entries, Workers, Given, numbered, explained, gives_flag, Asks, AsksToSolve, GiveOptions, HasDefaults, IsBudget, IsEventCount, IsIdle, IsInRange, IsLeftOut, IsSame, IsTableSize, given_to, is_option, word_of}
 use Rattle.dd_program.specs.FillWords.{AsksToFillBy, limit_up_to}
-use Rattle.dd_program.specs.ServeWords.{AsksToServeBy}
+use Rattle.dd_program.specs.ServeWords.{AsksToServeBy, is_set}
 use Rattle.dd_program.specs.Program.{number_of, program_app}
 use Rattle.dd_program.specs.declared.command_line.Args.{Args}
 use Rattle.dd_program.specs.declared.command_line.Args.TheVariants.{Fill, Serve, Solve}
@@ -159,14 +159,14 @@ fill-has app arguments m rows is free matches named has = elim (line-free app ar
 -- arguments that have the rows' numbers
 abbrev HasNumbersOf : List Row → Args → Type 0
 HasNumbersOf rows args = (entries : ℕ) × (workers : ℕ) × (number_of (codes "entries") rows ≡ Some entries) × (number_of (codes "workers") rows ≡ Some workers)
-    × (args ≡ Solve (number_of (codes "budget") rows) entries workers)
+    × (args ≡ Solve (number_of (codes "budget") rows) entries workers (is_set (codes "explain") rows))
 
 -- arguments with the numbers of the rows are what the line asks for
 pub asks-args : (arguments : List Text) (rows : List Row) (args : Args) → Asked arguments rows → HasNumbersOf rows args → Asks arguments args
 asks-args arguments rows args asked has =
     let entries-are : Some has.0 ≡ Some (unwrap_or (given_to Entries asked.given) 4096) = sym has.2 ∙ asked.reads.has_entries in
     let workers-are : Some has.1 ≡ Some (unwrap_or (given_to Workers asked.given) 1) = sym has.3 ∙ asked.reads.has_workers in
-    subst (Asks arguments) (sym has.4) (asked.given, asked.asks, asked.reads.has_budget, some-number entries-are, some-number workers-are)
+    subst (Asks arguments) (sym has.4) (asked.given, asked.asks, asked.reads.has_budget, some-number entries-are, some-number workers-are, asked.reads.has_flag)
   where
     some-number : {m n : ℕ} → Some m ≡ Some n → m ≡ n
     some-number e = cc
@@ -179,20 +179,20 @@ or-in-range most default (Some number) low high fits = fits
 -- arguments of the rows of `serve` are what the line asks for
 pub asks-serve : (arguments : List Text) (rows : List Row) (args : Args) → (fault_of program_app arguments ≡ []) × (subcommand_of program_app arguments ≡ Some (codes "serve", rows))
     → AsksToServeBy rows args → Asks arguments args
-asks-serve arguments rows (Solve budget entries workers) line by = absurd by
+asks-serve arguments rows (Solve budget entries workers explain) line by = absurd by
 asks-serve arguments rows (Fill tags budget entries workers) line by = absurd by
 asks-serve arguments rows (Serve listen workers shards entries budget events idle websocket allow_stop) line by = (rows, line.0, line.1, by)
 
 -- the same of the rows of `pbn`
 pub asks-fill : (arguments : List Text) (rows : List Row) (args : Args) → (fault_of program_app arguments ≡ []) × (subcommand_of program_app arguments ≡ Some (codes "pbn", rows))
     → AsksToFillBy rows args → Asks arguments args
-asks-fill arguments rows (Solve budget entries workers) line by = absurd by
+asks-fill arguments rows (Solve budget entries workers explain) line by = absurd by
 asks-fill arguments rows (Serve listen workers shards entries budget events idle websocket allow_stop) line by = absurd by
 asks-fill arguments rows (Fill tags budget entries workers) line by = (rows, line.0, line.1, by)
 
 -- the numbers of a line that asks lie in their ranges
 pub in-range : (arguments : List Text) (args : Args) → Asks arguments args → IsInRange args
-in-range arguments (Solve budget entries workers) (given, asks, budget-is, entries-are, workers-are) =
+in-range arguments (Solve budget entries workers explain) (given, asks, budget-is, entries-are, workers-are, flag-is) =
     let entries-fit = or-in-range MOST_SHAPES 4096 (given_to Entries given) (omega arith) (omega arith) (given-admitted Entries given asks.words asks.gives) in
     let workers-fit = or-in-range MOST_WORKERS 1 (given_to Workers given) (omega arith) (omega arith) (given-admitted Workers given asks.words asks.gives) in
     let workers-range = subst (λ n. (1 ≤ n) × (n ≤ MOST_WORKERS)) (sym workers-are) workers-fit in (
@@ -225,14 +225,14 @@ entered_rows None = []
 entered_rows (Some entered) = entered.1
 
 -- a line of `solve` is none of `serve`
-solve-only : (arguments : List Text) (given : List (SolveOption × ℕ)) (rows : List Row) → AsksToSolve arguments given → subcommand_of program_app arguments ≡ Some (codes "serve", rows) → ⊥
+solve-only : (arguments : List Text) (given : List (Given ℕ)) (rows : List Row) → AsksToSolve arguments given → subcommand_of program_app arguments ≡ Some (codes "serve", rows) → ⊥
 solve-only arguments given rows asks line =
     let as-solve : subcommand_of program_app arguments ≡ Some (codes "solve", solve_rows asks.words) = ap (subcommand_of program_app) asks.line ∙ subcommand-rows asks.program asks.words in
     let both : codes "solve" ≡ codes "serve" = ap entered_name (sym as-solve ∙ line) in
     other-name both
 
 -- nor of `pbn`
-solve-no-fill : (arguments : List Text) (given : List (SolveOption × ℕ)) (rows : List Row) → AsksToSolve arguments given → subcommand_of program_app arguments ≡ Some (codes "pbn", rows) → ⊥
+solve-no-fill : (arguments : List Text) (given : List (Given ℕ)) (rows : List Row) → AsksToSolve arguments given → subcommand_of program_app arguments ≡ Some (codes "pbn", rows) → ⊥
 solve-no-fill arguments given rows asks line =
     let as-solve : subcommand_of program_app arguments ≡ Some (codes "solve", solve_rows asks.words) = ap (subcommand_of program_app) asks.line ∙ subcommand-rows asks.program asks.words in
     let both : codes "solve" ≡ codes "pbn" = ap entered_name (sym as-solve ∙ line) in
@@ -246,11 +246,11 @@ serve-no-fill arguments rows rows2 line line2 =
 
 -- a line asks for one thing
 pub asks-one : (arguments : List Text) (args other : Args) → Asks arguments args → Asks arguments other → IsSame other args
-asks-one arguments (Solve b e w) (Solve c f x) asks also =
+asks-one arguments (Solve b e w y) (Solve c f x z) asks also =
     let same = one-meaning arguments asks.0 also.0 asks.1 also.1 in
-    (λ i. Solve ((also.2 ∙ sym same.0 ∙ sym asks.2) i) ((also.3 ∙ sym same.1 ∙ sym asks.3) i) ((also.4 ∙ sym same.2 ∙ sym asks.4) i))
-asks-one arguments (Solve b e w) (Serve m x t f c o h j d) asks also = solve-only arguments asks.0 also.0 asks.1 also.2
-asks-one arguments (Serve l w s e b n i k a) (Solve c f x) asks also = solve-only arguments also.0 asks.0 also.1 asks.2
+    (λ i. Solve ((also.2 ∙ sym same.0 ∙ sym asks.2) i) ((also.3 ∙ sym same.1 ∙ sym asks.3) i) ((also.4 ∙ sym same.2 ∙ sym asks.4) i) ((also.5 ∙ sym same.3 ∙ sym asks.5) i))
+asks-one arguments (Solve b e w y) (Serve m x t f c o h j d) asks also = solve-only arguments asks.0 also.0 asks.1 also.2
+asks-one arguments (Serve l w s e b n i k a) (Solve c f x z) asks also = solve-only arguments also.0 asks.0 also.1 asks.2
 asks-one arguments (Serve l w s e b n i k a) (Serve m x t f c o h j d) (rows, free, line, by) (rows2, free2, line2, by2) =
     let same : rows2 ≡ rows = ap entered_rows (sym line2 ∙ line) in
     let also = subst (λ r. AsksToServeBy r (Serve m x t f c o h j d)) same by2 in (
@@ -264,8 +264,8 @@ asks-one arguments (Serve l w s e b n i k a) (Serve m x t f c o h j d) (rows, fr
       also.7 ∙ sym by.7,
       also.8 ∙ sym by.8,
     )
-asks-one arguments (Solve b e w) (Fill u c f x) asks also = solve-no-fill arguments asks.0 also.0 asks.1 also.2
-asks-one arguments (Fill t b e w) (Solve c f x) asks also = solve-no-fill arguments also.0 asks.0 also.1 asks.2
+asks-one arguments (Solve b e w y) (Fill u c f x) asks also = solve-no-fill arguments asks.0 also.0 asks.1 also.2
+asks-one arguments (Fill t b e w) (Solve c f x z) asks also = solve-no-fill arguments also.0 asks.0 also.1 asks.2
 asks-one arguments (Serve l w s e b n i k a) (Fill u c f x) asks also = serve-no-fill arguments asks.0 also.0 asks.2 also.2
 asks-one arguments (Fill t b e w) (Serve m x s f c o h j d) asks also = serve-no-fill arguments also.0 asks.0 also.2 asks.2
 asks-one arguments (Fill t b e w) (Fill u c f x) (rows, free, line, by) (rows2, free2, line2, by2) =
@@ -286,9 +286,12 @@ word-begins Entries text = (refl, refl)
 word-begins Workers text = (refl, refl)
 
 -- words of which none begins with an option give it nothing
-gives-nothing : (o : SolveOption) (given : List (SolveOption × ℕ)) (words : List Text) → GiveOptions given words → list_any (begins (word_of o)) words ≡ false → given_to o given ≡ None
+gives-nothing : (o : SolveOption) (given : List (Given ℕ)) (words : List Text) → GiveOptions given words → list_any (begins (word_of o)) words ≡ false → given_to o given ≡ None
 gives-nothing o [] words gives out = refl
-gives-nothing o ((p, number) ∷ given) words (text, rest, is, admits, forms, gives) out = go (same-or-other p o) (gives-nothing o given rest gives (later forms))
+gives-nothing o (explained ∷ given) words (rest, is, gives) out =
+    let all-out = subst (λ ws. list_any (begins (word_of o)) ws ≡ false) is out in
+    gives-nothing o given rest gives (neither (begins (word_of o) (codes "--explain")) (list_any (begins (word_of o)) rest) all-out).1
+gives-nothing o (numbered p number ∷ given) words (text, rest, is, admits, forms, gives) out = go (same-or-other p o) (gives-nothing o given rest gives (later forms))
   where
     named : (words ≡ word_of p ∷ text ∷ rest) ⊎ (words ≡ (word_of p ++ codes "=" ++ text) ∷ rest) → list_any (begins (word_of p)) words ≡ true
     named (inl words-are) = subst (λ ws. list_any (begins (word_of p)) ws ≡ true) (sym words-are) (rw (word-begins p text).0 refl)
@@ -303,12 +306,34 @@ gives-nothing o ((p, number) ∷ given) words (text, rest, is, admits, forms, gi
         let all-out = subst (λ ws. list_any (begins (word_of o)) ws ≡ false) words-are out in
         (neither (begins (word_of o) (word_of p ++ codes "=" ++ text)) _ all-out).1
 
-    go : (p ≡ o) ⊎ (is_option p o ≡ false) → given_to o given ≡ None → given_to o ((p, number) ∷ given) ≡ None
+    go : (p ≡ o) ⊎ (is_option p o ≡ false) → given_to o given ≡ None → given_to o (numbered p number ∷ given) ≡ None
     go (inl same) none = absurd (true≢false (sym (subst (λ q. list_any (begins (word_of q)) words ≡ true) same (named forms)) ∙ out))
     go (inr other) none = rw other none
 
+-- words of which none begins with the flag don't give it
+gives-no-flag : (given : List (Given ℕ)) (words : List Text) → GiveOptions given words → list_any (begins (codes "--explain")) words ≡ false → gives_flag given ≡ false
+gives-no-flag [] words gives out = refl
+gives-no-flag (explained ∷ given) words (rest, is, gives) out = absurd (true≢false (subst (λ ws. list_any (begins (codes "--explain")) ws ≡ false) is out))
+gives-no-flag (numbered p number ∷ given) words (text, rest, is, admits, forms, gives) out = gives-no-flag given rest gives (later forms)
+  where
+    later : (words ≡ word_of p ∷ text ∷ rest) ⊎ (words ≡ (word_of p ++ codes "=" ++ text) ∷ rest) → list_any (begins (codes "--explain")) rest ≡ false
+    later (inl words-are) =
+        let all-out = subst (λ ws. list_any (begins (codes "--explain")) ws ≡ false) words-are out in
+        let after-flag = (neither (begins (codes "--explain") (word_of p)) _ all-out).1 in
+        (neither (begins (codes "--explain") text) _ after-flag).1
+    later (inr words-are) =
+        let all-out = subst (λ ws. list_any (begins (codes "--explain")) ws ≡ false) words-are out in
+        (neither (begins (codes "--explain") (word_of p ++ codes "=" ++ text)) _ all-out).1
+
+-- nor does such a line
+line-gives-no-flag : (arguments : List Text) (given : List (Given ℕ)) → AsksToSolve arguments given → IsLeftOut (codes "--explain") arguments → gives_flag given ≡ false
+line-gives-no-flag arguments given asks out =
+    let from-line = subst (λ ws. list_any (begins (codes "--explain")) ws ≡ false) asks.line out in
+    let after-program = (neither (begins (codes "--explain") asks.program) _ from-line).1 in
+    gives-no-flag given asks.words asks.gives (neither (begins (codes "--explain") (codes "solve")) _ after-program).1
+
 -- so a line of which no word begins with an option gives it nothing
-line-gives-nothing : (o : SolveOption) (arguments : List Text) (given : List (SolveOption × ℕ)) → AsksToSolve arguments given → IsLeftOut (word_of o) arguments → given_to o given ≡ None
+line-gives-nothing : (o : SolveOption) (arguments : List Text) (given : List (Given ℕ)) → AsksToSolve arguments given → IsLeftOut (word_of o) arguments → given_to o given ≡ None
 line-gives-nothing o arguments given asks out =
     let from-line = subst (λ ws. list_any (begins (word_of o)) ws ≡ false) asks.line out in
     let after-program = (neither (begins (word_of o) asks.program) _ from-line).1 in
@@ -359,10 +384,11 @@ fill-left-out arguments s rows o line other none out =
 
 -- an option that is left out of a line that asks has its default
 pub has-defaults : (arguments : List Text) (args : Args) → Asks arguments args → HasDefaults arguments args
-has-defaults arguments (Solve budget entries workers) (given, asks, budget-is, entries-are, workers-are) = (
+has-defaults arguments (Solve budget entries workers explain) (given, asks, budget-is, entries-are, workers-are, flag-is) = (
   λ out. budget-is ∙ line-gives-nothing Budget arguments given asks out,
   λ out. entries-are ∙ ap (λ n. unwrap_or n 4096) (line-gives-nothing Entries arguments given asks out),
   λ out. workers-are ∙ ap (λ n. unwrap_or n 1) (line-gives-nothing Workers arguments given asks out),
+  λ out. flag-is ∙ line-gives-no-flag arguments given asks out,
 )
 has-defaults arguments (Serve listen workers shards entries budget events idle websocket allow_stop) (rows, free, line, by) = elim (line-of arguments free) [
   | inl s ↦ absurd (other-name (ap entered_name (sym (enters arguments s) ∙ line)))
@@ -391,7 +417,7 @@ has-defaults arguments (Fill tags budget entries workers) (rows, free, line, by)
 
 -- a line that asks for something has no fault
 pub asks-free : (app : App) (arguments : List Text) (args : Args) → app ≡ program_app → Asks arguments args → fault_of app arguments ≡ []
-asks-free app arguments (Solve budget entries workers) is (given, asks, budget-is, entries-are, workers-are) =
+asks-free app arguments (Solve budget entries workers explain) is (given, asks, budget-is, entries-are, workers-are, flag-is) =
     let free = solves-free asks.program asks.words (walked-line arguments given asks).faultless in
     subst (λ a. fault_of a arguments ≡ []) (sym is) (subst (λ ws. fault_of program_app ws ≡ []) (sym asks.line) free)
 asks-free app arguments (Serve listen workers shards entries budget events idle websocket allow_stop) is asks = subst (λ a. fault_of a arguments ≡ []) (sym is) asks.1

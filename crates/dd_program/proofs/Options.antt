@@ -7,7 +7,7 @@ use Rattle.clap.specs.Walk.{Held, Row, Rule, Text, Waiting, Walk, arg_by_long, s
 use Rattle.clap.specs.Simple.{Shape, filled, help_rule}
 use Rattle.clap.specs.Faults.{settle_fault, walk_fault}
 use Rattle.dd_program.specs.CommandLine.{SolveOption, Budget, Entries, Workers}
-use Rattle.dd_program.specs.Program.{budget_rule, entries_rule, line_workers_rule, solve_app}
+use Rattle.dd_program.specs.Program.{budget_rule, entries_rule, explain_rule, line_workers_rule, solve_app}
 
 -- an option's name, without the hyphens
 abbrev pub name_of : SolveOption → Text
@@ -21,9 +21,13 @@ rule_for Budget = filled budget_rule
 rule_for Entries = filled entries_rule
 rule_for Workers = filled line_workers_rule
 
--- the rules of `solve` once it is built: its options and the call for help
+-- the flag's rule once the command is built
+abbrev pub flag_rule : Rule
+flag_rule = filled explain_rule
+
+-- the rules of `solve` once it is built: its options, its flag and the call for help
 abbrev pub solve_rules : List Rule
-solve_rules = rule_for Budget ∷ rule_for Entries ∷ rule_for Workers ∷ filled help_rule ∷ []
+solve_rules = rule_for Budget ∷ rule_for Entries ∷ rule_for Workers ∷ flag_rule ∷ filled help_rule ∷ []
 
 -- `solve` once it is built
 abbrev pub solve_shape : Shape
@@ -31,20 +35,22 @@ solve_shape = record solve_app.top { rules = solve_rules; is_built = true; disab
 
 -- what is known of a long name
 abbrev Known : Text → Type 0
-Known name = ((o : SolveOption) × (name ≡ name_of o)) ⊎ ((name ≡ codes "help") ⊎ (arg_by_long solve_rules name ≡ None))
+Known name = ((o : SolveOption) × (name ≡ name_of o)) ⊎ ((name ≡ codes "explain") ⊎ ((name ≡ codes "help") ⊎ (arg_by_long solve_rules name ≡ None)))
 
--- a long name is an option's, or that of the call for help, or nobody's
+-- a long name is an option's, or the flag's, or that of the call for help, or nobody's
 pub known_name : (name : Text) → Known name
 known_name name =
-    go (bytes_eq (codes "budget") name) refl (bytes_eq (codes "entries") name) refl (bytes_eq (codes "workers") name) refl (bytes_eq (codes "help") name) refl
+    go (bytes_eq (codes "budget") name) refl (bytes_eq (codes "entries") name) refl (bytes_eq (codes "workers") name) refl (bytes_eq (codes "explain") name) refl
+    (bytes_eq (codes "help") name) refl
   where
     go : (b : Bool) → bytes_eq (codes "budget") name ≡ b → (e : Bool) → bytes_eq (codes "entries") name ≡ e → (w : Bool) → bytes_eq (codes "workers") name ≡ w
-        → (h : Bool) → bytes_eq (codes "help") name ≡ h → Known name
-    go true is-b e is-e w is-w h is-h = inl (Budget, sym ((bytes_eq-Decides (codes "budget") name).0 is-b))
-    go false is-b true is-e w is-w h is-h = inl (Entries, sym ((bytes_eq-Decides (codes "entries") name).0 is-e))
-    go false is-b false is-e true is-w h is-h = inl (Workers, sym ((bytes_eq-Decides (codes "workers") name).0 is-w))
-    go false is-b false is-e false is-w true is-h = inr (inl (sym ((bytes_eq-Decides (codes "help") name).0 is-h)))
-    go false is-b false is-e false is-w false is-h = inr (inr (rw (is-b, is-e, is-w, is-h) refl))
+        → (x : Bool) → bytes_eq (codes "explain") name ≡ x → (h : Bool) → bytes_eq (codes "help") name ≡ h → Known name
+    go true is-b e is-e w is-w x is-x h is-h = inl (Budget, sym ((bytes_eq-Decides (codes "budget") name).0 is-b))
+    go false is-b true is-e w is-w x is-x h is-h = inl (Entries, sym ((bytes_eq-Decides (codes "entries") name).0 is-e))
+    go false is-b false is-e true is-w x is-x h is-h = inl (Workers, sym ((bytes_eq-Decides (codes "workers") name).0 is-w))
+    go false is-b false is-e false is-w true is-x h is-h = inr (inl (sym ((bytes_eq-Decides (codes "explain") name).0 is-x)))
+    go false is-b false is-e false is-w false is-x true is-h = inr (inr (inl (sym ((bytes_eq-Decides (codes "help") name).0 is-h))))
+    go false is-b false is-e false is-w false is-x false is-h = inr (inr (inr (rw (is-b, is-e, is-w, is-x, is-h) refl)))
 
 -- what a walk holds between two arguments
 abbrev pub held_rows : List Row → Option (Text × List Text) → Held

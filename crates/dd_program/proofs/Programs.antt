@@ -12,7 +12,7 @@ use Rattle.clap.specs.Faults.{bundle_fault, check_fault, default_fault, defaults
 use Rattle.clap.proofs.OnLiterals.{clap_on_literals}
 use Rattle.dd_program.specs.Program.{fill_app, program_app, serve_app}
 use Rattle.dd_program.specs.CommandLine.{Budget, Entries, Workers}
-use Rattle.dd_program.proofs.Options.{IsFaultless, here, rows_at_end, rule_for, solve_rules, solve_shape}
+use Rattle.dd_program.proofs.Options.{IsFaultless, flag_rule, here, rows_at_end, rule_for, solve_rules, solve_shape}
 use Rattle.dd_program.proofs.Runs.{both-free}
 use Rattle.dd_program.proofs.UseRows.{with_defaults}
 use Rattle.dd_program.proofs.Steps.{first-free, second-free}
@@ -250,6 +250,14 @@ default-of-workers rows = go (has_row (codes "workers") rows)
     go true = refl
     go false = refl
 
+-- and of the flag
+default-of-flag : (rows : List Row) → default_fault rows flag_rule ≡ []
+default-of-flag rows = go (has_row (codes "explain") rows)
+  where
+    go : (b : Bool) → cond (b || false) [] (given_default_fault flag_rule flag_rule.defaults) ≡ []
+    go true = refl
+    go false = refl
+
 -- and of help, which has none
 default-of-help : (rows : List Row) → default_fault rows (filled help_rule) ≡ []
 default-of-help rows = go (has_row (codes "help") rows)
@@ -265,7 +273,10 @@ defaults-free rows =
     let after-budget = with_default rows (rule_for Budget) in
     let after-entries = with_default after-budget (rule_for Entries) in
     let after-workers = with_default after-entries (rule_for Workers) in
-    both-free _ _ (default-of-budget rows) (both-free _ _ (default-of-entries after-budget) (both-free _ _ (default-of-workers after-entries) (both-free _ [] (default-of-help after-workers) refl)))
+    let after-flag = with_default after-workers flag_rule in
+    both-free _ _ (default-of-budget rows)
+    (both-free _ _ (default-of-entries after-budget)
+    (both-free _ _ (default-of-workers after-entries) (both-free _ _ (default-of-flag after-workers) (both-free _ [] (default-of-help after-flag) refl))))
 
 -- the options of `solve` without a fault have none at its end
 solve-faultless : (rest : List Text) → IsFaultless (here [] None idle) rest → solve_faults rest ≡ []

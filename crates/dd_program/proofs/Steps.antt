@@ -10,7 +10,7 @@ use Rattle.clap.specs.Kinds.{Kinds, or_else}
 use Rattle.clap.specs.Faults.{bundle_fault, flag_word_fault, long_fault, settle_fault, short_fault, step_fault, turn_fault, use_fault}
 use Rattle.clap.proofs.OnLiterals.{clap_on_literals}
 use Rattle.dd_program.specs.CommandLine.{SolveOption, Budget, Entries, Workers}
-use Rattle.dd_program.proofs.Options.{held_rows, here, known_name, name_of, rule_for, solve_rules, solve_shape}
+use Rattle.dd_program.proofs.Options.{flag_rule, held_rows, here, known_name, name_of, rule_for, solve_rules, solve_shape}
 use Rattle.dd_program.proofs.Numbers.{IsPlain}
 use Rattle.dd_program.proofs.Words.{with_value, long_of-is}
 
@@ -65,33 +65,56 @@ short-fails rows pending word (Some (x ∷ xs)) e = go (slice_get (chars (x ∷ 
         let bad = rw is at free in
         flag-fails rows pending c _ _ bad
 
--- a word that is no `--` is one of the options, alone or with its text
+-- the flag with a text is a fault
+flag_text-fails : (rows : List Row) (pending : Option (Text × List Text)) (text : Text)
+    → long_fault solve_rules false (arg_by_long solve_rules (codes "explain")) (Some text) (held_rows rows pending) ≡ [] → ⊥
+flag_text-fails rows pending text e = cc
+
+-- a long word without a fault is one of the options, alone or with its text, or the flag
+abbrev IsLong : Option (Text × Option Text) → Type 0
+IsLong long = ((o : SolveOption) × (value : Option Text) × (long ≡ Some (name_of o, value))) ⊎ (long ≡ Some (codes "explain", None))
+
+-- a word that is no `--` is such a word
 long-form : (rows : List Row) (pending : Option (Text × List Text)) (word : Text) (long : Option (Text × Option Text))
     → or_else (flag_word_fault solve_rules false long word (held_rows rows pending))
     (step_fault solve_shape 1 (long_or_other solve_rules idle word long (held_rows rows pending)).0 (long_or_other solve_rules idle word long (held_rows rows pending)).1) ≡ []
-    → (o : SolveOption) × (value : Option Text) × (long ≡ Some (name_of o, value))
+    → IsLong long
 long-form rows pending word None e = absurd (short-fails rows pending word (short_of word) e)
 long-form rows pending word (Some (name, value)) e = elim (known_name name) [
-  | inl known ↦ (known.0, value, ap (λ n. Some (n, value)) known.1)
+  | inl known ↦ inl (known.0, value, ap (λ n. Some (n, value)) known.1)
   | inr (inl is) ↦
       let free : long_fault solve_rules false (arg_by_long solve_rules name) value (held_rows rows pending) ≡ [] = first-free _ _ e in
+      inr (flagged value is (subst (λ n. long_fault solve_rules false (arg_by_long solve_rules n) value (held_rows rows pending) ≡ []) is free))
+  | inr (inr (inl is)) ↦
+      let free : long_fault solve_rules false (arg_by_long solve_rules name) value (held_rows rows pending) ≡ [] = first-free _ _ e in
       absurd (help-fails rows pending value (subst (λ n. long_fault solve_rules false (arg_by_long solve_rules n) value (held_rows rows pending) ≡ []) is free))
-  | inr (inr none) ↦
+  | inr (inr (inr none)) ↦
       let free : long_fault solve_rules false (arg_by_long solve_rules name) value (held_rows rows pending) ≡ [] = first-free _ _ e in
       let bad = rw none at free in
       cc
 ]
+  where
+    flagged : (v : Option Text) → name ≡ codes "explain" → long_fault solve_rules false (arg_by_long solve_rules (codes "explain")) v (held_rows rows pending) ≡ []
+        → ◌≡◌ {A = Option (Text × Option Text)} (Some (name, v)) (Some (codes "explain", None))
+    flagged None is free = ap (λ (n : Text). Some (n, None)) is
+    flagged (Some text) is free = absurd (flag_text-fails rows pending text free)
 
--- what a word without a fault is, where no option waits
+-- what a word without a fault is, where no option waits: `--`, an option, alone or with its text, or the flag
+abbrev pub IsIdleWord : Text → Type 0
+IsIdleWord word =
+    (word ≡ codes "--") ⊎ (((o : SolveOption) × (value : Option Text) × (word ≡ 45 ∷ 45 ∷ with_value (name_of o) value)) ⊎ (word ≡ codes "--explain"))
+
 pub idle-form : (rows : List Row) (pending : Option (Text × List Text)) (word : Text) → turn_fault solve_shape [] (here rows pending idle) word ≡ []
-    → (word ≡ codes "--") ⊎ ((o : SolveOption) × (value : Option Text) × (word ≡ 45 ∷ 45 ∷ with_value (name_of o) value))
+    → IsIdleWord word
 idle-form rows pending word e = go (bytes_eq word (codes "--")) refl
   where
-    go : (b : Bool) → bytes_eq word (codes "--") ≡ b → (word ≡ codes "--") ⊎ ((o : SolveOption) × (value : Option Text) × (word ≡ 45 ∷ 45 ∷ with_value (name_of o) value))
+    formed : IsLong (long_of word) → IsIdleWord word
+    formed (inl (o, value, is)) = inr (inl (o, value, long_of-is word (name_of o) value is))
+    formed (inr is) = inr (inr (long_of-is word (codes "explain") None is))
+
+    go : (b : Bool) → bytes_eq word (codes "--") ≡ b → IsIdleWord word
     go true is = inl ((bytes_eq-Decides word (codes "--")).0 is)
-    go false is =
-        let form = long-form rows pending word (long_of word) (rw is at e) in
-        inr (form.0, form.1, long_of-is word (name_of form.0) form.1 form.2)
+    go false is = formed (long-form rows pending word (long_of word) (rw is at e))
 
 -- ---- a word where an option waits for its text
 
@@ -106,12 +129,17 @@ waiting-long-fails : (rows : List Row) (o : SolveOption) (name : Text) (value : 
     → long_fault solve_rules false (arg_by_long solve_rules name) value (held_rows rows (Some (name_of o, []))) ≡ [] → ⊥
 waiting-long-fails rows o name value e = elim (known_name name) [
   | inl known ↦ taken known.0 value (subst (λ n. long_fault solve_rules false (arg_by_long solve_rules n) value (held_rows rows (Some (name_of o, []))) ≡ []) known.1 e)
-  | inr (inl is) ↦ help-fails rows (Some (name_of o, [])) value (subst (λ n. long_fault solve_rules false (arg_by_long solve_rules n) value (held_rows rows (Some (name_of o, []))) ≡ []) is e)
-  | inr (inr none) ↦
+  | inr (inl is) ↦ flagged value (subst (λ n. long_fault solve_rules false (arg_by_long solve_rules n) value (held_rows rows (Some (name_of o, []))) ≡ []) is e)
+  | inr (inr (inl is)) ↦ help-fails rows (Some (name_of o, [])) value (subst (λ n. long_fault solve_rules false (arg_by_long solve_rules n) value (held_rows rows (Some (name_of o, []))) ≡ []) is e)
+  | inr (inr (inr none)) ↦
       let bad = rw none at e in
       cc
 ]
   where
+    flagged : (v : Option Text) → long_fault solve_rules false (arg_by_long solve_rules (codes "explain")) v (held_rows rows (Some (name_of o, []))) ≡ [] → ⊥
+    flagged None free = settle-fails rows o (first-free _ _ free)
+    flagged (Some text) free = flag_text-fails rows (Some (name_of o, [])) text free
+
     taken : (k : SolveOption) (v : Option Text) → long_fault solve_rules false (arg_by_long solve_rules (name_of k)) v (held_rows rows (Some (name_of o, []))) ≡ [] → ⊥
     taken Budget None free = settle-fails rows o free
     taken Budget (Some v) free = settle-fails rows o (first-free _ _ free)
@@ -199,6 +227,19 @@ unfolding clap_on_literals
 apart-fault rows pending Budget = refl
 apart-fault rows pending Entries = refl
 apart-fault rows pending Workers = refl
+
+-- the flag
+pub flag-walked : (rows : List Row) (pending : Option (Text × List Text))
+    → walked solve_rules [] (here rows pending idle) (codes "--explain") ≡ here (used flag_rule [] (settled solve_rules (held_rows rows pending)).rows) None idle
+unfolding clap_on_literals
+flag-walked rows pending = refl
+
+-- its fault is that of what is pending, or its own
+pub flag-fault : (rows : List Row) (pending : Option (Text × List Text))
+    → turn_fault solve_shape [] (here rows pending idle) (codes "--explain")
+    ≡ or_else (or_else (settle_fault solve_rules false (held_rows rows pending)) (use_fault false flag_rule [] (settled solve_rules (held_rows rows pending)).rows)) []
+unfolding clap_on_literals
+flag-fault rows pending = refl
 
 -- `--`
 pub end-walked : (rows : List Row) (pending : Option (Text × List Text)) (waiting : Waiting)

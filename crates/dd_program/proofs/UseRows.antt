@@ -12,12 +12,15 @@ use Rattle.clap.specs.declared.builder.value_parser.Reading.{Reading}
 use Rattle.clap.specs.declared.parser.matches.ValueSource.TheVariants.{DefaultValue}
 use Rattle.dd_shard.specs.declared.shard.TheConstants.{MOST_SHAPES}
 use Rattle.dd_program.specs.declared.command_line.TheConstants.{MOST_WORKERS}
-use Rattle.dd_program.specs.CommandLine.{SolveOption, Budget, Entries, Workers, given_to, is_option}
+use Rattle.dd_program.specs.CommandLine.{SolveOption, Budget, Entries, Workers, Given, numbered, explained, given_to, gives_flag, is_option}
 use Rattle.dd_program.specs.Program.{FitsBits, HasNumbers, number_of}
-use Rattle.dd_program.proofs.Given.{AllPass, Passes, at-missing, given-passes, is-itself, row_of, same-name, same-or-other}
+use Rattle.dd_program.specs.ServeWords.{is_set}
+use Rattle.dd_program.proofs.Given.{AllPass, Passes, at-missing, flag-other, given-passes, is-itself, other-flag, row_of, same-name, same-or-other}
 use Rattle.dd_program.proofs.Numbers.{budget-accepted, numeral-without_minus, range-accepted, value_of}
-use Rattle.dd_program.proofs.Options.{name_of, rule_for, solve_rules}
+use Rattle.dd_program.proofs.Options.{flag_rule, name_of, rule_for, solve_rules}
 use Rattle.dd_program.proofs.Runs.{Use}
+use Rattle.std.specs.Option.{option_map_or}
+use Rattle.std.specs.Prelude.{slice_get}
 
 -- the row of this name
 abbrev row_in : Text → List Row → Option Row
@@ -80,23 +83,26 @@ filled-other id other how text rows differs = go (has_row id rows) refl
         ∙ find-append (λ (r : Row). bytes_eq r.id other) rows (default_row id how text ∷ []) ∙ ap (option_or (row_in other rows)) last
         ∙ none-more (row_in other rows)
 
--- the rows with the defaults of the two options that have one
+-- the rows with the defaults of the two options that have one, and of the flag
 abbrev with_entries : List Row → List Row
 with_entries = filled_by (codes "entries") (reading_by (rule_for Entries)) (codes "4096")
 
 abbrev with_workers : List Row → List Row
 with_workers = filled_by (codes "workers") (reading_by (rule_for Workers)) (codes "1")
 
+abbrev with_flag : List Row → List Row
+with_flag = filled_by (codes "explain") (reading_by flag_rule) (codes "false")
+
 -- where an option has no default nothing changes
 same-both : (b : Bool) (rows : List Row) → cond b rows rows ≡ rows
 same-both true rows = refl
 same-both false rows = refl
 
--- so all defaults are these two
-two-defaults : (rows : List Row) → with_defaults rows ≡ with_workers (with_entries rows)
-two-defaults rows =
-    let filled_rows = with_workers (with_entries (with_default rows (rule_for Budget))) in
-    same-both (has_row (codes "help") filled_rows) filled_rows ∙ ap (λ r. with_workers (with_entries r)) (same-both (has_row (codes "budget") rows) rows)
+-- so all defaults are these three
+three-defaults : (rows : List Row) → with_defaults rows ≡ with_flag (with_workers (with_entries rows))
+three-defaults rows =
+    let filled_rows = with_flag (with_workers (with_entries (with_default rows (rule_for Budget)))) in
+    same-both (has_row (codes "help") filled_rows) filled_rows ∙ ap (λ r. with_flag (with_workers (with_entries r))) (same-both (has_row (codes "budget") rows) rows)
 
 -- the text that stands for an option that is left out
 abbrev default_text : SolveOption → Option Text
@@ -119,19 +125,58 @@ own-or-default Workers rows =
     filled-own (codes "workers") (reading_by (rule_for Workers)) (codes "1") (with_entries rows) refl
     ∙ ap (λ o. option_or o (default_of Workers)) (filled-other (codes "entries") (codes "workers") (reading_by (rule_for Entries)) (codes "4096") rows refl)
 
+-- the flag's default leaves it as it is
+own-beside-flag : (o : SolveOption) (rows : List Row) → row_in (name_of o) (with_flag (with_workers (with_entries rows))) ≡ option_or (row_in (name_of o) rows) (default_of o)
+own-beside-flag o rows =
+    filled-other (codes "explain") (name_of o) (reading_by flag_rule) (codes "false") (with_workers (with_entries rows)) (flag-other o) ∙ own-or-default o rows
+
+-- the row of the flag is its own or that of its default
+flag-or-default : (rows : List Row)
+    → row_in (codes "explain") (with_flag (with_workers (with_entries rows))) ≡ option_or (row_in (codes "explain") rows) (Some (default_row (codes "explain") (reading_by flag_rule) (codes "false")))
+flag-or-default rows =
+    filled-own (codes "explain") (reading_by flag_rule) (codes "false") (with_workers (with_entries rows)) refl
+    ∙ ap (λ o. option_or o (Some (default_row (codes "explain") (reading_by flag_rule) (codes "false"))))
+    (filled-other (codes "workers") (codes "explain") (reading_by (rule_for Workers)) (codes "1") (with_entries rows) refl
+    ∙ filled-other (codes "entries") (codes "explain") (reading_by (rule_for Entries)) (codes "4096") rows refl)
+
 -- ---- uses
 
 -- the row of an option among those of uses is that of its use
-used-row : (o : SolveOption) (us : List Use) → row_in (name_of o) (map row_of us) ≡ option_map (λ text. row_of (o, text)) (given_to o us)
+used-row : (o : SolveOption) (us : List Use) → row_in (name_of o) (map row_of us) ≡ option_map (λ text. row_of (numbered o text)) (given_to o us)
 used-row o [] = refl
-used-row o ((p, text) ∷ us) = go (same-or-other p o) (used-row o us)
+used-row o (explained ∷ us) = rw (flag-other o) (used-row o us)
+used-row o (numbered p text ∷ us) = go (same-or-other p o) (used-row o us)
   where
-    go : (p ≡ o) ⊎ (is_option p o ≡ false) → row_in (name_of o) (map row_of us) ≡ option_map (λ t. row_of (o, t)) (given_to o us)
-        → row_in (name_of o) (map row_of ((p, text) ∷ us)) ≡ option_map (λ t. row_of (o, t)) (given_to o ((p, text) ∷ us))
+    go : (p ≡ o) ⊎ (is_option p o ≡ false) → row_in (name_of o) (map row_of us) ≡ option_map (λ t. row_of (numbered o t)) (given_to o us)
+        → row_in (name_of o) (map row_of (numbered p text ∷ us)) ≡ option_map (λ t. row_of (numbered o t)) (given_to o (numbered p text ∷ us))
     go (inl same) later =
-        subst (λ q. row_in (name_of q) (map row_of ((p, text) ∷ us)) ≡ option_map (λ t. row_of (q, t)) (given_to q ((p, text) ∷ us))) same
+        subst (λ q. row_in (name_of q) (map row_of (numbered p text ∷ us)) ≡ option_map (λ t. row_of (numbered q t)) (given_to q (numbered p text ∷ us))) same
         (rw (same-name p p ∙ is-itself p, is-itself p) refl)
     go (inr other) later = rw (same-name p o ∙ other, other) later
+
+-- the row of the flag among those of uses is there where it is used
+abbrev flag_row : Bool → Option Row
+flag_row true = Some (row_of explained)
+flag_row false = None
+
+used-flag : (us : List Use) → row_in (codes "explain") (map row_of us) ≡ flag_row (gives_flag us)
+used-flag [] = refl
+used-flag (explained ∷ us) = refl
+used-flag (numbered o text ∷ us) = rw (other-flag o) (used-flag us)
+
+-- so the flag is set exactly where it is used
+flag-read : (us : List Use) → is_set (codes "explain") (with_defaults (map row_of us)) ≡ gives_flag us
+flag-read us =
+    ap (λ rows. is_set (codes "explain") rows) (three-defaults (map row_of us))
+    ∙ ap set_by (flag-or-default (map row_of us) ∙ ap (λ r. option_or r (Some (default_row (codes "explain") (reading_by flag_rule) (codes "false")))) (used-flag us))
+    ∙ by-flag (gives_flag us)
+  where
+    set_by : Option Row → Bool
+    set_by row = option_map_or (λ text. bytes_eq text (codes "true")) (option_and_then (λ r. slice_get r.values 0) row) false
+
+    by-flag : (b : Bool) → set_by (option_or (flag_row b) (Some (default_row (codes "explain") (reading_by flag_rule) (codes "false")))) ≡ b
+    by-flag true = refl
+    by-flag false = refl
 
 -- a text that passes is read as it is written
 read-as-written : (most : ℕ) (text : Text) → IsSignedIn (pos 1) (pos most) text → without_minus text ≡ text
@@ -139,7 +184,7 @@ read-as-written most text passes = numeral-without_minus text (range-accepted mo
 
 -- the text that is read of an option is the one of its use, or that of its default
 read-text : (o : SolveOption) (given : Option Text) → IfSome given (Passes o)
-    → option_and_then row_text (option_or (option_map (λ text. row_of (o, text)) given) (default_of o)) ≡ option_or given (default_text o)
+    → option_and_then row_text (option_or (option_map (λ text. row_of (numbered o text)) given) (default_of o)) ≡ option_or given (default_text o)
 read-text Budget None passes = refl
 read-text Budget (Some text) passes = refl
 read-text Entries None passes = refl
@@ -149,31 +194,43 @@ read-text Workers (Some text) passes = ap Some (read-as-written MOST_WORKERS tex
 
 use-read : (o : SolveOption) (us : List Use) → AllPass us → one_of (name_of o) (with_defaults (map row_of us)) ≡ option_or (given_to o us) (default_text o)
 use-read o us passes =
-    ap (λ rows. one_of (name_of o) rows) (two-defaults (map row_of us))
-    ∙ ap (option_and_then row_text) (own-or-default o (map row_of us) ∙ ap (λ r. option_or r (default_of o)) (used-row o us))
+    ap (λ rows. one_of (name_of o) rows) (three-defaults (map row_of us))
+    ∙ ap (option_and_then row_text) (own-beside-flag o (map row_of us) ∙ ap (λ r. option_or r (default_of o)) (used-row o us))
     ∙ read-text o (given_to o us) (given-passes o us passes)
 
 -- ---- numbers
 
 -- the uses with their numbers in place of their texts
-abbrev pub numbers_of : List Use → List (SolveOption × ℕ)
-numbers_of us = map (λ u. (u.0, value_of u.1)) us
+abbrev pub number_in : Use → Given ℕ
+number_in (numbered o text) = numbered o (value_of text)
+number_in explained = explained
+
+abbrev pub numbers_of : List Use → List (Given ℕ)
+numbers_of us = map number_in us
 
 -- what an option is given by its number
 pub given-number : (o : SolveOption) (us : List Use) → given_to o (numbers_of us) ≡ option_map value_of (given_to o us)
 given-number o [] = refl
-given-number o ((p, text) ∷ us) = go (is_option p o) (given-number o us)
+given-number o (explained ∷ us) = given-number o us
+given-number o (numbered p text ∷ us) = go (is_option p o) (given-number o us)
   where
     go : (b : Bool) → given_to o (numbers_of us) ≡ option_map value_of (given_to o us)
         → cond b (Some (value_of text)) (given_to o (numbers_of us)) ≡ option_map value_of (cond b (Some text) (given_to o us))
     go true e = refl
     go false e = e
 
+-- the flag is as it was
+pub given-flag : (us : List Use) → gives_flag (numbers_of us) ≡ gives_flag us
+given-flag [] = refl
+given-flag (explained ∷ us) = refl
+given-flag (numbered o text ∷ us) = given-flag us
+
 -- the rows have what the options are given, or their defaults
-pub record Reads (rows : List Row) (given : List (SolveOption × ℕ)) : Type 0 where
+pub record Reads (rows : List Row) (given : List (Given ℕ)) : Type 0 where
   pub has_budget : number_of (codes "budget") rows ≡ given_to Budget given
   pub has_entries : number_of (codes "entries") rows ≡ Some (unwrap_or (given_to Entries given) 4096)
   pub has_workers : number_of (codes "workers") rows ≡ Some (unwrap_or (given_to Workers given) 1)
+  pub has_flag : is_set (codes "explain") rows ≡ gives_flag given
 
 -- what stands in place of nothing, by its number
 no-default : (given : Option Text) → option_map value_of (option_or given None) ≡ option_map value_of given
@@ -190,6 +247,7 @@ reads-of us passes = record {
   has_budget = ap (option_map value_of) (use-read Budget us passes) ∙ no-default (given_to Budget us) ∙ sym (given-number Budget us);
   has_entries = ap (option_map value_of) (use-read Entries us passes) ∙ or-default (given_to Entries us) (codes "4096") ∙ ap (λ n. Some (unwrap_or n 4096)) (sym (given-number Entries us));
   has_workers = ap (option_map value_of) (use-read Workers us passes) ∙ or-default (given_to Workers us) (codes "1") ∙ ap (λ n. Some (unwrap_or n 1)) (sym (given-number Workers us));
+  has_flag = flag-read us ∙ sym (given-flag us);
 }
 
 -- a budget that passes fits its type

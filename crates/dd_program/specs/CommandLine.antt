@@ -60,55 +60,71 @@ is_option Entries Entries = true
 is_option Workers Workers = true
 is_option _ _ = false
 
+-- what a line of `solve` gives: an option what it takes, or the flag that replies are explained
+pub data Given (X : Type 0) : Type 0 where
+  numbered : SolveOption → X → Given X
+  explained : Given X
+
 -- what the list gives the option first, if it does at all
-abbrev pub given_to : {X : Type 0} → SolveOption → List (SolveOption × X) → Option X
+abbrev pub given_to : {X : Type 0} → SolveOption → List (Given X) → Option X
 given_to option [] = None
-given_to option (g ∷ given) = (if is_option g.0 option then Some g.1 else given_to option given)
+given_to option (numbered other x ∷ given) = (if is_option other option then Some x else given_to option given)
+given_to option (explained ∷ given) = given_to option given
 
--- the list gives no option twice
-abbrev pub GivesEachOnce : {X : Type 0} → List (SolveOption × X) → Type 0
+-- the list gives the flag
+abbrev pub gives_flag : {X : Type 0} → List (Given X) → Bool
+gives_flag [] = false
+gives_flag (numbered other x ∷ given) = gives_flag given
+gives_flag (explained ∷ given) = true
+
+-- the list gives no option twice, nor the flag
+abbrev pub GivesEachOnce : {X : Type 0} → List (Given X) → Type 0
 GivesEachOnce [] = ⊤
-GivesEachOnce (g ∷ given) = (given_to g.0 given ≡ None) × GivesEachOnce given
+GivesEachOnce (numbered option x ∷ given) = (given_to option given ≡ None) × GivesEachOnce given
+GivesEachOnce (explained ∷ given) = (gives_flag given ≡ false) × GivesEachOnce given
 
--- The words give these options these numbers in this order, each as `--option N` or as `--option=N`, and maybe end with `--`.
-abbrev pub GiveOptions : List (SolveOption × ℕ) → List Text → Type 0
+-- The words give these options these numbers, and the flag, in this order, each number as `--option N` or as `--option=N`, and
+-- maybe end with `--`.
+abbrev pub GiveOptions : List (Given ℕ) → List Text → Type 0
 GiveOptions [] words = (words ≡ []) ⊎ (words ≡ codes "--" ∷ [])
-GiveOptions (g ∷ given) words =
-    (text : Text) × (rest : List Text) × IsNumberText text g.1 × Admits g.0 g.1
-    × ((words ≡ word_of g.0 ∷ text ∷ rest) ⊎ (words ≡ (word_of g.0 ++ codes "=" ++ text) ∷ rest)) × GiveOptions given rest
+GiveOptions (numbered option number ∷ given) words =
+    (text : Text) × (rest : List Text) × IsNumberText text number × Admits option number
+    × ((words ≡ word_of option ∷ text ∷ rest) ⊎ (words ≡ (word_of option ++ codes "=" ++ text) ∷ rest)) × GiveOptions given rest
+GiveOptions (explained ∷ given) words = (rest : List Text) × (words ≡ codes "--explain" ∷ rest) × GiveOptions given rest
 
--- The line is the program's name, `solve` and words that give these options these numbers, each once, in any order.
-pub record AsksToSolve (arguments : List Text) (given : List (SolveOption × ℕ)) : Type 0 where
+-- The line is the program's name, `solve` and words that give these options these numbers, and maybe the flag, each once, in any order.
+pub record AsksToSolve (arguments : List Text) (given : List (Given ℕ)) : Type 0 where
   pub program : Text
   pub words : List Text
   pub line : arguments ≡ program ∷ codes "solve" ∷ words
   pub gives : GiveOptions given words
   pub once : GivesEachOnce given
 
--- The line asks for this. Without `--budget` there is no limit, without `--entries` there are 4,096 of them, and without `--workers` there is one.
+-- The line asks for this. Without `--budget` there is no limit, without `--entries` there are 4,096 of them, without `--workers` there is one, and
+-- without `--explain` replies are not explained.
 abbrev pub Asks : List Text → Args → Type 0
-Asks arguments (Solve budget entries workers) =
-    (given : List (SolveOption × ℕ)) × AsksToSolve arguments given × (budget ≡ given_to Budget given)
-    × (entries ≡ unwrap_or (given_to Entries given) 4096) × (workers ≡ unwrap_or (given_to Workers given) 1)
+Asks arguments (Solve budget entries workers explain) =
+    (given : List (Given ℕ)) × AsksToSolve arguments given × (budget ≡ given_to Budget given)
+    × (entries ≡ unwrap_or (given_to Entries given) 4096) × (workers ≡ unwrap_or (given_to Workers given) 1) × (explain ≡ gives_flag given)
 Asks arguments (Serve listen workers shards entries budget events idle websocket allow_stop) = AsksToServe arguments (Serve listen workers shards entries budget events idle websocket allow_stop)
 Asks arguments (Fill tags budget entries workers) = AsksToFill arguments (Fill tags budget entries workers)
 
 -- the same is asked for: the same numbers, and an address or names of tags of the same text
 abbrev pub IsSame : Args → Args → Type 0
-IsSame (Solve b e w) (Solve c f x) = Solve b e w ≡ Solve c f x
+IsSame (Solve b e w y) (Solve c f x z) = Solve b e w y ≡ Solve c f x z
 IsSame (Serve l w s e b n i k a) (Serve m x t f c o h j d) =
     (string_bytes l ≡ string_bytes m) × (w ≡ x) × (s ≡ t) × (e ≡ f) × (b ≡ c) × (n ≡ o) × (i ≡ h) × (k ≡ j) × (a ≡ d)
 IsSame (Fill t b e w) (Fill u c f x) = (string_bytes t ≡ string_bytes u) × (b ≡ c) × (e ≡ f) × (w ≡ x)
-IsSame (Solve b e w) (Serve m x t f c o h j d) = ⊥
-IsSame (Serve l w s e b n i k a) (Solve c f x) = ⊥
-IsSame (Solve b e w) (Fill u c f x) = ⊥
-IsSame (Fill t b e w) (Solve c f x) = ⊥
+IsSame (Solve b e w y) (Serve m x t f c o h j d) = ⊥
+IsSame (Serve l w s e b n i k a) (Solve c f x z) = ⊥
+IsSame (Solve b e w y) (Fill u c f x) = ⊥
+IsSame (Fill t b e w) (Solve c f x z) = ⊥
 IsSame (Serve l w s e b n i k a) (Fill u c f x) = ⊥
 IsSame (Fill t b e w) (Serve m x s f c o h j d) = ⊥
 
 -- each number lies in its range
 abbrev pub IsInRange : Args → Type 0
-IsInRange (Solve budget entries workers) = IfSome budget IsBudget × IsTableSize entries × (1 ≤ workers) × (workers ≤ MOST_WORKERS)
+IsInRange (Solve budget entries workers explain) = IfSome budget IsBudget × IsTableSize entries × (1 ≤ workers) × (workers ≤ MOST_WORKERS)
 IsInRange (Serve listen workers shards entries budget events idle websocket allow_stop) =
     (1 ≤ workers) × (workers ≤ MOST_WORKERS) × (1 ≤ shards) × (shards ≤ MOST_SHARDS) × IsTableSize entries × IfSome budget IsBudget
     × IsEventCount events × IfSome idle IsIdle
@@ -120,9 +136,9 @@ IsLeftOut option arguments = list_any (λ word. bytes_eq (take (length option) w
 
 -- an option that is left out has its default
 abbrev pub HasDefaults : List Text → Args → Type 0
-HasDefaults arguments (Solve budget entries workers) =
+HasDefaults arguments (Solve budget entries workers explain) =
     (IsLeftOut (codes "--budget") arguments → budget ≡ None) × (IsLeftOut (codes "--entries") arguments → entries ≡ 4096)
-    × (IsLeftOut (codes "--workers") arguments → workers ≡ 1)
+    × (IsLeftOut (codes "--workers") arguments → workers ≡ 1) × (IsLeftOut (codes "--explain") arguments → explain ≡ false)
 HasDefaults arguments (Serve listen workers shards entries budget events idle websocket allow_stop) =
     (IsLeftOut (codes "--workers") arguments → workers ≡ 4) × (IsLeftOut (codes "--shards") arguments → shards ≡ 16)
     × (IsLeftOut (codes "--entries") arguments → entries ≡ 4096) × (IsLeftOut (codes "--budget") arguments → budget ≡ Some 50000000)

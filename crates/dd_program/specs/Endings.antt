@@ -8,7 +8,7 @@ use Rattle.clap.specs.declared.error.kind.ErrorKind.TheVariants as kind
 use Rattle.dd_lines.specs.declared.counted_device.CountedDevice.{CountedDevice}
 use Rattle.dd_lines.specs.CountedDevices.{bytes_of, failures_of, FailedOnce}
 use Rattle.dd_lines.specs.Served.{WroteText}
-use Rattle.dd_tool.specs.Served.{ServedAll, ServedBeginning}
+use Rattle.dd_tool.specs.Served.{IsReplyAs, ToldAll, ToldBeginning}
 use Rattle.dd_program.specs.declared.command_line.Args.{Args}
 use Rattle.dd_program.specs.declared.command_line.Args.TheVariants.{Fill, Serve, Solve}
 use Rattle.dd_program.specs.declared.command_line.ArgumentsFault.{ArgumentsFault}
@@ -130,40 +130,40 @@ pub record RunsOut (old new : Streams) : Type 0 where
   pub output : new.output ≡ old.output
   pub said : Writes (line_of OutOfMemory) old.errors new.errors
 
--- ---- lines are answered
+-- ---- lines are answered, each by a reply of this kind
 
 -- all that came was read, each line of it was answered, and no call failed
-pub record SolvesAll (budget : Option ℕ) (old new : Streams) : Type 0 where
-  pub served : ServedAll budget old.input.bytes new.input.bytes old.output.bytes new.output.bytes
+pub record SolvesAll (Reply : List ℕ → List ℕ → Type 0) (old new : Streams) : Type 0 where
+  pub served : ToldAll Reply old.input.bytes new.input.bytes old.output.bytes new.output.bytes
   pub reads : new.input.failures ≡ old.input.failures
   pub writes : new.output.failures ≡ old.output.failures
 
 -- what was written is a beginning of the replies to what was read
-abbrev pub SolvesBeginning : Option ℕ → Streams → Streams → Type 0
-SolvesBeginning budget old new =
-    ServedBeginning budget old.input.bytes new.input.bytes old.output.bytes new.output.bytes
+abbrev pub SolvesBeginning : (List ℕ → List ℕ → Type 0) → Streams → Streams → Type 0
+SolvesBeginning Reply old new =
+    ToldBeginning Reply old.input.bytes new.input.bytes old.output.bytes new.output.bytes
 
 -- a read failed, and what was written is a beginning of the replies
-pub record FailsToRead (budget : Option ℕ) (old new : Streams) : Type 0 where
-  pub served : SolvesBeginning budget old new
+pub record FailsToRead (Reply : List ℕ → List ℕ → Type 0) (old new : Streams) : Type 0 where
+  pub served : SolvesBeginning Reply old new
   pub reads : Fails old.input new.input
   pub writes : new.output.failures ≡ old.output.failures
   pub said : Writes (line_of ReadFailed) old.errors new.errors
 
 -- a write failed, and what was written is a beginning of the replies
-pub record FailsToWrite (budget : Option ℕ) (old new : Streams) : Type 0 where
-  pub served : SolvesBeginning budget old new
+pub record FailsToWrite (Reply : List ℕ → List ℕ → Type 0) (old new : Streams) : Type 0 where
+  pub served : SolvesBeginning Reply old new
   pub reads : new.input.failures ≡ old.input.failures
   pub writes : Fails old.output new.output
   pub said : Writes (line_of WriteFailed) old.errors new.errors
 
--- the lines of the input are answered, each within the budget, up to this ending
-abbrev pub SolvesUntil : Option ℕ → Streams → Streams → Ending → Type 0
-SolvesUntil budget old new Answered = SolvesAll budget old new × (new.errors ≡ old.errors)
-SolvesUntil budget old new ReadFailed = FailsToRead budget old new
-SolvesUntil budget old new WriteFailed = FailsToWrite budget old new
-SolvesUntil budget old new OutOfMemory = RunsOut old new
-SolvesUntil budget old new _ = ⊥
+-- the lines of the input are answered, each by such a reply, up to this ending
+abbrev pub SolvesUntil : (List ℕ → List ℕ → Type 0) → Streams → Streams → Ending → Type 0
+SolvesUntil Reply old new Answered = SolvesAll Reply old new × (new.errors ≡ old.errors)
+SolvesUntil Reply old new ReadFailed = FailsToRead Reply old new
+SolvesUntil Reply old new WriteFailed = FailsToWrite Reply old new
+SolvesUntil Reply old new OutOfMemory = RunsOut old new
+SolvesUntil Reply old new _ = ⊥
 
 -- ---- clients are served
 
@@ -330,7 +330,7 @@ FillsUntil tags budget old new ending = FillsWanted (wanted_by tags) budget old 
 
 -- what the arguments ask for is done, up to this ending
 abbrev pub AnswersUntil : Args → Streams → Streams → Ending → Type 0
-AnswersUntil (Solve budget entries workers) old new ending = SolvesUntil budget old new ending
+AnswersUntil (Solve budget entries workers explain) old new ending = SolvesUntil (IsReplyAs explain budget) old new ending
 AnswersUntil (Serve listen workers shards entries budget events idle websocket allow_stop) old new ending = ServesUntil events old new ending
 AnswersUntil (Fill tags budget entries workers) old new ending = FillsUntil (string_bytes tags) budget old new ending
 

@@ -38,9 +38,13 @@ line_workers_rule = record (new_rule (codes "workers")) {
   defaults = codes "1" ∷ [];
 }
 
+-- `--explain`
+abbrev pub explain_rule : Rule
+explain_rule = record (new_rule (codes "explain")) { long = Some (codes "explain"); action = Some SetTrue }
+
 -- `solve` with its options
 abbrev pub solve_app : App
-solve_app = with_rule (with_rule (with_rule (new_app (codes "solve")) budget_rule) entries_rule) line_workers_rule
+solve_app = with_rule (with_rule (with_rule (with_rule (new_app (codes "solve")) budget_rule) entries_rule) line_workers_rule) explain_rule
 
 -- `--listen ADDR`
 abbrev pub listen_rule : Rule

@@ -47,7 +47,7 @@ is_set flag rows = option_map_or (λ text. bytes_eq text (codes "true")) (first_
 
 -- what the options of `serve` ask for, by the rows that the parser of arguments gave them
 abbrev pub AsksToServeBy : List Row → Args → Type 0
-AsksToServeBy rows (Solve budget entries workers) = ⊥
+AsksToServeBy rows (Solve budget entries workers explain) = ⊥
 AsksToServeBy rows (Fill tags budget entries workers) = ⊥
 AsksToServeBy rows (Serve listen workers shards entries budget events idle websocket allow_stop) =
     (string_bytes listen ≡ unwrap_or (first_of (codes "listen") rows) [])

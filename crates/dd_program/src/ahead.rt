@@ -2,6 +2,7 @@
 ghost use Rattle.std.specs.Prelude.{◌≡◌, ◌≤◌};
 ghost use Rattle.dd_program.specs.CommandLine.{IsTableSize};
 ghost use Rattle.dd_program.specs.Endings.{state_of, streams, SolvesUntil};
+ghost use Rattle.dd_tool.specs.Served.{IsReplyAs};
 
 use crate::ending::Ending;
 use crate::run::fail;
@@ -9,7 +10,7 @@ use dd_cache::Cache;
 use dd_lines::{CountedDevice, LineFault};
 use dd_search::Bounds;
 use dd_table::{SharedTable, View};
-use dd_tool::solve_lines_on;
+use dd_tool::tell_lines_on;
 use std::alloc::{AllocError, Global};
 use std::io::{Read, Write};
 use std::sync::Wait;
@@ -21,20 +22,21 @@ const PIECE: usize = 65_536;
 /// The shards of the table that several threads share.
 pub(crate) const SHARDS: u32 = 16;
 
-/// Answers the lines of the input, each within the budget, by so many threads beside this one, which reads, writes and mostly
-/// waits, over a table that they share, each behind a cache of its own.
+/// Answers the lines of the input, each within the budget, explained or not, by so many threads beside this one, which reads,
+/// writes and mostly waits, over a table that they share, each behind a cache of its own.
 pub(crate) fn solve_ahead<W: Threads + Wait + Sync, R: Read, O: Write, E: Write>(
     rt: &W,
     alloc: Global,
     workers: u32,
     budget: Option<u64>,
+    explain: bool,
     entries: u32,
     reader: &mut CountedDevice<R>,
     output: &mut CountedDevice<O>,
     errors: &mut CountedDevice<E>,
 ) -> Ending
     requires { IsTableSize entries }
-    ensures { SolvesUntil budget
+    ensures { SolvesUntil (IsReplyAs explain budget)
         (streams (state_of R.remaining reader.old) (state_of O.contents output.old)
         (state_of E.contents errors.old))
         (streams (state_of R.remaining reader.new) (state_of O.contents output.new)
@@ -53,6 +55,7 @@ pub(crate) fn solve_ahead<W: Threads + Wait + Sync, R: Read, O: Write, E: Write>
         rt,
         alloc,
         budget,
+        explain,
         reader,
         output,
         errors,
@@ -75,25 +78,27 @@ pub(crate) fn caches<'a, W: Wait>(
     Ok(caches)
 }
 
-/// Answers the lines of the input over a table, each within the budget, with a thread for each of the others.
+/// Answers the lines of the input over a table, each within the budget, explained or not, with a thread for each of the
+/// others.
 fn solve_on<W: Threads + Wait + Sync, B: Bounds, H: Bounds + Send, R: Read, O: Write, E: Write>(
     rt: &W,
     alloc: Global,
     budget: Option<u64>,
+    explain: bool,
     reader: &mut CountedDevice<R>,
     output: &mut CountedDevice<O>,
     errors: &mut CountedDevice<E>,
     table: &mut B,
     others: &mut [H],
 ) -> Ending
-    ensures { SolvesUntil budget
+    ensures { SolvesUntil (IsReplyAs explain budget)
         (streams (state_of R.remaining reader.old) (state_of O.contents output.old)
         (state_of E.contents errors.old))
         (streams (state_of R.remaining reader.new) (state_of O.contents output.new)
         (state_of E.contents errors.new)) result }
 {
     let mut buffer = [0; PIECE];
-    match solve_lines_on(
+    match tell_lines_on(
         rt,
         alloc,
         reader,
@@ -101,6 +106,7 @@ fn solve_on<W: Threads + Wait + Sync, B: Bounds, H: Bounds + Send, R: Read, O: W
         table,
         others,
         budget,
+        explain,
         &mut buffer,
     ) {
         Ok(()) => Ending::Answered,

@@ -3,7 +3,7 @@ ghost use Rattle.std.specs.Prelude.{◌≡◌, ◌⊎◌, ◌≤◌, IfOk, IfErr
 ghost use Rattle.clap.specs.Words.{app_of, fault_of, found_of, kind_of, new_app, rows_of, HasKind};
 ghost use Rattle.dd_program.specs.CommandLine.{Asks, HasDefaults, IsInRange, IsSame};
 ghost use Rattle.dd_program.specs.FillWords.{limit_up_to, AsksToFillBy};
-ghost use Rattle.dd_program.specs.Program.{allow_stop_rule, budget_rule, entries_rule, events_rule, fill_app, idle_rule, line_workers_rule, listen_rule, program_app, serve_app, shard_entries_rule, shards_rule, solve_app, tags_rule, websocket_rule, workers_rule, number_of, HasNumbers, IsOption, IsSubcommand};
+ghost use Rattle.dd_program.specs.Program.{allow_stop_rule, budget_rule, entries_rule, events_rule, explain_rule, fill_app, idle_rule, line_workers_rule, listen_rule, program_app, serve_app, shard_entries_rule, shards_rule, solve_app, tags_rule, websocket_rule, workers_rule, number_of, HasNumbers, IsOption, IsSubcommand};
 ghost use Rattle.dd_program.specs.ServeWords.{is_set, limit_in, number_in, AsksToServeBy, IsGiven};
 
 use crate::examples::{fill_examples, program_examples, serve_examples, solve_examples};
@@ -51,6 +51,8 @@ pub enum Args {
         entries: u32,
         /// The threads that search, 1 to 64. One has a table of one shard, more have one of 16.
         workers: u32,
+        /// Replies tell ids again and say why a line has a fault.
+        explain: bool,
     },
     /// Answers the connections of an address.
     Serve {
@@ -160,12 +162,14 @@ fn solve_args(options: &ArgMatches) -> Args
     ensures { let rows = rows_of (found_of options.now) in
         (entries : _) × (workers : _) × (number_of (codes "entries") rows ≡ Some entries)
         × (number_of (codes "workers") rows ≡ Some workers)
-        × (result ≡ Args.Solve (number_of (codes "budget") rows) entries workers) }
+        × (result ≡ Args.Solve (number_of (codes "budget") rows) entries workers
+        (is_set (codes "explain") rows)) }
 {
     Args::Solve {
         budget: options.get_one("budget"),
         entries: options.get_one("entries").unwrap(),
         workers: options.get_one("workers").unwrap(),
+        explain: is_set(options, "explain"),
     }
 }
 
@@ -285,7 +289,8 @@ fn solve_command<'a>(alloc: Global) -> Result<Command<'a>, AllocError>
         .after_help(requests())
         .arg(budget_option(alloc))?
         .arg(entries_option(alloc))?
-        .arg(line_workers_option(alloc))
+        .arg(line_workers_option(alloc))?
+        .arg(explain_flag(alloc))
 }
 
 fn serve_command<'a>(alloc: Global) -> Result<Command<'a>, AllocError>
@@ -359,6 +364,17 @@ fn line_workers_option<'a>(alloc: Global) -> Arg<'a>
         .value_parser(value_parser!(u32).range(1..=MOST_WORKERS as i64))
         .default_value("1")
         .help("The threads that search, 1 to 64; more than one\nshare a table of 16 shards")
+}
+
+fn explain_flag<'a>(alloc: Global) -> Arg<'a>
+    ensures { IsOption result explain_rule }
+{
+    Arg::new(alloc, "explain")
+        .long("explain")
+        .action(ArgAction::SetTrue)
+        .help(
+            "A line may have an id, which its reply tells again,\nand a fault has its field and words",
+        )
 }
 
 fn listen_option<'a>(alloc: Global) -> Arg<'a>

@@ -1,5 +1,5 @@
 //! The filling of files.
-ghost use Rattle.std.specs.Prelude.{◌≡◌, IfErr};
+ghost use Rattle.std.specs.Prelude.{◌≡◌, ◌≤◌, IfErr};
 ghost use Rattle.dd_fill.specs.Told.{MaySpend};
 ghost use Rattle.dd_program.specs.CommandLine.{IsTableSize};
 ghost use Rattle.dd_program.specs.Endings.{ending_of, line_of, state_of, streams, tags_line, EndsFilling, FillsUntil, Writes};
@@ -10,10 +10,10 @@ use crate::run::fail;
 use crate::tags::wanted_by;
 use dd_cache::Cache;
 use dd_file::{FileFault, Wanted};
-use dd_fill::{fill_deals, fill_deals_on};
+use dd_fill::fill_deals;
 use dd_lines::{CountedDevice, write_whole};
 use dd_search::Bounds;
-use dd_table::SharedTable;
+use dd_table::{MOST_SHARDS, SharedTable};
 use std::alloc::Global;
 use std::io::{Read, Write};
 use std::sync::Wait;
@@ -26,6 +26,19 @@ const PIECE: usize = 65_536;
 const TAGS_LINE: &str =
     "ddserve: --tags takes DoubleDummyTricks, OptimumScore, ParContract and OptimumResultTable, with commas between them\n";
 
+/// How a file is filled.
+#[derive(Clone, Copy, Drop)]
+pub(crate) struct FillArgs {
+    /// The most positions that the search for one result comes to.
+    pub(crate) budget: Option<u64>,
+    /// The room of a shard of the table.
+    pub(crate) entries: u32,
+    /// How many search.
+    pub(crate) workers: u32,
+    /// Is it shown on the standard error how far the file has been passed on?
+    pub(crate) shows_progress: bool,
+}
+
 /// Passes the input on to the output with the lines that its games lack, of those that are named. The results of its deals are
 /// searched for within the budget, over a view of a table of one shard, behind a cache. With more workers as many threads beside
 /// this one search ahead, over a table that they share, each behind a cache of its own.
@@ -33,34 +46,20 @@ pub(crate) fn fill<W: Threads + Wait + Sync, R: Read, O: Write, E: Write>(
     rt: &W,
     alloc: Global,
     tags: &str,
-    budget: Option<u64>,
-    entries: u32,
-    workers: u32,
+    args: FillArgs,
     reader: &mut CountedDevice<R>,
     output: &mut CountedDevice<O>,
     errors: &mut CountedDevice<E>,
-    shows_progress: bool,
 ) -> Ending
-    requires { IsTableSize entries }
-    ensures { FillsUntil tags.now budget
+    requires { IsTableSize args.entries }
+    ensures { FillsUntil tags.now args.budget
         (streams (state_of R.remaining reader.old) (state_of O.contents output.old)
         (state_of E.contents errors.old))
         (streams (state_of R.remaining reader.new) (state_of O.contents output.new)
         (state_of E.contents errors.new)) result }
 {
     match wanted_by(tags.as_bytes()) {
-        Some(wanted) => fill_wanted(
-            rt,
-            alloc,
-            wanted,
-            budget,
-            entries,
-            workers,
-            reader,
-            output,
-            errors,
-            shows_progress,
-        ),
+        Some(wanted) => fill_wanted(rt, alloc, wanted, args, reader, output, errors),
         None => refuse_tags(errors),
     }
 }
@@ -80,176 +79,64 @@ fn fill_wanted<W: Threads + Wait + Sync, R: Read, O: Write, E: Write>(
     rt: &W,
     alloc: Global,
     wanted: Wanted,
-    budget: Option<u64>,
-    entries: u32,
-    workers: u32,
+    args: FillArgs,
     reader: &mut CountedDevice<R>,
     output: &mut CountedDevice<O>,
     errors: &mut CountedDevice<E>,
-    shows_progress: bool,
 ) -> Ending
-    requires { IsTableSize entries }
-    ensures { EndsFilling (MaySpend budget) wanted
+    requires { IsTableSize args.entries }
+    ensures { EndsFilling (MaySpend args.budget) wanted
         (streams (state_of R.remaining reader.old) (state_of O.contents output.old)
         (state_of E.contents errors.old))
         (streams (state_of R.remaining reader.new) (state_of O.contents output.new)
         (state_of E.contents errors.new)) result }
 {
-    match workers {
-        1 => fill_alone(
-            rt,
-            alloc,
-            wanted,
-            budget,
-            entries,
-            reader,
-            output,
-            errors,
-            shows_progress,
-        ),
-        _ => fill_ahead(
-            rt,
-            alloc,
-            wanted,
-            budget,
-            entries,
-            workers,
-            reader,
-            output,
-            errors,
-            shows_progress,
-        ),
-    }
-}
-
-/// The same with one worker.
-fn fill_alone<W: Wait, R: Read, O: Write, E: Write>(
-    rt: &W,
-    alloc: Global,
-    wanted: Wanted,
-    budget: Option<u64>,
-    entries: u32,
-    reader: &mut CountedDevice<R>,
-    output: &mut CountedDevice<O>,
-    errors: &mut CountedDevice<E>,
-    shows_progress: bool,
-) -> Ending
-    requires { IsTableSize entries }
-    ensures { EndsFilling (MaySpend budget) wanted
-        (streams (state_of R.remaining reader.old) (state_of O.contents output.old)
-        (state_of E.contents errors.old))
-        (streams (state_of R.remaining reader.new) (state_of O.contents output.new)
-        (state_of E.contents errors.new)) result }
-{
-    let Ok(table) = SharedTable::new(alloc, 1, entries) else {
+    let (shards, ahead) = shards_and_threads(args.workers);
+    let Ok(table) = SharedTable::new(alloc, shards, args.entries) else {
         return fail(errors, Ending::OutOfMemory);
     };
     let Ok(mut cache) = Cache::new(alloc, table.view(rt)) else {
+        return fail(errors, Ending::OutOfMemory);
+    };
+    let Ok(mut others) = caches(rt, alloc, &table, ahead) else {
         return fail(errors, Ending::OutOfMemory);
     };
     fill_over(
-        alloc,
-        wanted,
-        budget,
-        reader,
-        output,
-        errors,
-        shows_progress,
-        &mut cache,
-    )
-}
-
-/// The same with so many workers.
-fn fill_ahead<W: Threads + Wait + Sync, R: Read, O: Write, E: Write>(
-    rt: &W,
-    alloc: Global,
-    wanted: Wanted,
-    budget: Option<u64>,
-    entries: u32,
-    workers: u32,
-    reader: &mut CountedDevice<R>,
-    output: &mut CountedDevice<O>,
-    errors: &mut CountedDevice<E>,
-    shows_progress: bool,
-) -> Ending
-    requires { IsTableSize entries }
-    ensures { EndsFilling (MaySpend budget) wanted
-        (streams (state_of R.remaining reader.old) (state_of O.contents output.old)
-        (state_of E.contents errors.old))
-        (streams (state_of R.remaining reader.new) (state_of O.contents output.new)
-        (state_of E.contents errors.new)) result }
-{
-    let Ok(table) = SharedTable::new(alloc, SHARDS, entries) else {
-        return fail(errors, Ending::OutOfMemory);
-    };
-    let Ok(mut cache) = Cache::new(alloc, table.view(rt)) else {
-        return fail(errors, Ending::OutOfMemory);
-    };
-    let Ok(mut others) = caches(rt, alloc, &table, workers) else {
-        return fail(errors, Ending::OutOfMemory);
-    };
-    fill_on(
         rt,
         alloc,
         wanted,
-        budget,
+        args,
         reader,
         output,
         errors,
-        shows_progress,
         &mut cache,
         others.as_mut_slice(),
     )
 }
 
+/// The shards of the table, and how many threads search ahead: a worker that is alone searches without them.
+fn shards_and_threads(workers: u32) -> (u32, u32)
+    ensures { (1 ≤ result.0) × (result.0 ≤ MOST_SHARDS) }
+{
+    match workers {
+        1 => (1, 0),
+        _ => (SHARDS, workers),
+    }
+}
+
 /// The same over a table, with a thread for each of the others.
-fn fill_on<W: Threads + Wait + Sync, B: Bounds, H: Bounds + Send, R: Read, O: Write, E: Write>(
+fn fill_over<W: Threads + Wait + Sync, B: Bounds, H: Bounds + Send, R: Read, O: Write, E: Write>(
     rt: &W,
     alloc: Global,
     wanted: Wanted,
-    budget: Option<u64>,
+    args: FillArgs,
     reader: &mut CountedDevice<R>,
     output: &mut CountedDevice<O>,
     errors: &mut CountedDevice<E>,
-    shows_progress: bool,
     table: &mut B,
     others: &mut [H],
 ) -> Ending
-    ensures { EndsFilling (MaySpend budget) wanted
-        (streams (state_of R.remaining reader.old) (state_of O.contents output.old)
-        (state_of E.contents errors.old))
-        (streams (state_of R.remaining reader.new) (state_of O.contents output.new)
-        (state_of E.contents errors.new)) result }
-{
-    let mut buffer = [0; PIECE];
-    let filled = fill_deals_on(
-        rt,
-        alloc,
-        wanted,
-        reader,
-        output,
-        errors,
-        shows_progress,
-        table,
-        others,
-        budget,
-        &mut buffer,
-    );
-    end(filled, errors)
-}
-
-/// The same over a table.
-fn fill_over<B: Bounds, R: Read, O: Write, E: Write>(
-    alloc: Global,
-    wanted: Wanted,
-    budget: Option<u64>,
-    reader: &mut CountedDevice<R>,
-    output: &mut CountedDevice<O>,
-    errors: &mut CountedDevice<E>,
-    shows_progress: bool,
-    table: &mut B,
-) -> Ending
-    ensures { EndsFilling (MaySpend budget) wanted
+    ensures { EndsFilling (MaySpend args.budget) wanted
         (streams (state_of R.remaining reader.old) (state_of O.contents output.old)
         (state_of E.contents errors.old))
         (streams (state_of R.remaining reader.new) (state_of O.contents output.new)
@@ -257,14 +144,16 @@ fn fill_over<B: Bounds, R: Read, O: Write, E: Write>(
 {
     let mut buffer = [0; PIECE];
     let filled = fill_deals(
+        rt,
         alloc,
         wanted,
         reader,
         output,
         errors,
-        shows_progress,
+        args.shows_progress,
         table,
-        budget,
+        others,
+        args.budget,
         &mut buffer,
     );
     end(filled, errors)

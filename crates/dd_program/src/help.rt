@@ -135,6 +135,17 @@ Of several the first in this order is told: 2, 1, 3, 4, 5, 6 (in the deal), 9,
 10, 11, 12, 27, 20, 21, 22, 6 (with the trick), 7, 8, 23; then of a play's
 cards the first with a fault, of 26, 24, 25.
 
+Ids and words:
+
+With --explain a request may have an id, which its reply tells again as its
+first member: a number below 2^64 written with digits alone, or a text of at
+most 64 bytes without a quote, a backslash or a control character. And a fault
+has words, and where it can be told the field:
+
+  {\"do\":\"table\",\"deal\":\"N:\",\"id\":7}
+
+  {\"id\":7,\"fault\":4,\"field\":\"deal\",\"text\":\"the text of the deal has not the form of a deal\"}
+
 Budget and memory:
 
 A position is a state of play that the search comes to; some six to eight

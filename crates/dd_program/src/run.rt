@@ -3,11 +3,12 @@ ghost use Rattle.std.specs.Prelude.{◌≡◌, ◌≤◌, ◌*◌, IfOk, IfErr, 
 ghost use Rattle.clap.specs.Words.{kind_of};
 ghost use Rattle.dd_program.specs.CommandLine.{IsIdle, IsInRange, IsTableSize};
 ghost use Rattle.dd_program.specs.Endings.{line_of, state_of, streams, arguments_of, Device, AskFor, Explains, Writes, SolvesUntil, ShowsUntil, Runs};
+ghost use Rattle.dd_tool.specs.Served.{IsReplyAs};
 
 use crate::ahead::solve_ahead;
 use crate::command_line::{Args, ArgumentsFault, not_text, read_args};
 use crate::ending::Ending;
-use crate::filling::fill;
+use crate::filling::{FillArgs, fill};
 use crate::serving::serve;
 use clap::Error;
 use clap::error::ErrorKind;
@@ -16,7 +17,7 @@ use dd_lines::{CountedDevice, LineFault, write_whole};
 use dd_search::Bounds;
 use dd_server::ServeArgs;
 use dd_table::SharedTable;
-use dd_tool::solve_lines;
+use dd_tool::tell_lines;
 use std::alloc::{AllocError, Global};
 use std::io::{Read, Write};
 use std::net::{Net, TcpListener, TcpStream};
@@ -59,15 +60,19 @@ pub fn run_program<
                 budget,
                 entries,
                 workers: 1,
+                explain,
             },
-        ) => solve(rt, alloc, budget, entries, reader, output, errors),
+        ) => solve(rt, alloc, budget, explain, entries, reader, output, errors),
         Ok(
             Args::Solve {
                 budget,
                 entries,
                 workers,
+                explain,
             },
-        ) => solve_ahead(rt, alloc, workers, budget, entries, reader, output, errors),
+        ) => solve_ahead(
+            rt, alloc, workers, budget, explain, entries, reader, output, errors,
+        ),
         Ok(
             Args::Serve {
                 listen,
@@ -100,18 +105,15 @@ pub fn run_program<
                 entries,
                 workers,
             },
-        ) => fill(
-            rt,
-            alloc,
-            tags.as_str(),
-            budget,
-            entries,
-            workers,
-            reader,
-            output,
-            errors,
-            is_terminal,
-        ),
+        ) => {
+            let args = FillArgs {
+                budget,
+                entries,
+                workers,
+                shows_progress: is_terminal,
+            };
+            fill(rt, alloc, tags.as_str(), args, reader, output, errors)
+        }
         Err(error) => match error.kind() {
             ErrorKind::OutOfMemory => fail(errors, Ending::OutOfMemory),
             _ => show(alloc, &error, output, errors),
@@ -143,18 +145,20 @@ fn args_of(alloc: Global, arguments: Result<Vec<String>, ArgumentsFault>) -> Res
     }
 }
 
-/// Answers the lines of the input, each within the budget, over a view of a table of one shard, behind a cache.
+/// Answers the lines of the input, each within the budget, explained or not, over a view of a table of one shard, behind a
+/// cache.
 fn solve<W: Wait, R: Read, O: Write, E: Write>(
     rt: &W,
     alloc: Global,
     budget: Option<u64>,
+    explain: bool,
     entries: u32,
     reader: &mut CountedDevice<R>,
     output: &mut CountedDevice<O>,
     errors: &mut CountedDevice<E>,
 ) -> Ending
     requires { IsTableSize entries }
-    ensures { SolvesUntil budget
+    ensures { SolvesUntil (IsReplyAs explain budget)
         (streams (state_of R.remaining reader.old) (state_of O.contents output.old)
         (state_of E.contents errors.old))
         (streams (state_of R.remaining reader.new) (state_of O.contents output.new)
@@ -166,26 +170,27 @@ fn solve<W: Wait, R: Read, O: Write, E: Write>(
     let Ok(mut cache) = Cache::new(alloc, table.view(rt)) else {
         return fail(errors, Ending::OutOfMemory);
     };
-    solve_over(alloc, budget, reader, output, errors, &mut cache)
+    solve_over(alloc, budget, explain, reader, output, errors, &mut cache)
 }
 
-/// Answers the lines of the input over a table, each within the budget.
+/// Answers the lines of the input over a table, each within the budget, explained or not.
 fn solve_over<B: Bounds, R: Read, O: Write, E: Write>(
     alloc: Global,
     budget: Option<u64>,
+    explain: bool,
     reader: &mut CountedDevice<R>,
     output: &mut CountedDevice<O>,
     errors: &mut CountedDevice<E>,
     table: &mut B,
 ) -> Ending
-    ensures { SolvesUntil budget
+    ensures { SolvesUntil (IsReplyAs explain budget)
         (streams (state_of R.remaining reader.old) (state_of O.contents output.old)
         (state_of E.contents errors.old))
         (streams (state_of R.remaining reader.new) (state_of O.contents output.new)
         (state_of E.contents errors.new)) result }
 {
     let mut buffer = [0; PIECE];
-    match solve_lines(alloc, reader, output, table, budget, &mut buffer) {
+    match tell_lines(alloc, reader, output, table, budget, explain, &mut buffer) {
         Ok(()) => Ending::Answered,
         Err(LineFault::Read) => fail(errors, Ending::ReadFailed),
         Err(LineFault::Write) => fail(errors, Ending::WriteFailed),

@@ -25,7 +25,7 @@ use Rattle.dd_play.specs.Covers.{IsSettled, count_of}
 use Rattle.dd_play.specs.Reach.{reach, TakesBy}
 use Rattle.dd_play.proofs.CallerLemmas.{both, by-fewer, by-here, by-more, by-nothing, by-one, legal-leads, one-trick, reach-of, reach-some, reach-upward, reach-within, worth-after, worth-fewer, worth-low, worth-more}
 use Rattle.dd_equal.specs.EqualCards.{tops, IsWhole}
-use Rattle.dd_equal.proofs.CallerLemmas.{each-class-whole, with-new}
+use Rattle.dd_equal.proofs.CallerLemmas.{each-class-whole}
 use Rattle.dd_rank.proofs.CallerLemmas.{itself, noted}
 use Rattle.dd_rank.specs.Depths.{all_cards, Covers, depths_of}
 use Rattle.dd_search.specs.ClaimsBy.{IsAnswer, IsAnswerBy, IsAnswerAfter, ClaimBy, IsClaimBy, IsWindow, claimant, claimed}
@@ -177,9 +177,9 @@ low-reached s ranks cards floor are real least c suits below = else-false _ (λ 
     let m = d.3 in
     omega (arith, l, m, below))
 
--- a card that is put in is reached
-pub reach-new : (cards : List PlayingCard) (x : PlayingCard) → IsRank x.rank → reach (with_card cards x) x ≡ true
-reach-new cards x real = reach-of (with_card cards x) x x (with-new cards x real) refl (omega arith)
+-- a card of the set is reached
+pub reach-in : (cards : List PlayingCard) (x : PlayingCard) → has_card cards x ≡ true → reach cards x ≡ true
+reach-in cards x has = reach-of cards x x has refl (omega arith)
 
 -- ---- what bounds tell
 

@@ -4,7 +4,7 @@ ghost use Rattle.std.specs.Prelude.{◌≡◌, true, IfSome};
 ghost use Rattle.dd_cards.specs.Cards.{has_card};
 
 use crate::holdings::{code_of_highest, lowest};
-use crate::lead::Move;
+use crate::suit_lanes::{LOWEST, at, greatest, lengths, nonempty, where_held};
 use crate::trick_view::TrickView;
 use crate::turn::Turn;
 use dd_cards::{Card, Hand, Holding, Rank, Suit};
@@ -19,6 +19,8 @@ pub(crate) struct Discarding {
     beaten: u8,
     // from the rank above this one on the next hand can't ruff higher
     overruffs: u8,
+    // what four cards of a suit make each card of it worth more: a long suit can spare one
+    four_to_spare: u8,
 }
 
 // What a card is worth, by hand.
@@ -35,45 +37,50 @@ struct DiscardWorth {
 
 // Partner wins, and a card that serves nowhere goes; a trump would take partner's trick.
 const ON_PARTNERS_TRICK: DiscardWorth = DiscardWorth {
-    discard: 80,
-    holds: 30,
-    may_hold: 35,
-    useless: 30,
+    discard: 100,
+    holds: 50,
+    may_hold: 50,
+    useless: 50,
 };
 // Second hand: partner does not win the trick by itself. Where the next hand can ruff higher partner is still to play.
 const SECOND_HAND: DiscardWorth = DiscardWorth {
-    discard: 40,
-    holds: 70,
-    may_hold: 35,
-    useless: 35,
+    discard: 35,
+    holds: 90,
+    may_hold: 55,
+    useless: 55,
 };
 // Third hand: a ruff that the next hand can beat costs it a high trump.
 const THIRD_HAND: DiscardWorth = DiscardWorth {
-    discard: 40,
-    holds: 90,
-    may_hold: 60,
-    useless: 5,
+    discard: 55,
+    holds: 110,
+    may_hold: 80,
+    useless: 25,
 };
 // Fourth hand: the trick is lost; a ruff would win it.
 const FOURTH_HAND: DiscardWorth = DiscardWorth {
-    discard: 34,
-    holds: 80,
-    may_hold: 80,
-    useless: 5,
+    discard: 54,
+    holds: 100,
+    may_hold: 100,
+    useless: 20,
 };
 // Fourth hand: partner has won, and trumps are kept.
 const LAST_ON_PARTNERS_TRICK: DiscardWorth = DiscardWorth {
-    discard: 50,
-    holds: 34,
-    may_hold: 34,
-    useless: 5,
+    discard: 84,
+    holds: 54,
+    may_hold: 54,
+    useless: 20,
 };
 
-// What the first card of a suit weighs more.
-const FIRST_OF_ITS_SUIT: u16 = 55;
+// The lowest seven bits of each suit.
+const LOWEST_SEVEN: u64 = 0x007F_007F_007F_007F;
 
-// What four cards of a suit make each card of it worth more: a long suit can spare one.
-const FOUR_TO_SPARE_FROM: u16 = 7;
+// What the first card of a suit weighs more.
+const FIRST_OF_ITS_SUIT: u64 = 55;
+
+// Where there are trumps a long side suit spares cards sooner.
+const FOUR_TO_SPARE_AT_NOTRUMP: u8 = 11;
+
+const FOUR_TO_SPARE_WITH_TRUMPS: u8 = 19;
 
 impl Discarding {
     /// What cards are worth to a hand that doesn't discard.
@@ -84,6 +91,7 @@ impl Discarding {
             worth: SECOND_HAND,
             beaten: 0,
             overruffs: 0,
+            four_to_spare: 0,
         }
     }
 
@@ -113,72 +121,62 @@ impl Discarding {
             worth,
             beaten: if view.ruffed { best } else { 0 },
             overruffs: view.next.trump,
+            four_to_spare: if view.has_trumps {
+                FOUR_TO_SPARE_WITH_TRUMPS
+            } else {
+                FOUR_TO_SPARE_AT_NOTRUMP
+            },
         }
     }
 
     /// The best of the choices of this hand that were not tried yet.
+    // Four suits are weighed side by side, without a branch: which of them has a card to try would hardly be foreseen.
     #[inline]
-    pub(crate) fn best(&self, hand: Hand, choices: Hand, untried: Hand) -> Option<Card>
+    pub(crate) fn best(self, hand: Hand, choices: Hand, untried: Hand) -> Option<Card>
         ensures { IfSome result (λ card. has_card untried card ≡ true) }
     {
-        let best = self.better(hand, choices, untried, Suit::Spades, None);
-        let best = self.better(hand, choices, untried, Suit::Hearts, best);
-        let best = self.better(hand, choices, untried, Suit::Diamonds, best);
-        let best = self.better(hand, choices, untried, Suit::Clubs, best)?;
-        Some(best.card)
+        let weights = self.discards(hand, choices, untried);
+        let (ruffs, weights) = match self.trump {
+            Some(trump) => {
+                let (ruffs, worth) = self.ruffs(untried.holding(trump));
+                let more = (worth as u64).wrapping_sub(self.worth.discard as u64);
+                (ruffs, weights.wrapping_add(at(trump, more)))
+            }
+            None => (Holding::new(), weights),
+        };
+        let suit = greatest(where_held(weights, untried));
+        let ranks = untried.holding(suit);
+        let of_worth = if self.trump == Some(suit) {
+            ruffs
+        } else {
+            ranks
+        };
+        let rank = lowest(ranks.intersection(of_worth))?;
+        Some(Card { suit, rank })
     }
 
-    // The better of this card and the suit's best.
+    // What a discard of each suit is worth.
     #[inline]
-    fn better(
-        &self,
-        hand: Hand,
-        choices: Hand,
-        untried: Hand,
-        suit: Suit,
-        best: Option<Move>,
-    ) -> Option<Move>
-        requires { IfSome best (λ m. has_card untried m.card ≡ true) }
-        ensures { IfSome result (λ m. has_card untried m.card ≡ true) }
-    {
-        let ranks = untried.holding(suit);
-        let (group, worth) = if self.trump == Some(suit) {
-            self.ruffs(ranks)
-        } else {
-            (ranks, self.worth.discard as u16)
-        };
-        let Some(rank) = lowest(ranks.intersection(group)) else {
-            return best;
-        };
-        let first = if ranks == choices.holding(suit) {
-            FIRST_OF_ITS_SUIT
-        } else {
-            0
-        };
-        let weight = worth
-            .saturating_add(first)
-            .saturating_add(spare(hand.holding(suit)))
-            .saturating_sub(rank.code() as u16);
-        match best {
-            Some(old) if old.weight >= weight => best,
-            _ => Some(Move {
-                card: Card { suit, rank },
-                weight,
-            }),
-        }
+    fn discards(self, hand: Hand, choices: Hand, untried: Hand) -> u64 {
+        let tried = nonempty(choices.mask() ^ untried.mask());
+        let spare = lengths(hand.mask()).wrapping_mul(self.four_to_spare as u64);
+        LOWEST
+            .wrapping_mul(self.worth.discard as u64)
+            .wrapping_add((LOWEST ^ tried).wrapping_mul(FIRST_OF_ITS_SUIT))
+            .wrapping_add((spare >> 2) & LOWEST_SEVEN)
     }
 
     // Of these trumps those that are worth most, and what each of them is worth.
     #[inline]
-    fn ruffs(&self, ranks: Holding) -> (Holding, u16) {
+    fn ruffs(self, ranks: Holding) -> (Holding, u8) {
         let beats = above_code(ranks, self.beaten);
         let holds = above_code(beats, self.overruffs);
         if !holds.is_empty() {
-            (holds, self.worth.holds as u16)
+            (holds, self.worth.holds)
         } else if !beats.is_empty() {
-            (beats, self.worth.may_hold as u16)
+            (beats, self.worth.may_hold)
         } else {
-            (ranks, self.worth.useless as u16)
+            (ranks, self.worth.useless)
         }
     }
 }
@@ -190,10 +188,4 @@ fn above_code(ranks: Holding, code: u8) -> Holding {
         Some(rank) => ranks.above(rank),
         None => ranks,
     }
-}
-
-// A long suit can spare a card.
-#[inline]
-fn spare(suit: Holding) -> u16 {
-    suit.len() as u16 * FOUR_TO_SPARE_FROM / 4
 }

@@ -1,8 +1,11 @@
-//! Which card looks best to lead: what speaks for a suit, and then for a card of it. Round numbers, set by hand.
+//! Which card looks best to lead: what speaks for a suit, and then for a card of it.
 ghost use Rattle.std.specs.Prelude.{◌≡◌, ◌≤◌, true, IfSome};
 ghost use Rattle.dd_cards.specs.Cards.{has_card};
 
 use crate::holdings::{code_of_highest, lowest};
+use crate::lead_weights::{
+    AT_NOTRUMP, LEADER, LeadWeights, LeadWorth, NUMBERS, PARTNER, TOP_TWO, TopTwo, WITH_TRUMPS,
+};
 use crate::suit_lanes::{LOWEST, LOWEST_FOUR, at, has_lowest, nonzero, place, several};
 use crate::table::LeadHistory;
 use dd_cards::{Card, Hand, Holding, Rank, Strain, Suit};
@@ -59,78 +62,11 @@ pub(crate) struct Leading {
     clubs: Move,
 }
 
-// What a card is worth whose trick the leader's side wins when each hand plays well, and one whose trick it loses.
-#[derive(Clone, Copy, Debug)]
-struct LeadWorth {
-    wins: u16,
-    loses: u16,
-}
-
-// What a card is worth, by the first reason that holds.
-// An opponent's highest card stands alone: it falls, and the suit is the leader's side's.
-const LONE_TOP_CARD: LeadWorth = LeadWorth {
-    wins: 70,
-    loses: 10,
-};
-// The leader has the highest card and partner the second highest: whichever is led, the other is left.
-const TOP_TWO_CARDS: LeadWorth = LeadWorth {
-    wins: 40,
-    loses: 40,
-};
-// The leader has the highest card, and leads it.
-const OWN_TOP_CARD: LeadWorth = LeadWorth {
-    wins: 25,
-    loses: 55,
-};
-// The leader has it, and leads another card of the suit.
-const BELOW_OWN_TOP_CARD: LeadWorth = LeadWorth { wins: 20, loses: 0 };
-// Partner has the highest card: any card goes to it.
-const TO_PARTNER: LeadWorth = LeadWorth {
-    wins: 40,
-    loses: 40,
-};
-// The leader has the second highest card, and the card has an equal: it drives the highest out, and the other is then high.
-const SEQUENCE: LeadWorth = LeadWorth {
-    wins: 55,
-    loses: 25,
-};
-// Nothing more is known of it.
-const ANY_OTHER: LeadWorth = LeadWorth {
-    wins: 40,
-    loses: 10,
-};
-
-// What speaks for a suit, by whose its two highest cards are.
-const SUIT: u16 = 15;
-// More: the highest card plays before partner, who has the second highest, so one of the two tricks is partner's.
-const THROUGH_TOP_TO_SECOND: u16 = 10;
-// Less: the last hand has the second highest card and plays it when it has seen what partner played.
-const LAST_HAND_HAS_SECOND: u16 = 15;
-// Less: the last hand has the highest card, which wins whatever partner plays.
-const LAST_HAND_HAS_TOP: u16 = 10;
-// More: partner takes the leader's single card, and the leader ruffs the next.
-const SINGLETON_TO_TOP: u16 = 15;
 // For each suit more than all that speaks against it.
-const ANY_SUIT: u64 = 400;
-// Against it: an opponent has none of it and ruffs.
-const OPPONENT_RUFFS: u64 = 10;
-// Against it, for each card of it that an opponent has, and of an opponent who has none of it for each card: the fewer
-// answers there are to try, the sooner the suit is settled.
-const OPPONENTS_CARD: u64 = 10;
+const ANY_SUIT: u64 = 500;
 
 // More than any rank.
 const RUFF: u8 = 15;
-
-// What the first card of a suit weighs more: each suit is rather tried once before one is tried again.
-const BEST_OF_ITS_SUIT: u16 = 30;
-
-// What the cards of a suit weigh more that settled the last start of a trick of the same shape, of the same outline, or of the
-// same leader with as many tricks left.
-const SETTLED_SHAPE: u64 = 40;
-
-const SETTLED_OUTLINE: u64 = 40;
-
-const SETTLED_LEADER: u64 = 10;
 
 impl Leading {
     /// No cards.
@@ -153,13 +89,22 @@ impl Leading {
         settling: LeadHistory,
         choices: Hand,
     ) {
-        let start = StartView::of(position, strings, settling);
+        let weights = weights_at(position.strain());
+        let start = StartView::of(position, strings, settling, weights);
         let tops = strings.signature();
-        let more = BEST_OF_ITS_SUIT;
-        self.spades = best_of(position, start, tops, Suit::Spades, choices, more);
-        self.hearts = best_of(position, start, tops, Suit::Hearts, choices, more);
-        self.diamonds = best_of(position, start, tops, Suit::Diamonds, choices, more);
-        self.clubs = best_of(position, start, tops, Suit::Clubs, choices, more);
+        let more = weights.best_of_its_suit;
+        self.spades = best_of(position, start, weights, tops, Suit::Spades, choices, more);
+        self.hearts = best_of(position, start, weights, tops, Suit::Hearts, choices, more);
+        self.diamonds = best_of(
+            position,
+            start,
+            weights,
+            tops,
+            Suit::Diamonds,
+            choices,
+            more,
+        );
+        self.clubs = best_of(position, start, weights, tops, Suit::Clubs, choices, more);
         self.start = start;
     }
 
@@ -185,7 +130,9 @@ impl Leading {
         suit: Suit,
         untried: Hand,
     ) {
-        let next = best_of(position, self.start, strings.signature(), suit, untried, 0);
+        let weights = weights_at(position.strain());
+        let tops = strings.signature();
+        let next = best_of(position, self.start, weights, tops, suit, untried, 0);
         match suit {
             Suit::Spades => self.spades = next,
             Suit::Hearts => self.hearts = next,
@@ -207,145 +154,6 @@ impl Leading {
         }
     }
 }
-
-// Whose a card is: how many places after the leader its hand is.
-const LEADER: u8 = 0;
-
-const LEFT: u8 = 1;
-
-const PARTNER: u8 = 2;
-
-const RIGHT: u8 = 3;
-
-// What is known of a suit by whose its two highest cards are.
-#[derive(Clone, Copy, Debug)]
-struct TopTwo {
-    // who has the highest card
-    first: u8,
-    // how good the suit looks, but for its lengths and for ruffs
-    weight: u16,
-    // whether its cards are worth the same, so that the lowest of them looks best
-    alike: bool,
-    // what its cards are worth, and where they are not alike the special ones: the leader's highest, or one with an equal below it
-    worth: LeadWorth,
-    special: LeadWorth,
-}
-
-const LEADERS: TopTwo = TopTwo {
-    first: LEADER,
-    weight: SUIT,
-    alike: false,
-    worth: BELOW_OWN_TOP_CARD,
-    special: OWN_TOP_CARD,
-};
-
-const LEADERS_THEN_RIGHTS: TopTwo = TopTwo {
-    first: LEADER,
-    weight: SUIT - LAST_HAND_HAS_SECOND,
-    alike: false,
-    worth: BELOW_OWN_TOP_CARD,
-    special: OWN_TOP_CARD,
-};
-
-const LEADERS_THEN_PARTNERS: TopTwo = TopTwo {
-    first: LEADER,
-    weight: SUIT,
-    alike: true,
-    worth: TOP_TWO_CARDS,
-    special: TOP_TWO_CARDS,
-};
-
-const PARTNERS: TopTwo = TopTwo {
-    first: PARTNER,
-    weight: SUIT,
-    alike: true,
-    worth: TO_PARTNER,
-    special: TO_PARTNER,
-};
-
-const PARTNERS_THEN_RIGHTS: TopTwo = TopTwo {
-    first: PARTNER,
-    weight: SUIT - LAST_HAND_HAS_SECOND,
-    alike: true,
-    worth: TO_PARTNER,
-    special: TO_PARTNER,
-};
-
-const LEFTS: TopTwo = TopTwo {
-    first: LEFT,
-    weight: SUIT,
-    alike: true,
-    worth: ANY_OTHER,
-    special: ANY_OTHER,
-};
-
-const LEFTS_THEN_LEADERS: TopTwo = TopTwo {
-    first: LEFT,
-    weight: SUIT,
-    alike: false,
-    worth: ANY_OTHER,
-    special: SEQUENCE,
-};
-
-const LEFTS_THEN_PARTNERS: TopTwo = TopTwo {
-    first: LEFT,
-    weight: SUIT + THROUGH_TOP_TO_SECOND,
-    alike: true,
-    worth: ANY_OTHER,
-    special: ANY_OTHER,
-};
-
-const LEFTS_THEN_RIGHTS: TopTwo = TopTwo {
-    first: LEFT,
-    weight: SUIT - LAST_HAND_HAS_SECOND,
-    alike: true,
-    worth: ANY_OTHER,
-    special: ANY_OTHER,
-};
-
-const RIGHTS: TopTwo = TopTwo {
-    first: RIGHT,
-    weight: SUIT - LAST_HAND_HAS_TOP,
-    alike: true,
-    worth: ANY_OTHER,
-    special: ANY_OTHER,
-};
-
-const RIGHTS_THEN_LEADERS: TopTwo = TopTwo {
-    first: RIGHT,
-    weight: SUIT - LAST_HAND_HAS_TOP,
-    alike: false,
-    worth: ANY_OTHER,
-    special: SEQUENCE,
-};
-
-// By the number that a signature tells of a suit. A look at a table and not branches, which would hardly be foreseen.
-static TOP_TWO: [TopTwo; 16] = [
-    // the leader's, and then the leader's or nobody's, the left hand's
-    LEADERS,
-    LEADERS,
-    // the left hand's, and then the leader's, the left hand's
-    LEFTS_THEN_LEADERS,
-    LEFTS,
-    // the leader's, and then partner's, the right hand's
-    LEADERS_THEN_PARTNERS,
-    LEADERS_THEN_RIGHTS,
-    // the left hand's, and then partner's, the right hand's
-    LEFTS_THEN_PARTNERS,
-    LEFTS_THEN_RIGHTS,
-    // partner's, and then the leader's, the left hand's
-    PARTNERS,
-    PARTNERS,
-    // the right hand's, and then the leader's, the left hand's
-    RIGHTS_THEN_LEADERS,
-    RIGHTS,
-    // partner's, and then partner's, the right hand's
-    PARTNERS,
-    PARTNERS_THEN_RIGHTS,
-    // the right hand's, and then partner's, the right hand's
-    RIGHTS,
-    RIGHTS,
-];
 
 // What is seen of a start of a trick. Where a word speaks of all suits it has sixteen bits for each, the spades' on top.
 #[derive(Clone, Copy, Debug)]
@@ -375,7 +183,12 @@ impl StartView {
     }
 
     #[inline]
-    fn of(position: &Position, strings: &OwnerStrings, settling: LeadHistory) -> StartView {
+    fn of(
+        position: &Position,
+        strings: &OwnerStrings,
+        settling: LeadHistory,
+        weights: LeadWeights,
+    ) -> StartView {
         let lengths = strings.shape().lengths();
         let left = (lengths >> 4) & LOWEST_FOUR;
         let right = (lengths >> 12) & LOWEST_FOUR;
@@ -391,19 +204,27 @@ impl StartView {
         let answers = left
             .wrapping_add(right)
             .wrapping_add(without.wrapping_mul(position.tricks_left() as u64));
-        let against = answers
-            .wrapping_mul(OPPONENTS_CARD)
-            .wrapping_add(opponents_ruff.wrapping_mul(OPPONENT_RUFFS));
+        let own = lengths & LOWEST_FOUR;
         let partner = (lengths >> 8) & LOWEST_FOUR;
-        let single = LOWEST ^ nonzero((lengths & LOWEST_FOUR) ^ LOWEST);
+        let single = LOWEST ^ nonzero(own ^ LOWEST);
+        let partner_has_none = LOWEST ^ nonzero(partner);
+        let against = answers
+            .wrapping_mul(weights.opponents_card)
+            .wrapping_add(opponents_ruff.wrapping_mul(weights.opponent_ruffs))
+            .wrapping_add(partner_has_none.wrapping_mul(weights.partner_has_none));
+        let lengths_for = own
+            .wrapping_mul(weights.leaders_card)
+            .wrapping_add(partner.wrapping_mul(weights.partners_card))
+            .wrapping_add(single.wrapping_mul(weights.single_card));
         let more = several(partner);
         StartView {
             lengths,
-            weights: settled_before(settling)
+            weights: settled_before(settling, weights)
                 .wrapping_add(LOWEST * ANY_SUIT)
+                .wrapping_add(lengths_for)
                 .wrapping_sub(against),
             opponents_ruff,
-            partner_ruffs: where_any(trumps >> 8, side & (LOWEST ^ nonzero(partner))),
+            partner_ruffs: where_any(trumps >> 8, side & partner_has_none),
             leader_ruffs: where_any(trumps, side & single & more),
         }
     }
@@ -417,12 +238,37 @@ impl StartView {
 
     // How good the suit looks.
     #[inline]
-    fn weight(self, suit: Suit, tops: TopTwo) -> u16 {
+    fn weight(self, suit: Suit, tops: TopTwo, weights: LeadWeights) -> u16 {
         let weight = ((self.weights >> place(suit)) & 0xFFFF) as u16;
         let single = tops.first == PARTNER && has_lowest(self.leader_ruffs, suit);
-        let single = if single { SINGLETON_TO_TOP } else { 0 };
+        let single = if single {
+            weights.single_card_to_partners_top
+        } else {
+            0
+        };
         weight.wrapping_add(tops.weight).wrapping_add(single)
     }
+}
+
+// What speaks for leads at this strain.
+#[inline]
+fn weights_at(strain: Strain) -> LeadWeights {
+    match strain {
+        Strain::Trump(_) => WITH_TRUMPS,
+        Strain::Notrump => AT_NOTRUMP,
+    }
+}
+
+// What is known of a suit with this number at this strain.
+#[inline]
+fn top_two(strain: Strain, number: u8) -> TopTwo
+    requires { number ≤ 15 }
+{
+    let first = match strain {
+        Strain::Trump(_) => NUMBERS,
+        Strain::Notrump => 0,
+    };
+    TOP_TWO[first + number as usize]
 }
 
 // These bits where the lowest four of the number are not zero.
@@ -433,10 +279,10 @@ fn where_any(number: u64, bits: u64) -> u64 {
 
 // What speaks for each suit by what settled starts of a trick like this one.
 #[inline]
-fn settled_before(settling: LeadHistory) -> u64 {
-    settled(settling.of_shape, SETTLED_SHAPE)
-        .wrapping_add(settled(settling.of_outline, SETTLED_OUTLINE))
-        .wrapping_add(settled(settling.of_leader, SETTLED_LEADER))
+fn settled_before(settling: LeadHistory, weights: LeadWeights) -> u64 {
+    settled(settling.of_shape, weights.settled_shape)
+        .wrapping_add(settled(settling.of_outline, weights.settled_outline))
+        .wrapping_add(settled(settling.of_leader, weights.settled_leader))
 }
 
 // So much for the suit of the lead that settled.
@@ -454,6 +300,7 @@ fn settled(lead: Option<Suit>, weight: u64) -> u64 {
 fn best_of(
     position: &Position,
     start: StartView,
+    weights: LeadWeights,
     tops: Signature,
     suit: Suit,
     choices: Hand,
@@ -463,16 +310,20 @@ fn best_of(
     let Some(low) = lowest(ranks) else {
         return Move::default();
     };
-    let tops = TOP_TWO[tops.of_suit(suit) as usize];
-    let weight = start.weight(suit, tops).wrapping_add(more);
+    let tops = top_two(position.strain(), tops.of_suit(suit));
+    let weight = start.weight(suit, tops, weights).wrapping_add(more);
     let opponents = has_lowest(start.opponents_ruff, suit);
     let partner = has_lowest(start.partner_ruffs, suit);
     let lone = start.is_lone(suit, tops.first);
-    if !lone && !tops.alike {
+    if !lone && !tops.cards.alike {
         let ruffs = Ruffs { opponents, partner };
         return best_by_rank(position, suit, ranks, weight, ruffs, tops);
     }
-    let worth = if lone { LONE_TOP_CARD } else { tops.worth };
+    let worth = if lone {
+        weights.lone_top_card
+    } else {
+        tops.cards.usual
+    };
     let wins = !opponents && (partner || tops.first == PARTNER);
     weighed(suit, low, weight, worth, wins)
 }
@@ -532,7 +383,11 @@ fn best_by_rank(
         } else {
             has_equal(own, others, rank)
         };
-        let worth = if special { tops.special } else { tops.worth };
+        let worth = if special {
+            tops.cards.special
+        } else {
+            tops.cards.usual
+        };
         let wins = code.max(partner) > against;
         best = best.or(weighed(suit, rank, weight, worth, wins));
     }

@@ -13,6 +13,7 @@ mod holdings;
 mod known_tricks;
 mod laws;
 mod lead;
+mod lead_weights;
 mod meter;
 mod order;
 mod position_value;

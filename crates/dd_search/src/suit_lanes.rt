@@ -1,7 +1,7 @@
 //! Four suits side by side in a word: sixteen bits for each, the spades' on top.
 ghost use Rattle.std.specs.Prelude.{◌≤◌};
 
-use dd_cards::Suit;
+use dd_cards::{Hand, Suit};
 
 /// The lowest bit of each suit.
 pub(crate) const LOWEST: u64 = 0x0001_0001_0001_0001;
@@ -51,4 +51,46 @@ pub(crate) fn where_set(numbers: u64, bits: u64) -> u64 {
 #[inline]
 pub(crate) fn sum(numbers: u64) -> u8 {
     ((numbers.wrapping_mul(LOWEST) >> 48) & 0xFF) as u8
+}
+
+/// The lowest bit of each suit of which there is a card among these.
+#[inline]
+pub(crate) fn nonempty(cards: u64) -> u64 {
+    (cards.wrapping_add(0x7FFF_7FFF_7FFF_7FFF) >> 15) & LOWEST
+}
+
+/// These numbers of the suits of which there is a card, and 0 of the others.
+#[inline]
+pub(crate) fn where_held(numbers: u64, cards: Hand) -> u64 {
+    numbers & nonempty(cards.mask()).wrapping_mul(0xFFFF)
+}
+
+/// The number of cards of each suit.
+// Bits are added two by two, then these sums, and so on, all of them at once.
+#[inline]
+pub(crate) fn lengths(cards: u64) -> u64 {
+    let twos = cards.wrapping_sub((cards >> 1) & 0x5555_5555_5555_5555);
+    let fours = (twos & 0x3333_3333_3333_3333).wrapping_add((twos >> 2) & 0x3333_3333_3333_3333);
+    let eights = fours.wrapping_add(fours >> 4) & 0x0F0F_0F0F_0F0F_0F0F;
+    eights.wrapping_add(eights >> 8) & LOWEST_FOUR
+}
+
+/// The suit of the greatest number, the first of equals.
+#[inline]
+pub(crate) fn greatest(numbers: u64) -> Suit {
+    let spades = numbers >> 48;
+    let hearts = (numbers >> 32) & 0xFFFF;
+    let diamonds = (numbers >> 16) & 0xFFFF;
+    let clubs = numbers & 0xFFFF;
+    let (major, high) = if hearts > spades {
+        (Suit::Hearts, hearts)
+    } else {
+        (Suit::Spades, spades)
+    };
+    let (minor, low) = if clubs > diamonds {
+        (Suit::Clubs, clubs)
+    } else {
+        (Suit::Diamonds, diamonds)
+    };
+    if low > high { minor } else { major }
 }

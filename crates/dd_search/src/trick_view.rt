@@ -15,6 +15,8 @@ pub(crate) struct TrickView {
     pub(crate) led: Suit,
     // the trump suit, where another suit was led
     pub(crate) trump: Option<Suit>,
+    // whether there is a trump suit
+    pub(crate) has_trumps: bool,
     // the rank of the best card on the trick, and whether it is a ruff
     pub(crate) best: Rank,
     pub(crate) ruffed: bool,
@@ -77,6 +79,7 @@ impl TrickView {
             turn,
             led,
             trump,
+            has_trumps: strain != Strain::Notrump,
             best: best.rank,
             ruffed: best.suit != led,
             partners,

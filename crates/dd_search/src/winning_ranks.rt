@@ -1,5 +1,5 @@
 //! What an answer rests on, and which cards it answers for.
-ghost use Rattle.std.specs.Prelude.{◌≡◌, ◌<◌, ◌⊎◌, true, false, length, Some, None, if◌then◌else◌};
+ghost use Rattle.std.specs.Prelude.{◌≡◌, ◌<◌, ◌⊎◌, Bool, true, false, length, Some, None, if◌then◌else◌};
 ghost use Rattle.dd_cards.specs.PlayingCard.{PlayingCard};
 ghost use Rattle.dd_cards.specs.Cards.{has_card};
 ghost use Rattle.dd_play.specs.Tricks.{winner_of};
@@ -10,26 +10,35 @@ ghost use Rattle.dd_play.specs.Reach.{reach};
 use dd_cards::{Card, Hand, Rank, Seat};
 use dd_play::Position;
 
-/// The cards that a claim about a legal card rests on: those that the claim after it rests on, and the winner of a trick
-/// that it completes, if another card of the winner's suit lies there.
-#[inline]
-pub(crate) fn settled_by(position: &Position, card: Card, winner: Option<Seat>, cards: Hand) -> Hand
+/// The winner of a trick that this legal card completes, if another card of its suit lies there, as a set.
+#[inline(always)]
+pub(crate) fn contested(position: &Position, card: Card, winner: Option<Seat>) -> Hand
     requires legal { has_card (legal position.now) card ≡ true }
     requires winner { winner ≡ (if completes position.now
         then Some (winner_of (trick_with position.now card) position.now.first position.now.strain)
         else None) }
-    ensures more { (c : PlayingCard) → has_card cards c ≡ true → has_card result c ≡ true }
-    ensures settled { IsSettled (reach result) position.now card }
+    ensures { (top : PlayingCard → Bool) → ((c : PlayingCard) → has_card result c ≡ true
+        → top c ≡ true) → IsSettled top position.now card }
 {
-    // The proof reads here that the cards are cards of the pack.
-    let _ = cards.holding(card.suit);
     match position.contested_winner(card, winner) {
         Some(won) => {
             let _rank = won.rank.code();
-            cards.with(won)
+            Hand::new().with(won)
         }
-        None => cards,
+        None => Hand::new(),
     }
+}
+
+/// The cards that a claim about a legal card rests on: those that the claim after it rests on, and the contested winner of a trick
+/// that it completes.
+#[inline(always)]
+pub(crate) fn settled_by(position: &Position, card: Card, contested: Hand, cards: Hand) -> Hand
+    requires { (top : PlayingCard → Bool) → ((c : PlayingCard) → has_card contested c ≡ true
+        → top c ≡ true) → IsSettled top position.now card }
+    ensures more { (c : PlayingCard) → has_card cards c ≡ true → has_card result c ≡ true }
+    ensures settled { IsSettled (reach result) position.now card }
+{
+    cards.union(contested)
 }
 
 /// Of the cards still to try those that the failure of this one says nothing of: not the card itself, and where it is lower

@@ -20,7 +20,7 @@ use crate::second_hands::SecondHands;
 use crate::table::{Bounds, LeadHistory};
 use crate::turn::Turn;
 use crate::verdict::Verdict;
-use crate::winning_ranks::{settled_by, still_untried};
+use crate::winning_ranks::{contested, settled_by, still_untried};
 use dd_cards::{Card, Hand, Seat};
 use dd_equal::{tops_at, whole_at};
 use dd_play::{Position, TrickStart};
@@ -409,6 +409,8 @@ fn answer_after<B: Bounds, M: Meter>(
     // The position stays where `play` put it: a copy of it would wait for its bytes to be written.
     let played = position.play_at(turn.cards_before(), card);
     let rest = rest_after(need, played.1);
+    // Before the question: the trick's cards are at hand here.
+    let contested = contested(position, card, played.1);
     let later = match turn {
         Turn::First => zero_window_at_second_hand(&played.0, rest, table, meter)?,
         Turn::Second => zero_window_at_third_hand(&played.0, rest, table, meter)?,
@@ -417,7 +419,7 @@ fn answer_after<B: Bounds, M: Meter>(
     };
     Ok(Verdict::new(
         later.is_yes(),
-        settled_by(position, card, played.1, later.cards()),
+        settled_by(position, card, contested, later.cards()),
     ))
 }
 

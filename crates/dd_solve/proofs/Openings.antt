@@ -19,7 +19,7 @@ use Rattle.dd_search.proofs.CallerLemmas.{lead-value}
 use Rattle.dd_solve.specs.Results.{AreEven, contract_of, contracts}
 
 -- each contract stands at the place of its codes
-contract-at : (strain : Strain) (declarer : Seat) → contract_of (4 * strain_code strain + seat_code declarer) ≡ record { strain = strain; declarer = declarer }
+pub contract-at : (strain : Strain) (declarer : Seat) → contract_of (4 * strain_code strain + seat_code declarer) ≡ record { strain = strain; declarer = declarer }
 unfolding contract_of contracts
 contract-at (Trump Spades) North = refl
 contract-at (Trump Spades) East = refl

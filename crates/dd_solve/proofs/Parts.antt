@@ -1,11 +1,13 @@
 -- the twenty parts of a table in order
 use Rattle.std.proofs.Common.{◌≡◌, ℕ, ◌+◌, ◌<◌, refl, sym, ap, ◌∙◌, arith, List, [], ◌∷◌, ◌++◌, length, take, get_or}
 use Rattle.std.specs.Prelude.{map}
-use Rattle.std.specs.List.{range_with_len}
+use Rattle.std.specs.List.{flat_map, range_with_len}
 use Rattle.std.proofs.lemmas.List.{take_more}
-use Rattle.std.proofs.lemmas.List.FromFn.{map-range_with_len_more, get_or-map-range_with_len, length-map-range_with_len}
+use Rattle.std.proofs.lemmas.List.FromFn.{map-range_with_len_more, get_or-map-range_with_len}
 use Rattle.dd_cards.specs.Hands.{FourHands}
-use Rattle.dd_solve.specs.Results.{PartResult, part_result, all_parts, first_results, results, contracts, contract_of, tricks_of}
+use Rattle.dd_cards.specs.declared.strain.Strain.TheVariants.{Trump, Notrump}
+use Rattle.dd_cards.specs.declared.suit.Suit.TheVariants.{Spades, Hearts, Diamonds, Clubs}
+use Rattle.dd_solve.specs.Results.{PartResult, part_result, all_parts, results, strain_results, contracts, contract_of}
 
 -- there are twenty
 pub length-parts : (hands : FourHands) → length (all_parts hands) ≡ 20
@@ -38,26 +40,11 @@ pub part-at : (hands : FourHands) (parts : List PartResult) (many place : ℕ) (
 part-at hands parts many place part within here e =
     here ∙ ap (λ xs. get_or xs place part) e ∙ get_or-map-range_with_len (part_result hands) 0 many place place part within (omega arith)
 
--- all of the first twenty are the results
-pub results-first : (hands : FourHands) → first_results hands 20 ≡ results hands
-unfolding results contracts contract_of
-results-first hands = refl
-
--- the results of one part more
-first-more : (hands : FourHands) (many next : ℕ) → next ≡ many + 1 → first_results hands next ≡ first_results hands many ++ tricks_of hands (contract_of many) ∷ []
-first-more hands many next e = ap (first_results hands) e ∙ map-range_with_len_more (λ part. tricks_of hands (contract_of part)) 0 many many (omega arith)
-
--- as many as the parts
-pub length-first : (hands : FourHands) (many : ℕ) → length (first_results hands many) ≡ many
-length-first hands many = length-map-range_with_len (λ part. tricks_of hands (contract_of part)) 0 many
-
--- the results of the four parts of a strain more
-pub first-four : (hands : FourHands) (many : ℕ) (tricks one two three four : List ℕ) (north east south west : ℕ)
-    → tricks ≡ first_results hands many → one ≡ tricks ++ north ∷ [] → two ≡ one ++ east ∷ [] → three ≡ two ++ south ∷ [] → four ≡ three ++ west ∷ []
-    → north ≡ tricks_of hands (contract_of many) → east ≡ tricks_of hands (contract_of (many + 1)) → south ≡ tricks_of hands (contract_of (many + 2)) → west ≡ tricks_of hands (contract_of (many + 3))
-    → four ≡ first_results hands (many + 4)
-first-four hands many tricks one two three four north east south west before is_one is_two is_three is_four a b c d =
-    let first : one ≡ first_results hands (many + 1) = is_one ∙ rw (before, a) (sym (first-more hands many (many + 1) (omega arith))) in
-    let second : two ≡ first_results hands (many + 2) = is_two ∙ rw (first, b) (sym (first-more hands (many + 1) (many + 2) (omega arith))) in
-    let third : three ≡ first_results hands (many + 3) = is_three ∙ rw (second, c) (sym (first-more hands (many + 2) (many + 3) (omega arith))) in
-    is_four ∙ rw (third, d) (sym (first-more hands (many + 3) (many + 4) (omega arith)))
+-- those of the five strains, one after another, are the results
+pub results-strains : (hands : FourHands) (spades hearts diamonds clubs notrump : List ℕ)
+    → spades ≡ strain_results hands (Trump Spades) → hearts ≡ strain_results hands (Trump Hearts) → diamonds ≡ strain_results hands (Trump Diamonds)
+    → clubs ≡ strain_results hands (Trump Clubs) → notrump ≡ strain_results hands Notrump
+    → flat_map (λ row. row) (spades ∷ hearts ∷ diamonds ∷ clubs ∷ notrump ∷ []) ≡ results hands
+unfolding results contracts
+results-strains hands spades hearts diamonds clubs notrump of_spades of_hearts of_diamonds of_clubs of_notrump =
+    rw (of_spades, of_hearts, of_diamonds, of_clubs, of_notrump) refl

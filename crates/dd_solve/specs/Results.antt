@@ -48,13 +48,13 @@ opening hands contract = board_of hands contract.strain (next_seat contract.decl
 unfoldable pub tricks_of : FourHands → Contract → ℕ
 tricks_of hands contract = tricks_left (opening hands contract) - leaders_tricks (opening hands contract)
 
+-- the results of a strain: those of North, East, South and West as declarers
+abbrev pub strain_results : FourHands → Strain → List ℕ
+strain_results hands strain = map (λ declarer. tricks_of hands (record { strain = strain; declarer = declarer })) all_seats
+
 -- the twenty results: by strain, then by declarer
 unfoldable pub results : FourHands → List ℕ
 results hands = map (tricks_of hands) contracts
-
--- the first of them, those of so many parts
-abbrev pub first_results : FourHands → ℕ → List ℕ
-first_results hands many = map (λ part. tricks_of hands (contract_of part)) (range_with_len 0 many)
 
 -- ---- results with what they are results of
 

@@ -29,6 +29,6 @@ pub use solved_table::{RESULTS, Results, SolvedTable};
 pub use solving::{Solved, solve};
 pub use table_part::{SolvedPart, solve_part, solve_part_from_guess};
 pub use table_request::{PARTS, TableRequest};
-pub use table_solving::solve_table;
+pub use table_solving::{solve_strain, solve_table};
 pub use target_request::{GREATEST_TARGET, TargetRequest};
 pub use target_solving::{SolvedTarget, solve_target};

@@ -1,6 +1,6 @@
 //! The twenty results of a deal.
 ghost use Rattle.std.specs.Prelude.{◌≡◌, ◌≤◌, ◌↔◌, IsTrue, IfNone, IfSome, length, map};
-ghost use Rattle.std.specs.List.{range_with_len};
+ghost use Rattle.std.specs.List.{flat_map, range_with_len};
 ghost use Rattle.dd_cards.specs.Hands.{FourHands};
 ghost use Rattle.dd_solve.specs.Results.{all_parts, part_result, hands_results};
 
@@ -13,7 +13,7 @@ use std::marker::Model;
 pub const RESULTS: usize = 20;
 
 /// The results of a table that is being made.
-pub(crate) type TricksList = ArrayVec<u8, RESULTS>;
+type TricksList = ArrayVec<u8, RESULTS>;
 
 /// Twenty results: the tricks of each declarer, by strain (spades, hearts, diamonds, clubs, notrump), then by declarer
 /// (North, East, South, West).
@@ -33,12 +33,21 @@ impl Model for Results {
 }
 
 impl Results {
-    /// Results of these numbers.
-    pub(crate) fn of(tricks: TricksList) -> Results
+    // Results of these numbers.
+    fn of(tricks: TricksList) -> Results
         requires { length tricks.items ≡ RESULTS }
         ensures { result ≡ tricks.items }
     {
         Results { tricks }
+    }
+
+    /// Results of these numbers, which are those of the strains, in their order.
+    pub(crate) fn by_strains(rows: [[u8; 4]; 5]) -> Results
+        ensures { result ≡ flat_map (λ row. row) rows }
+    {
+        Results {
+            tricks: ArrayVec::try_from(rows.as_flattened()).unwrap_or_default(),
+        }
     }
 
     /// The twenty numbers, in their order.

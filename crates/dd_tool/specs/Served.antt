@@ -1,50 +1,78 @@
 -- To be believed: what the line tool has served of the lines of a stream. The budget is that of each line.
-use Rattle.std.specs.Prelude.{◌≡◌, ℕ, List, [], ◌∷◌, ◌++◌, Option}
+use Rattle.std.specs.Prelude.{◌≡◌, ℕ, List, [], ◌∷◌, ◌++◌, Bool, true, false, Option}
 use Rattle.std.specs.Io.KnownBytes.{Consumes, Appends, IsAtEnd}
 use Rattle.dd_lines.specs.CountedDevices.{bytes_of}
 use Rattle.dd_lines.specs.declared.counted_device.CountedDevice.{CountedDevice}
 use Rattle.dd_lines.specs.Lines.{line_feed, lines}
+use Rattle.dd_wire.specs.Explained.{IsExplained}
 use Rattle.dd_wire.specs.LineReplies.{IsReply}
 
--- the bytes are the replies of the line tool to these lines, one for each, in order, each ended by a line feed
-abbrev pub AreSolved : Option ℕ → List (List ℕ) → List ℕ → Type 0
-AreSolved budget [] bytes = bytes ≡ []
-AreSolved budget (line ∷ rest) bytes = (text : List ℕ) × (more : List ℕ) × IsReply budget line text × AreSolved budget rest more × (bytes ≡ text ++ line_feed ∷ more)
+-- the reply to a line: as it always is, or with its id told again and its fault explained
+abbrev pub IsReplyAs : Bool → Option ℕ → List ℕ → List ℕ → Type 0
+IsReplyAs false budget = IsReply budget
+IsReplyAs true budget = IsExplained budget
 
--- what is written for what is read: one reply line for each line
-abbrev pub AnswersEachLine : Option ℕ → List ℕ → List ℕ → Type 0
-AnswersEachLine budget input output = AreSolved budget (lines input) output
+-- ---- replies of any kind
+
+-- the bytes are replies of this kind to these lines, one for each, in order, each ended by a line feed
+abbrev pub AreTold : (List ℕ → List ℕ → Type 0) → List (List ℕ) → List ℕ → Type 0
+AreTold Reply [] bytes = bytes ≡ []
+AreTold Reply (line ∷ rest) bytes = (text : List ℕ) × (more : List ℕ) × Reply line text × AreTold Reply rest more × (bytes ≡ text ++ line_feed ∷ more)
 
 -- all that came was read, and what was written is one reply line for each of its lines
-pub record ServedAll (budget : Option ℕ) (read_old read_new write_old write_new : Option (List ℕ)) : Type 0 where
+pub record ToldAll (Reply : List ℕ → List ℕ → Type 0) (read_old read_new write_old write_new : Option (List ℕ)) : Type 0 where
   pub input : List ℕ
   pub output : List ℕ
   pub consumed : Consumes read_old read_new input
   pub ended : IsAtEnd read_new
-  pub answered : AnswersEachLine budget input output
+  pub answered : AreTold Reply (lines input) output
   pub written : Appends write_old write_new output
 
 -- what was written is a beginning of the reply lines to what was read
-pub record ServedBeginning (budget : Option ℕ) (read_old read_new write_old write_new : Option (List ℕ)) : Type 0 where
+pub record ToldBeginning (Reply : List ℕ → List ℕ → Type 0) (read_old read_new write_old write_new : Option (List ℕ)) : Type 0 where
   pub input : List ℕ
   pub output : List ℕ
   pub written : List ℕ
   pub unwritten : List ℕ
   pub consumed : Consumes read_old read_new input
-  pub answered : AnswersEachLine budget input output
+  pub answered : AreTold Reply (lines input) output
   pub split : output ≡ written ++ unwritten
   pub appended : Appends write_old write_new written
 
 -- all that came was read, and each of its lines was answered
+abbrev pub TellsAll : {R W : Type 0} → (R → Option (List ℕ)) → (W → Option (List ℕ)) → (List ℕ → List ℕ → Type 0)
+    → CountedDevice R → CountedDevice R → CountedDevice W → CountedDevice W → Type 0
+TellsAll remaining contents Reply reader_old reader_new writer_old writer_new =
+    ToldAll Reply (bytes_of remaining reader_old) (bytes_of remaining reader_new)
+    (bytes_of contents writer_old) (bytes_of contents writer_new)
+
+-- what was written is a beginning of the replies to what was read
+abbrev pub TellsBeginning : {R W : Type 0} → (R → Option (List ℕ)) → (W → Option (List ℕ)) → (List ℕ → List ℕ → Type 0)
+    → CountedDevice R → CountedDevice R → CountedDevice W → CountedDevice W → Type 0
+TellsBeginning remaining contents Reply reader_old reader_new writer_old writer_new =
+    ToldBeginning Reply (bytes_of remaining reader_old) (bytes_of remaining reader_new)
+    (bytes_of contents writer_old) (bytes_of contents writer_new)
+
+-- ---- replies as they always are
+
+-- the bytes are the replies of the line tool to these lines, one for each, in order, each ended by a line feed
+abbrev pub AreSolved : Option ℕ → List (List ℕ) → List ℕ → Type 0
+AreSolved budget = AreTold (IsReply budget)
+
+-- all that came was read, and what was written is one reply line for each of its lines
+abbrev pub ServedAll : Option ℕ → Option (List ℕ) → Option (List ℕ) → Option (List ℕ) → Option (List ℕ) → Type 0
+ServedAll budget = ToldAll (IsReply budget)
+
+-- what was written is a beginning of the reply lines to what was read
+abbrev pub ServedBeginning : Option ℕ → Option (List ℕ) → Option (List ℕ) → Option (List ℕ) → Option (List ℕ) → Type 0
+ServedBeginning budget = ToldBeginning (IsReply budget)
+
+-- all that came was read, and each of its lines was answered
 abbrev pub ServesAll : {R W : Type 0} → (R → Option (List ℕ)) → (W → Option (List ℕ)) → Option ℕ
     → CountedDevice R → CountedDevice R → CountedDevice W → CountedDevice W → Type 0
-ServesAll remaining contents budget reader_old reader_new writer_old writer_new =
-    ServedAll budget (bytes_of remaining reader_old) (bytes_of remaining reader_new)
-    (bytes_of contents writer_old) (bytes_of contents writer_new)
+ServesAll remaining contents budget = TellsAll remaining contents (IsReply budget)
 
 -- what was written is a beginning of the replies to what was read
 abbrev pub ServesBeginning : {R W : Type 0} → (R → Option (List ℕ)) → (W → Option (List ℕ)) → Option ℕ
     → CountedDevice R → CountedDevice R → CountedDevice W → CountedDevice W → Type 0
-ServesBeginning remaining contents budget reader_old reader_new writer_old writer_new =
-    ServedBeginning budget (bytes_of remaining reader_old) (bytes_of remaining reader_new)
-    (bytes_of contents writer_old) (bytes_of contents writer_new)
+ServesBeginning remaining contents budget = TellsBeginning remaining contents (IsReply budget)

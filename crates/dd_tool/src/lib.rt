@@ -8,5 +8,5 @@ mod solver;
 mod workers;
 
 pub use pool::{Pool, answer_ahead};
-pub use solver::solve_lines;
-pub use workers::{solve_lines_ahead, solve_lines_on};
+pub use solver::{solve_lines, tell_lines};
+pub use workers::{solve_lines_ahead, solve_lines_on, tell_lines_ahead, tell_lines_on};

@@ -5,6 +5,8 @@
 pub use Rattle.dd_wire.proofs.LineMeanings.{some-meaning}
 -- each meaning has a reply
 pub use Rattle.dd_wire.proofs.LineMeanings.{some-answer}
+-- every line has an explained reply
+pub use Rattle.dd_wire.proofs.ExplainedReplies.{some-explained}
 -- ---- Without leave no line wants a stop.
 -- no line means that
 pub use Rattle.dd_wire.proofs.NoStops.{no-stop-line}

@@ -32,7 +32,7 @@ means-members line object wait meaning short is waits means =
     rw (test, is, waits) means
 
 -- ---- every line has a meaning
-some-members : (members : Members) → SomeMeaning (MeansMembers members)
+pub some-members : (members : Members) → SomeMeaning (MeansMembers members)
 some-members members =
     by-option (par_fields members) _ _ (some-way Cards (MeansAsked members) (some-taken members)) (λ fields _. some-given fields.given fields)
 

@@ -12,3 +12,7 @@ pub mod Replies
 pub mod ParReplies
 pub mod PlayReplies
 pub mod LineReplies
+pub mod Ids
+pub mod FaultWords
+pub mod FaultFields
+pub mod Explained

@@ -1,8 +1,12 @@
 //! Requests as lines of JSON, and the replies that tell their answers.
 #![tactic(auto)]
 
+mod explained;
 mod fault;
+mod fault_field;
+mod fault_words;
 mod health;
+mod id;
 mod laws;
 mod line_asked;
 mod line_reply;
@@ -19,11 +23,12 @@ mod want;
 mod want_reader;
 mod wish;
 
+pub use explained::explained_reply;
 pub use fault::Fault;
 pub use health::{Health, write_health};
 pub use laws::{one_meaning, one_want, worked_lines, worked_wants};
 pub use line_asked::LineAsked;
-pub use line_reply::reply_to_line;
+pub use line_reply::{LONGEST_ANSWER, reply_to_line};
 pub use par_reply::write_par;
 pub use par_request::{Conditions, ParOfDeal, ParOfResults};
 pub use play_reply::{TRACE_ROOM, push_trace, write_trace};

@@ -68,7 +68,7 @@ fn has_par_keys_alone(object: &Map<String, Value>) -> bool
     object.keys().all(|key| is_par_key(key))
 }
 
-fn is_par_key(key: &str) -> bool
+pub(crate) fn is_par_key(key: &str) -> bool
     ensures { result ≡ list_any (bytes_eq key.now) par_keys }
 {
     matches!(
@@ -78,7 +78,7 @@ fn is_par_key(key: &str) -> bool
 }
 
 // What par is asked of, where just one of the two stands there.
-fn given_in(object: &Map<String, Value>) -> Option<Given<'_>>
+pub(crate) fn given_in(object: &Map<String, Value>) -> Option<Given<'_>>
     ensures { option_map given_of result ≡ given_in (members_view object.now.entries) }
 {
     match (member_at(object, "table"), member_at(object, "deal")) {
@@ -89,7 +89,7 @@ fn given_in(object: &Map<String, Value>) -> Option<Given<'_>>
 }
 
 // Who calls first, where just one of the two stands there.
-fn first_in(object: &Map<String, Value>) -> Option<FirstCode>
+pub(crate) fn first_in(object: &Map<String, Value>) -> Option<FirstCode>
     ensures { result ≡ first_in (members_view object.now.entries) }
 {
     match (member_at(object, "dealer"), member_at(object, "side")) {

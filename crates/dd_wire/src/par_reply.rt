@@ -7,6 +7,7 @@ ghost use Rattle.dd_score.specs.Tables.{IsTable};
 ghost use Rattle.dd_wire.specs.ParReplies.{TellsPar, par_text, contract_text, declarers_text, rows_of};
 ghost use Rattle.dd_wire.specs.Replies.{list_text, of_strain};
 
+use crate::line_reply::LONGEST_ANSWER;
 use crate::par_request::{Conditions, ParOfResults};
 use crate::reply::push_number;
 use dd_cards::{Seat, Side};
@@ -18,7 +19,7 @@ use itoa::Buffer;
 /// `{"declarers":[s,..],"level":l,"tricks":t,"trump":x}`. The score is North and South's.
 pub fn write_par(asked: &ParOfResults) -> ReplyText
     ensures text { TellsPar asked.now.results asked.now.conditions result.bytes }
-    ensures bound { array_string_len result ≤ LONGEST_REPLY }
+    ensures bound { array_string_len result ≤ LONGEST_ANSWER }
 {
     par_reply(&asked.results, asked.conditions)
 }
@@ -26,7 +27,7 @@ pub fn write_par(asked: &ParOfResults) -> ReplyText
 // The text of par of these results.
 fn par_reply(results: &Results, conditions: Conditions) -> ReplyText
     ensures text { TellsPar results.now conditions result.bytes }
-    ensures bound { array_string_len result ≤ LONGEST_REPLY }
+    ensures bound { array_string_len result ≤ LONGEST_ANSWER }
 {
     let found = par(results, conditions.vulnerable, conditions.order);
     write_found(&found)
@@ -35,7 +36,7 @@ fn par_reply(results: &Results, conditions: Conditions) -> ReplyText
 // The text of par that was found.
 fn write_found(found: &ParResult) -> ReplyText
     ensures text { result.bytes ≡ par_text found.now.contracts.items found.now.score }
-    ensures bound { array_string_len result ≤ LONGEST_REPLY }
+    ensures bound { array_string_len result ≤ LONGEST_ANSWER }
 {
     let mut text = ReplyText::new();
     text.push_str("{\"contracts\":[");
@@ -108,7 +109,7 @@ fn push_seat(text: &mut ReplyText, seat: Seat)
 pub(crate) fn table_par_reply(found: &dd_solve::Results, conditions: Conditions) -> ReplyText
     requires { IsTable (rows_of found.now) }
     ensures text { TellsPar (rows_of found.now) conditions result.bytes }
-    ensures bound { array_string_len result ≤ LONGEST_REPLY }
+    ensures bound { array_string_len result ≤ LONGEST_ANSWER }
 {
     par_reply(&scored(found), conditions)
 }

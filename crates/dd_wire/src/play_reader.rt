@@ -24,7 +24,7 @@ use serde_json::{Map, Value};
 // ---- The fields, as JSON has them.
 
 // The cards of a play.
-type Cards = ArrayVec<Card, MOST_CARDS>;
+pub(crate) type Cards = ArrayVec<Card, MOST_CARDS>;
 
 // The fields of a request for a play. There are no cards where the pairs that stand for them are none of a play: that is a
 // fault, and others go before it.
@@ -59,14 +59,14 @@ fn has_play_keys_alone(object: &Map<String, Value>) -> bool
     object.keys().all(|key| is_play_key(key))
 }
 
-fn is_play_key(key: &str) -> bool
+pub(crate) fn is_play_key(key: &str) -> bool
     ensures { result ≡ list_any (bytes_eq key.now) play_keys }
 {
     matches!(key, "cards" | "deal" | "do" | "first" | "trump" | "wait")
 }
 
 // The cards of the play: None where they are left out or no list of pairs.
-fn cards_at(object: &Map<String, Value>) -> Option<Option<Cards>>
+pub(crate) fn cards_at(object: &Map<String, Value>) -> Option<Option<Cards>>
     ensures { let read = option_and_then list_of_pairs (get_member (codes "cards") (members_view object.now.entries)) in
         MatchOption result (read ≡ None) (λ found. ReadsCards read (list_in found)) }
 {

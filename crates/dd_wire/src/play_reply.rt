@@ -3,6 +3,7 @@ ghost use Rattle.std.specs.Prelude.{◌≡◌, ◌+◌, ◌≤◌, ◌++◌};
 ghost use Rattle.arrayvec.specs.ArrayString.{array_string_len};
 ghost use Rattle.dd_wire.specs.PlayReplies.{trace_member, trace_text};
 
+use crate::line_reply::LONGEST_ANSWER;
 use crate::reply::push_number;
 use dd_lines::{LONGEST_REPLY, ReplyText};
 use dd_solve::Trace;
@@ -13,7 +14,7 @@ pub const TRACE_ROOM: usize = 329;
 /// The reply to a request for a play: `{"tricks":[a,b,..]}`, as `push_trace` has the tricks.
 pub fn write_trace(trace: &Trace) -> ReplyText
     ensures text { result.bytes ≡ trace_text trace.now }
-    ensures bound { array_string_len result ≤ LONGEST_REPLY }
+    ensures bound { array_string_len result ≤ LONGEST_ANSWER }
 {
     let mut text = ReplyText::new();
     text.push_str("{");

@@ -4,6 +4,7 @@ ghost use Rattle.arrayvec.specs.ArrayString.{array_string_len};
 ghost use Rattle.dd_wire.specs.Replies.{class_text, cards_member, answer_text, list_text, table_member, table_text, job_member, numbered_fault_text, fault_text, spent_text};
 
 use crate::fault::Fault;
+use crate::line_reply::LONGEST_ANSWER;
 use dd_lines::{LONGEST_REPLY, ReplyText};
 use dd_solve::{Answer, Results, Scored};
 use itoa::Buffer;
@@ -45,7 +46,7 @@ pub fn write_numbered_fault(number: u8) -> ReplyText
 /// The reply to a request whose budget was spent before there was an answer: `{"state":"spent"}`.
 pub fn write_spent() -> ReplyText
     ensures text { result.bytes ≡ spent_text }
-    ensures bound { array_string_len result ≤ LONGEST_REPLY }
+    ensures bound { array_string_len result ≤ LONGEST_ANSWER }
 {
     let mut text = ReplyText::new();
     text.push_str("{\"state\":\"spent\"}");
@@ -55,7 +56,7 @@ pub fn write_spent() -> ReplyText
 /// The reply to a request that has an answer: `{"cards":[C,C,..]}`, as `push_cards` has the cards.
 pub fn write_answer(answer: &Answer) -> ReplyText
     ensures text { result.bytes ≡ answer_text answer.now }
-    ensures bound { array_string_len result ≤ LONGEST_REPLY }
+    ensures bound { array_string_len result ≤ LONGEST_ANSWER }
 {
     let mut text = ReplyText::new();
     text.push_str("{");
@@ -67,7 +68,7 @@ pub fn write_answer(answer: &Answer) -> ReplyText
 /// The reply to a request for a table that has its results: `{"table":[[a,b,c,d],..]}`, as `push_table` has the table.
 pub fn write_table(results: &Results) -> ReplyText
     ensures text { result.bytes ≡ table_text results.now }
-    ensures bound { array_string_len result ≤ LONGEST_REPLY }
+    ensures bound { array_string_len result ≤ LONGEST_ANSWER }
 {
     let mut text = ReplyText::new();
     text.push_str("{");

@@ -53,7 +53,7 @@ pub fn read_request(alloc: Global, line: &[u8]) -> Result<LineAsked, Fault>
 }
 
 // What the members of an object ask, or their first fault: par, or else what a job book takes too.
-fn line_asked_by(object: &Map<String, Value>) -> Result<LineAsked, Fault>
+pub(crate) fn line_asked_by(object: &Map<String, Value>) -> Result<LineAsked, Fault>
     ensures { MeansMembers (members_view object.now.entries) result }
 {
     match par_fields(object) {
@@ -148,7 +148,7 @@ fn has_table_keys_alone(object: &Map<String, Value>) -> bool
     object.keys().all(|key| is_table_key(key))
 }
 
-fn is_table_key(key: &str) -> bool
+pub(crate) fn is_table_key(key: &str) -> bool
     ensures { result ≡ list_any (bytes_eq key.now) table_keys }
 {
     matches!(key, "deal" | "do" | "wait")
@@ -224,7 +224,7 @@ pub(crate) fn wait_at(object: &Map<String, Value>) -> Option<u64>
 }
 
 // The cards played, which may be left out: None where they are no list of pairs.
-fn played_at(object: &Map<String, Value>) -> Option<Option<Played>>
+pub(crate) fn played_at(object: &Map<String, Value>) -> Option<Option<Played>>
     ensures { let read = pairs_at (members_view object.now.entries) (codes "played") in
         MatchOption result (read ≡ None) (λ found. ReadsPlayed read (cards_in found)) }
 {

@@ -45,7 +45,7 @@ fn has_target_keys_alone(object: &Map<String, Value>) -> bool
     object.keys().all(|key| is_target_key(key))
 }
 
-fn is_target_key(key: &str) -> bool
+pub(crate) fn is_target_key(key: &str) -> bool
     ensures { result ≡ list_any (bytes_eq key.now) target_keys }
 {
     matches!(

@@ -1,34 +1,46 @@
-//! The lines of one stream.
-ghost use Rattle.std.specs.Prelude.{OnOk, OnErr, IfSome, None};
-ghost use Rattle.dd_tool.specs.Served.{ServesAll, ServesBeginning};
+//! The reply to one line, in a buffer.
+ghost use Rattle.std.specs.Prelude.{◌≡◌, ◌<◌, ◌+◌, ◌∷◌, ◌++◌, length, drop};
+ghost use Rattle.ddserve_c.specs.Calls.{AnswersLine};
 
-use dd_cache::Cache;
-use dd_lines::{CountedDevice, LineFault};
-use dd_search::NoTable;
-use dd_tool::solve_lines;
+use crate::solver_cache::SolverCache;
 use std::alloc::Global;
-use std::io::{Read, Write};
 
-/// The most bytes that one read takes.
-const PIECE: usize = 4_096;
+/// What a call for a line answers in place of the reply's length: the solver is not open; the reply and its NUL have more bytes
+/// than the buffer; the line has a line feed.
+pub(crate) const NOT_OPEN: i64 = -1;
 
-/// Answers the lines of a reader on a writer, over a cache of its own. `None` is lack of memory for the cache: then nothing was
-/// read.
-pub(crate) fn answer_stream<R: Read, W: Write>(
+pub(crate) const NO_ROOM: i64 = -2;
+
+pub(crate) const NO_LINE: i64 = -3;
+
+const LINE_FEED: u8 = b'\n';
+
+/// Answers a line: its reply as a text that ends with NUL.
+pub(crate) fn answer_line(
     alloc: Global,
-    reader: &mut CountedDevice<R>,
-    writer: &mut CountedDevice<W>,
-) -> Option<Result<(), LineFault>>
-    // All was read, and each of its lines was answered.
-    ensures ok { IfSome result (λ r. OnOk r
-        (ServesAll R.remaining W.contents None reader.old reader.new writer.old writer.new)) }
-    // What was written is a beginning of the replies to what was read.
-    ensures err { IfSome result (λ r. OnErr r
-        (ServesBeginning R.remaining W.contents None reader.old reader.new writer.old writer.new)) }
+    cache: &mut SolverCache,
+    line: &[u8],
+    buffer: &mut [u8],
+) -> i64
+    ensures { AnswersLine line.now buffer.old buffer.new result }
 {
-    let Ok(mut cache) = Cache::new(alloc, NoTable) else {
-        return None;
-    };
-    let mut buffer = [0; PIECE];
-    Some(solve_lines(alloc, reader, writer, &mut cache, None, &mut buffer))
+    if line.contains(&LINE_FEED) {
+        return NO_LINE;
+    }
+    let reply = cache.reply_to(alloc, line);
+    let text = reply.as_str().as_bytes();
+    if text.len() >= buffer.len() {
+        return NO_ROOM;
+    }
+    put_text(text, buffer);
+    text.len() as i64
+}
+
+/// The buffer begins with the text and a NUL.
+fn put_text(text: &[u8], buffer: &mut [u8])
+    requires { length text.now < length buffer.old }
+    ensures { buffer.new ≡ text.now ++ 0 ∷ drop (length text.now + 1) buffer.old }
+{
+    buffer[..text.len()].copy_from_slice(text);
+    buffer[text.len()] = 0;
 }

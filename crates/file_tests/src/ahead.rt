@@ -3,7 +3,7 @@ use super::deals::{ADDED, SUITS};
 use super::devices::{Pieces, Taker};
 use dd_cache::Cache;
 use dd_file::{FileFault, Wanted};
-use dd_fill::fill_deals_on;
+use dd_fill::fill_deals;
 use dd_lines::CountedDevice;
 use dd_search::NoTable;
 use std::alloc::{AllocError, Global};
@@ -106,7 +106,7 @@ fn fill_on<W: Threads + Wait + Sync>(
         table: false,
         ..Wanted::ALL
     };
-    let result = fill_deals_on(
+    let result = fill_deals(
         rt,
         alloc,
         wanted,

@@ -7,6 +7,8 @@ use dd_fill::fill_deals;
 use dd_lines::CountedDevice;
 use dd_search::NoTable;
 use std::alloc::Global;
+use std::sync::Wait;
+use std::thread::Threads;
 
 // A suit in each hand: with its own suit as trumps a side takes all tricks, and at notrump the side that leads does.
 pub(crate) const SUITS: &[u8] =
@@ -23,8 +25,14 @@ struct Outcome {
     notes: Vec<u8>,
 }
 
-// The outcome for a file, where each search has this budget. `None` where memory ran out.
-fn fill(alloc: Global, file: &[u8], budget: Option<u64>) -> Option<Outcome> {
+// The outcome for a file without other threads, where each search has this budget. `None` where memory ran out.
+fn fill<W: Threads + Wait + Sync>(
+    rt: &W,
+    alloc: Global,
+    file: &[u8],
+    budget: Option<u64>,
+) -> Option<Outcome> {
+    let mut others: [NoTable; 0] = [];
     let mut cache = Cache::new(alloc, NoTable).ok()?;
     let mut reader = CountedDevice::new(Pieces {
         bytes: file,
@@ -34,6 +42,7 @@ fn fill(alloc: Global, file: &[u8], budget: Option<u64>) -> Option<Outcome> {
     let mut errors = CountedDevice::new(Taker::new(alloc));
     let mut buffer = [0; 4_096];
     fill_deals(
+        rt,
         alloc,
         Wanted::ALL,
         &mut reader,
@@ -41,6 +50,7 @@ fn fill(alloc: Global, file: &[u8], budget: Option<u64>) -> Option<Outcome> {
         &mut errors,
         false,
         &mut cache,
+        &mut others,
         budget,
         &mut buffer,
     )
@@ -52,16 +62,22 @@ fn fill(alloc: Global, file: &[u8], budget: Option<u64>) -> Option<Outcome> {
 }
 
 // Does the file come out as it is, and is this said of it?
-fn is_left(alloc: Global, file: &[u8], budget: Option<u64>, note: &[u8]) -> bool {
-    match fill(alloc, file, budget) {
+fn is_left<W: Threads + Wait + Sync>(
+    rt: &W,
+    alloc: Global,
+    file: &[u8],
+    budget: Option<u64>,
+    note: &[u8],
+) -> bool {
+    match fill(rt, alloc, file, budget) {
         Some(found) => found.file.as_slice() == file && found.notes.as_slice() == note,
         None => false,
     }
 }
 
 // Does the file of a suit in each hand come out with its lines, and is nothing said of it?
-fn is_filled(alloc: Global, budget: Option<u64>) -> bool {
-    match fill(alloc, SUITS, budget) {
+fn is_filled<W: Threads + Wait + Sync>(rt: &W, alloc: Global, budget: Option<u64>) -> bool {
+    match fill(rt, alloc, SUITS, budget) {
         Some(found) => {
             begins_with(found.file.as_slice(), SUITS, ADDED) && found.notes.is_empty()
         }
@@ -71,8 +87,8 @@ fn is_filled(alloc: Global, budget: Option<u64>) -> bool {
 
 #[test]
 fn the_results_of_a_deal_are_searched_for(rt: HostRuntime) {
-    assert!(rt; is_filled(rt.alloc(), None));
-    assert!(rt; is_filled(rt.alloc(), Some(1_000)));
+    assert!(rt; is_filled(&rt, rt.alloc(), None));
+    assert!(rt; is_filled(&rt, rt.alloc(), Some(1_000)));
 }
 
 #[test]
@@ -80,6 +96,7 @@ fn a_game_that_is_left_is_said_why(rt: HostRuntime) {
     let alloc = rt.alloc();
     assert!(rt;
         is_left(
+            &rt,
             alloc,
             ONE_LINE,
             Some(0),
@@ -88,6 +105,7 @@ fn a_game_that_is_left_is_said_why(rt: HostRuntime) {
     );
     assert!(rt;
         is_left(
+            &rt,
             alloc,
             b"[Board \"7\"]\n",
             None,

@@ -3,6 +3,7 @@ mod budgets;
 mod counted_device;
 mod cut;
 mod faults;
+mod ids;
 mod runs;
 mod served;
 mod tables;

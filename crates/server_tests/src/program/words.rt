@@ -18,6 +18,7 @@ fn asks(alloc: Global, line: &str, budget: Option<u64>, entries: u32) -> bool {
                 budget,
                 entries,
                 workers: 1,
+                explain: false,
             }
         }
         Err(_) => false,
@@ -32,6 +33,7 @@ fn asks_for(alloc: Global, line: &str, budget: Option<u64>, entries: u32, worker
                 budget,
                 entries,
                 workers,
+                explain: false,
             }
         }
         Err(_) => false,

@@ -1,4 +1,4 @@
-use Rattle.std.proofs.Common.{◌≡◌, ◌∙◌, codes, sym, ap, subst}
+use Rattle.std.proofs.Common.{◌≡◌, ◌∙◌, codes, sym, subst}
 use Rattle.std.specs.Prelude.{IsSome, option_map}
 use Rattle.std.specs.Str.Parse.{ExplainsUnsignedError, HasUnsignedDigitsIfOk, ParsesUnsigned}
 use Rattle.clap.specs.Words.{found_of, one_of, rows_of}
@@ -39,5 +39,5 @@ returns c =
       c.unwrap-2.result,
       sym (entries-read (goal.at.returns c).After-get_one-2) ∙ c.unwrap.ensures,
       sym (workers-read (goal.at.returns c).After-get_one-3) ∙ c.unwrap-2.ensures,
-      ap (λ b. Solve b c.unwrap.result c.unwrap-2.result) budget,
+      (λ i. Solve (budget i) c.unwrap.result c.unwrap-2.result (c.is_set.ensures i)),
     )

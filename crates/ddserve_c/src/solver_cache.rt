@@ -1,0 +1,32 @@
+//! What a solver keeps between its lines.
+ghost use Rattle.std.specs.Prelude.{◌≡◌, ◌≤◌};
+ghost use Rattle.arrayvec.specs.ArrayString.{array_string_len};
+ghost use Rattle.dd_wire.specs.LineReplies.{IsReply};
+
+use dd_cache::Cache;
+use dd_lines::{LONGEST_REPLY, ReplyText};
+use dd_search::NoTable;
+use dd_wire::reply_to_line;
+use std::alloc::{AllocError, Global};
+
+/// What was learned from the lines before. No reply depends on it.
+#[derive(Drop)]
+pub struct SolverCache {
+    cache: Cache<NoTable>,
+}
+
+impl SolverCache {
+    /// Nothing was learned. All its memory is taken here.
+    pub(crate) fn new(alloc: Global) -> Result<SolverCache, AllocError> {
+        let cache = Cache::new(alloc, NoTable)?;
+        Ok(SolverCache { cache })
+    }
+
+    /// The reply to a line without a line feed.
+    pub(crate) fn reply_to(&mut self, alloc: Global, line: &[u8]) -> ReplyText
+        ensures text { IsReply None line.now result.bytes }
+        ensures bound { array_string_len result ≤ LONGEST_REPLY }
+    {
+        reply_to_line(alloc, line, &mut self.cache, None)
+    }
+}
