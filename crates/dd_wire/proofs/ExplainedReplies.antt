@@ -40,7 +40,7 @@ unfolding MeansBare
 some-bare_meaning members = by-option (wait_at members) _ _ (Err WrongField, refl) (λ wait _. some-members members)
 
 some-bare_text : (members : Members) (meaning : Result LineAsked Fault) → SomeText (IsBareReplyTo members meaning)
-some-bare_text members (Ok asked) = some-answer (Ok asked)
+some-bare_text _ (Ok asked) = some-answer (Ok asked)
 some-bare_text members (Err fault) = (fault_told fault (field_of members fault), refl)
 
 -- and have a reply
@@ -84,10 +84,10 @@ answer-opens (Par par) text (score, par-is, is) = subst Opens (sym is) refl
 answer-opens (ParOfDeal par) text (score, par-is, is) = subst Opens (sym is) refl
 
 reply-opens : (members : Members) (meaning : Result LineAsked Fault) (text : List ℕ) → IsBareReplyTo members meaning text → Opens text
-reply-opens members (Ok asked) text is = answer-opens asked text is
-reply-opens members (Err fault) text is = subst Opens (sym is) refl
+reply-opens _ (Ok asked) text is = answer-opens asked text is
+reply-opens _ (Err fault) text is = subst Opens (sym is) refl
 
 pub bare-opens : (budget : Option ℕ) (members : Members) (text : List ℕ) → IsBareReply budget members text → text ≡ codes "{\"" ++ drop 2 text
 unfolding IsBareReply
 bare-opens budget members text (inl (meaning, means, is)) = reply-opens members meaning text is
-bare-opens budget members text (inr (asked, means, searched, some, is)) = subst Opens (sym is) refl
+bare-opens budget _ text (inr (asked, means, searched, some, is)) = subst Opens (sym is) refl

@@ -28,25 +28,25 @@ use Rattle.dd_wire.specs.Requests.{object_of, wait_at}
 -- with a wait they mean what the rest of them means
 pub bare-means : (members : Members) (wait : ℕ) (meaning : Result LineAsked Fault) → wait_at members ≡ Some wait → MeansMembers members meaning → MeansBare members meaning
 unfolding MeansBare
-bare-means members wait meaning waits means = rw waits means
+bare-means _ wait meaning waits means = rw waits means
 
 -- with a wait that is none they mean that
 pub bare-waits : (members : Members) (meaning : Result LineAsked Fault) → wait_at members ≡ None → meaning ≡ Err WrongField → MeansBare members meaning
 unfolding MeansBare
-bare-waits members meaning waits is = rw waits is
+bare-waits _ meaning waits is = rw waits is
 
 -- the answer to what they ask, or that the budget was spent, replies to them
 pub bare-answered : (budget : Option ℕ) (members : Members) (asked : LineAsked) (text : List ℕ) → MeansBare members (Ok asked)
     → IsAnswer asked text ⊎ (IsSearched asked × IsSome budget × (text ≡ spent_text)) → IsBareReply budget members text
 unfolding IsBareReply
-bare-answered budget members asked text means (inl is) = inl (Ok asked, means, is)
-bare-answered budget members asked text means (inr (searched, some, is)) = inr (asked, means, searched, some, is)
+bare-answered budget _ asked text means (inl is) = inl (Ok asked, means, is)
+bare-answered budget _ asked text means (inr (searched, some, is)) = inr (asked, means, searched, some, is)
 
 -- so does their fault
 pub bare-faulty : (budget : Option ℕ) (members : Members) (fault : Fault) (text : List ℕ) → MeansBare members (Err fault) → text ≡ fault_told fault (field_of members fault)
     → IsBareReply budget members text
 unfolding IsBareReply
-bare-faulty budget members fault text means is = inl (Err fault, means, is)
+bare-faulty budget _ fault text means is = inl (Err fault, means, is)
 
 -- ---- members with one
 
@@ -68,19 +68,19 @@ without-removed key (e ∷ es) =
 -- no id
 pub object-bare : (budget : Option ℕ) (members : Members) (text : List ℕ) → get_member (codes "id") members ≡ None → IsBareReply budget members text → IsObjectReply budget members text
 unfolding IsObjectReply
-object-bare budget members text none is = rw none is
+object-bare budget _ text none is = rw none is
 
 -- one that is none
 pub object-wrong : (budget : Option ℕ) (members : Members) (value : Data) (text : List ℕ) → get_member (codes "id") members ≡ Some value → id_text value ≡ None
     → text ≡ fault_told WrongField (Some (codes "id")) → IsObjectReply budget members text
 unfolding IsObjectReply
-object-wrong budget members value text some none is = rw (some, none) is
+object-wrong budget _ value text some none is = rw (some, none) is
 
 -- one that is told again
 pub object-named : (budget : Option ℕ) (members : Members) (value : Data) (id reply text : List ℕ) → get_member (codes "id") members ≡ Some value → id_text value ≡ Some id
     → IsBareReply budget (without (codes "id") members) reply → text ≡ with_id id reply → IsObjectReply budget members text
 unfolding IsObjectReply
-object-named budget members value id reply text some named replies is = rw (some, named) (reply, replies, is)
+object-named budget _ value id reply text some named replies is = rw (some, named) (reply, replies, is)
 
 -- ---- lines
 

@@ -22,7 +22,7 @@ MeansBare members meaning = MatchOption (wait_at members) (meaning ≡ Err Wrong
 
 -- the reply to members of this meaning: the answer as it always is, or the fault with its field and words
 abbrev pub IsBareReplyTo : Members → Result LineAsked Fault → List ℕ → Type 0
-IsBareReplyTo members (Ok asked) text = IsAnswer asked text
+IsBareReplyTo _ (Ok asked) text = IsAnswer asked text
 IsBareReplyTo members (Err fault) text = text ≡ fault_told fault (field_of members fault)
 
 -- the reply to members without an id: that of their meaning, or that the budget was spent in a search
