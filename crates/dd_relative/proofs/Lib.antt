@@ -11,3 +11,7 @@ pub mod Starts
 pub mod Joined
 pub mod Opened
 pub mod TrickRanks
+pub mod Places
+pub mod Ranked
+pub mod Whole
+pub mod Claims

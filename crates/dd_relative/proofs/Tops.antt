@@ -24,14 +24,14 @@ use Rattle.dd_relative.specs.UnderWay.{under_way, IsUnderWay}
 use Rattle.dd_relative.proofs.Boards.{holder-of, one-of-all}
 
 -- ---- one of a list
-any-some : (t : PlayingCard → Bool) (cards : List PlayingCard) → list_any t cards ≡ true → (d : PlayingCard) × (has_card cards d ≡ true) × (t d ≡ true)
+pub any-some : (t : PlayingCard → Bool) (cards : List PlayingCard) → list_any t cards ≡ true → (d : PlayingCard) × (has_card cards d ≡ true) × (t d ≡ true)
 any-some t [] h = absurd (cc)
 any-some t (c ∷ cards) h = elim (or-split (t c) (list_any t cards) h) [
   | inl here ↦ (c, or-left _ _ (same_card-self c), here)
   | inr later ↦ (let d = any-some t cards later in (d.0, or-right _ _ d.1, d.2))
 ]
 
-some-any : (t : PlayingCard → Bool) (cards : List PlayingCard) (d : PlayingCard) → has_card cards d ≡ true → t d ≡ true → list_any t cards ≡ true
+pub some-any : (t : PlayingCard → Bool) (cards : List PlayingCard) (d : PlayingCard) → has_card cards d ≡ true → t d ≡ true → list_any t cards ≡ true
 some-any t [] d has e = absurd (cc)
 some-any t (c ∷ cards) d has e = elim (or-split (same_card c d) (has_card cards d) has) [
   | inl here ↦ or-left _ _ (ap t (same_card-eq c d here) ∙ e)
@@ -121,7 +121,7 @@ following-set [] hand set = set
 following-set (led ∷ rest) hand set = or-set (filter (is_of led.suit) hand) hand (IsSet-filter (is_of led.suit) hand set) set
 
 -- the rule is one of the suit alone
-obeys-suit : (trick hand : List PlayingCard) (c d : PlayingCard) → d.suit ≡ c.suit → Obeys trick hand c → Obeys trick hand d
+pub obeys-suit : (trick hand : List PlayingCard) (c d : PlayingCard) → d.suit ≡ c.suit → Obeys trick hand c → Obeys trick hand d
 obeys-suit [] hand c d e obeys = tt
 obeys-suit (led ∷ rest) hand c d e obeys = λ x own suit. e ∙ obeys x own suit
 
@@ -231,17 +231,19 @@ on-trick s (a ∷ []) n r three most = absurd (omega (arith, three))
 on-trick s (a ∷ b ∷ []) n r three most = absurd (omega (arith, three))
 on-trick s (a ∷ b ∷ c ∷ d ∷ rest) n r three most = absurd (omega (arith, three))
 
--- where the cards were closed up before the trick, a rank that none of the mover's has is another's
+-- where the cards were closed up before the trick, a rank above a card of the mover's is the mover's or another's
+pub own-or-other : (s : Board) (cards : List PlayingCard) (n : ℕ) (c k : PlayingCard) → IsRelative s → length cards ≡ 3 → n ≤ 3
+    → has_card (cards_at (under_way s (take n cards)) (mover (under_way s (take n cards)))) c ≡ true → k.suit ≡ c.suit → c.rank ≤ k.rank → k.rank ≤ 14
+    → (has_card (cards_at (under_way s (take n cards)) (mover (under_way s (take n cards)))) k ≡ true) ⊎ (has_card (other_cards (under_way s (take n cards))) k ≡ true)
+own-or-other s cards n c k relative three most own suit less top =
+    let m : Seat = mover (under_way s (take n cards)) in
+    let all = relative.closed c k (one-of-all s m c (left-was s cards n m c three most own)) suit less top in
+    let x = holder-of s k all in
+    elim (stays s cards n x.0 k three most x.1) [
+      | inl hand ↦ others-or (under_way s (take n cards)).hands (under_way s (take n cards)).trick m x.0 k hand
+      | inr trick ↦ inr (others-trick (under_way s (take n cards)).hands (under_way s (take n cards)).trick m k (ap (λ l. has_card l k) (on-trick s cards n relative three most) ∙ trick))
+    ]
+
+-- so the highest card of each run is that of a class
 pub trick-tops : (s : Board) (cards : List PlayingCard) (n : ℕ) → IsRelative s → length cards ≡ 3 → n ≤ 3 → IsUnderWay s (take n cards) → heads_of (legal (under_way s (take n cards))) ≡ tops (under_way s (take n cards))
-trick-tops s cards n relative three most u = heads-tops (under_way s (take n cards)) u.board there
-  where
-    there : (c k : PlayingCard) → has_card (cards_at (under_way s (take n cards)) (mover (under_way s (take n cards)))) c ≡ true → k.suit ≡ c.suit → c.rank ≤ k.rank → k.rank ≤ 14
-        → (has_card (cards_at (under_way s (take n cards)) (mover (under_way s (take n cards)))) k ≡ true) ⊎ (has_card (other_cards (under_way s (take n cards))) k ≡ true)
-    there c k own suit less top =
-        let m : Seat = mover (under_way s (take n cards)) in
-        let all = relative.closed c k (one-of-all s m c (left-was s cards n m c three most own)) suit less top in
-        let x = holder-of s k all in
-        elim (stays s cards n x.0 k three most x.1) [
-          | inl hand ↦ others-or (under_way s (take n cards)).hands (under_way s (take n cards)).trick m x.0 k hand
-          | inr trick ↦ inr (others-trick (under_way s (take n cards)).hands (under_way s (take n cards)).trick m k (ap (λ l. has_card l k) (on-trick s cards n relative three most) ∙ trick))
-        ]
+trick-tops s cards n relative three most u = heads-tops (under_way s (take n cards)) u.board (λ c k own suit less top. own-or-other s cards n c k relative three most own suit less top)

@@ -5,3 +5,4 @@ pub mod Turned
 pub mod UnderWay
 pub mod Runs
 pub mod WinningRanks
+pub mod Tops

@@ -148,8 +148,8 @@ pub(crate) fn closed_up(
     }
 }
 
-// All cards of the pack.
-fn pack() -> Hand
+/// All cards of the pack.
+pub(crate) fn pack() -> Hand
     ensures { result ≡ deck }
 {
     Hand::of_mask(0x7ffc_7ffc_7ffc_7ffc)

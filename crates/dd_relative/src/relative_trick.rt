@@ -1,16 +1,19 @@
 //! A trick under way, from a start of a trick by relative ranks.
-ghost use Rattle.std.specs.Prelude.{◌≡◌, ◌+◌, ◌<◌, true, filter, length, slice_set};
+ghost use Rattle.std.specs.Prelude.{◌≡◌, ◌⊎◌, ◌+◌, ◌<◌, true, filter, length, slice_set};
 ghost use Rattle.dd_cards.specs.Cards.{has_card, is_of};
 ghost use Rattle.dd_cards.specs.Hands.{dealt};
 ghost use Rattle.dd_play.specs.Board.{cards_at, mover};
 ghost use Rattle.dd_play.specs.Tricks.{or_else};
 ghost use Rattle.dd_play.specs.Play.{legal, after};
-ghost use Rattle.dd_equal.specs.EqualCards.{tops};
+ghost use Rattle.dd_cards.specs.PlayingCard.{PlayingCard};
+ghost use Rattle.dd_play.specs.Reach.{reach};
+ghost use Rattle.dd_play.specs.Simulations.{IsLegal};
+ghost use Rattle.dd_equal.specs.EqualCards.{IsWhole, are_equal, tops};
 ghost use Rattle.dd_rank.specs.Alike.{AreAlike};
 ghost use Rattle.dd_relative.specs.Turned.{from_seat};
 ghost use Rattle.dd_relative.specs.WinningRanks.{AreBefore};
 
-use crate::relative_start::{RelativeStart, closed_up};
+use crate::relative_start::{RelativeStart, closed_up, pack};
 use crate::runs::run_heads;
 use crate::winning_ranks::{WinningRanks, before_gaps};
 use dd_cards::{Card, Hand, Seat, Suit};
@@ -139,6 +142,28 @@ impl RelativeTrick {
         let [first, second, third] = self.trick;
         let gaps = Hand::new().with(first).with(second).with(third).with(card);
         before_gaps(later, gaps)
+    }
+
+    /// These winning ranks and the lower cards of each class that they reach in part: what an answer rests on where each class of the
+    /// mover had to be met. So many cards are known to lie on the trick.
+    #[inline(always)]
+    pub fn whole_at(&self, played: u8, ranks: &WinningRanks) -> WinningRanks
+        requires { length self.now.trick ≡ played }
+        ensures more { (c : PlayingCard) → has_card ranks.now c ≡ true → has_card result c ≡ true }
+        ensures only { (c : PlayingCard) → has_card result c ≡ true → (has_card ranks.now c ≡ true)
+            ⊎ ((t : PlayingCard) × (has_card ranks.now t ≡ true) × IsLegal self.now t × IsLegal self.now c
+            × (are_equal self.now t c ≡ true)) }
+        ensures whole { IsWhole (reach result) self.now }
+    {
+        let _start = self.start.leader();
+        let own = self.hand_at(played);
+        let others = pack().difference(own);
+        let top = ranks.cards();
+        // The proof reads here that these are cards of the pack.
+        let _spades = top.holding(Suit::Spades);
+        let reached = top.difference(others);
+        let lower = self.choices_at(played).headed(reached, others);
+        ranks.with(lower)
     }
 
     // The hand of the mover, which is as it was before the trick.

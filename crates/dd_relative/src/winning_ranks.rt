@@ -66,6 +66,17 @@ impl WinningRanks {
         }
     }
 
+    /// With these cards too, which are top cards together.
+    #[inline(always)]
+    pub(crate) fn with(&self, more: Hand) -> WinningRanks
+        requires { AreTop (filter (λ c. has_card self.now c || has_card more c) deck) }
+        ensures { result ≡ filter (λ c. has_card self.now c || has_card more c) deck }
+    {
+        WinningRanks {
+            cards: self.cards.union(more),
+        }
+    }
+
     // With the next lower card of its suit, where they reach this card.
     #[inline(always)]
     fn joined(&self, gap: Card) -> WinningRanks
