@@ -15,3 +15,4 @@ pub mod Places
 pub mod Ranked
 pub mod Whole
 pub mod Claims
+pub mod Downs

@@ -1,14 +1,16 @@
 //! The cards on which an answer rests: of each suit some of the highest.
-ghost use Rattle.std.specs.Prelude.{◌≡◌, ◌||◌, [], List, true, filter};
+ghost use Rattle.std.specs.Prelude.{◌≡◌, ◌&&◌, ◌||◌, [], List, true, filter, nat_lt};
+ghost use mathlib.Core.Bool.{not};
 ghost use Rattle.dd_cards.specs.PlayingCard.{PlayingCard};
 ghost use Rattle.dd_cards.specs.declared.strain.Strain.{Strain as StrainOf};
-ghost use Rattle.dd_cards.specs.Cards.{deck, has_card};
+ghost use Rattle.dd_cards.specs.Cards.{deck, has_card, is_of};
 ghost use Rattle.dd_cards.specs.Hands.{IsSet};
 ghost use Rattle.dd_relative.specs.Gapped.{IsGapped};
 ghost use Rattle.dd_relative.specs.Relative.{led_by_north};
 ghost use Rattle.dd_relative.specs.WinningRanks.{AreTop, AreOpened, with_next};
 
 use crate::gap::moved_up;
+use crate::relative_start::pack;
 use dd_cards::{Card, Hand};
 use std::marker::Model;
 
@@ -37,6 +39,17 @@ impl WinningRanks {
         ensures { result ≡ [] }
     {
         WinningRanks { cards: Hand::new() }
+    }
+
+    /// A card and all higher ones of its suit.
+    #[inline(always)]
+    pub fn down_to(card: Card) -> WinningRanks
+        ensures { result ≡ filter (λ c. is_of card.suit c && not (nat_lt c.rank card.rank)) deck }
+    {
+        let suit = pack().of_suit(card.suit);
+        WinningRanks {
+            cards: suit.without_below(card.suit, card.rank),
+        }
     }
 
     /// The cards, as a set.
