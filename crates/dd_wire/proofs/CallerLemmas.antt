@@ -10,3 +10,5 @@ pub use Rattle.dd_wire.proofs.ExplainedReplies.{some-explained}
 -- ---- Without leave no line wants a stop.
 -- no line means that
 pub use Rattle.dd_wire.proofs.NoStops.{no-stop-line}
+-- nor where it may have an id
+pub use Rattle.dd_wire.proofs.NoStops.{no-stop-explained}

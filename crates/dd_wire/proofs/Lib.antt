@@ -2,6 +2,7 @@ pub mod CallerLemmas
 pub mod Examples
 pub mod ExplainedReplies
 pub mod Explaining
+pub mod ExplainingWants
 pub mod Keys
 pub mod LineMeanings
 pub mod Meanings

@@ -4,6 +4,7 @@ use Rattle.std.specs.Prelude.{◌&&◌, Result, Some, None, MatchOption, option_
 use Rattle.std.specs.Bool.{MatchBool}
 use Rattle.std.specs.Str.{bytes_eq}
 use Rattle.serde_json.specs.Data.{Members}
+use Rattle.serde_json.specs.Find.{get_member}
 use Rattle.dd_pbn.specs.Reading.{◌>>=◌}
 use Rattle.dd_solve.specs.declared.asked.Asked.{Asked}
 use Rattle.dd_lines.specs.Line.{longest_line}
@@ -14,6 +15,8 @@ use Rattle.dd_wire.specs.declared.session_asked.SessionAsked.TheVariants.{Book, 
 use Rattle.dd_wire.specs.declared.want.Want.{Want}
 use Rattle.dd_wire.specs.declared.want.Want.TheVariants.{Submit, Cancel, Fetch, Stop}
 use Rattle.dd_wire.specs.declared.wish.Wish.{Wish}
+use Rattle.dd_wire.specs.ExplainedWants.{MeansBareWant, MeansExplained, MeansNamed}
+use Rattle.dd_wire.specs.Ids.{id_text, without}
 use Rattle.dd_wire.specs.ParLines.{par_fields, table_par_of}
 use Rattle.dd_wire.specs.Requests.{asked_as, object_of, text_at, wait_at}
 use Rattle.dd_wire.specs.Wants.{MeansOther, MeansUncalled, MeansWant, MeansWanted, asks_health, called, fetch_keys, is_alone, job_keys, named_job, session_call, submitted}
@@ -96,3 +99,20 @@ no-stop-line line wish stops =
     by-test (nat_lt longest_line (length line)) _ _ (λ e. cc)
     (by-option (object_of line) _ _ (λ e. cc) (λ members is.
     by-option (wait_at members) _ _ (λ e. cc) (λ wait waits. no-stop-members wait members wish stops)))
+
+-- nor where the line may have an id
+no-stop-bare : (members : Members) (wish : Wish) → wish.want ≡ Stop → MeansBareWant false members (Ok (Book wish)) → ⊥
+unfolding MeansBareWant
+no-stop-bare members wish stops = by-option (wait_at members) _ _ (λ e. cc) (λ wait waits. no-stop-members wait members wish stops)
+
+no-stop-named : (members : Members) (wish : Wish) → wish.want ≡ Stop → MeansNamed false members (Ok (Book wish)) → ⊥
+unfolding MeansNamed
+no-stop-named members wish stops =
+    by-option (get_member (codes "id") members) _ _ (no-stop-bare members wish stops) (λ value has.
+    by-option (id_text value) _ _ (λ e. cc) (λ id is. no-stop-bare (without (codes "id") members) wish stops))
+
+pub no-stop-explained : (line : List ℕ) (wish : Wish) → wish.want ≡ Stop → MeansExplained false line (Ok (Book wish)) → ⊥
+unfolding MeansExplained
+no-stop-explained line wish stops =
+    by-test (nat_lt longest_line (length line)) _ _ (λ e. cc)
+    (by-option (object_of line) _ _ (λ e. cc) (λ members is. no-stop-named members wish stops))

@@ -1,5 +1,5 @@
 -- What a line of a session means: something, and one thing.
-use Rattle.std.proofs.Common.{◌≡◌, ℕ, ◌≤◌, Bool, true, false, refl, sym, ap, ◌∙◌, subst, List, length}
+use Rattle.std.proofs.Common.{◌≡◌, ℕ, ◌≤◌, Bool, true, false, refl, List, length}
 use Rattle.std.specs.Prelude.{Some, Result, Ok, Err, nat_lt}
 use Rattle.std.proofs.lemmas.Bool.{le-ltb}
 use Rattle.std.specs.Bool.{MatchBool}
@@ -33,7 +33,7 @@ some-other wait members =
 some-uncalled : (wait : ℕ) (members : Members) → SomeMeaning (MeansUncalled wait members)
 some-uncalled wait members = by-test (asks_health members) _ _ (λ _. (Ok Health, refl)) (λ _. some-other wait members)
 
-some-wanted : (leave : Bool) (wait : ℕ) (members : Members) → SomeMeaning (MeansWanted leave wait members)
+pub some-wanted : (leave : Bool) (wait : ℕ) (members : Members) → SomeMeaning (MeansWanted leave wait members)
 some-wanted leave wait members = by-option (session_call leave members) _ _ (some-uncalled wait members) (λ want _. (Ok (called wait want), refl))
 
 pub some-want : (leave : Bool) (line : List ℕ) → (meaning : Result SessionAsked Fault) × MeansWant leave line meaning
@@ -49,7 +49,7 @@ one-other wait members = one-by-option (par_fields members) _ _ (one-way (submit
 one-uncalled : (wait : ℕ) (members : Members) → AtMostOne (MeansUncalled wait members)
 one-uncalled wait members = one-by-test (asks_health members) _ _ (both _) (one-other wait members)
 
-one-wanted : (leave : Bool) (wait : ℕ) (members : Members) → AtMostOne (MeansWanted leave wait members)
+pub one-wanted : (leave : Bool) (wait : ℕ) (members : Members) → AtMostOne (MeansWanted leave wait members)
 one-wanted leave wait members = one-by-option (session_call leave members) _ _ (one-uncalled wait members) (λ want. both _)
 
 pub one-want : (leave : Bool) (line : List ℕ) (a b : Result SessionAsked Fault) → MeansWant leave line a → MeansWant leave line b → a ≡ b

@@ -8,11 +8,12 @@ use Rattle.dd_pbn.specs.Reading.{◌>>=◌}
 use Rattle.dd_wire.specs.declared.fault.Fault.{Fault}
 use Rattle.dd_wire.specs.declared.fault.Fault.TheVariants.{LineTooLong, NotAnObject, WrongField, DealText, HandLeftOut, CardTwice, WrongTrump, WrongFirst, WrongPlayed, WrongSolutions, WrongTarget, WrongOrder, WrongVulnerable, WrongResult, UnevenHands, NoCard, NotThirteen, AfterLast, NotInHand, Revoke, OutOfMemory}
 use Rattle.dd_wire.specs.declared.fault_field.Task.{Task}
-use Rattle.dd_wire.specs.declared.fault_field.Task.TheVariants.{Solve, Table, Play, Par}
+use Rattle.dd_wire.specs.declared.fault_field.Task.TheVariants.{Solve, Table, Play, Par, TablePar, Fetch, Cancel, Health, Stop}
 use Rattle.dd_wire.specs.Ids.{is_plain}
 use Rattle.dd_wire.specs.ParLines.{first_in, given_in, par_keys}
 use Rattle.dd_wire.specs.PlayLines.{list_of_pairs, play_keys}
 use Rattle.dd_wire.specs.Requests.{pairs_at, table_keys, target_keys, text_at, wait_at, whole_number_at}
+use Rattle.dd_wire.specs.Wants.{alone_keys, fetch_keys, job_keys}
 
 -- ---- a member
 
@@ -34,7 +35,7 @@ may_have_number members key = if has_key members key then has_number members key
 
 -- ---- the wrong field
 
--- what a line asks for, by its `do`
+-- what a line of the line tool asks for, by its `do`
 abbrev pub task_of : List ℕ → Option Task
 task_of task =
     if bytes_eq task (codes "solve") then Some Solve
@@ -42,12 +43,30 @@ task_of task =
     else if bytes_eq task (codes "play") then Some Play
     else if bytes_eq task (codes "par") then Some Par else None
 
--- the names of its fields
+-- what a line of a session asks for: a stop only with leave, and par of given results alone
+abbrev pub session_task : Bool → List ℕ → Option Task
+session_task allow_stop task =
+    if bytes_eq task (codes "fetch") then Some Fetch
+    else if bytes_eq task (codes "cancel") then Some Cancel
+    else if bytes_eq task (codes "health") then Some Health
+    else if bytes_eq task (codes "stop") then (if allow_stop then Some Stop else None)
+    else if bytes_eq task (codes "par") then Some TablePar else task_of task
+
+-- the names of the fields of par in a session
+abbrev pub table_par_keys : List (List ℕ)
+table_par_keys = codes "dealer" ∷ codes "do" ∷ codes "side" ∷ codes "table" ∷ codes "vulnerable" ∷ []
+
+-- the names of the fields of a task
 abbrev pub keys_for : Task → List (List ℕ)
 keys_for Solve = target_keys
 keys_for Table = table_keys
 keys_for Play = play_keys
 keys_for Par = par_keys
+keys_for TablePar = table_par_keys
+keys_for Fetch = fetch_keys
+keys_for Cancel = job_keys
+keys_for Health = alone_keys
+keys_for Stop = alone_keys
 
 -- the first key that is none of the known
 abbrev pub other_key : List (List ℕ) → Members → Option (List ℕ)
@@ -95,11 +114,21 @@ wrong_of_par members =
     else if not (is_some (first_in members)) then Some (one_of_two members (codes "dealer") (codes "side"))
     else if not (has_number members (codes "vulnerable")) then Some (codes "vulnerable") else None
 
+-- of a call that names a job
+abbrev pub wrong_of_call : Members → Option (List ℕ)
+wrong_of_call members = if not (has_number members (codes "job")) then Some (codes "job") else None
+
+-- of those of a task
 abbrev pub wrong_known : Task → Members → Option (List ℕ)
 wrong_known Solve members = wrong_of_solve members
 wrong_known Table members = wrong_of_table members
 wrong_known Play members = wrong_of_play members
 wrong_known Par members = wrong_of_par members
+wrong_known TablePar members = wrong_of_par members
+wrong_known Fetch members = wrong_of_call members
+wrong_known Cancel members = wrong_of_call members
+wrong_known Health _ = None
+wrong_known Stop _ = None
 
 -- the first key that is no field of the task, or else the first field that is missing or of the wrong kind
 abbrev pub wrong_for : Members → Task → Option (List ℕ)
@@ -108,15 +137,26 @@ wrong_for members task = elim (other_key (keys_for task) members) [
   | Some key ↦ told_key key
 ]
 
--- the task of the members
+-- the task of the members of a line of the line tool, and of a session
 abbrev pub task_in : Members → Option Task
 task_in members = text_at members (codes "do") >>= task_of
 
+abbrev pub session_task_in : Bool → Members → Option Task
+session_task_in allow_stop members = text_at members (codes "do") >>= session_task allow_stop
+
 -- the wait first, then `do`, then the fields of the task
-unfoldable pub wrong_field : Members → Option (List ℕ)
-wrong_field members =
+abbrev pub wrong_in : Option Task → Members → Option (List ℕ)
+wrong_in task members =
     if not (is_some (wait_at members)) then Some (codes "wait")
-    else elim (task_in members) [ None ↦ Some (codes "do") | Some task ↦ wrong_for members task ]
+    else elim task [ None ↦ Some (codes "do") | Some task ↦ wrong_for members task ]
+
+-- of a line of the line tool
+unfoldable pub wrong_field : Members → Option (List ℕ)
+wrong_field members = wrong_in (task_in members) members
+
+-- of a line of a session
+unfoldable pub wrong_want : Bool → Members → Option (List ℕ)
+wrong_want allow_stop members = wrong_in (session_task_in allow_stop members) members
 
 -- ---- the field of a fault
 
@@ -147,3 +187,8 @@ field_of _ Revoke = Some (codes "cards")
 field_of _ LineTooLong = None
 field_of _ NotAnObject = None
 field_of _ OutOfMemory = None
+
+-- the same of members in a session
+unfoldable pub want_field : Bool → Members → Fault → Option (List ℕ)
+want_field allow_stop members WrongField = wrong_want allow_stop members
+want_field allow_stop members fault = field_of members fault

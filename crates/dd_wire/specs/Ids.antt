@@ -1,5 +1,5 @@
 -- To be believed: the id of a request, and its place in a reply.
-use Rattle.std.specs.Prelude.{ℕ, ◌&&◌, ◌==◌, Bool, not, List, [], ◌∷◌, ◌++◌, drop, length, nat_le, codes, decimal, Option, None, Some, option_and_then, if◌then◌else◌}
+use Rattle.std.specs.Prelude.{ℕ, ◌&&◌, ◌==◌, Bool, not, List, ◌++◌, drop, length, nat_le, codes, decimal, Option, None, Some, option_and_then, if◌then◌else◌}
 use Rattle.std.specs.List.{list_all}
 use Rattle.std.specs.Str.{bytes_eq}
 use Rattle.serde_json.specs.Data.{Data, Members, no_members, member}
@@ -38,3 +38,8 @@ without key (member other value rest) = if bytes_eq key other then rest else mem
 -- the reply with the id as its first member: `{"id":7,` and what followed the brace
 abbrev pub with_id : List ℕ → List ℕ → List ℕ
 with_id id reply = codes "{\"id\":" ++ id ++ codes "," ++ drop 1 reply
+
+-- the reply with the id as its first member, where there is one
+abbrev pub named : Option (List ℕ) → List ℕ → List ℕ
+named None reply = reply
+named (Some id) reply = with_id id reply

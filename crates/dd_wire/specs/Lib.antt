@@ -16,3 +16,4 @@ pub mod Ids
 pub mod FaultWords
 pub mod FaultFields
 pub mod Explained
+pub mod ExplainedWants

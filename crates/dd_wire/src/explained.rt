@@ -40,7 +40,7 @@ pub fn explained_reply<B: Bounds>(
 
 // The reply to a line that gave no object, for this fault.
 #[tactic(auto, unfolding(crate::specs::Explained::IsUnreadReply))]
-fn unread_reply(line: &[u8], fault: Fault) -> ReplyText
+pub(crate) fn unread_reply(line: &[u8], fault: Fault) -> ReplyText
     requires { IsUnread line.now fault }
     ensures text { IsUnreadReply line.now result.bytes }
     ensures bound { array_string_len result ≤ LONGEST_REPLY }
@@ -52,7 +52,7 @@ fn unread_reply(line: &[u8], fault: Fault) -> ReplyText
 }
 
 // The fault with its field and words.
-fn told(fault: Fault, field: Option<&str>) -> ReplyText
+pub(crate) fn told(fault: Fault, field: Option<&str>) -> ReplyText
     requires { IfSome field (λ f. length f.now ≤ LONGEST_PLAIN) }
     ensures text { result.bytes ≡ fault_told fault (option_map (λ f. f.now) field.entry) }
     ensures bound { array_string_len result ≤ LONGEST_ANSWER }

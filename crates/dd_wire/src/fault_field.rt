@@ -1,9 +1,9 @@
 //! The field that a fault tells of.
-ghost use Rattle.std.specs.Prelude.{◌≡◌, ◌≤◌, ◌&&◌, IfSome, codes, is_some, length, not, option_map, if◌then◌else◌};
+ghost use Rattle.std.specs.Prelude.{◌≡◌, ◌≤◌, ◌&&◌, IfSome, None, Some, codes, is_some, length, not, option_map, if◌then◌else◌};
 ghost use Rattle.std.specs.List.{list_any};
 ghost use Rattle.std.specs.Str.{bytes_eq};
 ghost use Rattle.serde_json.specs.View.{members_view};
-ghost use Rattle.dd_wire.specs.FaultFields.{deal_alone, field_of, has_cards, has_key, has_number, has_text, keys_for, may_have_number, one_of_two, other_key, task_in, task_of, told_key, wrong_field, wrong_for, wrong_known, wrong_of_par, wrong_of_play, wrong_of_solve, wrong_of_table};
+ghost use Rattle.dd_wire.specs.FaultFields.{deal_alone, field_of, has_cards, has_key, has_number, has_text, keys_for, may_have_number, one_of_two, other_key, session_task, session_task_in, table_par_keys, task_in, task_of, told_key, want_field, wrong_field, wrong_for, wrong_in, wrong_known, wrong_of_call, wrong_of_par, wrong_of_play, wrong_of_solve, wrong_of_table, wrong_want};
 ghost use Rattle.dd_wire.specs.ParLines.{first_in, given_in};
 ghost use Rattle.dd_wire.specs.Requests.{pairs_at};
 
@@ -15,6 +15,7 @@ use crate::request_reader::{
     is_table_key, member_at, played_at, text_at, wait_at, whole_number_at,
 };
 use crate::target_reader::is_target_key;
+use crate::want_reader::{is_fetch_key, is_job_key, is_task_key};
 use serde_json::{Map, Value};
 
 // What a line asks for, by its `do`.
@@ -24,6 +25,28 @@ enum Task {
     Table,
     Play,
     Par,
+    TablePar,
+    Fetch,
+    Cancel,
+    Health,
+    Stop,
+}
+
+/// The field that the fault of these members tells of in a session, if there is one.
+#[tactic(auto, unfolding(crate::specs::FaultFields::want_field))]
+pub(crate) fn want_field<'a>(
+    object: &'a Map<String, Value>,
+    allow_stop: bool,
+    fault: Fault,
+) -> Option<&'a str>
+    ensures field { option_map (λ f. f.now) result ≡
+        want_field allow_stop (members_view object.now.entries) fault }
+    ensures bound { IfSome result (λ f. length f.now ≤ LONGEST_PLAIN) }
+{
+    match fault {
+        Fault::WrongField => wrong_want(object, allow_stop),
+        _ => field_of(object, fault),
+    }
 }
 
 /// The field that the fault of these members tells of, if there is one.
@@ -80,26 +103,71 @@ fn one_of_two(
 
 // ---- A field that is missing, unknown or of the wrong kind.
 
-// The first such field, in the order in which they are looked for.
+// The first such field of a line of the line tool.
 #[tactic(auto, unfolding(crate::specs::FaultFields::wrong_field))]
 fn wrong_field<'a>(object: &'a Map<String, Value>) -> Option<&'a str>
     ensures field { option_map (λ f. f.now) result ≡ wrong_field (members_view object.now.entries) }
     ensures bound { IfSome result (λ f. length f.now ≤ LONGEST_PLAIN) }
 {
+    wrong_in(object, task_in(object))
+}
+
+// The first such field of a line of a session.
+#[tactic(auto, unfolding(crate::specs::FaultFields::wrong_want))]
+fn wrong_want<'a>(object: &'a Map<String, Value>, allow_stop: bool) -> Option<&'a str>
+    ensures field { option_map (λ f. f.now) result ≡
+        wrong_want allow_stop (members_view object.now.entries) }
+    ensures bound { IfSome result (λ f. length f.now ≤ LONGEST_PLAIN) }
+{
+    wrong_in(object, session_task_in(object, allow_stop))
+}
+
+// The first such field of this task, in the order in which they are looked for.
+fn wrong_in<'a>(object: &'a Map<String, Value>, task: Option<Task>) -> Option<&'a str>
+    ensures field { option_map (λ f. f.now) result ≡ wrong_in task (members_view object.now.entries) }
+    ensures bound { IfSome result (λ f. length f.now ≤ LONGEST_PLAIN) }
+{
     if wait_at(object).is_none() {
         return Some("wait");
     }
-    match task_in(object) {
+    match task {
         None => Some("do"),
         Some(task) => wrong_for(object, task),
     }
 }
 
-// The task of the members.
+// The task of the members of a line of the line tool.
 fn task_in(object: &Map<String, Value>) -> Option<Task>
     ensures { result ≡ task_in (members_view object.now.entries) }
 {
     task_of(text_at(object, "do")?)
+}
+
+// The task of the members of a line of a session.
+fn session_task_in(object: &Map<String, Value>, allow_stop: bool) -> Option<Task>
+    ensures { result ≡ session_task_in allow_stop (members_view object.now.entries) }
+{
+    session_task(text_at(object, "do")?, allow_stop)
+}
+
+fn session_task(task: &str, allow_stop: bool) -> Option<Task>
+    ensures { result ≡ session_task allow_stop task.now }
+{
+    match task {
+        "fetch" => Some(Task::Fetch),
+        "cancel" => Some(Task::Cancel),
+        "health" => Some(Task::Health),
+        "stop" => stop_task(allow_stop),
+        "par" => Some(Task::TablePar),
+        _ => task_of(task),
+    }
+}
+
+// A stop, with leave.
+fn stop_task(allow_stop: bool) -> Option<Task>
+    ensures { result ≡ (if allow_stop then Some Task.Stop else None) }
+{
+    if allow_stop { Some(Task::Stop) } else { None }
 }
 
 fn task_of(task: &str) -> Option<Task>
@@ -143,7 +211,18 @@ fn is_key_of(task: Task, key: &str) -> bool
         Task::Table => is_table_key(key),
         Task::Play => is_play_key(key),
         Task::Par => is_par_key(key),
+        Task::TablePar => is_table_par_key(key),
+        Task::Fetch => is_fetch_key(key),
+        Task::Cancel => is_job_key(key),
+        Task::Health | Task::Stop => is_task_key(key),
     }
+}
+
+// Is the key the name of a field of par in a session?
+fn is_table_par_key(key: &str) -> bool
+    ensures { result ≡ list_any (bytes_eq key.now) table_par_keys }
+{
+    matches!(key, "dealer" | "do" | "side" | "table" | "vulnerable")
 }
 
 // The key, if it is short and plain.
@@ -163,7 +242,9 @@ fn wrong_known(object: &Map<String, Value>, task: Task) -> Option<&'static str>
         Task::Solve => wrong_of_solve(object),
         Task::Table => wrong_of_table(object),
         Task::Play => wrong_of_play(object),
-        Task::Par => wrong_of_par(object),
+        Task::Par | Task::TablePar => wrong_of_par(object),
+        Task::Fetch | Task::Cancel => wrong_of_call(object),
+        Task::Health | Task::Stop => None,
     }
 }
 
@@ -228,6 +309,17 @@ fn wrong_of_par(object: &Map<String, Value>) -> Option<&'static str>
         Some("vulnerable")
     } else {
         None
+    }
+}
+
+fn wrong_of_call(object: &Map<String, Value>) -> Option<&'static str>
+    ensures field { option_map (λ f. f.now) result ≡ wrong_of_call (members_view object.now.entries) }
+    ensures bound { IfSome result (λ f. length f.now ≤ LONGEST_PLAIN) }
+{
+    if has_number(object, "job") {
+        None
+    } else {
+        Some("job")
     }
 }
 

@@ -11,13 +11,13 @@ use crate::reply::push_number;
 use dd_lines::{LONGEST_REPLY, ReplyText};
 
 /// The most bytes of the words of a fault.
-pub(crate) const LONGEST_WORDS: usize = 128;
+pub const LONGEST_WORDS: usize = 128;
 
 /// The byte-order mark of UTF-8.
 const MARK: [u8; 3] = [239, 187, 191];
 
 /// The reply that tells the fault of this number, its field if there is one, and its words.
-pub(crate) fn write_explained(number: u8, field: Option<&str>, words: &str) -> ReplyText
+pub fn write_explained(number: u8, field: Option<&str>, words: &str) -> ReplyText
     requires field { IfSome field (λ f. length f.now ≤ LONGEST_PLAIN) }
     requires words { length words.now ≤ LONGEST_WORDS }
     ensures text { result.bytes ≡ explained_text number (option_map (λ f. f.now) field.entry) words.now }
@@ -49,7 +49,7 @@ fn push_field(text: &mut ReplyText, field: Option<&str>)
 
 /// What is said of a fault.
 #[tactic(auto, unfolding(crate::specs::FaultWords::words_of))]
-pub(crate) fn words_of(fault: Fault) -> &'static str
+pub fn words_of(fault: Fault) -> &'static str
     ensures text { result.now ≡ words_of fault }
     ensures bound { length result.now ≤ LONGEST_WORDS }
 {

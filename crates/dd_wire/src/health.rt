@@ -3,6 +3,7 @@ ghost use Rattle.std.specs.Prelude.{◌≡◌, ◌+◌, ◌≤◌, ◌++◌, dec
 ghost use Rattle.arrayvec.specs.ArrayString.{array_string_len};
 ghost use Rattle.dd_wire.specs.HealthReplies.{health_text};
 
+use crate::line_reply::LONGEST_ANSWER;
 use dd_lines::{LONGEST_REPLY, ReplyText};
 use itoa::Buffer;
 
@@ -20,7 +21,7 @@ pub struct Health {
 /// The reply that tells it: `{"events_left":e,"jobs":j,"workers":w}`.
 pub fn write_health(health: &Health) -> ReplyText
     ensures text { result.bytes ≡ health_text health.now }
-    ensures bound { array_string_len result ≤ LONGEST_REPLY }
+    ensures bound { array_string_len result ≤ LONGEST_ANSWER }
 {
     let mut text = ReplyText::new();
     text.push_str("{\"events_left\":");

@@ -1,9 +1,9 @@
 //! The id of a request, which its reply tells again.
-ghost use Rattle.std.specs.Prelude.{◌≡◌, ◌≤◌, ℕ, List, ◌++◌, codes, decimal, option_map};
+ghost use Rattle.std.specs.Prelude.{◌≡◌, ◌≤◌, ℕ, List, ◌++◌, codes, decimal, option_map, take};
 ghost use Rattle.std.specs.List.{list_all};
 ghost use Rattle.arrayvec.specs.ArrayString.{array_string_len};
 ghost use Rattle.serde_json.specs.View.{view};
-ghost use Rattle.dd_wire.specs.Ids.{id_text, is_plain, is_plain_byte, plain_id, with_id};
+ghost use Rattle.dd_wire.specs.Ids.{id_text, is_plain, is_plain_byte, named, plain_id, with_id};
 
 use crate::line_reply::LONGEST_ANSWER;
 use arrayvec::ArrayString;
@@ -11,14 +11,14 @@ use dd_lines::{LONGEST_REPLY, ReplyText};
 use itoa::Buffer;
 use serde_json::Value;
 
-/// The most bytes of an id that is a text.
+/// The most bytes of an id that is a text, and of the name of a field.
 pub const LONGEST_PLAIN: usize = 64;
 
-// The most bytes of an id in a reply: such a text in quotes.
-const LONGEST_ID: usize = LONGEST_PLAIN + 2;
+/// The most bytes of an id in a reply: such a text in quotes.
+pub const LONGEST_ID: usize = LONGEST_PLAIN + 2;
 
 /// An id as a reply tells it.
-pub(crate) type IdText = ArrayString<LONGEST_ID>;
+pub type IdText = ArrayString<LONGEST_ID>;
 
 /// The id that a value is, if it is one: a whole number, or a short plain text.
 pub(crate) fn id_text(value: &Value) -> Option<IdText>
@@ -73,6 +73,19 @@ fn is_plain_byte(byte: u8) -> bool
     ensures { result ≡ is_plain_byte byte }
 {
     byte >= 32 && byte != b'"' && byte != b'\\'
+}
+
+/// The reply with the id as its first member, where there is one.
+pub fn named_reply(id: Option<IdText>, reply: ReplyText) -> ReplyText
+    requires opens { take 2 reply.bytes ≡ codes "{\"" }
+    requires room { array_string_len reply ≤ LONGEST_ANSWER }
+    ensures text { result.bytes ≡ named (option_map (λ i. i.bytes) id) reply.bytes }
+    ensures bound { array_string_len result ≤ LONGEST_REPLY }
+{
+    match id {
+        Some(id) => with_id(&id, &reply),
+        None => reply,
+    }
 }
 
 /// The reply with the id as its first member.

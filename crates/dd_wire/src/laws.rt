@@ -1,9 +1,10 @@
-ghost use Rattle.std.specs.Prelude.{◌≡◌, ℕ, Bool, true, false, List, [], ◌∷◌, Result, Ok, Err, codes};
+ghost use Rattle.std.specs.Prelude.{◌≡◌, ℕ, Bool, true, false, List, [], ◌∷◌, None, Some, Result, Ok, Err, codes};
 ghost use Rattle.dd_cards.specs.declared.seat.Seat.TheVariants.{North, East};
 ghost use Rattle.dd_cards.specs.declared.strain.Strain.TheVariants.{Trump, Notrump};
 ghost use Rattle.dd_cards.specs.declared.suit.Suit.TheVariants.{Spades};
 ghost use Rattle.dd_pbn.specs.Examples.{eight_spades, two_suits};
 ghost use Rattle.dd_play.specs.Board.{board_of};
+ghost use Rattle.dd_wire.specs.ExplainedWants.{MeansExplained, fault_explained, id_of};
 ghost use Rattle.dd_wire.specs.Lines.{Means};
 ghost use Rattle.dd_wire.specs.Wants.{MeansWant};
 
@@ -78,6 +79,45 @@ pub fn one_want()
         MeansWant leave line meaning }
     ensures only { (leave : Bool) (line : List ℕ) (a b : Result SessionAsked Fault) →
         MeansWant leave line a → MeansWant leave line b → a ≡ b }
+{}
+
+/// So it has where it may have an id.
+pub fn one_explained_want()
+    ensures some { (leave : Bool) (line : List ℕ) → (meaning : Result SessionAsked Fault) ×
+        MeansExplained leave line meaning }
+    ensures only { (leave : Bool) (line : List ℕ) (a b : Result SessionAsked Fault) →
+        MeansExplained leave line a → MeansExplained leave line b → a ≡ b }
+{}
+
+/// Lines of a session with an id or a fault, worked by hand: the id, and how the fault is told.
+pub fn worked_explained_wants()
+    ensures fetch { (leave : Bool) → MeansExplained leave (codes "{\"do\":\"fetch\",\"id\":7,\"job\":2}")
+        (Ok (SessionAsked.Book record { want = Want.Fetch 2; wait = 0 })) }
+    ensures number { id_of (codes "{\"do\":\"fetch\",\"id\":7,\"job\":2}") ≡ Some (codes "7") }
+    ensures text { id_of (codes "{\"id\":\"board 7\",\"do\":\"health\"}") ≡ Some (codes "\"board 7\"") }
+    ensures none { id_of (codes "{\"do\":\"health\"}") ≡ None }
+    ensures blank { (leave : Bool) → fault_explained leave (codes " ") Fault.NotAnObject ≡
+        codes "{\"fault\":1,\"text\":\"the line is blank\"}" }
+    ensures no_id { (leave : Bool) → fault_explained leave (codes "{\"do\":\"health\",\"id\":true}") Fault.WrongField ≡
+        codes "{\"fault\":3,\"field\":\"id\",\"text\":\"a field is missing, unknown or of the wrong kind\"}" }
+    ensures no_job { (leave : Bool) → fault_explained leave (codes "{\"do\":\"fetch\",\"id\":7}") Fault.WrongField ≡
+        codes "{\"id\":7,\"fault\":3,\"field\":\"job\",\"text\":\"a field is missing, unknown or of the wrong kind\"}" }
+    ensures cancel_that_waits { (leave : Bool) → fault_explained leave
+        (codes "{\"do\":\"cancel\",\"job\":7,\"wait\":1}") Fault.WrongField ≡
+        codes "{\"fault\":3,\"field\":\"wait\",\"text\":\"a field is missing, unknown or of the wrong kind\"}" }
+    ensures health_of_a_job { (leave : Bool) → fault_explained leave
+        (codes "{\"do\":\"health\",\"job\":7}") Fault.WrongField ≡
+        codes "{\"fault\":3,\"field\":\"job\",\"text\":\"a field is missing, unknown or of the wrong kind\"}" }
+    ensures no_leave { fault_explained false (codes "{\"do\":\"stop\",\"id\":\"x\",\"job\":7}") Fault.WrongField ≡
+        codes "{\"id\":\"x\",\"fault\":3,\"field\":\"do\",\"text\":\"a field is missing, unknown or of the wrong kind\"}" }
+    ensures stop_of_a_job { fault_explained true (codes "{\"do\":\"stop\",\"id\":\"x\",\"job\":7}") Fault.WrongField ≡
+        codes "{\"id\":\"x\",\"fault\":3,\"field\":\"job\",\"text\":\"a field is missing, unknown or of the wrong kind\"}" }
+    ensures par_of_a_deal { (leave : Bool) → fault_explained leave
+        (codes "{\"do\":\"par\",\"deal\":\"\",\"dealer\":0,\"vulnerable\":0}") Fault.WrongField ≡
+        codes "{\"fault\":3,\"field\":\"deal\",\"text\":\"a field is missing, unknown or of the wrong kind\"}" }
+    ensures no_trump { (leave : Bool) → fault_explained leave
+        (codes "{\"do\":\"solve\",\"deal\":\"\",\"trump\":5,\"first\":0,\"solutions\":3,\"id\":0}") Fault.WrongTrump ≡
+        codes "{\"id\":0,\"fault\":9,\"field\":\"trump\",\"text\":\"trump is not 0 to 4\"}" }
 {}
 
 /// Lines of a session worked by hand.

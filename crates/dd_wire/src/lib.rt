@@ -2,6 +2,7 @@
 #![tactic(auto)]
 
 mod explained;
+mod explained_want;
 mod fault;
 mod fault_field;
 mod fault_words;
@@ -24,9 +25,14 @@ mod want_reader;
 mod wish;
 
 pub use explained::explained_reply;
+pub use explained_want::{NamedAsked, read_explained};
 pub use fault::Fault;
+pub use fault_words::{words_of, write_explained};
 pub use health::{Health, write_health};
-pub use laws::{one_meaning, one_want, worked_lines, worked_wants};
+pub use id::{IdText, named_reply};
+pub use laws::{
+    one_explained_want, one_meaning, one_want, worked_explained_wants, worked_lines, worked_wants,
+};
 pub use line_asked::LineAsked;
 pub use line_reply::{LONGEST_ANSWER, reply_to_line};
 pub use par_reply::write_par;

@@ -34,7 +34,7 @@ pub fn write_fault(fault: Fault) -> ReplyText
 /// The reply that tells the fault of this number: `{"fault":n}`.
 pub fn write_numbered_fault(number: u8) -> ReplyText
     ensures text { result.bytes ≡ numbered_fault_text number }
-    ensures bound { array_string_len result ≤ LONGEST_REPLY }
+    ensures bound { array_string_len result ≤ LONGEST_ANSWER }
 {
     let mut text = ReplyText::new();
     text.push_str("{\"fault\":");

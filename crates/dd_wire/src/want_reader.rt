@@ -37,7 +37,7 @@ pub fn read_want(alloc: Global, line: &[u8], allow_stop: bool) -> Result<Session
 }
 
 // What the members of an object ask, with this wait, or their first fault.
-fn wanted_by(
+pub(crate) fn wanted_by(
     object: &Map<String, Value>,
     allow_stop: bool,
     wait: u64,
@@ -114,7 +114,7 @@ fn has_job_keys_alone(object: &Map<String, Value>) -> bool
     object.keys().all(|key| is_job_key(key))
 }
 
-fn is_job_key(key: &str) -> bool
+pub(crate) fn is_job_key(key: &str) -> bool
     ensures { result ≡ list_any (bytes_eq key.now) job_keys }
 {
     matches!(key, "do" | "job")
@@ -138,7 +138,7 @@ fn has_fetch_keys_alone(object: &Map<String, Value>) -> bool
     object.keys().all(|key| is_fetch_key(key))
 }
 
-fn is_fetch_key(key: &str) -> bool
+pub(crate) fn is_fetch_key(key: &str) -> bool
     ensures { result ≡ list_any (bytes_eq key.now) fetch_keys }
 {
     matches!(key, "do" | "job" | "wait")
@@ -151,7 +151,7 @@ fn is_alone(object: &Map<String, Value>) -> bool
     object.keys().all(|key| is_task_key(key))
 }
 
-fn is_task_key(key: &str) -> bool
+pub(crate) fn is_task_key(key: &str) -> bool
     ensures { result ≡ list_any (bytes_eq key.now) alone_keys }
 {
     key == "do"
