@@ -4,7 +4,7 @@ _ddserve() {
     if [ "$COMP_CWORD" -gt 1 ]; then
         case ${COMP_WORDS[1]} in
         solve) words='--budget --entries --workers --explain --help' ;;
-        serve) words='--listen --websocket --workers --shards --entries --budget --events --idle --allow-stop --help' ;;
+        serve) words='--listen --websocket --workers --shards --entries --budget --events --idle --allow-stop --explain --help' ;;
         pbn) words='--tags --budget --entries --workers --help' ;;
         help) words='solve serve pbn' ;;
         *) words='' ;;

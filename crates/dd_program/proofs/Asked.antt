@@ -181,13 +181,13 @@ pub asks-serve : (arguments : List Text) (rows : List Row) (args : Args) → (fa
     → AsksToServeBy rows args → Asks arguments args
 asks-serve arguments rows (Solve budget entries workers explain) line by = absurd by
 asks-serve arguments rows (Fill tags budget entries workers) line by = absurd by
-asks-serve arguments rows (Serve listen workers shards entries budget events idle websocket allow_stop) line by = (rows, line.0, line.1, by)
+asks-serve arguments rows (Serve listen workers shards entries budget events idle websocket allow_stop explain) line by = (rows, line.0, line.1, by)
 
 -- the same of the rows of `pbn`
 pub asks-fill : (arguments : List Text) (rows : List Row) (args : Args) → (fault_of program_app arguments ≡ []) × (subcommand_of program_app arguments ≡ Some (codes "pbn", rows))
     → AsksToFillBy rows args → Asks arguments args
 asks-fill arguments rows (Solve budget entries workers explain) line by = absurd by
-asks-fill arguments rows (Serve listen workers shards entries budget events idle websocket allow_stop) line by = absurd by
+asks-fill arguments rows (Serve listen workers shards entries budget events idle websocket allow_stop explain) line by = absurd by
 asks-fill arguments rows (Fill tags budget entries workers) line by = (rows, line.0, line.1, by)
 
 -- the numbers of a line that asks lie in their ranges
@@ -201,7 +201,7 @@ in-range arguments (Solve budget entries workers explain) (given, asks, budget-i
       workers-range.0,
       workers-range.1,
     )
-in-range arguments (Serve listen workers shards entries budget events idle websocket allow_stop) (rows, free, line, by) =
+in-range arguments (Serve listen workers shards entries budget events idle websocket allow_stop explain) (rows, free, line, by) =
     let workers-fit = subst (λ n. (1 ≤ n) × (n ≤ MOST_WORKERS)) (sym by.1.2) (number-fits 1 MOST_WORKERS 4 by.1.0 (omega arith) (omega arith)) in
     let shards-fit = subst (λ n. (1 ≤ n) × (n ≤ MOST_SHARDS)) (sym by.2.2) (number-fits 1 MOST_SHARDS 16 by.2.0 (omega arith) (omega arith)) in
     let entries-fit = subst IsTableSize (sym by.3.2) (number-fits 1 MOST_SHAPES 4096 by.3.0 (omega arith) (omega arith)) in
@@ -249,11 +249,11 @@ pub asks-one : (arguments : List Text) (args other : Args) → Asks arguments ar
 asks-one arguments (Solve b e w y) (Solve c f x z) asks also =
     let same = one-meaning arguments asks.0 also.0 asks.1 also.1 in
     (λ i. Solve ((also.2 ∙ sym same.0 ∙ sym asks.2) i) ((also.3 ∙ sym same.1 ∙ sym asks.3) i) ((also.4 ∙ sym same.2 ∙ sym asks.4) i) ((also.5 ∙ sym same.3 ∙ sym asks.5) i))
-asks-one arguments (Solve b e w y) (Serve m x t f c o h j d) asks also = solve-only arguments asks.0 also.0 asks.1 also.2
-asks-one arguments (Serve l w s e b n i k a) (Solve c f x z) asks also = solve-only arguments also.0 asks.0 also.1 asks.2
-asks-one arguments (Serve l w s e b n i k a) (Serve m x t f c o h j d) (rows, free, line, by) (rows2, free2, line2, by2) =
+asks-one arguments (Solve b e w y) (Serve m x t f c o h j d z) asks also = solve-only arguments asks.0 also.0 asks.1 also.2
+asks-one arguments (Serve l w s e b n i k a y) (Solve c f x z) asks also = solve-only arguments also.0 asks.0 also.1 asks.2
+asks-one arguments (Serve l w s e b n i k a y) (Serve m x t f c o h j d z) (rows, free, line, by) (rows2, free2, line2, by2) =
     let same : rows2 ≡ rows = ap entered_rows (sym line2 ∙ line) in
-    let also = subst (λ r. AsksToServeBy r (Serve m x t f c o h j d)) same by2 in (
+    let also = subst (λ r. AsksToServeBy r (Serve m x t f c o h j d z)) same by2 in (
       also.0 ∙ sym by.0,
       number-one (codes "workers") rows 1 MOST_WORKERS 4 x w also.1 by.1,
       number-one (codes "shards") rows 1 MOST_SHARDS 16 t s also.2 by.2,
@@ -263,11 +263,12 @@ asks-one arguments (Serve l w s e b n i k a) (Serve m x t f c o h j d) (rows, fr
       limit-one (codes "idle") rows MOST_IDLE 600 h i also.6 by.6,
       also.7 ∙ sym by.7,
       also.8 ∙ sym by.8,
+      also.9 ∙ sym by.9,
     )
 asks-one arguments (Solve b e w y) (Fill u c f x) asks also = solve-no-fill arguments asks.0 also.0 asks.1 also.2
 asks-one arguments (Fill t b e w) (Solve c f x z) asks also = solve-no-fill arguments also.0 asks.0 also.1 asks.2
-asks-one arguments (Serve l w s e b n i k a) (Fill u c f x) asks also = serve-no-fill arguments asks.0 also.0 asks.2 also.2
-asks-one arguments (Fill t b e w) (Serve m x s f c o h j d) asks also = serve-no-fill arguments also.0 asks.0 also.2 asks.2
+asks-one arguments (Serve l w s e b n i k a y) (Fill u c f x) asks also = serve-no-fill arguments asks.0 also.0 asks.2 also.2
+asks-one arguments (Fill t b e w) (Serve m x s f c o h j d z) asks also = serve-no-fill arguments also.0 asks.0 also.2 asks.2
 asks-one arguments (Fill t b e w) (Fill u c f x) (rows, free, line, by) (rows2, free2, line2, by2) =
     let same : rows2 ≡ rows = ap entered_rows (sym line2 ∙ line) in
     let also = subst (λ r. AsksToFillBy r (Fill u c f x)) same by2 in (
@@ -352,7 +353,7 @@ serve-avoids o other = record {
 
 all-named : Each IsNamedById serve_rules
 unfolding IsNamedById
-all-named = ((refl, refl), ((refl, refl), ((refl, refl), ((refl, refl), ((refl, refl), ((refl, refl), ((refl, refl), ((refl, refl), ((refl, refl), ((refl, refl), tt))))))))))
+all-named = ((refl, refl), ((refl, refl), ((refl, refl), ((refl, refl), ((refl, refl), ((refl, refl), ((refl, refl), ((refl, refl), ((refl, refl), ((refl, refl), ((refl, refl), tt)))))))))))
 
 -- an option that is left out has no row
 left-out : (arguments : List Text) (s : Serves arguments) (rows : List Row) (o : Text) → subcommand_of program_app arguments ≡ Some (codes "serve", rows) → bytes_eq (codes "help") o ≡ false
@@ -390,16 +391,16 @@ has-defaults arguments (Solve budget entries workers explain) (given, asks, budg
   λ out. workers-are ∙ ap (λ n. unwrap_or n 1) (line-gives-nothing Workers arguments given asks out),
   λ out. flag-is ∙ line-gives-no-flag arguments given asks out,
 )
-has-defaults arguments (Serve listen workers shards entries budget events idle websocket allow_stop) (rows, free, line, by) = elim (line-of arguments free) [
+has-defaults arguments (Serve listen workers shards entries budget events idle websocket allow_stop explain) (rows, free, line, by) = elim (line-of arguments free) [
   | inl s ↦ absurd (other-name (ap entered_name (sym (enters arguments s) ∙ line)))
   | inr (inr s) ↦ absurd (serve-pbn (ap entered_name (sym line ∙ enters-fill arguments s)))
   | inr (inl s) ↦ (
-    λ out. number-default (codes "workers") rows 1 MOST_WORKERS 4 workers (left-out arguments s rows (codes "workers") line refl (inr refl, (inr refl, (inr refl, (inr refl, (inr refl, (inr refl, (inr refl, (inl refl, (inl refl, (inr refl, tt)))))))))) out) by.1,
-    λ out. number-default (codes "shards") rows 1 MOST_SHARDS 16 shards (left-out arguments s rows (codes "shards") line refl (inr refl, (inr refl, (inr refl, (inr refl, (inr refl, (inr refl, (inr refl, (inl refl, (inl refl, (inr refl, tt)))))))))) out) by.2,
-    λ out. number-default (codes "entries") rows 1 MOST_SHAPES 4096 entries (left-out arguments s rows (codes "entries") line refl (inr refl, (inr refl, (inr refl, (inr refl, (inr refl, (inr refl, (inr refl, (inl refl, (inl refl, (inr refl, tt)))))))))) out) by.3,
-    λ out. limit-default (codes "budget") rows 1000000000000 50000000 budget (left-out arguments s rows (codes "budget") line refl (inr refl, (inr refl, (inr refl, (inr refl, (inr refl, (inr refl, (inr refl, (inl refl, (inl refl, (inr refl, tt)))))))))) out) by.4,
-    λ out. number-default (codes "events") rows LEAST_EVENTS MOST_EVENTS MOST_EVENTS events (left-out arguments s rows (codes "events") line refl (inr refl, (inr refl, (inr refl, (inr refl, (inr refl, (inr refl, (inr refl, (inl refl, (inl refl, (inr refl, tt)))))))))) out) by.5,
-    λ out. limit-default (codes "idle") rows MOST_IDLE 600 idle (left-out arguments s rows (codes "idle") line refl (inr refl, (inr refl, (inr refl, (inr refl, (inr refl, (inr refl, (inr refl, (inl refl, (inl refl, (inr refl, tt)))))))))) out) by.6,
+    λ out. number-default (codes "workers") rows 1 MOST_WORKERS 4 workers (left-out arguments s rows (codes "workers") line refl (inr refl, (inr refl, (inr refl, (inr refl, (inr refl, (inr refl, (inr refl, (inl refl, (inl refl, (inl refl, (inr refl, tt))))))))))) out) by.1,
+    λ out. number-default (codes "shards") rows 1 MOST_SHARDS 16 shards (left-out arguments s rows (codes "shards") line refl (inr refl, (inr refl, (inr refl, (inr refl, (inr refl, (inr refl, (inr refl, (inl refl, (inl refl, (inl refl, (inr refl, tt))))))))))) out) by.2,
+    λ out. number-default (codes "entries") rows 1 MOST_SHAPES 4096 entries (left-out arguments s rows (codes "entries") line refl (inr refl, (inr refl, (inr refl, (inr refl, (inr refl, (inr refl, (inr refl, (inl refl, (inl refl, (inl refl, (inr refl, tt))))))))))) out) by.3,
+    λ out. limit-default (codes "budget") rows 1000000000000 50000000 budget (left-out arguments s rows (codes "budget") line refl (inr refl, (inr refl, (inr refl, (inr refl, (inr refl, (inr refl, (inr refl, (inl refl, (inl refl, (inl refl, (inr refl, tt))))))))))) out) by.4,
+    λ out. number-default (codes "events") rows LEAST_EVENTS MOST_EVENTS MOST_EVENTS events (left-out arguments s rows (codes "events") line refl (inr refl, (inr refl, (inr refl, (inr refl, (inr refl, (inr refl, (inr refl, (inl refl, (inl refl, (inl refl, (inr refl, tt))))))))))) out) by.5,
+    λ out. limit-default (codes "idle") rows MOST_IDLE 600 idle (left-out arguments s rows (codes "idle") line refl (inr refl, (inr refl, (inr refl, (inr refl, (inr refl, (inr refl, (inr refl, (inl refl, (inl refl, (inl refl, (inr refl, tt))))))))))) out) by.6,
   )
 ]
 has-defaults arguments (Fill tags budget entries workers) (rows, free, line, by) = elim (line-of arguments free) [
@@ -420,7 +421,7 @@ pub asks-free : (app : App) (arguments : List Text) (args : Args) → app ≡ pr
 asks-free app arguments (Solve budget entries workers explain) is (given, asks, budget-is, entries-are, workers-are, flag-is) =
     let free = solves-free asks.program asks.words (walked-line arguments given asks).faultless in
     subst (λ a. fault_of a arguments ≡ []) (sym is) (subst (λ ws. fault_of program_app ws ≡ []) (sym asks.line) free)
-asks-free app arguments (Serve listen workers shards entries budget events idle websocket allow_stop) is asks = subst (λ a. fault_of a arguments ≡ []) (sym is) asks.1
+asks-free app arguments (Serve listen workers shards entries budget events idle websocket allow_stop explain) is asks = subst (λ a. fault_of a arguments ≡ []) (sym is) asks.1
 asks-free app arguments (Fill tags budget entries workers) is asks = subst (λ a. fault_of a arguments ≡ []) (sym is) asks.1
 
 -- the parser's error says that memory ran out, or the line asks for nothing

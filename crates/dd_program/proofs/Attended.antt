@@ -113,9 +113,9 @@ untold-start events address line input before output errors errors2 ending line-
     (record { input = refl; output = inl (address, subst (λ l. WritesBeginning l before output) line-is begins); said = said })
 
 -- so what arguments of `serve` ask for is done
-pub as-serve : (args : Args) (listen : String Global) (workers shards entries : ℕ) (budget : Option ℕ) (events : ℕ) (idle : Option ℕ) (websocket allow_stop : Bool) (old new : Streams) (ending : Ending)
-    → args ≡ Serve listen workers shards entries budget events idle websocket allow_stop → ServesUntil events old new ending → AnswersUntil args old new ending
-as-serve args listen workers shards entries budget events idle websocket allow_stop old new ending is serves = subst (λ a. AnswersUntil a old new ending) (sym is) serves
+pub as-serve : (args : Args) (listen : String Global) (workers shards entries : ℕ) (budget : Option ℕ) (events : ℕ) (idle : Option ℕ) (websocket allow_stop explain : Bool) (old new : Streams) (ending : Ending)
+    → args ≡ Serve listen workers shards entries budget events idle websocket allow_stop explain → ServesUntil events old new ending → AnswersUntil args old new ending
+as-serve args listen workers shards entries budget events idle websocket allow_stop explain old new ending is serves = subst (λ a. AnswersUntil a old new ending) (sym is) serves
 
 -- and what those of `pbn` do
 pub as-fill : (args : Args) (tags : String Global) (budget : Option ℕ) (entries workers : ℕ) (text : List ℕ) (old new : Streams) (ending : Ending) → args ≡ Fill tags budget entries workers

@@ -106,26 +106,26 @@ abbrev pub Asks : List Text → Args → Type 0
 Asks arguments (Solve budget entries workers explain) =
     (given : List (Given ℕ)) × AsksToSolve arguments given × (budget ≡ given_to Budget given)
     × (entries ≡ unwrap_or (given_to Entries given) 4096) × (workers ≡ unwrap_or (given_to Workers given) 1) × (explain ≡ gives_flag given)
-Asks arguments (Serve listen workers shards entries budget events idle websocket allow_stop) = AsksToServe arguments (Serve listen workers shards entries budget events idle websocket allow_stop)
+Asks arguments (Serve listen workers shards entries budget events idle websocket allow_stop explain) = AsksToServe arguments (Serve listen workers shards entries budget events idle websocket allow_stop explain)
 Asks arguments (Fill tags budget entries workers) = AsksToFill arguments (Fill tags budget entries workers)
 
 -- the same is asked for: the same numbers, and an address or names of tags of the same text
 abbrev pub IsSame : Args → Args → Type 0
 IsSame (Solve b e w y) (Solve c f x z) = Solve b e w y ≡ Solve c f x z
-IsSame (Serve l w s e b n i k a) (Serve m x t f c o h j d) =
-    (string_bytes l ≡ string_bytes m) × (w ≡ x) × (s ≡ t) × (e ≡ f) × (b ≡ c) × (n ≡ o) × (i ≡ h) × (k ≡ j) × (a ≡ d)
+IsSame (Serve l w s e b n i k a y) (Serve m x t f c o h j d z) =
+    (string_bytes l ≡ string_bytes m) × (w ≡ x) × (s ≡ t) × (e ≡ f) × (b ≡ c) × (n ≡ o) × (i ≡ h) × (k ≡ j) × (a ≡ d) × (y ≡ z)
 IsSame (Fill t b e w) (Fill u c f x) = (string_bytes t ≡ string_bytes u) × (b ≡ c) × (e ≡ f) × (w ≡ x)
-IsSame (Solve b e w y) (Serve m x t f c o h j d) = ⊥
-IsSame (Serve l w s e b n i k a) (Solve c f x z) = ⊥
+IsSame (Solve b e w y) (Serve m x t f c o h j d z) = ⊥
+IsSame (Serve l w s e b n i k a y) (Solve c f x z) = ⊥
 IsSame (Solve b e w y) (Fill u c f x) = ⊥
 IsSame (Fill t b e w) (Solve c f x z) = ⊥
-IsSame (Serve l w s e b n i k a) (Fill u c f x) = ⊥
-IsSame (Fill t b e w) (Serve m x s f c o h j d) = ⊥
+IsSame (Serve l w s e b n i k a y) (Fill u c f x) = ⊥
+IsSame (Fill t b e w) (Serve m x s f c o h j d z) = ⊥
 
 -- each number lies in its range
 abbrev pub IsInRange : Args → Type 0
 IsInRange (Solve budget entries workers explain) = IfSome budget IsBudget × IsTableSize entries × (1 ≤ workers) × (workers ≤ MOST_WORKERS)
-IsInRange (Serve listen workers shards entries budget events idle websocket allow_stop) =
+IsInRange (Serve listen workers shards entries budget events idle websocket allow_stop explain) =
     (1 ≤ workers) × (workers ≤ MOST_WORKERS) × (1 ≤ shards) × (shards ≤ MOST_SHARDS) × IsTableSize entries × IfSome budget IsBudget
     × IsEventCount events × IfSome idle IsIdle
 IsInRange (Fill tags budget entries workers) = IfSome budget IsBudget × IsTableSize entries × (1 ≤ workers) × (workers ≤ MOST_WORKERS)
@@ -139,7 +139,7 @@ abbrev pub HasDefaults : List Text → Args → Type 0
 HasDefaults arguments (Solve budget entries workers explain) =
     (IsLeftOut (codes "--budget") arguments → budget ≡ None) × (IsLeftOut (codes "--entries") arguments → entries ≡ 4096)
     × (IsLeftOut (codes "--workers") arguments → workers ≡ 1) × (IsLeftOut (codes "--explain") arguments → explain ≡ false)
-HasDefaults arguments (Serve listen workers shards entries budget events idle websocket allow_stop) =
+HasDefaults arguments (Serve listen workers shards entries budget events idle websocket allow_stop explain) =
     (IsLeftOut (codes "--workers") arguments → workers ≡ 4) × (IsLeftOut (codes "--shards") arguments → shards ≡ 16)
     × (IsLeftOut (codes "--entries") arguments → entries ≡ 4096) × (IsLeftOut (codes "--budget") arguments → budget ≡ Some 50000000)
     × (IsLeftOut (codes "--events") arguments → events ≡ MOST_EVENTS) × (IsLeftOut (codes "--idle") arguments → idle ≡ Some 600)

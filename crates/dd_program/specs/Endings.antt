@@ -331,7 +331,7 @@ FillsUntil tags budget old new ending = FillsWanted (wanted_by tags) budget old 
 -- what the arguments ask for is done, up to this ending
 abbrev pub AnswersUntil : Args → Streams → Streams → Ending → Type 0
 AnswersUntil (Solve budget entries workers explain) old new ending = SolvesUntil (IsReplyAs explain budget) old new ending
-AnswersUntil (Serve listen workers shards entries budget events idle websocket allow_stop) old new ending = ServesUntil events old new ending
+AnswersUntil (Serve listen workers shards entries budget events idle websocket allow_stop explain) old new ending = ServesUntil events old new ending
 AnswersUntil (Fill tags budget entries workers) old new ending = FillsUntil (string_bytes tags) budget old new ending
 
 -- ---- an error is shown

@@ -17,7 +17,7 @@ limit_up_to most (Some number) = (if nat_le number most then Some number else No
 -- what the options of `pbn` ask for, by the rows that the parser of arguments gave them
 abbrev pub AsksToFillBy : List Row → Args → Type 0
 AsksToFillBy rows (Solve budget entries workers explain) = ⊥
-AsksToFillBy rows (Serve listen workers shards entries budget events idle websocket allow_stop) = ⊥
+AsksToFillBy rows (Serve listen workers shards entries budget events idle websocket allow_stop explain) = ⊥
 AsksToFillBy rows (Fill tags budget entries workers) =
     HasNumber (codes "entries") rows 1 MOST_SHAPES 4096 entries
     × ((given : Option ℕ) × IsGiven 64 (codes "budget") rows given × (budget ≡ limit_up_to 1000000000000 given))

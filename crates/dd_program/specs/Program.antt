@@ -101,8 +101,8 @@ allow_stop_rule = record (new_rule (codes "allow-stop")) { long = Some (codes "a
 -- `serve` with its options
 abbrev pub serve_app : App
 serve_app =
-    with_rule (with_rule (with_rule (with_rule (with_rule (with_rule (with_rule (with_rule (with_rule (new_app (codes "serve")) listen_rule) workers_rule) shards_rule) shard_entries_rule) budget_rule) events_rule) idle_rule) websocket_rule)
-    allow_stop_rule
+    with_rule (with_rule (with_rule (with_rule (with_rule (with_rule (with_rule (with_rule (with_rule (with_rule (new_app (codes "serve")) listen_rule) workers_rule) shards_rule) shard_entries_rule) budget_rule) events_rule) idle_rule) websocket_rule)
+    allow_stop_rule) explain_rule
 
 -- `--tags NAME,..`
 abbrev pub tags_rule : Rule

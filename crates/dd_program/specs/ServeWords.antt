@@ -49,7 +49,7 @@ is_set flag rows = option_map_or (λ text. bytes_eq text (codes "true")) (first_
 abbrev pub AsksToServeBy : List Row → Args → Type 0
 AsksToServeBy rows (Solve budget entries workers explain) = ⊥
 AsksToServeBy rows (Fill tags budget entries workers) = ⊥
-AsksToServeBy rows (Serve listen workers shards entries budget events idle websocket allow_stop) =
+AsksToServeBy rows (Serve listen workers shards entries budget events idle websocket allow_stop explain) =
     (string_bytes listen ≡ unwrap_or (first_of (codes "listen") rows) [])
     × HasNumber (codes "workers") rows 1 MOST_WORKERS 4 workers
     × HasNumber (codes "shards") rows 1 MOST_SHARDS 16 shards
@@ -59,6 +59,7 @@ AsksToServeBy rows (Serve listen workers shards entries budget events idle webso
     × HasLimit (codes "idle") rows MOST_IDLE 600 idle
     × (websocket ≡ is_set (codes "websocket") rows)
     × (allow_stop ≡ is_set (codes "allow-stop") rows)
+    × (explain ≡ is_set (codes "explain") rows)
 
 -- The line is one of `serve`: the parser of arguments finds no fault in it, and the arguments are what it makes of the options.
 abbrev pub AsksToServe : List (List ℕ) → Args → Type 0

@@ -75,6 +75,8 @@ pub enum Args {
         websocket: bool,
         /// A client may stop the program.
         allow_stop: bool,
+        /// A line may have an id, which its reply tells again, and a fault has its field and words.
+        explain: bool,
     },
     /// Passes a file of PBN on, with the results and par of its deals.
     Fill {
@@ -222,6 +224,7 @@ fn limit_in(given: Option<u64>, most: u64, default: u64) -> Option<u64>
 fn serve_args(alloc: Global, options: &ArgMatches) -> Result<Args, AllocError>
     ensures { IfOk result (AsksToServeBy (rows_of (found_of options.now))) }
 {
+    let explain = is_set(options, "explain");
     Ok(Args::Serve {
         listen: String::from_str(alloc, options.get_str("listen").unwrap_or(""))?,
         workers: number_in(number_of(options, "workers"), 1, MOST_WORKERS, 4),
@@ -241,6 +244,7 @@ fn serve_args(alloc: Global, options: &ArgMatches) -> Result<Args, AllocError>
         idle: limit_in(limit_of(options, "idle"), MOST_IDLE, IDLE),
         websocket: is_set(options, "websocket"),
         allow_stop: is_set(options, "allow-stop"),
+        explain,
     })
 }
 
@@ -305,7 +309,8 @@ fn serve_command<'a>(alloc: Global) -> Result<Command<'a>, AllocError>
         .arg(events_option(alloc))?
         .arg(idle_option(alloc))?
         .arg(websocket_flag(alloc))?
-        .arg(allow_stop_flag(alloc))
+        .arg(allow_stop_flag(alloc))?
+        .arg(explain_flag(alloc))
 }
 
 // The subcommand before it has options.

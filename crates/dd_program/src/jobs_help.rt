@@ -43,6 +43,13 @@ Beside those of 'ddserve solve --help':
   18  the server is closing and takes no more jobs
   19  memory ran out, and nothing was changed
 
+With --explain a line may have an id, which its reply tells again as its first
+member, and a fault has its field and a text beside its number, as with
+'ddserve solve --explain':
+
+  {\"do\":\"health\",\"id\":4}
+  {\"id\":4,\"events_left\":799000,\"jobs\":3,\"workers\":4}
+
 Runs and limits:
 
 A run has at most --events events: a submit and a fetch are one each, and a

@@ -84,6 +84,7 @@ pub fn run_program<
                 idle,
                 websocket,
                 allow_stop,
+                explain,
             },
         ) => {
             let args = ServeArgs {
@@ -93,6 +94,7 @@ pub fn run_program<
                 budget,
                 websocket,
                 allow_stop,
+                explain,
                 idle: milliseconds(idle),
                 grace: GRACE,
             };

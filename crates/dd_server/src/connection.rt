@@ -1,6 +1,9 @@
 //! One connection.
 ghost use Rattle.std.specs.Prelude.{◌≡◌, false};
-ghost use Rattle.dd_session.specs.Ports.{AsksNoStop};
+ghost use Rattle.dd_server.specs.ServeArgs.{manner_by};
+ghost use Rattle.dd_session.specs.Leaving.{ThenLeaves};
+ghost use Rattle.dd_session.specs.Ports.{AsksNoStop, port_of};
+ghost use Rattle.dd_session.specs.Sockets.{ServesMessages};
 
 use crate::opening::LineStream;
 use crate::parting::part;
@@ -50,7 +53,7 @@ fn serve_session<J: Naming, R: Wait + Clock>(
 }
 
 // The session over the port of a caller, whose number is told here once it has a pass, as the run was asked for: by lines or by
-// messages, with leave to stop or without.
+// messages, with leave to stop or without, explained or not.
 fn serve_port<J: Naming, R: Wait + Clock, P: BookPort>(
     rt: &R,
     state: &RunState<'_, J>,
@@ -58,14 +61,19 @@ fn serve_port<J: Naming, R: Wait + Clock, P: BookPort>(
     caller: &Cell<Option<u64>>,
     port: &mut P,
 )
+    // Whatever came, the port was asked for just what some lines want that were answered in the manner that was asked for, and left.
+    ensures asked { ThenLeaves (λ between. ServesMessages (manner_by state.now.server.now.args)
+        (port_of (P.told port.old) (P.refusals port.old)) between)
+        (P.ended port.new) (port_of (P.told port.new) (P.refusals port.new)) }
     ensures leave { state.now.server.now.args.allow_stop ≡ false
         → AsksNoStop (P.told port.old) (P.told port.new) }
 {
     let alloc = state.server.alloc;
     let args = state.server.args;
+    let manner = args.manner();
     if args.websocket {
         let socket = SocketStream::new(rt, state, stream, caller);
-        let end = serve_socket(alloc, socket, port, args.allow_stop);
+        let end = serve_socket(alloc, socket, port, manner);
         part(rt, stream, &state.stop, end);
     } else {
         let session = SessionStream::new(rt, state, stream, caller);
@@ -73,14 +81,14 @@ fn serve_port<J: Naming, R: Wait + Clock, P: BookPort>(
         let _ = session.limit_reads();
         let mut reader = CountedDevice::new(LineStream::new(session));
         let mut writer = CountedDevice::new(ReplyStream::new(rt, stream, &state.stop));
-        let _ = serve_lines(alloc, &mut reader, &mut writer, port, args.allow_stop);
+        let _ = serve_lines(alloc, &mut reader, &mut writer, port, manner);
     }
 }
 
 // The one line of a connection for whose pass there is no memory.
 fn refuse<J: Naming>(state: &RunState<'_, J>, stream: &TcpStream) {
     if !state.server.args.websocket {
-        let mut line = write_refusal(DeskFault::OutOfMemory);
+        let mut line = write_refusal(DeskFault::OutOfMemory, state.server.args.explain);
         line.push_str("\n");
         let _ = write_whole(&mut CountedDevice::new(stream), line.as_bytes());
     }

@@ -1,13 +1,20 @@
 -- Without leave no line wants a stop, so the port is asked for none.
-use Rattle.std.proofs.Common.{◌≡◌, ℕ, List, [], ◌∷◌, ◌++◌, Bool, true, false, IsTrue, Option, Ok, Err, inl, inr, refl, sym, ap, ◌∙◌, subst, append_assoc}
+use Rattle.std.proofs.Common.{◌≡◌, ℕ, List, [], ◌∷◌, ◌++◌, Bool, true, false, true≢false, Option, Ok, Err, inl, inr, refl, sym, ap, ◌∙◌, subst, append_assoc}
 use Rattle.std.specs.Prelude.{Result, Some, None, MatchOption, OnOk, OnErr}
+use Rattle.std.specs.Bool.{MatchBool}
+use Rattle.std.proofs.lemmas.Bool.{cases_Bool}
 use Rattle.dd_solve.specs.declared.asked.Asked.{Asked}
 use Rattle.dd_book.specs.declared.call.Reply.{Reply}
 use Rattle.dd_desk.specs.declared.fault.DeskFault.{DeskFault}
 use Rattle.dd_wire.specs.declared.want.Want.{Want}
 use Rattle.dd_wire.specs.declared.want.Want.TheVariants.{Submit, Stop}
 use Rattle.dd_wire.specs.declared.wish.Wish.{Wish}
-use Rattle.dd_wire.proofs.CallerLemmas.{no-stop-line}
+use Rattle.dd_wire.specs.declared.session_asked.SessionAsked.TheVariants as asked
+use Rattle.dd_wire.specs.ExplainedWants.{MeansExplained}
+use Rattle.dd_wire.specs.Wants.{MeansWant}
+use Rattle.dd_wire.proofs.CallerLemmas.{no-stop-explained, no-stop-line}
+use Rattle.dd_session.specs.declared.manner.Manner.{Manner}
+use Rattle.dd_session.specs.Manners.{MeansIn}
 use Rattle.dd_session.specs.Leaving.{GivesUp, Leaves, own_jobs}
 use Rattle.dd_session.specs.Ports.{AreNoStops, AsksNoStop, PortOf, Exchange}
 use Rattle.dd_session.specs.Serving.{Says, SaysAfter, SaysEnd, SaysOne, SaysState, awaited, new_job}
@@ -45,44 +52,56 @@ both-no-stops : (news later : List Exchange) → AreNoStops news → AreNoStops 
 both-no-stops [] later none more = more
 both-no-stops (told ∷ news) later (none, rest) more = (none, both-no-stops news later rest more)
 
-no-stops : (lines : List (List ℕ)) (bytes : List ℕ) (told : List Exchange) (refused : ℕ) → AreServed false lines bytes told refused → AreNoStops told
-no-stops [] bytes told refused (no_bytes, none, no_refusals) = subst AreNoStops (sym none) tt
-no-stops (line ∷ rest) bytes told refused (text, more, split, way) =
+-- explained or not, a line wants no stop without leave
+no-stop-by : (explain : Bool) (line : List ℕ) (wish : Wish) → wish.want ≡ Stop
+    → MatchBool explain (MeansExplained false line (Ok (asked.Book wish))) (MeansWant false line (Ok (asked.Book wish))) → ⊥
+no-stop-by true line wish stops means = no-stop-explained line wish stops means
+no-stop-by false line wish stops means = no-stop-line line wish stops means
+
+no-stop-in : (manner : Manner) (line : List ℕ) (wish : Wish) → manner.allow_stop ≡ false → wish.want ≡ Stop → MeansIn manner line (Ok (asked.Book wish)) → ⊥
+no-stop-in manner line wish without stops means =
+    no-stop-by manner.explain line wish stops
+    (subst (λ (leave : Bool). MatchBool manner.explain (MeansExplained leave line (Ok (asked.Book wish))) (MeansWant leave line (Ok (asked.Book wish)))) without means)
+
+no-stops : (manner : Manner) (lines : List (List ℕ)) (bytes : List ℕ) (told : List Exchange) (refused : ℕ) → manner.allow_stop ≡ false → AreServed manner lines bytes told refused → AreNoStops told
+no-stops manner [] bytes told refused without (no_bytes, none, no_refusals) = subst AreNoStops (sym none) tt
+no-stops manner (line ∷ rest) bytes told refused without (text, more, split, way) =
     elim way [
-      | inl (fault, has, is, later) ↦ no-stops rest more told refused later
+      | inl (tells, later) ↦ no-stops manner rest more told refused without later
       | inr other ↦ elim other [
-        | inl (par, means, is, later) ↦ no-stops rest more told refused later
+        | inl (par, means, is, later) ↦ no-stops manner rest more told refused without later
         | inr further ↦ elim further [
-          | inl (health, means, is, later) ↦ no-stops rest more told refused later
+          | inl (health, means, is, later) ↦ no-stops manner rest more told refused without later
           | inr (wish, said, news, later, here, others, means, says, is, tells, refuses, replies) ↦ subst AreNoStops (sym tells)
-              (both-no-stops news later (says-no-stop wish said news here (λ stops. no-stop-line line wish stops means) says) (no-stops rest more later others replies))
+              (both-no-stops news later (says-no-stop wish said news here (λ stops. no-stop-in manner line wish without stops means) says) (no-stops manner rest more later others without replies))
         ]
       ]
     ]
 
 -- ---- what a session asked for
 
-served-no-stop : (leave : Bool) (before after : PortOf) (lines : List (List ℕ)) (bytes : List ℕ) → leave ≡ false → IsServed leave before lines bytes after → AsksNoStop before.told after.told
-served-no-stop true before after lines bytes without served = cc
-served-no-stop false before after lines bytes without served =
+served-no-stop : (manner : Manner) (before after : PortOf) (lines : List (List ℕ)) (bytes : List ℕ) → manner.allow_stop ≡ false → IsServed manner before lines bytes after → AsksNoStop before.told after.told
+served-no-stop manner before after lines bytes without served =
     record {
       gained = served.told;
       told = ap (λ (p : PortOf). p.told) served.gained;
-      no_stops = no-stops lines bytes served.told served.refused served.replies;
+      no_stops = no-stops manner lines bytes served.told served.refused without served.replies;
     }
 
 -- over lines, however the session ended
-pub lines-no-stop : {E : Type 0} (result : Result (Unit {0}) E) (leave : Bool) (before after : PortOf) (r0 r1 w0 w1 : Option (List ℕ))
-    → OnOk result (ServedAll leave before after r0 r1 w0 w1) → OnErr result (ServedBeginning leave before after r0 r1 w0 w1)
-    → leave ≡ false → AsksNoStop before.told after.told
-lines-no-stop (Ok x) leave before after r0 r1 w0 w1 all some without = served-no-stop leave before after _ _ without all.served
-lines-no-stop (Err e) leave before after r0 r1 w0 w1 all some without = served-no-stop leave before after _ _ without some.served
+pub lines-no-stop : {E : Type 0} (result : Result (Unit {0}) E) (manner : Manner) (before after : PortOf) (r0 r1 w0 w1 : Option (List ℕ))
+    → OnOk result (ServedAll manner before after r0 r1 w0 w1) → OnErr result (ServedBeginning manner before after r0 r1 w0 w1)
+    → manner.allow_stop ≡ false → AsksNoStop before.told after.told
+lines-no-stop (Ok x) manner before after r0 r1 w0 w1 all some without = served-no-stop manner before after _ _ without all.served
+lines-no-stop (Err e) manner before after r0 r1 w0 w1 all some without = served-no-stop manner before after _ _ without some.served
 
 -- and over messages
-pub messages-no-stop : (allow_stop : Bool) (before after : PortOf) → ServesMessages allow_stop before after → allow_stop ≡ false → AsksNoStop before.told after.told
-messages-no-stop true before after serves without = cc
-messages-no-stop false before after (true, given, messages, replies, served) without = let lie : IsTrue false = given refl in cc
-messages-no-stop false before after (false, given, messages, replies, served) without = served-no-stop false before after messages replies refl served
+pub messages-no-stop : (outer : Manner) (before after : PortOf) → ServesMessages outer before after → outer.allow_stop ≡ false → AsksNoStop before.told after.told
+messages-no-stop outer before after (manner, within, messages, replies, served) without =
+    elim (cases_Bool manner.allow_stop) [
+      | inl may ↦ absurd (let outer-may : outer.allow_stop ≡ true = within.leave may in true≢false (sym outer-may ∙ without))
+      | inr may-not ↦ served-no-stop manner before after messages replies may-not served
+    ]
 
 -- ---- when the session leaves
 

@@ -1,4 +1,5 @@
 //! Tests of sessions.
+mod explained;
 mod faults;
 mod leaving;
 mod lines;

@@ -3,7 +3,7 @@ use crate::program::asking::{converse, run_at};
 use crate::program::devices::Outcome;
 use crate::server::client::Way;
 use dd_program::Ending;
-use std::alloc::Global;
+use std::alloc::{AllocError, Global};
 use std::net::{Net, Shutdown, SocketAddr, TcpListener, TcpStream};
 use std::os::fd::OwnedFd;
 use std::test::Fail;
@@ -36,19 +36,37 @@ fn has_ended(alloc: Global, outcome: &Outcome, address: SocketAddr) -> io::Resul
     )
 }
 
+// The replies to a submit, a fetch and a stop, which has this fault.
+fn wanted(alloc: Global, fault: &str) -> Result<String, AllocError> {
+    let done =
+        "{\"cards\":[{\"equals\":0,\"rank\":14,\"score\":1,\"suit\":0}],\"job\":1,\"state\":\"done\"}";
+    format!(in alloc; "{{\"job\":1}}\n{done}\n{fault}\n")
+}
+
 #[test]
 fn without_its_word_no_client_stops_the_program(rt: HostRuntime) -> Result<(), Fail> {
     let alloc = rt.alloc();
+    let plain = "{\"fault\":3}";
+    let explained =
+        "{\"fault\":3,\"field\":\"do\",\"text\":\"a field is missing, unknown or of the wrong kind\"}";
     let rows = [
-        ("ddserve serve --listen 127.0.0.1:0 --workers 1", Way::Lines),
+        (
+            "ddserve serve --listen 127.0.0.1:0 --workers 1",
+            Way::Lines,
+            plain,
+        ),
         (
             "ddserve serve --listen 127.0.0.1:0 --workers 1 --websocket",
             Way::Messages,
+            plain,
+        ),
+        (
+            "ddserve serve --listen 127.0.0.1:0 --workers 1 --explain",
+            Way::Lines,
+            explained,
         ),
     ];
-    let wanted =
-        "{\"job\":1}\n{\"cards\":[{\"equals\":0,\"rank\":14,\"score\":1,\"suit\":0}],\"job\":1,\"state\":\"done\"}\n{\"fault\":3}\n";
-    for (line, way) in rows {
+    for (line, way, fault) in rows {
         let listener = TcpListener::bind(&rt, "127.0.0.1:0")?;
         let address = listener.local_addr()?;
         let handle = TcpStream::from(OwnedFd::from(listener.try_clone()?));
@@ -59,7 +77,7 @@ fn without_its_word_no_client_stops_the_program(rt: HostRuntime) -> Result<(), F
         );
         let told = told.expect(&rt, "the client has its replies");
         let outcome = outcome.expect(&rt, "a run");
-        assert_eq!(rt; told.as_str(), wanted);
+        assert_eq!(rt; told.as_str(), wanted(alloc, fault)?.as_str());
         assert!(rt; has_ended(alloc, &outcome, address)?);
     }
     Ok(())

@@ -101,11 +101,27 @@ fn a_line_of_serve_has_its_options_and_the_defaults_of_the_others(rt: HostRuntim
                 idle: Some(600),
                 websocket: false,
                 allow_stop: true,
+                explain: false,
             },
         ) => listen.as_str() == "127.0.0.1:0",
         _ => false,
     };
     assert!(rt; found);
+}
+
+#[test]
+fn a_server_explains_where_the_flag_is_given(rt: HostRuntime) {
+    let found = [
+        "ddserve serve --listen a",
+        "ddserve serve --listen a --explain",
+        "ddserve serve --explain --listen a --allow-stop",
+        "ddserve serve --listen a --allow-stop --websocket",
+    ]
+    .map(|line| match read(rt.alloc(), line) {
+        Ok(Args::Serve { explain, .. }) => Some(explain),
+        _ => None,
+    });
+    assert_eq!(rt; found, [Some(false), Some(true), Some(true), Some(false)]);
 }
 
 #[test]

@@ -20,6 +20,7 @@ pub struct Run {
     pub budget: Option<u64>,
     pub websocket: bool,
     pub allow_stop: bool,
+    pub explain: bool,
     /// For how many milliseconds a client without an open job may be silent.
     pub idle: Option<u64>,
     /// For how many milliseconds a run that is worn waits for its sessions.
@@ -34,6 +35,7 @@ pub const LINES: Run = Run {
     budget: None,
     websocket: false,
     allow_stop: true,
+    explain: false,
     idle: None,
     grace: 60_000,
 };
@@ -80,6 +82,7 @@ pub fn serve_runs<R: Threads + Wait + Clock + Eprint + Sync, G: Gate + Sync>(
         budget: run.budget,
         websocket: run.websocket,
         allow_stop: run.allow_stop,
+        explain: run.explain,
         idle: run.idle,
         grace: run.grace,
     };

@@ -1,5 +1,5 @@
 //! What follows a line.
-use crate::session::words::plain;
+use crate::session::words::{plain, plainly};
 use dd_session::{Session, Step};
 use dd_wire::Want;
 use request_tests::rows::{after_bar, before_bar};
@@ -61,7 +61,7 @@ play within 250|{"do":"play","deal":"N:32... K4... AQ... 65...","trump":4,"first
 
 #[test]
 fn each_line_asks_or_has_its_fault(rt: HostRuntime) -> Result<(), Fail> {
-    let session = Session::new(rt.alloc(), true);
+    let session = Session::new(rt.alloc(), plainly(true));
     for row in LINES.split(|byte| *byte == b'\n') {
         let step = plain(rt.alloc(), &session.on_line(after_bar(row)))?;
         assert_eq!(rt; step.as_bytes(), before_bar(row), "at {row:?}");
@@ -71,7 +71,7 @@ fn each_line_asks_or_has_its_fault(rt: HostRuntime) -> Result<(), Fail> {
 
 #[test]
 fn a_stop_without_leave_is_unknown(rt: HostRuntime) -> Result<(), Fail> {
-    let session = Session::new(rt.alloc(), false);
+    let session = Session::new(rt.alloc(), plainly(false));
     let stop = plain(rt.alloc(), &session.on_line(br#"{"do":"stop"}"#))?;
     assert_eq!(rt; stop.as_str(), r#"{"fault":3}"#);
     Ok(())
@@ -82,7 +82,7 @@ const SERVED: &[u8] =
 
 #[test]
 fn a_line_has_at_most_4096_bytes(rt: HostRuntime) -> Result<(), Fail> {
-    let session = Session::new(rt.alloc(), false);
+    let session = Session::new(rt.alloc(), plainly(false));
     let mut line = [b' '; 4_097];
     line[..SERVED.len()].copy_from_slice(SERVED);
     let longest = plain(rt.alloc(), &session.on_line(&line[..4_096]))?;
@@ -110,7 +110,7 @@ fn nested(alloc: Global, depth: usize) -> Result<String, AllocError> {
 
 #[test]
 fn hostile_lines_have_their_faults(rt: HostRuntime) -> Result<(), Fail> {
-    let session = Session::new(rt.alloc(), true);
+    let session = Session::new(rt.alloc(), plainly(true));
     let deep = nested(rt.alloc(), 200)?;
     let less = nested(rt.alloc(), 100)?;
     for (line, fault) in [
@@ -130,7 +130,7 @@ fn hostile_lines_have_their_faults(rt: HostRuntime) -> Result<(), Fail> {
 
 #[test]
 fn a_line_cut_short_is_no_object(rt: HostRuntime) -> Result<(), Fail> {
-    let session = Session::new(rt.alloc(), true);
+    let session = Session::new(rt.alloc(), plainly(true));
     for end in 0..SERVED.len() {
         let step = plain(rt.alloc(), &session.on_line(&SERVED[..end]))?;
         assert_eq!(rt; step.as_str(), r#"{"fault":1}"#, "at {end}");
@@ -141,9 +141,9 @@ fn a_line_cut_short_is_no_object(rt: HostRuntime) -> Result<(), Fail> {
 // Does the line ask, and is it told that memory ran out?
 fn asks_or_is_refused(session: &Session, line: &[u8]) -> (bool, bool) {
     match session.on_line(line) {
-        Step::Ask(wish) => (matches!(wish.want, Want::Submit(_)), false),
+        Step::Ask(wish, _) => (matches!(wish.want, Want::Submit(_)), false),
         Step::Say(text) => (false, text.as_str() == r#"{"fault":19}"#),
-        Step::Look => (false, false),
+        Step::Look(_) => (false, false),
     }
 }
 
@@ -151,7 +151,7 @@ fn asks_or_is_refused(session: &Session, line: &[u8]) -> (bool, bool) {
 // may be refused.
 #[test]
 fn a_line_that_finds_no_memory_asks_when_it_comes_again(rt: HostRuntime) {
-    let session = Session::new(rt.alloc(), false);
+    let session = Session::new(rt.alloc(), plainly(false));
     let (asks, refused) = asks_or_is_refused(&session, SERVED);
     let (asks_again, refused_again) = asks_or_is_refused(&session, SERVED);
     assert!(rt; asks && (asks_again || refused_again) || refused && asks_again);

@@ -1,5 +1,5 @@
 //! What follows a message.
-use crate::session::words::plain;
+use crate::session::words::{plain, plainly};
 use dd_session::Session;
 use std::alloc::{AllocError, Global};
 use std::test::Fail;
@@ -7,7 +7,7 @@ use tungstenite::{Bytes, Message};
 
 // What follows a message, in a word.
 fn follows(alloc: Global, message: &Message) -> Result<String, AllocError> {
-    match Session::new(alloc, true).on_message(message) {
+    match Session::new(alloc, plainly(true)).on_message(message) {
         Some(step) => plain(alloc, &step),
         None => String::from_str(alloc, "nothing"),
     }

@@ -1,4 +1,5 @@
 //! The texts of a book's replies.
+use crate::session::words::plainly;
 use dd_book::{Book, Limits};
 use dd_session::Session;
 use request_tests::book::words::call;
@@ -95,7 +96,7 @@ const PLAY: &[u8] = br#"1 submits Q|{"job":1}
 
 // The first row whose call is replied with another text, or nothing.
 fn first_with_another_text(alloc: Global, table: &'static [u8]) -> Option<&'static [u8]> {
-    let session = Session::new(alloc, true);
+    let session = Session::new(alloc, plainly(true));
     let mut book = Book::new(alloc, Limits::new(1, 4, 4, 100)?);
     for row in table.split(|byte| *byte == b'\n') {
         let words = str::from_utf8(before_bar(row)).ok()?;
@@ -105,7 +106,7 @@ fn first_with_another_text(alloc: Global, table: &'static [u8]) -> Option<&'stat
         let Ok(reply) = book.apply(call(words)?) else {
             return Some(row);
         };
-        if session.on_reply(&reply).as_str().as_bytes() != after_bar(row) {
+        if session.on_reply(&reply, None).as_str().as_bytes() != after_bar(row) {
             return Some(row);
         }
     }

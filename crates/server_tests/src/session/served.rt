@@ -5,7 +5,7 @@ ghost use Rattle.once_cell.specs.Once.{cell_name};
 use dd_book::Limits;
 use dd_desk::{Desk, Naming, Row};
 use dd_lines::{CountedDevice, LineFault};
-use dd_session::{BookPort, DeskPort, SocketEnd, serve_lines, serve_socket};
+use dd_session::{BookPort, DeskPort, Manner, SocketEnd, serve_lines, serve_socket};
 use request_tests::devices::{Pieces, Taker};
 use std::alloc::Global;
 use std::marker::Brand;
@@ -33,6 +33,7 @@ pub struct Client {
     pub room: usize,
     pub events: u64,
     pub allow_stop: bool,
+    pub explain: bool,
 }
 
 /// How a session ended.
@@ -62,18 +63,22 @@ pub fn serve_port<P: BookPort>(alloc: Global, client: &Client, port: &mut P) -> 
         most: usize::MAX,
         room: client.room,
     };
+    let manner = Manner {
+        allow_stop: client.allow_stop,
+        explain: client.explain,
+    };
     let end = match client.way {
         Way::Lines => {
             let mut reader = CountedDevice::new(pieces);
             let mut writer = CountedDevice::new(&mut taker);
-            End::Lines(serve_lines(alloc, &mut reader, &mut writer, port, client.allow_stop))
+            End::Lines(serve_lines(alloc, &mut reader, &mut writer, port, manner))
         }
         Way::Socket => {
             let stream = Duplex {
                 reader: pieces,
                 writer: &mut taker,
             };
-            End::Socket(serve_socket(alloc, stream, port, client.allow_stop))
+            End::Socket(serve_socket(alloc, stream, port, manner))
         }
     };
     (end, taker.taken)

@@ -61,6 +61,7 @@ fn client(alloc: Global, headers: &[u8]) -> Result<Client, AllocError> {
         room: usize::MAX,
         events: 100,
         allow_stop: true,
+        explain: false,
     })
 }
 

@@ -1,6 +1,6 @@
 //! Lines whose replies wait for the end of a job, at a desk of their own that nobody works at.
 use crate::session::served::{Client, End, Served, serve};
-use crate::session::words::plain;
+use crate::session::words::{plain, plainly};
 use crate::session::worked::client;
 use dd_session::Session;
 use request_tests::rows::{after_bar, before_bar};
@@ -31,7 +31,7 @@ table within 5|{"do":"table","deal":"N:A... K... Q... J...","wait":5}
 
 #[test]
 fn a_wait_is_a_whole_number_of_milliseconds(rt: HostRuntime) -> Result<(), Fail> {
-    let session = Session::new(rt.alloc(), true);
+    let session = Session::new(rt.alloc(), plainly(true));
     for row in LINES.split(|byte| *byte == b'\n') {
         let step = plain(rt.alloc(), &session.on_line(after_bar(row)))?;
         assert_eq!(rt; step.as_bytes(), before_bar(row), "at {row:?}");

@@ -1,15 +1,23 @@
 //! What follows a line, in words.
-use dd_session::Step;
+use dd_session::{Manner, Step};
 use dd_solve::Asked;
 use dd_wire::{Want, Wish};
 use std::alloc::{AllocError, Global};
+
+/// A manner that explains nothing, with leave to stop or without.
+pub fn plainly(allow_stop: bool) -> Manner {
+    Manner {
+        allow_stop,
+        explain: false,
+    }
+}
 
 /// A step in a word: what is wanted, with the job that it names and the wait where there is one, or the text that is said.
 pub fn plain(alloc: Global, step: &Step) -> Result<String, AllocError> {
     match step {
         Step::Say(text) => String::from_str(alloc, text.as_str()),
-        Step::Ask(wish) => wished(alloc, wish),
-        Step::Look => String::from_str(alloc, "health"),
+        Step::Ask(wish, _) => wished(alloc, wish),
+        Step::Look(_) => String::from_str(alloc, "health"),
     }
 }
 

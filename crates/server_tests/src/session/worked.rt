@@ -15,6 +15,7 @@ pub fn client(alloc: Global, lines: &[u8]) -> Result<Client, AllocError> {
         room: usize::MAX,
         events: 100,
         allow_stop: true,
+        explain: false,
     })
 }
 

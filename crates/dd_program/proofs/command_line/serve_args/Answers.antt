@@ -16,4 +16,5 @@ returns c = (
   (c.limit_of-2.result, c.limit_of-2.ensures, c.limit_in-2.ensures),
   c.is_set.ensures,
   c.is_set-2.ensures,
+  c.is_set-explain.ensures,
 )

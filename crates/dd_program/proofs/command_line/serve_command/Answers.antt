@@ -1,6 +1,6 @@
 use Rattle.std.proofs.Common.{codes}
 use Rattle.clap.specs.Words.{new_app}
-use Rattle.dd_program.specs.Program.{listen_rule, workers_rule, shards_rule, shard_entries_rule, budget_rule, events_rule, idle_rule, websocket_rule, allow_stop_rule}
+use Rattle.dd_program.specs.Program.{listen_rule, workers_rule, shards_rule, shard_entries_rule, budget_rule, events_rule, idle_rule, websocket_rule, allow_stop_rule, explain_rule}
 use Rattle.dd_program.proofs.ServeWords.{Holds, adds, adds-last}
 use Rattle.dd_program.proofs.command_line.serve_command.Goals as goal
 
@@ -15,4 +15,5 @@ returns c =
     let six = adds _ events_rule _ c.events_option.result c.in_ok-arg-6.field-0 c.in_ok-arg-6.ensures c.events_option.ensures five in
     let seven = adds _ idle_rule _ c.idle_option.result c.in_ok-arg-7.field-0 c.in_ok-arg-7.ensures c.idle_option.ensures six in
     let eight = adds _ websocket_rule _ c.websocket_flag.result c.in_ok-arg-8.field-0 c.in_ok-arg-8.ensures c.websocket_flag.ensures seven in
-    adds-last _ allow_stop_rule _ c.allow_stop_flag.result c.arg-9.result c.arg-9.ensures c.allow_stop_flag.ensures eight
+    let nine = adds _ allow_stop_rule _ c.allow_stop_flag.result c.in_ok-arg-9.field-0 c.in_ok-arg-9.ensures c.allow_stop_flag.ensures eight in
+    adds-last _ explain_rule _ c.explain_flag.result c.arg-10.result c.arg-10.ensures c.explain_flag.ensures nine

@@ -15,7 +15,7 @@ returns-in-Ok-Serve g c =
     inl (
       c.in-Ok-Serve.field-0,
       c.in-Ok-Serve.ensures.asked,
-      as-serve c.in-Ok-Serve.field-0 _ _ _ _ _ _ _ _ _ (streams input (state_of g.O.Write.contents c.args.output.now) (state_of g.E.Write.contents c.args.errors.now))
+      as-serve c.in-Ok-Serve.field-0 _ _ _ _ _ _ _ _ _ _ (streams input (state_of g.O.Write.contents c.args.output.now) (state_of g.E.Write.contents c.args.errors.now))
           (streams input (state_of g.O.Write.contents c.serve.new.output) (state_of g.E.Write.contents c.serve.new.errors)) c.serve.result c.in-Ok-Serve.field-0-is (c.serve.ensures input),
     )
 
