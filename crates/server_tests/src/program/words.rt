@@ -109,19 +109,28 @@ fn a_line_of_serve_has_its_options_and_the_defaults_of_the_others(rt: HostRuntim
     assert!(rt; found);
 }
 
+// Whether a server is to explain, by the options of this line. `None` stands for a line that is none.
+fn explains(alloc: Global, options: &str) -> Result<Option<bool>, Fail> {
+    let line = format!(in alloc; "ddserve serve --listen a {options}")?;
+    match read(alloc, line.as_str()) {
+        Ok(Args::Serve { explain, .. }) => Ok(Some(explain)),
+        _ => Ok(None),
+    }
+}
+
 #[test]
-fn a_server_explains_where_the_flag_is_given(rt: HostRuntime) {
-    let found = [
-        "ddserve serve --listen a",
-        "ddserve serve --listen a --explain",
-        "ddserve serve --explain --listen a --allow-stop",
-        "ddserve serve --listen a --allow-stop --websocket",
-    ]
-    .map(|line| match read(rt.alloc(), line) {
-        Ok(Args::Serve { explain, .. }) => Some(explain),
-        _ => None,
-    });
-    assert_eq!(rt; found, [Some(false), Some(true), Some(true), Some(false)]);
+fn a_server_explains_where_the_flag_is_given(rt: HostRuntime) -> Result<(), Fail> {
+    for (options, explain) in [
+        ("--allow-stop", Some(false)),
+        ("--explain", Some(true)),
+        ("--explain --allow-stop", Some(true)),
+        ("--websocket --workers 2", Some(false)),
+        ("--explain=1", None),
+    ] {
+        let found = explains(rt.alloc(), options)?;
+        assert_eq!(rt; found, explain, "at {options}");
+    }
+    Ok(())
 }
 
 #[test]

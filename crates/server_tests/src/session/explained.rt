@@ -120,26 +120,31 @@ fn each_refusal_has_its_words(rt: HostRuntime) {
         explain: true,
     };
     let session = Session::new(rt.alloc(), manner);
-    let told = [
-        Refusal::OpenJobs,
-        Refusal::BookFull,
-        Refusal::UnknownJob,
-        Refusal::JobEnded,
-        Refusal::ShuttingDown,
-    ]
-    .map(|refusal| session.on_reply(&Reply::Fault(refusal), None));
-    let wanted = [
-        r#"{"fault":13,"text":"this connection has as many open jobs as it may have"}"#,
-        r#"{"fault":14,"text":"the list of the run's jobs is full"}"#,
-        r#"{"fault":16,"field":"job","text":"this connection has no job of that number"}"#,
-        r#"{"fault":17,"text":"the job has ended, and there is nothing to cancel"}"#,
-        r#"{"fault":18,"text":"the server is closing and takes no more jobs"}"#,
-    ];
-    assert!(rt;
-        told.iter()
-            .zip(wanted)
-            .all(|(text, words)| text.as_str() == words)
-    );
+    for (refusal, words) in [
+        (
+            Refusal::OpenJobs,
+            r#"{"fault":13,"text":"this connection has as many open jobs as it may have"}"#,
+        ),
+        (
+            Refusal::BookFull,
+            r#"{"fault":14,"text":"the list of the run's jobs is full"}"#,
+        ),
+        (
+            Refusal::UnknownJob,
+            r#"{"fault":16,"field":"job","text":"this connection has no job of that number"}"#,
+        ),
+        (
+            Refusal::JobEnded,
+            r#"{"fault":17,"text":"the job has ended, and there is nothing to cancel"}"#,
+        ),
+        (
+            Refusal::ShuttingDown,
+            r#"{"fault":18,"text":"the server is closing and takes no more jobs"}"#,
+        ),
+    ] {
+        let text = session.on_reply(&Reply::Fault(refusal), None);
+        assert_eq!(rt; text.as_str(), words);
+    }
     let memory = write_refusal(DeskFault::OutOfMemory, true);
     let plain = write_refusal(DeskFault::OutOfMemory, false);
     assert_eq!(rt;
