@@ -33,9 +33,9 @@ ROWS = [
     ('{"do":"health","job":1}', f'{{"fault":3,"field":"job","text":"{WRONG}"}}'),
     ('{"do":"health","id":-1}', f'{{"fault":3,"field":"id","text":"{WRONG}"}}'),
     (named(PAR, '"p"'), reply('"p"', PAR_REPLY)),
-    ('', '{"fault":2,"text":"the line is blank"}'),
-    ('\ufeff{"do":"health"}', '{"fault":2,"text":"the line begins with a byte-order mark, which is to be left out"}'),
-    (f'{{"do":"health","id":"{4096 * "x"}"}}', '{"fault":1,"text":"the line is over 4096 bytes"}'),
+    ('', '{"fault":1,"text":"the line is blank"}'),
+    ('\ufeff{"do":"health"}', '{"fault":1,"text":"the line begins with a byte-order mark, which is to be left out"}'),
+    (f'{{"do":"health","id":"{4096 * "x"}"}}', '{"fault":2,"text":"the line is over 4096 bytes"}'),
     (named(STOP, '"s"'), reply('"s"', CLOSING)),
 ]
 # Two submits, two fetches, the claim and the finish of each, the two refusals, and the stop.
