@@ -25,8 +25,9 @@ TIMES = f"{OUT}/log/times.tsv"
 # What a crate is made from, and what rt keeps of it.
 PARTS = ("src", "specs", "proofs")
 KEPT = ("incremental", "rlib")
-# The memory that one at a time is given.
+# The memory that one at a time is given, and that of a job.
 SHARE = 4 << 30
+JOB_SHARE = 2 << 30
 # More jobs in one crate seldom help.
 MOST_JOBS = 4
 # rt ends so where the system killed the prover, mostly for memory.
@@ -102,7 +103,8 @@ def number_in(path, pattern):
 
 
 def side_by_side():
-    """Returns how many may run at once: as many as there are processors, and each with its share of memory."""
+    """Returns how many may run at once: as many as there are processors, and each with its share of memory; and for how many jobs
+    there is memory."""
     group = "/sys/fs/cgroup"
     processors = len(os.sched_getaffinity(0))
     quota, period = number_in(f"{group}/cpu.max", r"^(\d+)"), number_in(f"{group}/cpu.max", r" (\d+)")
@@ -112,7 +114,7 @@ def side_by_side():
     limit, held = number_in(f"{group}/memory.max", r"^(\d+)"), number_in(f"{group}/memory.stat", r"^anon (\d+)")
     if limit and held is not None:
         free = min(free, limit - held)
-    return max(1, min(processors, free // SHARE))
+    return max(1, min(processors, free // SHARE)), free // JOB_SHARE
 
 
 def link(source, target):
@@ -207,7 +209,7 @@ class Prover:
         self.below = closure(self.uses)
         chain = chains(self.uses)
         self.order = sorted(self.uses, key=lambda it: (-chain[it], it))
-        self.most = side_by_side()
+        self.most, self.most_jobs = side_by_side()
         self.done, self.running, self.again = set(), {}, set()
         self.begin = time.time()
         self.told = self.begin
@@ -229,8 +231,9 @@ class Prover:
         return "now " + ", ".join(it for it in self.order if it in self.running)
 
     def start_ready(self):
-        """Starts what can be, that with the longest way above it first and with what processors the others leave. On that
-        way, which says how long the whole takes, a crate has two jobs even where others leave one."""
+        """Starts what can be, that with the longest way above it first and with what processors the others leave. Where memory
+        allows it a crate has two jobs even where others leave one, and on the longest way, which says how long the whole takes, four:
+        for a third of its time a run has work for one processor alone."""
         left = [it for it in self.order if it != PROGRAM and it not in self.done and it not in self.running]
         ready = [it for it in left if self.below[it] <= self.done]
         # What was killed once runs alone.
@@ -240,9 +243,10 @@ class Prover:
         for place, name in enumerate(ready):
             if len(self.running) == self.most:
                 break
-            free = self.most - sum(it.jobs for it in self.running.values()) - (len(ready) - place - 1)
-            least = 2 if name == left[0] and self.most > 2 else 1
-            jobs = 1 if name in self.again else max(least, min(free, MOST_JOBS))
+            used = sum(it.jobs for it in self.running.values())
+            free = self.most - used - (len(ready) - place - 1)
+            least = min(MOST_JOBS if name == left[0] else 2, self.most_jobs - used) if self.most > 2 else 1
+            jobs = 1 if name in self.again else max(1, least, min(free, MOST_JOBS))
             self.running[name] = Crate(name, self.below[name], jobs, self.guard.pid)
 
     def libraries(self):

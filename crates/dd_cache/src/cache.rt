@@ -51,9 +51,9 @@ pub struct Cache<B> {
     // leads that settled starts of a trick lately, by place of their outlines, and by leader and number of tricks
     of_outlines: Vec<SettlingLead>,
     of_leaders: [SettlingLead; LEADERS],
-    // the number of the deal of which the last look was, from 1 on
+    // the number of the deal of which the last search is, from 1 on
     generation: u8,
-    // the deal of which the last look was
+    // the most of this deal of which a search was
     deal: Deal,
 }
 
@@ -96,18 +96,12 @@ impl<B> Cache<B> {
         &mut self.behind
     }
 
-    // A search of this position begins. Where it is of another deal than the last one its pages go to the places of the first
-    // ones again: what these know serves it no more than others, and few places stay in the processor's caches.
-    fn begin(&mut self, start: &TrickStart) {
-        let deal = Deal::of(start);
-        if !deal.is_later_in(&self.deal) {
-            self.deal = deal;
-            let over = self.next % PAGES;
-            if over != 0 {
-                self.next = self.next.wrapping_add(PAGES - over);
-            }
-            self.forget_leads();
-        }
+    // A search of another deal begins. Its pages go to the places of the first ones again, so that few places stay in the
+    // processor's caches. Those of the deal before serve it no more: by numbers a ring further on they count as overwritten.
+    fn begin_deal(&mut self) {
+        let over = self.next % PAGES;
+        self.next = self.next.wrapping_add(2 * PAGES - over);
+        self.forget_leads();
     }
 
     // Leads of the deals before are known no more: by a new number, and where there is none left by clearing all places.
@@ -263,8 +257,20 @@ impl<B: Bounds> Bounds for Cache<B> {
 
     ghost holds = { λ cache p depths interval q told. told q };
 
+    /// Forgets leads where the position is of another deal than the last one: neither later nor earlier in its play, from whose
+    /// end a trace goes back.
+    fn begin(&mut self, position: &Position) {
+        let deal = Deal::of(position);
+        if deal.is_later_in(&self.deal) {
+            return;
+        }
+        if !self.deal.is_later_in(&deal) {
+            self.begin_deal();
+        }
+        self.deal = deal;
+    }
+
     fn look(&mut self, start: &TrickStart) -> Option<(Interval, Depths)> {
-        self.begin(start);
         if !is_worth_keeping(start) {
             return None;
         }
@@ -377,8 +383,7 @@ fn is_worth_sharing(start: &TrickStart) -> bool {
 }
 
 impl Deal {
-    fn of(start: &TrickStart) -> Deal {
-        let position = start.position();
+    fn of(position: &Position) -> Deal {
         let hands = position.hands();
         Deal {
             strain: position.strain().code(),

@@ -40,14 +40,17 @@ impl StoredBounds {
         ensures settles { IsTrue result → (need ≤ self.now.interval.lo)
             ⊎ (self.now.interval.hi < need) }
     {
-        (need <= self.interval.lo || self.interval.hi < need) && self.firsts.are_in(strings)
+        // All is asked: which of it fails would seldom be foreseen.
+        let settles = (need <= self.interval.lo) | (self.interval.hi < need);
+        let holds = self.firsts.are_in(strings);
+        settles & holds
     }
 
     /// Does it make the other needless, which is of its shape: it says as much of no fewer positions?
     #[inline]
     pub(crate) fn replaces(&self, other: &StoredBounds) -> bool {
-        other.interval.lo <= self.interval.lo
-            && self.interval.hi <= other.interval.hi
-            && self.firsts.include(&other.firsts)
+        let says_as_much =
+            (other.interval.lo <= self.interval.lo) & (self.interval.hi <= other.interval.hi);
+        says_as_much & self.firsts.include(&other.firsts)
     }
 }

@@ -14,6 +14,7 @@ pub mod Twins
 pub mod ClaimRules
 pub mod HandsAfter
 pub mod InPlay
+pub mod LedBy
 pub mod Fewer
 pub mod Worth
 pub mod Contests

@@ -105,6 +105,23 @@ impl Position {
         }
     }
 
+    /// The same start of a trick, where this seat leads.
+    #[inline]
+    pub fn led_by(&self, seat: Seat) -> Position
+        requires start { self.now.trick ≡ [] }
+        ensures led { result ≡ board_of self.now.hands self.now.strain seat [] }
+        ensures board { IsBoard self.now }
+    {
+        Position {
+            hands: self.hands.copy(),
+            in_play: self.in_play,
+            strain: self.strain,
+            first: seat,
+            trick: self.trick,
+            played: 0,
+        }
+    }
+
     pub fn hands(&self) -> &Hands
         ensures hands { result.now ≡ self.now.hands }
         ensures board { IsBoard self.now }

@@ -274,5 +274,8 @@ fn with_next(position: &Position, cards: Hand, suit: Suit, tricks: u8) -> Hand
     ensures more { (c : PlayingCard) → has_card cards c ≡ true → has_card result c ≡ true }
     ensures next { RestsOnNext position.now suit result tricks }
 {
+    if tricks == 0 {
+        return cards;
+    }
     with_highest(cards, suit, next_run(position, suit), tricks)
 }

@@ -182,5 +182,8 @@ pub(crate) fn with_winners(
     ensures winners { RestsOn position.now suit result (min tricks cash.depth) }
 {
     let count = tricks.min(cash.depth);
+    if count == 0 {
+        return cards;
+    }
     with_highest(cards, suit, run(position, position.first(), suit), count)
 }

@@ -10,7 +10,6 @@ ghost use Rattle.dd_cards.specs.declared.suit.Suit.TheVariants.{Spades, Hearts, 
 ghost use Rattle.dd_cards.specs.PlayingCard.{PlayingCard};
 ghost use Rattle.dd_cards.specs.Cards.{has_card};
 ghost use Rattle.dd_cards.specs.Sides.{side_of, other_side};
-ghost use Rattle.dd_play.specs.Board.{IsBoard, board_of};
 ghost use Rattle.dd_play.specs.Play.{after, legal};
 ghost use Rattle.dd_play.specs.Reach.{reach, TakesBy};
 ghost use Rattle.dd_quick.specs.QuickTricks.{IsCash, side_tricks, joint_trumps};
@@ -36,20 +35,11 @@ pub fn for_second_hand(position: &Position, seat: Seat, suit: Suit, need: u8) ->
         → card.suit ≡ suit → TakesBy (reach cards) (other_side (side_of position.now.first))
         (after position.now card) need) }
 {
-    let before = led_by(position, seat)?;
+    let before = position.led_by(seat);
     match position.strain() {
         Strain::Trump(trump) if trump == suit => after_a_trump(&before, suit, need),
         _ => after_a_side_suit(&before, suit, need),
     }
-}
-
-// The position with this seat to lead in the leader's place.
-fn led_by(position: &Position, seat: Seat) -> Option<Position>
-    ensures before { IfSome result (λ before. before
-        ≡ board_of position.now.hands position.now.strain seat []) }
-    ensures board { IsBoard position.now }
-{
-    Position::new(position.hands().copy(), position.strain(), seat, &[]).ok()
 }
 
 // The same by what is sure before the lead, where a side suit is led.

@@ -23,4 +23,4 @@ pub use likeness::are_alike;
 pub use owner_strings::OwnerStrings;
 pub use rank_key::RankKey;
 pub use shape::Shape;
-pub use signature::{FirstSignature, FirstSignatures, Signature};
+pub use signature::{FirstSignature, FirstSignatures, Signature, TwoHighest};

@@ -49,7 +49,14 @@ impl Default for FirstSignatures {
     }
 }
 
-impl Signature {
+/// Who holds the two highest cards of each suit of a start of a trick.
+// Sixteen bits a suit, the spades' on top, and in them the two bits of the second and fourth hand the lowest.
+#[derive(Clone, Copy, Debug)]
+pub struct TwoHighest {
+    owners: u64,
+}
+
+impl TwoHighest {
     /// Who holds the two highest cards of this suit, as a number: of the lowest two bits the second is set where the second or the
     /// fourth hand has the highest card, the first where one of them has the next; so are the two above for the third and the
     /// fourth hand. The hands are counted from the leader's, and where a card is missing no bit is set.
@@ -57,11 +64,25 @@ impl Signature {
     pub fn of_suit(self, suit: Suit) -> u8
         ensures { result ≤ 15 }
     {
-        ((self.owners >> (12 - 4 * suit.code())) % 16) as u8
+        ((self.owners >> (48 - 16 * suit.code())) % 16) as u8
+    }
+
+    /// The same of all suits: sixteen bits for each, the spades' on top.
+    #[inline]
+    pub fn of_suits(self) -> u64 {
+        self.owners
     }
 }
 
 impl OwnerStrings {
+    /// Who holds the two highest cards of each suit.
+    #[inline]
+    pub fn two_highest(&self) -> TwoHighest {
+        TwoHighest {
+            owners: two_highest(self.places),
+        }
+    }
+
     /// The owners of the two highest cards of each suit.
     #[inline]
     pub fn signature(&self) -> Signature {
@@ -114,11 +135,16 @@ impl FirstSignatures {
     }
 }
 
-// The owners of the two highest cards of each suit.
-// The two bits of a suit are brought together, and then by the product the four suits.
+// The owners of the two highest cards of each suit, sixteen bits a suit.
 #[inline]
-fn top_two(places: OwnerPlanes) -> u16 {
+fn two_highest(places: OwnerPlanes) -> u64 {
     let odd = places.odd >> 13 & TWO_LOWEST;
     let far = places.far >> 11 & TWO_LOWEST << 2;
-    ((odd | far).wrapping_mul(GATHER) >> 48) as u16
+    odd | far
+}
+
+// The same, four bits a suit: brought together by the product.
+#[inline]
+fn top_two(places: OwnerPlanes) -> u16 {
+    (two_highest(places).wrapping_mul(GATHER) >> 48) as u16
 }

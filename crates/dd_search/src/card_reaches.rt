@@ -26,6 +26,7 @@ pub fn reaches<B: Bounds, M: Meter>(
     // It has an answer where the meter can say nothing else than to go on.
     ensures answers { IsEndless M.says → IsOk result }
 {
+    table.begin(position);
     let north_south = position.mover().is_north_south();
     // East and West take so many where North and South do not take one more than the rest.
     let need = if north_south {

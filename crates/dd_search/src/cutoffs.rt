@@ -10,6 +10,7 @@ ghost use Rattle.dd_play.specs.Play.{legal};
 ghost use Rattle.dd_play.specs.Value.{leaders_tricks};
 ghost use Rattle.dd_play.specs.Intervals.{Holds};
 ghost use Rattle.dd_play.specs.Reach.{reach, TakesBy};
+ghost use Rattle.dd_quick.specs.SecondHand.{Opposes};
 ghost use Rattle.dd_rank.specs.Depths.{all_cards, depth_in, Covers};
 ghost use Rattle.dd_rank.specs.Strings.{strings_of};
 ghost use Rattle.dd_search.specs.ClaimsBy.{IsAnswerAfter, IsAnswerBy, IsWindow, north_souths};
@@ -21,7 +22,7 @@ use crate::second_hands::SecondHands;
 use crate::table::{Bounds, ProbeHint};
 use crate::turn::Turn;
 use crate::verdict::Verdict;
-use dd_cards::Card;
+use dd_cards::{Card, Seat};
 use dd_play::{Interval, Position, TrickStart};
 use dd_quick::{against_leader, bounds as quick_bounds, for_leader, for_second_hand};
 use dd_rank::{Depths, OwnerStrings};
@@ -41,14 +42,14 @@ pub(crate) fn quick_answer(start: &TrickStart, strings: &OwnerStrings, need: u8)
     let leaders = if leads { need } else { others };
     let against = if leads { others } else { need };
     let shape = strings.shape();
-    let tops = strings.signature();
+    let tops = strings.two_highest();
     let strain = position.strain();
     if may_have_quick_tricks(shape.lengths(), tops, strain, 0, left, leaders) {
         if let Some(cards) = for_leader(start, leaders) {
             return Some(Verdict::new(leads, cards));
         }
     }
-    if !others_may_have(shape, against) {
+    if !others_may_have(shape, tops, against) {
         return None;
     }
     let cards = against_leader(start, against)?;
@@ -98,26 +99,30 @@ pub(crate) fn second_hands_answer(
         (λ found. IsAnswerAfter position.now need card found.cards found.yes) }
 {
     match turn {
-        Turn::First => answer_by_second_hand(position, card, need, seconds),
+        Turn::First => {
+            let seat = seconds.to_ask(position, card)?;
+            answer_of_second_hand(position, seat, card, need, seconds)
+        }
         Turn::Second | Turn::Third | Turn::Fourth => None,
     }
 }
 
-// The same where no card is on the trick.
-fn answer_by_second_hand(
+// The same where no card is on the trick, by the quick tricks of this opponent.
+fn answer_of_second_hand(
     position: &Position,
+    seat: Seat,
     card: Card,
     need: u8,
     seconds: &mut SecondHands,
 ) -> Option<Verdict>
     requires legal { has_card (legal position.now) card ≡ true }
     requires start { length position.now.trick ≡ 0 }
+    requires opposes { Opposes position.now seat }
     requires low { 1 ≤ need }
     requires high { need ≤ tricks_left position.now }
     ensures found { IfSome result
         (λ found. IsAnswerAfter position.now need card found.cards found.yes) }
 {
-    let seat = seconds.to_ask(position, card)?;
     let leads = position.first().is_north_south();
     let left = position.tricks_left();
     let others = if leads { left + 1 - need } else { need };

@@ -26,6 +26,7 @@ pub fn value_at_least<B: Bounds, M: Meter>(
     // It has an answer where the meter can say nothing else than to go on.
     ensures answers { IsEndless M.says → IsOk result }
 {
+    table.begin(position);
     let left = position.tricks_left();
     let mut tricks = least;
     'tricks: while tricks < left {

@@ -10,7 +10,7 @@ use crate::suit_lanes::{LOWEST, LOWEST_FOUR, at, has_lowest, nonzero, place, sev
 use crate::table::LeadHistory;
 use dd_cards::{Card, Hand, Holding, Rank, Strain, Suit};
 use dd_play::Position;
-use dd_rank::{OwnerStrings, Signature};
+use dd_rank::{OwnerStrings, TwoHighest};
 use std::marker::Model;
 
 /// A card to try, and how good it looks.
@@ -40,6 +40,12 @@ impl Default for Move {
 }
 
 impl Move {
+    // The other one where it replaces this one.
+    #[inline]
+    fn replaced(self, replaces: bool, other: Move) -> Move {
+        if replaces { other } else { self }
+    }
+
     // The better of two, and this one where they look as good.
     #[inline]
     fn or(self, other: Move) -> Move {
@@ -91,7 +97,7 @@ impl Leading {
     ) {
         let weights = weights_at(position.strain());
         let start = StartView::of(position, strings, settling, weights);
-        let tops = strings.signature();
+        let tops = strings.two_highest();
         let more = weights.best_of_its_suit;
         self.spades = best_of(position, start, weights, tops, Suit::Spades, choices, more);
         self.hearts = best_of(position, start, weights, tops, Suit::Hearts, choices, more);
@@ -131,14 +137,13 @@ impl Leading {
         untried: Hand,
     ) {
         let weights = weights_at(position.strain());
-        let tops = strings.signature();
+        let tops = strings.two_highest();
         let next = best_of(position, self.start, weights, tops, suit, untried, 0);
-        match suit {
-            Suit::Spades => self.spades = next,
-            Suit::Hearts => self.hearts = next,
-            Suit::Diamonds => self.diamonds = next,
-            Suit::Clubs => self.clubs = next,
-        }
+        // Four choices, and no jump to one of four places, which would seldom be foreseen.
+        self.spades = self.spades.replaced(suit == Suit::Spades, next);
+        self.hearts = self.hearts.replaced(suit == Suit::Hearts, next);
+        self.diamonds = self.diamonds.replaced(suit == Suit::Diamonds, next);
+        self.clubs = self.clubs.replaced(suit == Suit::Clubs, next);
     }
 
     /// The best lead that was not tried yet.
@@ -301,7 +306,7 @@ fn best_of(
     position: &Position,
     start: StartView,
     weights: LeadWeights,
-    tops: Signature,
+    tops: TwoHighest,
     suit: Suit,
     choices: Hand,
     more: u16,

@@ -76,6 +76,7 @@ pub(crate) fn north_souths_tricks<B: Bounds, M: Meter>(
     ensures ends { EndsAs (M.says meter.new) result }
 {
     go_on(meter)?;
+    table.begin(position);
     let left = position.tricks_left();
     let window = window(position, table);
     let mut ours = window.0;

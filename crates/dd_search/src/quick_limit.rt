@@ -2,11 +2,9 @@
 //! costs less than half of counting them, and where it may not, nothing is counted. No answer rests on it: where it told of too few, more
 //! cards would be tried.
 
-use crate::suit_lanes::{
-    LOWEST, LOWEST_FOUR, at, has_lowest, nonzero, place, several, sum, where_set,
-};
+use crate::suit_lanes::{LOWEST, LOWEST_FOUR, at, nonzero, place, several, sum, where_set};
 use dd_cards::{Strain, Suit};
-use dd_rank::{Shape, Signature};
+use dd_rank::{Shape, TwoHighest};
 
 // What a hand that has the lead, or is to have it, sees of the suits.
 #[derive(Clone, Copy, Debug)]
@@ -27,7 +25,7 @@ struct SuitsSeen {
 #[inline(always)]
 pub(crate) fn may_have_quick_tricks(
     lengths: u64,
-    tops: Signature,
+    tops: TwoHighest,
     strain: Strain,
     places: u8,
     left: u8,
@@ -39,9 +37,8 @@ pub(crate) fn may_have_quick_tricks(
             let own = length(seen.own, trump);
             let partners = length(seen.partner, trump);
             let longer = own.max(partners);
-            let over = has_lowest(seen.owners >> 1, trump);
             (
-                longer.saturating_sub(if over { 1 } else { 0 }),
+                longer.saturating_sub(over_side(length(seen.owners, trump))),
                 longer,
                 partners,
             )
@@ -57,23 +54,41 @@ pub(crate) fn may_have_quick_tricks(
     need <= sure.wrapping_add(seen.crossed().min(most))
 }
 
-/// May the opponents of the leader have so many? Where a hand has a trump they have no more than trumps in one hand, but for one.
+/// May the opponents of the leader have so many quick tricks? Where a hand has a trump no more than one of them has trumps, but for those
+/// that the higher trumps of the leader's side take; else no more than one of them keeps winners, or one trick.
 #[inline]
-pub(crate) fn others_may_have(shape: Shape, need: u8) -> bool {
+pub(crate) fn others_may_have(shape: Shape, tops: TwoHighest, need: u8) -> bool {
     match shape.strain() {
-        Strain::Trump(trump) => {
+        Strain::Trump(trump) if (shape.lengths() >> place(trump)) & 0xFFFF != 0 => {
             let lengths = shape.lengths() >> place(trump);
-            let left = length(lengths >> 4, Suit::Clubs);
-            let right = length(lengths >> 12, Suit::Clubs);
-            need <= left.max(right).max(1) || lengths & 0xFFFF == 0
+            let longer = length(lengths >> 4, Suit::Clubs).max(length(lengths >> 12, Suit::Clubs));
+            need <= longer.saturating_sub(over_opponents(tops.of_suit(trump)))
         }
-        Strain::Notrump => true,
+        strain => {
+            need <= 1
+                || need <= SuitsSeen::of(shape.lengths(), tops, strain, 1).kept()
+                || need <= SuitsSeen::of(shape.lengths(), tops, strain, 3).kept()
+        }
     }
+}
+
+// By whose the two highest trumps are, seen from a side: how many are above its highest, 2 for more.
+// By numbers: which case it is would seldom be foreseen.
+#[inline]
+fn over_side(owners: u8) -> u8 {
+    let first = (owners >> 1) & 1;
+    first + (first & owners)
+}
+
+// The same of the other side.
+#[inline]
+fn over_opponents(owners: u8) -> u8 {
+    over_side(!owners & 3)
 }
 
 impl SuitsSeen {
     #[inline(always)]
-    fn of(lengths: u64, tops: Signature, strain: Strain, places: u8) -> SuitsSeen {
+    fn of(lengths: u64, tops: TwoHighest, strain: Strain, places: u8) -> SuitsSeen {
         let opponents = lengths >> (4 - 4 * (places % 2));
         let owners = owners_seen_from(tops, places);
         let side = match strain {
@@ -96,6 +111,14 @@ impl SuitsSeen {
         let heads = self.heads & !(self.owners >> 3);
         let alone = !(self.long | several(self.partner));
         let all = heads & (!self.owners & !(self.owners >> 2) | alone);
+        sum(where_set(self.own, all) | (heads ^ all))
+    }
+
+    // No more winners than this the hand has: all its cards of a suit where it has the two highest, and else one.
+    #[inline(always)]
+    fn kept(self) -> u8 {
+        let heads = self.heads & !(self.owners >> 3);
+        let all = heads & !self.owners & !(self.owners >> 2);
         sum(where_set(self.own, all) | (heads ^ all))
     }
 
@@ -125,17 +148,8 @@ fn length(lengths: u64, suit: Suit) -> u8 {
 
 // The owners as the hand sees them that is so many places after the leader's.
 #[inline]
-fn owners_seen_from(tops: Signature, places: u8) -> u64 {
-    let owners = owners_in(tops, Suit::Spades)
-        | owners_in(tops, Suit::Hearts)
-        | owners_in(tops, Suit::Diamonds)
-        | owners_in(tops, Suit::Clubs);
+fn owners_seen_from(tops: TwoHighest, places: u8) -> u64 {
     let odd = if places % 2 == 1 { LOWEST * 3 } else { 0 };
     let far = if places >= 2 { LOWEST * 12 } else { 0 };
-    owners ^ odd ^ far
-}
-
-#[inline]
-fn owners_in(tops: Signature, suit: Suit) -> u64 {
-    at(suit, tops.of_suit(suit) as u64)
+    tops.of_suits() ^ odd ^ far
 }

@@ -6,7 +6,7 @@ ghost use Rattle.dd_quick.specs.SecondHand.{Opposes};
 use crate::quick_limit::may_have_quick_tricks;
 use dd_cards::{Card, Hand, Seat, Strain, Suit};
 use dd_play::Position;
-use dd_rank::{OwnerStrings, Signature};
+use dd_rank::{OwnerStrings, TwoHighest};
 
 // In what a signature tells of a suit: the highest card is an opponent's, and it is one of the last two hands'.
 const OPPONENTS: u8 = 2;
@@ -17,7 +17,7 @@ const LAST_TWO: u8 = 8;
 #[derive(Debug, Drop)]
 pub(crate) struct SecondHands {
     // none where no card is led
-    tops: Option<Signature>,
+    tops: Option<TwoHighest>,
     // the lengths of all hands at this start
     lengths: u64,
     // the leads of suits of which nobody was asked yet
@@ -32,7 +32,7 @@ impl SecondHands {
     #[inline(always)]
     pub(crate) fn of(strings: Option<&OwnerStrings>, choices: Hand) -> SecondHands {
         let (tops, lengths) = match strings {
-            Some(strings) => (Some(strings.signature()), strings.shape().lengths()),
+            Some(strings) => (Some(strings.two_highest()), strings.shape().lengths()),
             None => (None, 0),
         };
         SecondHands {

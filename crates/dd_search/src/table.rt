@@ -20,6 +20,9 @@ pub trait Bounds {
     /// the bounds that are told of a position, with their depths
     ghost tells: { Self → Board → FourDepths → Interval → Type 0 };
 
+    /// Takes note that a search of this position begins. It serves the time alone: what was learned of another deal may be forgotten.
+    fn begin(&mut self, _position: &Position) {}
+
     /// Bounds, with their depths, and nothing where none are known.
     fn look(&mut self, start: &TrickStart) -> Option<(Interval, Depths)>
         ensures told { IfSome result (λ told. tells self.old start.now told.1 told.0) }

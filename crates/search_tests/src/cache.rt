@@ -235,11 +235,15 @@ fn another_deal_forgets_the_leads(rt: HostRuntime) -> Result<(), AllocError> {
     let mut cache = Cache::new(rt.alloc(), NoTable)?;
     let first = dealt("N:32... K.4.. AQ... 65...").expect(&rt, "two cards a hand");
     assert!(rt; settled_by(&mut cache, &first, Suit::Spades).is_some());
-    let spades = Some(Suit::Spades);
-    cache.look(&first);
-    assert_eq!(rt; remembered(&cache, &first), [spades; 3], "the same deal");
+    let spades = [Some(Suit::Spades); 3];
+    let later = dealt("N:3... .4.. Q... 6...").expect(&rt, "one card a hand");
+    let earlier = dealt("N:432... KT.4.. AQJ... 765...").expect(&rt, "three cards a hand");
+    for of_the_deal in [&first, &later, &earlier] {
+        cache.begin(of_the_deal.position());
+        assert_eq!(rt; remembered(&cache, &first), spades);
+    }
     let second = dealt("N:72... K.4.. AQ... 65...").expect(&rt, "two cards a hand");
-    cache.look(&second);
+    cache.begin(second.position());
     assert_eq!(rt; remembered(&cache, &first), [None; 3]);
     Ok(())
 }

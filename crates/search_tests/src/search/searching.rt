@@ -17,7 +17,9 @@ use arrayvec::ArrayVec;
 use dd_cards::Seat;
 use dd_play::{Interval, Position, TrickStart};
 use dd_rank::Depths;
-use dd_search::{Bounds, Budget, Endless, Halt, Meter, NoTable, reaches, start_value};
+use dd_search::{
+    Bounds, Budget, Endless, Halt, Meter, NoTable, reaches, start_value, value, value_at_least,
+};
 
 // What a search did with its table, at a start of a trick with so many tricks left.
 #[derive(Clone, Copy, Debug, PartialEq, Eq)]
@@ -38,6 +40,8 @@ impl Default for Event {
 struct Log {
     events: ArrayVec<Event, 16>,
     knows: u8,
+    // how many searches began
+    begun: u8,
 }
 
 // A log of a table that knows nothing.
@@ -48,6 +52,7 @@ impl Log {
         Log {
             events: ArrayVec::new(),
             knows: left,
+            begun: 0,
         }
     }
 }
@@ -76,6 +81,10 @@ impl Bounds for Log {
         → Covers p (depth_in depths) q → Holds interval (leaders_tricks q) };
 
     ghost holds = { λ table p depths interval q told. told q };
+
+    fn begin(&mut self, _position: &Position) {
+        self.begun = self.begun.saturating_add(1);
+    }
 
     fn look(&mut self, start: &TrickStart) -> Option<(Interval, Depths)> {
         let left = start.position().tricks_left();
@@ -289,4 +298,17 @@ fn a_value_that_is_known_is_one_tick(rt: HostRuntime) {
     let mut none = Budget::new(0);
     assert!(rt; start_value(&start, &mut log, &mut none).is_err());
     assert!(rt; log.events.is_empty());
+}
+
+// A table may forget what it learned of another deal then.
+#[test]
+fn each_search_tells_its_table_that_it_begins(rt: HostRuntime) {
+    let position = before_the_jack(&BEHIND, Seat::North).expect(&rt, "two cards a hand");
+    let mut log = Log::knowing(NONE);
+    assert!(rt; value(&position, &mut log, &mut Endless).is_ok());
+    assert_eq!(rt; log.begun, 1, "the value");
+    assert!(rt; value_at_least(&position, 0, &mut log, &mut Endless).is_ok());
+    assert_eq!(rt; log.begun, 2, "the value from some tricks up");
+    assert!(rt; asked(&position, 1, &mut log, &mut Endless).is_some());
+    assert_eq!(rt; log.begun, 3, "what a card reaches");
 }

@@ -5,8 +5,8 @@ use Rattle.dd_cards.specs.Seats.{is_north_south}
 use Rattle.dd_play.specs.Board.{tricks_left}
 use Rattle.dd_search.specs.ClaimsBy.{AnswerBy, IsAnswerAfter}
 use Rattle.dd_search.proofs.Relied.{led-against}
-use Rattle.dd_search.proofs.cutoffs.answer_by_second_hand.Goals.{then-leads, else-leads}
-use Rattle.dd_search.proofs.cutoffs.answer_by_second_hand.Goals as goal
+use Rattle.dd_search.proofs.cutoffs.answer_of_second_hand.Goals.{then-leads, else-leads}
+use Rattle.dd_search.proofs.cutoffs.answer_of_second_hand.Goals as goal
 
 -- The tricks that the other side takes are an answer.
 pub returns : goal.returns
