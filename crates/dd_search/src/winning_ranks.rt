@@ -54,15 +54,15 @@ pub(crate) fn still_untried(untried: Hand, card: Card, cards: Hand) -> Hand
 {
     let suit = card.suit;
     let least = card.rank.code();
+    // All are found, and then one is chosen: a branch would seldom be foreseen.
+    let others = untried.without(card);
+    let other_suits = untried.without_suit(suit);
     match cards.holding(suit).next_from(Rank::of(2)) {
-        None => untried.without_suit(suit),
+        None => other_suits,
         Some(floor) => {
             let lowest = floor.code();
-            if least < lowest {
-                untried.without_below(suit, floor)
-            } else {
-                untried.without(card)
-            }
+            let higher = untried.without_below(suit, floor);
+            if least < lowest { higher } else { others }
         }
     }
 }
