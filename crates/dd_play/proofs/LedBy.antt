@@ -42,9 +42,9 @@ pub led-by : (p : Board) (s : Seat) → IsBoard p → p.trick ≡ [] → IsBoard
 unfolding flag
 led-by p s valid start =
     let counted : (k : ℕ) → k < 4 → length (cards_at p (seat_after p.first k)) ≡ tricks_left p = λ k below. (
-      let e : length (cards_at p (seat_after p.first k)) + (if nat_lt k (length p.trick) then 1 else 0) ≡ tricks_left p = valid.even k below in
-      let none : flag k p.trick ≡ 0 = ap (flag k) start ∙ none-played k in
-      omega (arith, e, none)) in
+    let e : length (cards_at p (seat_after p.first k)) + (if nat_lt k (length p.trick) then 1 else 0) ≡ tricks_left p = valid.even k below in
+    let none : flag k p.trick ≡ 0 = ap (flag k) start ∙ none-played k in
+    omega (arith, e, none)) in
     let lengths : (t : Seat) → length (hand_of p.hands t) ≡ tricks_left p = each p.hands p.first (tricks_left p) counted in
     record {
       sets = valid.sets;
@@ -52,10 +52,10 @@ led-by p s valid start =
       real = λ c has. valid.real c (ap (λ (t : List PlayingCard). has_card t c) start ∙ has);
       once = λ c. subst (λ (t : List PlayingCard). times_in p.hands c + times t c ≤ 1) start (valid.once c);
       even = λ k below. (
-        let own = lengths (seat_after s k) in
-        let leaders = lengths s in
-        let none = none-played k in
-        omega (arith, own, leaders, none));
+          let own = lengths (seat_after s k) in
+          let leaders = lengths s in
+          let none = none-played k in
+          omega (arith, own, leaders, none));
     }
 
 -- and the same cards are in play

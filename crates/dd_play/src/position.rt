@@ -107,16 +107,16 @@ impl Position {
 
     /// The same start of a trick, where this seat leads.
     #[inline]
-    pub fn led_by(&self, seat: Seat) -> Position
+    pub fn led_by(&self, leader: Seat) -> Position
         requires start { self.now.trick ≡ [] }
-        ensures led { result ≡ board_of self.now.hands self.now.strain seat [] }
+        ensures led { result ≡ board_of self.now.hands self.now.strain leader [] }
         ensures board { IsBoard self.now }
     {
         Position {
             hands: self.hands.copy(),
             in_play: self.in_play,
             strain: self.strain,
-            first: seat,
+            first: leader,
             trick: self.trick,
             played: 0,
         }

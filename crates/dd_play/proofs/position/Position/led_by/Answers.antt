@@ -11,9 +11,9 @@ pub invariant_of-result : goal.invariant_of-result
 invariant_of-result c =
     let hands = c.copy.ensures ∙ ap (λ (b : Board). b.hands) c.self.view_is in
     let strain = ap (λ (b : Board). b.strain) c.self.view_is in
-    let same = sym (ap₂ (λ (h : FourHands) (s : Strain). board_of h s c.args.seat []) hands strain) in (
+    let same = sym (ap₂ (λ (h : FourHands) (s : Strain). board_of h s c.args.leader []) hands strain) in (
       omega arith,
       c.self.invariant.1,
-      subst IsBoard same (led-by c.args.self.now c.args.seat (subst IsBoard c.self.view_is c.self.invariant.2) c.requires.start),
-      λ d. c.self.invariant.3 d ∙ ap (λ (b : Board). is_in_play b d) c.self.view_is ∙ in-play-led c.args.self.now c.args.seat c.requires.start d ∙ ap (λ (b : Board). is_in_play b d) same,
+      subst IsBoard same (led-by c.args.self.now c.args.leader (subst IsBoard c.self.view_is c.self.invariant.2) c.requires.start),
+      λ d. c.self.invariant.3 d ∙ ap (λ (b : Board). is_in_play b d) c.self.view_is ∙ in-play-led c.args.self.now c.args.leader c.requires.start d ∙ ap (λ (b : Board). is_in_play b d) same,
     )
