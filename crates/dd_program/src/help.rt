@@ -77,8 +77,8 @@ are seen:
   deal       a deal of thirteen cards a hand, whose results are found first
   dealer     the hand that calls first, 0 to 3; or in its place
   side       the side that is asked first, either hand: 0 North and South, 1
-             East and West vulnerable 0 neither side, 1 both, 2 North and
-             South, 3 East and West
+             East and West
+  vulnerable 0 neither side, 1 both, 2 North and South, 3 East and West
 
 Its reply has the par contracts and North and South's score, less than 0 where
 East and West score. A contract is doubled where its tricks are fewer than its

@@ -95,9 +95,34 @@ impl Leading {
         settling: LeadHistory,
         choices: Hand,
     ) {
-        let weights = weights_at(position.strain());
-        let start = StartView::of(position, strings, settling, weights);
-        let tops = strings.two_highest();
+        // A copy for each: what speaks for a lead is then a constant.
+        match position.strain() {
+            Strain::Trump(trump) => {
+                let strain = Strain::Trump(trump);
+                self.weigh_at(strain, WITH_TRUMPS, position, strings, settling, choices);
+            }
+            Strain::Notrump => {
+                let strain = Strain::Notrump;
+                self.weigh_at(strain, AT_NOTRUMP, position, strings, settling, choices);
+            }
+        }
+    }
+
+    #[inline(always)]
+    fn weigh_at(
+        &mut self,
+        strain: Strain,
+        weights: LeadWeights,
+        position: &Position,
+        strings: &OwnerStrings,
+        settling: LeadHistory,
+        choices: Hand,
+    ) {
+        let start = StartView::of(position, strain, strings, settling, weights);
+        let tops = TopsAt {
+            strain,
+            tops: strings.two_highest(),
+        };
         let more = weights.best_of_its_suit;
         self.spades = best_of(position, start, weights, tops, Suit::Spades, choices, more);
         self.hearts = best_of(position, start, weights, tops, Suit::Hearts, choices, more);
@@ -136,8 +161,12 @@ impl Leading {
         suit: Suit,
         untried: Hand,
     ) {
-        let weights = weights_at(position.strain());
-        let tops = strings.two_highest();
+        let strain = position.strain();
+        let weights = weights_at(strain);
+        let tops = TopsAt {
+            strain,
+            tops: strings.two_highest(),
+        };
         let next = best_of(position, self.start, weights, tops, suit, untried, 0);
         // Four choices, and no jump to one of four places, which would seldom be foreseen.
         self.spades = self.spades.replaced(suit == Suit::Spades, next);
@@ -174,6 +203,13 @@ struct StartView {
     leader_ruffs: u64,
 }
 
+// Who holds the two highest cards of each suit, at this strain.
+#[derive(Clone, Copy, Debug)]
+struct TopsAt {
+    strain: Strain,
+    tops: TwoHighest,
+}
+
 // Who could ruff, of the hands' trumps, and what each suit is led for.
 impl StartView {
     #[inline]
@@ -190,6 +226,7 @@ impl StartView {
     #[inline]
     fn of(
         position: &Position,
+        strain: Strain,
         strings: &OwnerStrings,
         settling: LeadHistory,
         weights: LeadWeights,
@@ -199,7 +236,7 @@ impl StartView {
         let right = (lengths >> 12) & LOWEST_FOUR;
         let without_left = LOWEST ^ nonzero(left);
         let without_right = LOWEST ^ nonzero(right);
-        let (side, trumps) = match position.strain() {
+        let (side, trumps) = match strain {
             Strain::Trump(trump) => (LOWEST & !at(trump, 1), lengths >> place(trump)),
             Strain::Notrump => (0, 0),
         };
@@ -306,7 +343,7 @@ fn best_of(
     position: &Position,
     start: StartView,
     weights: LeadWeights,
-    tops: TwoHighest,
+    tops: TopsAt,
     suit: Suit,
     choices: Hand,
     more: u16,
@@ -315,7 +352,7 @@ fn best_of(
     let Some(low) = lowest(ranks) else {
         return Move::default();
     };
-    let tops = top_two(position.strain(), tops.of_suit(suit));
+    let tops = top_two(tops.strain, tops.tops.of_suit(suit));
     let weight = start.weight(suit, tops, weights).wrapping_add(more);
     let opponents = has_lowest(start.opponents_ruff, suit);
     let partner = has_lowest(start.partner_ruffs, suit);
