@@ -3,10 +3,11 @@ use Rattle.std.proofs.Common.{◌≡◌, ℕ, ◌+◌, true, refl, sym, ap, ◌�
 use Rattle.dd_cards.specs.Sides.{same_side}
 use Rattle.dd_cards.proofs.CallerLemmas.{is-same}
 use Rattle.dd_play.specs.Board.{Board}
+use Rattle.dd_play.specs.Same.{same_board}
 use Rattle.dd_play.specs.Won.{won}
+use Rattle.dd_play.proofs.CallerLemmas.{same_board-is}
 use Rattle.dd_solve.specs.Plays.{Play, PositionTricks, declarers, position_at, position_tricks, tricks_after, tricks_won}
-use Rattle.dd_book.specs.Same.{is_of_play, same_board}
-use Rattle.dd_book.proofs.SameLaws.{same_board-is}
+use Rattle.dd_book.specs.Jobs.{is_of_play}
 
 -- the tricks won by then, with those that declarer's side takes from that position on
 pub number-is : (play : Play) (count : ℕ) (p : Board) (solved : PositionTricks) (k tricks : ℕ) → p ≡ position_at play count → k ≡ tricks_won (declarers play.opening) play.opening (take count play.cards)

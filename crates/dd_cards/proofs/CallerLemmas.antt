@@ -149,3 +149,12 @@ pub use Rattle.dd_cards.proofs.SuitBits.{lane-valid}
 pub use Rattle.dd_cards.proofs.SuitBits.{suit-ones}
 -- a hand has a card where the bit of its rank is set in the lane of its suit
 pub use Rattle.dd_cards.proofs.SuitBits.{card-bit}
+-- ---- what is the same by the tests
+-- the same cards in the same order are one list
+pub use Rattle.dd_cards.proofs.SameLaws.{same_cards-is}
+-- the same cards in each hand are the same hands
+pub use Rattle.dd_cards.proofs.SameLaws.{same_hands-is}
+-- what tells the test tells whether they are the same hands
+pub use Rattle.dd_cards.proofs.SameLaws.{same_hands-told}
+-- the parts of four tests
+pub use Rattle.dd_cards.proofs.SameLaws.{four-of}

@@ -19,4 +19,5 @@ pub mod SideLaws
 pub mod MaskRanks
 pub mod General
 pub mod SuitBits
+pub mod SameLaws
 pub mod CallerLemmas

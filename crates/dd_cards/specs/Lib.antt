@@ -10,4 +10,5 @@ pub mod Cards
 pub mod HandMasks
 pub mod HandMaskLaws
 pub mod Hands
+pub mod Same
 pub mod Sequences

@@ -1,6 +1,7 @@
 ghost use Rattle.std.specs.Prelude.{◌≡◌, [], ◌↔◌, Bool, true, false, IsTrue, IfSome, IfNone, if◌then◌else◌, map, filter, length};
 ghost use Rattle.dd_cards.specs.Cards.{card_of, is_of, has_card, with_card, without, deck};
 ghost use Rattle.dd_cards.specs.Hands.{dealt, hand_of, with_hand, hands_without, AreHands};
+ghost use Rattle.dd_cards.specs.Same.{same-hands, same-hands-partial, same_cards, same_hands};
 
 use crate::card::Card;
 use crate::hand::Hand;
@@ -132,4 +133,29 @@ impl Hands {
             masks: [north & kept, east & kept, south & kept, west & kept],
         }
     }
+}
+
+impl PartialEq for Hands {
+    ghost eq = { same_hands };
+
+    ghost laws = { same-hands-partial };
+
+    fn eq(&self, other: &Hands) -> bool {
+        is_same_hand(self.hand(Seat::North), other.hand(Seat::North))
+            && is_same_hand(self.hand(Seat::East), other.hand(Seat::East))
+            && is_same_hand(self.hand(Seat::South), other.hand(Seat::South))
+            && is_same_hand(self.hand(Seat::West), other.hand(Seat::West))
+    }
+}
+
+impl Eq for Hands {
+    ghost laws = { same-hands };
+}
+
+// Have both hands the same cards? By their masks.
+#[inline]
+fn is_same_hand(hand: Hand, other: Hand) -> bool
+    ensures { result ≡ same_cards hand other }
+{
+    hand.mask() == other.mask()
 }

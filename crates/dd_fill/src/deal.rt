@@ -49,6 +49,6 @@ impl Deal {
     pub(crate) fn is_same(&self, other: &Deal) -> bool
         ensures { IsTrue result ↔ (self.now ≡ other.now) }
     {
-        self.request().is_same(&other.request())
+        self.hands == other.hands
     }
 }

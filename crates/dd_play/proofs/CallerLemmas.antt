@@ -188,3 +188,6 @@ pub use Rattle.dd_play.proofs.Worth.{reach-of}
 pub use Rattle.dd_play.proofs.Worth.{reach-within}
 -- with a card each higher one of its suit is reached
 pub use Rattle.dd_play.proofs.Worth.{reach-upward}
+-- ---- what is the same by the tests
+-- the same hands, strain, leader and trick are one position
+pub use Rattle.dd_play.proofs.SameLaws.{same_board-is}

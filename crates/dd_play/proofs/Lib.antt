@@ -19,4 +19,5 @@ pub mod Fewer
 pub mod Worth
 pub mod Contests
 pub mod TrickCards
+pub mod SameLaws
 pub mod CallerLemmas

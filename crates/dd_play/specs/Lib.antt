@@ -1,4 +1,5 @@
 pub mod Board
+pub mod Same
 pub mod Tricks
 pub mod Strength
 pub mod Play

@@ -5,11 +5,13 @@ ghost use Rattle.dd_cards.specs.Cards.{has_card, is_of};
 ghost use Rattle.dd_cards.specs.Ranks.{IsRank};
 ghost use Rattle.dd_cards.specs.Seats.{seat_after};
 ghost use Rattle.dd_cards.specs.Hands.{hand_of, times, AreHands};
+ghost use Rattle.dd_cards.specs.Same.{same_cards};
 ghost use Rattle.dd_play.specs.Board.{board_of, IsBoard, mover, tricks_left, times_in};
 ghost use Rattle.dd_play.specs.InPlay.{is_in_hands, is_in_play};
 ghost use Rattle.dd_play.specs.Tricks.{winner_of};
 ghost use Rattle.dd_play.specs.Play.{legal, completes, trick_with, after, hands_after};
 ghost use Rattle.dd_play.specs.Covers.{IsSettled, count_of};
+ghost use Rattle.dd_play.specs.Same.{same-board, same-board-partial, same_board};
 
 use crate::play_fault::PlayFault;
 use crate::trick_winner::winner;
@@ -329,6 +331,30 @@ impl Position {
     {
         self.hands.without(card)
     }
+}
+
+impl PartialEq for Position {
+    ghost eq = { same_board };
+
+    ghost laws = { same-board-partial };
+
+    fn eq(&self, other: &Position) -> bool {
+        self.hands == other.hands
+            && self.strain.code() == other.strain.code()
+            && self.first.code() == other.first.code()
+            && is_same_trick(self.trick(), other.trick())
+    }
+}
+
+impl Eq for Position {
+    ghost laws = { same-board };
+}
+
+// Are the cards of both tricks the same, in the same order?
+fn is_same_trick(trick: &[Card], other: &[Card]) -> bool
+    ensures { result ≡ same_cards trick.now other.now }
+{
+    trick == other
 }
 
 // The cards in the four hands, as a set.

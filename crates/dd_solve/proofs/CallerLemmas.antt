@@ -7,3 +7,8 @@ pub use Rattle.dd_solve.proofs.Regular.{regular-decided}
 pub use Rattle.dd_solve.proofs.Regular.{regular-faultless}
 -- and no play has two
 pub use Rattle.dd_solve.proofs.Regular.{one-first-fault}
+-- ---- what is the same by the tests
+-- the same position, and as many cards asked for, are one question
+pub use Rattle.dd_solve.proofs.SameLaws.{same_question-is}
+-- the same with a target
+pub use Rattle.dd_solve.proofs.SameLaws.{same_target-is}

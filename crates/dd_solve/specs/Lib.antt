@@ -2,6 +2,7 @@ pub mod Questions
 pub mod Results
 pub mod ScoredClasses
 pub mod Targets
+pub mod Same
 pub mod Classes
 pub mod Plays
 pub mod CardFaults

@@ -1,6 +1,7 @@
 ghost use Rattle.std.specs.Prelude.{◌≡◌, ◌≤◌, ◌↔◌, IsSome, IfSome};
 ghost use Rattle.dd_play.specs.Board.{tricks_left};
 ghost use Rattle.dd_play.specs.Positions.{CanPlay};
+ghost use Rattle.dd_solve.specs.Same.{same-question, same-question-partial, same_question};
 
 use dd_play::Position;
 use std::marker::Model;
@@ -77,4 +78,18 @@ impl Request {
             solutions: self.solutions,
         }
     }
+}
+
+impl PartialEq for Request {
+    ghost eq = { same_question };
+
+    ghost laws = { same-question-partial };
+
+    fn eq(&self, other: &Request) -> bool {
+        self.position == other.position && self.solutions == other.solutions
+    }
+}
+
+impl Eq for Request {
+    ghost laws = { same-question };
 }

@@ -146,7 +146,7 @@ fn are_first_parts(request: &TableRequest, parts: &[SolvedPart]) -> bool
         (parts.now ≡ map (part_result request.now) (range_with_len 0 (length parts.now))) }
 {
     for (place, part) in parts.iter().enumerate() {
-        if !part.is_part_of(request, place as u8) {
+        if !part.is_part_of(request, place) {
             return false;
         }
     }

@@ -1,5 +1,6 @@
 //! The parts of a table, each of which is solved by itself.
-ghost use Rattle.std.specs.Prelude.{◌≡◌, ◌-◌, ◌<◌, ◌≤◌, ◌↔◌, [], IfOk, IsOk, IsTrue};
+ghost use Rattle.std.specs.Prelude.{◌≡◌, ◌-◌, ◌<◌, ◌≤◌, ◌↔◌, ◌&&◌, ◌==◌, [], IfOk, IsOk, IsTrue};
+ghost use Rattle.dd_cards.specs.Same.{same_hands};
 ghost use Rattle.dd_cards.specs.Sides.{side_of};
 ghost use Rattle.dd_play.specs.Board.{tricks_left, mover};
 ghost use Rattle.dd_play.specs.Value.{leaders_tricks};
@@ -58,10 +59,11 @@ impl SolvedPart {
     }
 
     /// Is it this part of the request?
-    pub(crate) fn is_part_of(&self, request: &TableRequest, part: u8) -> bool
-        ensures { IsTrue result ↔ (self.now ≡ part_result request.now part) }
+    pub fn is_part_of(&self, request: &TableRequest, part: usize) -> bool
+        ensures test { result ≡ (same_hands request.now self.now.hands && (self.now.part == part)) }
+        ensures is { IsTrue result ↔ (self.now ≡ part_result request.now part) }
     {
-        self.part == part && self.request.is_same(request)
+        *request == self.request && self.part as usize == part
     }
 
     /// The same part with the same result. It takes no memory.

@@ -1,6 +1,7 @@
 //! Requests for the twenty results of a deal.
 ghost use Rattle.std.specs.Prelude.{◌≡◌, ◌<◌, ◌≤◌, ◌↔◌, IsOk, IsTrue, IfOk, Err, length};
 ghost use Rattle.dd_cards.specs.Hands.{AreHands, FourHands};
+ghost use Rattle.dd_cards.specs.Same.{same-hands, same-hands-partial, same_hands};
 ghost use Rattle.dd_play.specs.Positions.{CanPlay};
 ghost use Rattle.dd_solve.specs.Results.{AreEven, contract_of, opening};
 
@@ -73,13 +74,6 @@ impl TableRequest {
         }
     }
 
-    /// Is it a request for the table of the same hands?
-    pub fn is_same(&self, other: &TableRequest) -> bool
-        ensures { IsTrue result ↔ (self.now ≡ other.now) }
-    {
-        are_same(&self.hands, &other.hands)
-    }
-
     /// An equal request. It takes no memory.
     pub fn copy(&self) -> TableRequest
         ensures same { result ≡ self.now }
@@ -88,6 +82,20 @@ impl TableRequest {
             hands: self.hands.copy(),
         }
     }
+}
+
+impl PartialEq for TableRequest {
+    ghost eq = { same_hands };
+
+    ghost laws = { same-hands-partial };
+
+    fn eq(&self, other: &TableRequest) -> bool {
+        self.hands == other.hands
+    }
+}
+
+impl Eq for TableRequest {
+    ghost laws = { same-hands };
 }
 
 // The strain and the declarer of a part.
@@ -109,14 +117,4 @@ fn are_even(hands: &Hands) -> bool
     hands.len(Seat::East) == cards
         && hands.len(Seat::South) == cards
         && hands.len(Seat::West) == cards
-}
-
-/// Has each seat the same cards in both?
-pub(crate) fn are_same(hands: &Hands, others: &Hands) -> bool
-    ensures { IsTrue result ↔ (hands.now ≡ others.now) }
-{
-    hands.hand(Seat::North) == others.hand(Seat::North)
-        && hands.hand(Seat::East) == others.hand(Seat::East)
-        && hands.hand(Seat::South) == others.hand(Seat::South)
-        && hands.hand(Seat::West) == others.hand(Seat::West)
 }

@@ -1,6 +1,7 @@
 ghost use Rattle.std.specs.Prelude.{◌≡◌, ◌≤◌, ◌↔◌, IsSome, IfSome};
 ghost use Rattle.dd_play.specs.Board.{tricks_left};
 ghost use Rattle.dd_play.specs.Positions.{CanPlay};
+ghost use Rattle.dd_solve.specs.Same.{same-target, same-target-partial, same_target};
 
 use dd_play::Position;
 use std::marker::Model;
@@ -95,4 +96,20 @@ impl TargetRequest {
             solutions: self.solutions,
         }
     }
+}
+
+impl PartialEq for TargetRequest {
+    ghost eq = { same_target };
+
+    ghost laws = { same-target-partial };
+
+    fn eq(&self, other: &TargetRequest) -> bool {
+        self.position == other.position
+            && self.target == other.target
+            && self.solutions == other.solutions
+    }
+}
+
+impl Eq for TargetRequest {
+    ghost laws = { same-target };
 }

@@ -78,10 +78,10 @@ fn twenty_parts_make_a_table_and_nineteen_do_not(rt: HostRuntime) -> Result<(), 
     let table = SolvedTable::of(parts.as_slice()).expect(&rt, "a table");
     let tricks = [2, 1, 2, 0, 2, 1, 2, 0, 2, 1, 2, 0, 2, 1, 2, 0, 2, 1, 2, 0];
     assert_eq!(rt; table.copy().results().copy().as_slice(), tricks.as_slice());
-    assert!(rt; table.request().is_same(&request));
+    assert!(rt; *table.request() == request);
     assert!(rt; SolvedTable::of(&[]).is_none());
     let other = request_of("N:32... K5... AQ... 64...").expect(&rt, "a request");
-    assert!(rt; !other.is_same(&request));
+    assert!(rt; other != request);
     let _last = parts.pop();
     assert!(rt; SolvedTable::of(parts.as_slice()).is_none());
     let last = solve_part(&other, 19, &mut NoTable, &mut Endless).expect(&rt, "a part");
@@ -95,7 +95,7 @@ fn a_part_says_what_it_is_the_result_of(rt: HostRuntime) {
     let request = request_of("N:A... .2.. K... .3..").expect(&rt, "a request");
     let part = solve_part(&request, 5, &mut NoTable, &mut Endless).expect(&rt, "a part");
     assert_eq!(rt; (part.part(), part.tricks()), (5, 1));
-    assert!(rt; part.request().copy().is_same(&request));
+    assert!(rt; part.request().copy() == request);
     assert_eq!(rt; request.opening(5).first().code(), 2);
     assert_eq!(rt; request.opening(5).strain().code(), 1);
     let spent = solve_part(&request, 5, &mut NoTable, &mut Budget::new(0));

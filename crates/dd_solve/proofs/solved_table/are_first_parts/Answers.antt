@@ -5,10 +5,10 @@ use Rattle.dd_solve.proofs.solved_table.are_first_parts.Goals as goal
 pub returns-then-not-is_part_of : goal.returns-then-not-is_part_of
 returns-then-not-is_part_of c = (
   (λ impossible. cc),
-  (λ parts. c.if-not-is_part_of.ensures.1 (part-at c.args.request.now c.args.parts.now (length c.args.parts.now) c.loop-place.place c.index-parts-place.result c.loop-place-test.true c.index-parts-place.is parts)),
+  (λ parts. c.if-not-is_part_of.ensures.is.1 (part-at c.args.request.now c.args.parts.now (length c.args.parts.now) c.loop-place.place c.index-parts-place.result c.loop-place-test.true c.index-parts-place.is parts)),
 )
 
 pub loop-place-preserved : goal.loop-place-preserved
 loop-place-preserved c = record {
-  parts = parts-more c.args.request.now c.args.parts.now c.loop-place.place c.index-parts-place.result c.loop-place-test.true c.index-parts-place.is c.loop-place.invariant.parts (c.if-not-is_part_of.ensures.0 refl);
+  parts = parts-more c.args.request.now c.args.parts.now c.loop-place.place c.index-parts-place.result c.loop-place-test.true c.index-parts-place.is c.loop-place.invariant.parts (c.if-not-is_part_of.ensures.is.0 refl);
 }
