@@ -1,5 +1,9 @@
 -- A number of a play's trace, by the position of its part.
 use Rattle.std.proofs.Common.{◌≡◌, ℕ, ◌+◌, true, refl, sym, ap, ◌∙◌, subst, take}
+use denote.Enum.Bare.{sameb}
+use Rattle.dd_cards.specs.contracts.side.Side.{the_type}
+use Rattle.dd_cards.specs.declared.side.Side.{Side}
+use Rattle.dd_cards.specs.declared.side.Side.TheVariants.{NorthSouth, EastWest}
 use Rattle.dd_cards.specs.Sides.{same_side}
 use Rattle.dd_cards.proofs.CallerLemmas.{is-same}
 use Rattle.dd_play.specs.Board.{Board}
@@ -8,6 +12,13 @@ use Rattle.dd_play.specs.Won.{won}
 use Rattle.dd_play.proofs.CallerLemmas.{same_board-is}
 use Rattle.dd_solve.specs.Plays.{Play, PositionTricks, declarers, position_at, position_tricks, tricks_after, tricks_won}
 use Rattle.dd_book.specs.Jobs.{is_of_play}
+
+-- two sides are the same by the code where they are by the test
+pub sides-told : (a b : Side) → sameb the_type a b ≡ same_side a b
+sides-told NorthSouth NorthSouth = refl
+sides-told NorthSouth EastWest = refl
+sides-told EastWest NorthSouth = refl
+sides-told EastWest EastWest = refl
 
 -- the tricks won by then, with those that declarer's side takes from that position on
 pub number-is : (play : Play) (count : ℕ) (p : Board) (solved : PositionTricks) (k tricks : ℕ) → p ≡ position_at play count → k ≡ tricks_won (declarers play.opening) play.opening (take count play.cards)
