@@ -49,8 +49,8 @@ impl StoredBounds {
     /// Does it make the other needless, which is of its shape: it says as much of no fewer positions?
     #[inline]
     pub(crate) fn replaces(&self, other: &StoredBounds) -> bool {
-        let says_as_much =
-            (other.interval.lo <= self.interval.lo) & (self.interval.hi <= other.interval.hi);
+        let says_as_much = (other.interval.lo <= self.interval.lo)
+            & (self.interval.hi <= other.interval.hi);
         says_as_much & self.firsts.include(&other.firsts)
     }
 }
