@@ -257,8 +257,8 @@ impl<B: Bounds> Bounds for Cache<B> {
 
     ghost holds = { λ cache p depths interval q told. told q };
 
-    /// Forgets leads where the position is of another deal than the last one: neither later nor earlier in its play, from whose
-    /// end a trace goes back.
+    /// Forgets leads and pages where the position is of another deal than the last one: neither later nor earlier in its play, from
+    /// whose end a trace goes back.
     fn begin(&mut self, position: &Position) {
         let deal = Deal::of(position);
         if deal.is_later_in(&self.deal) {

@@ -274,6 +274,7 @@ fn with_next(position: &Position, cards: Hand, suit: Suit, tricks: u8) -> Hand
     ensures more { (c : PlayingCard) → has_card cards c ≡ true → has_card result c ≡ true }
     ensures next { RestsOnNext position.now suit result tricks }
 {
+    // Of most suits there is none: their ranks need not be found.
     if tricks == 0 {
         return cards;
     }

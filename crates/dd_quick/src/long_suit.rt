@@ -182,6 +182,7 @@ pub(crate) fn with_winners(
     ensures winners { RestsOn position.now suit result (min tricks cash.depth) }
 {
     let count = tricks.min(cash.depth);
+    // Of most suits there is none: their ranks need not be found.
     if count == 0 {
         return cards;
     }

@@ -54,8 +54,8 @@ pub(crate) fn may_have_quick_tricks(
     need <= sure.wrapping_add(seen.crossed().min(most))
 }
 
-/// May the opponents of the leader have so many quick tricks? Where a hand has a trump no more than one of them has trumps, but for those
-/// that the higher trumps of the leader's side take; else no more than one of them keeps winners, or one trick.
+/// May the opponents of the leader have so many quick tricks? Where a hand has a trump: no more than one of them has trumps, less those
+/// that higher trumps of the leader's side take. Where none has: no more than one of them has winners, or one trick.
 #[inline]
 pub(crate) fn others_may_have(shape: Shape, tops: TwoHighest, need: u8) -> bool {
     match shape.strain() {
@@ -108,17 +108,20 @@ impl SuitsSeen {
     // one.
     #[inline(always)]
     fn cashed(self) -> u8 {
-        let heads = self.heads & !(self.owners >> 3);
-        let alone = !(self.long | several(self.partner));
-        let all = heads & (!self.owners & !(self.owners >> 2) | alone);
-        sum(where_set(self.own, all) | (heads ^ all))
+        self.from_heads(!(self.long | several(self.partner)))
     }
 
     // No more winners than this the hand has: all its cards of a suit where it has the two highest, and else one.
     #[inline(always)]
     fn kept(self) -> u8 {
+        self.from_heads(0)
+    }
+
+    // Of the suits that the hand heads all its cards where it has the two highest or it is said so, and else one.
+    #[inline(always)]
+    fn from_heads(self, all_count: u64) -> u8 {
         let heads = self.heads & !(self.owners >> 3);
-        let all = heads & !self.owners & !(self.owners >> 2);
+        let all = heads & (!self.owners & !(self.owners >> 2) | all_count);
         sum(where_set(self.own, all) | (heads ^ all))
     }
 

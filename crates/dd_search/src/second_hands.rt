@@ -8,7 +8,7 @@ use dd_cards::{Card, Hand, Seat, Strain, Suit};
 use dd_play::Position;
 use dd_rank::{OwnerStrings, TwoHighest};
 
-// In what a signature tells of a suit: the highest card is an opponent's, and it is one of the last two hands'.
+// In what is told of a suit by its two highest cards: the highest card is an opponent's, and it is one of the last two hands'.
 const OPPONENTS: u8 = 2;
 
 const LAST_TWO: u8 = 8;
