@@ -316,29 +316,6 @@ fn partners_tricks<const RULES: u32>(position: &Position, suit: Suit, leads: u8)
     }
 }
 
-// Has the partner a card of the suit that no opponent can beat, the leader one beside its run, and nobody ruffs at once?
-// Mostly not.
-fn may_enter<const RULES: u32>(position: &Position, suit: Suit) -> bool {
-    let partner = position.first.next().next();
-    unbeaten(position, partner, suit) != 0
-        && (RULES & CROSSES_WITHOUT_A_CARD != 0 || low_cards(position, position.first, suit) != 0)
-        && is_followed::<RULES>(position, suit)
-}
-
-// Does each opponent with trumps follow suit to one lead more than the leader's run? Not in trumps.
-fn is_followed<const RULES: u32>(position: &Position, suit: Suit) -> bool {
-    match position.strain {
-        Strain::Notrump => true,
-        Strain::Trump(trump) if trump == suit => false,
-        Strain::Trump(_) => {
-            let [left, _, right] = others(position.first);
-            let run = winners(position, position.first, suit).count_ones() as u8;
-            let all = RULES & (NOBODY_RUFFS_THE_PARTNER | NOBODY_HAS_FOLLOWED) != 0;
-            all || [left, right].into_iter().all(|seat| trumps(position, seat) == 0 || run < length(position, seat, suit))
-        }
-    }
-}
-
 // The tricks left beside these that the leader cashes, where it and its partner keep their trumps.
 fn beside_trumps(position: &Position, side: u8) -> u8 {
     let (own, his) = (trumps(position, position.first), trumps(position, position.first.next().next()));
@@ -347,8 +324,7 @@ fn beside_trumps(position: &Position, side: u8) -> u8 {
 
 // What the partner takes in each suit once the leader has crossed, and how many tricks that adds, of so many.
 fn crossing<const RULES: u32>(position: &Position, most: u8) -> ([Offer; 4], u8) {
-    let may_cross = most > 0 && SUITS.into_iter().any(|suit| may_enter::<RULES>(position, suit));
-    if RULES & CROSSING == 0 || !may_cross {
+    if RULES & CROSSING == 0 || most == 0 {
         return ([Offer { tricks: 0, first: false }; 4], 0);
     }
     let next = SUITS.map(|suit| next::<RULES>(position, suit));

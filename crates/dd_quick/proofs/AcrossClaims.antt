@@ -1,9 +1,8 @@
 -- from what the code counts of the partner's tricks, and the cards that it puts together, to the claim that rests on them
 use Rattle.std.proofs.Common.{◌≡◌, ◌≢◌, ℕ, zero, suc, ◌+◌, ◌-◌, ◌<◌, ◌≤◌, Bool, true, false, refl, sym, ap, ◌∙◌, arith, List, inl, inr, min, zero-le}
 use Rattle.std.specs.Prelude.{nat_lt, ◌&&◌, ◌||◌, ◌==◌, ◌⊎◌, if◌then◌else◌}
-use mathlib.Core.Bool.{not}
 use mathlib.Core.Path.{ap₂}
-use Rattle.std.proofs.lemmas.Bool.{cases_lt, eqb-true, leb-true, ltb-true, lt-ltb}
+use Rattle.std.proofs.lemmas.Bool.{cases_lt, eqb-true, leb-true, ltb-true}
 use Rattle.std.proofs.lemmas.Bool.Decides.{eqb_tells}
 use Rattle.dd_cards.specs.declared.suit.Suit.{Suit}
 use Rattle.dd_cards.specs.declared.suit.Suit.TheVariants.{Spades, Hearts, Diamonds, Clubs}
@@ -11,15 +10,14 @@ use Rattle.dd_cards.specs.PlayingCard.{PlayingCard}
 use Rattle.dd_cards.specs.Cards.{is_of, card_of, has_card}
 use Rattle.dd_cards.specs.Seats.{seat_after}
 use Rattle.dd_cards.proofs.CallerLemmas.{and-left, and-right, else-false, or-split}
-use Rattle.dd_play.specs.Board.{Board, cards_at, tricks_left}
+use Rattle.dd_play.specs.Board.{Board, tricks_left}
 use Rattle.dd_play.specs.Tricks.{is_trump}
 use Rattle.dd_play.specs.Reach.{reach}
-use Rattle.dd_play.proofs.CallerLemmas.{count, reach-within}
-use Rattle.dd_quick.specs.QuickTricks.{IsNext, RestsOnNext, RestsOnTrumps, all_partners, beside_trumps, cashed, crossed, has_entry, is_entry, is_next, is_partners_long, is_unbeaten, is_under_low, is_winner, joint_trumps, length_at, longest_beside, next_run, no_trumps, partners_cashed, partners_tricks, run, suit_tricks, trumps_at}
+use Rattle.dd_play.proofs.CallerLemmas.{reach-within}
+use Rattle.dd_quick.specs.QuickTricks.{IsNext, RestsOnNext, RestsOnTrumps, all_partners, beside_trumps, cashed, crossed, has_entry, is_entry, is_next, is_partners_long, joint_trumps, length_at, longest_beside, next_run, no_trumps, partners_cashed, partners_tricks, run, suit_tricks, trumps_at}
 use Rattle.dd_quick.specs.Sharing.{SomeOf, shares}
 use Rattle.dd_quick.proofs.Plays.{count-where}
 use Rattle.dd_quick.proofs.Cashing.{hand_on}
-use Rattle.dd_quick.proofs.Chosen.{count-split}
 use Rattle.dd_quick.proofs.Hands.{IsOpposed}
 use Rattle.dd_quick.proofs.Claims.{IsShared, both_unruffed, cashed-follows, cashed-le, cashed-plain, in-longest, joint-rests, long-or-run, run-length, shared-more, shared-tops, unruffed-follows, unruffed-least, unruffed-most}
 use Rattle.dd_quick.proofs.Across.{RestsAcross}
@@ -121,26 +119,6 @@ some-entry p t u v w a b c d s h di cl some = by (or-split (is_entry p Spades ||
     by : ((is_entry p Spades || is_entry p Hearts) ≡ true) ⊎ ((is_entry p Diamonds || is_entry p Clubs) ≡ true) → SomeOf a b c d t u v w
     by (inl k) = elim (or-split (is_entry p Spades) (is_entry p Hearts) k) [ inl e ↦ inl (inl (at Spades t a s e)) | inr e ↦ inl (inr (at Hearts u b h e)) ]
     by (inr k) = elim (or-split (is_entry p Diamonds) (is_entry p Clubs) k) [ inl e ↦ inr (inl (at Diamonds v c di e)) | inr e ↦ inr (inr (at Clubs w d cl e)) ]
-
--- in a suit to cross in the partner cashes some; it has a card that no opponent can beat there, and the leader one beside its run
-pub entry-cards : (p : Board) (u : Suit) → is_entry p u ≡ true → (1 ≤ count (λ c. is_of u c && is_unbeaten p (seat_after p.first 2) c) (cards_at p (seat_after p.first 2))) × (1 ≤ count (λ c. is_of u c && not (is_winner p p.first c)) (cards_at p p.first)) × (1 ≤ partners_cashed p.strain p u)
-entry-cards p u entry =
-    let some : 0 < partners_cashed p.strain p u = ltb-true 0 (partners_cashed p.strain p u) (and-left (nat_lt 0 (partners_cashed p.strain p u)) (nat_lt (run p p.first u) (length_at p p.first u)) entry) in
-    let over : run p p.first u < length_at p p.first u = ltb-true (run p p.first u) (length_at p p.first u) (and-right (nat_lt 0 (partners_cashed p.strain p u)) (nat_lt (run p p.first u) (length_at p p.first u)) entry) in
-    let most = partners-most p u in
-    let one = in-beside p u 0 (omega arith) (λ z. omega (arith, z)) in
-    let free = count-where (λ c. is_of u c && is_next p c) (λ c. is_of u c && is_unbeaten p (seat_after p.first 2) c) (hand_on p 2) (λ c has pass.
-    ap₂ (λ a b. a && b) (and-left (is_of u c) (is_next p c) pass) (and-left (is_unbeaten p (seat_after p.first 2) c) (not (is_under_low p c)) (and-right (is_of u c) (is_next p c) pass))) in
-    let split = count-split (is_of u) (is_winner p p.first) (cards_at p p.first) in
-    (elim (partners-long p u) [ inl few ↦ omega (arith, some, most, free, few) | inr long ↦ omega (arith, over, one, free, long) ], omega (arith, over, split), some)
-
--- there each opponent with trumps has a card of the suit
-pub entry-follows : (p : Board) (u : Suit) (i trumps cards : ℕ) → IsOpposed i → trumps ≡ trumps_at p.strain p (seat_after p.first i) → cards ≡ length_at p (seat_after p.first i) u → 1 ≤ partners_cashed p.strain p u → ((trumps == 0) || nat_lt 0 cards) ≡ true
-entry-follows p u i trumps cards opposed has are some = go (trumps == 0) refl
-  where
-    go : (b : Bool) → (trumps == 0) ≡ b → (b || nat_lt 0 cards) ≡ true
-    go true e = refl
-    go false e = (let k = partners-follow p u i opposed (ap (λ n. n == 0) (sym has) ∙ e) some in lt-ltb 0 cards (omega (arith, k, are, some)))
 
 -- ---- without trumps
 

@@ -21,8 +21,7 @@ ghost use Rattle.dd_quick.specs.Seen.{IsSeen, AreRanks};
 use crate::long_suit::unruffed;
 use crate::sharing::{Offer, Offers, Shares};
 use crate::winners::{
-    Ranks, Seen, next_run, own_run, partners_run, partners_unbeaten, ranks_of, seen_by_leader,
-    trumps, with_highest,
+    Ranks, Seen, next_run, own_run, partners_run, ranks_of, seen_by_leader, trumps, with_highest,
 };
 use dd_cards::{Hand, Strain, Suit};
 use dd_play::Position;
@@ -66,10 +65,10 @@ pub(crate) fn crossing(position: &Position, most: u8) -> Partners
         → IsNext position.now Clubs result.next.clubs.tricks result.next.clubs.first }
     ensures bound { result.tricks ≤ 13 }
 {
-    let seen = seen_by_leader(position);
-    if most == 0 || !may_cross(position, &seen) {
+    if most == 0 {
         return NO_PARTNERS;
     }
+    let seen = seen_by_leader(position);
     let spades = next(position, &seen, Suit::Spades);
     let hearts = next(position, &seen, Suit::Hearts);
     let diamonds = next(position, &seen, Suit::Diamonds);
@@ -116,75 +115,6 @@ fn any(a: bool, b: bool, c: bool, d: bool) -> bool
     ensures { result ≡ ((a || b) || (c || d)) }
 {
     (a | b) | (c | d)
-}
-
-// Is there a suit in which the leader might cross? Often there is none, which costs less to tell than what the partner takes.
-// All suits are asked: which of them is the first would seldom be foreseen.
-#[inline(always)]
-fn may_cross(position: &Position, seen: &Seen) -> bool
-    requires { IsSeen position.now seen.now.own seen.now.left seen.now.partner seen.now.right
-        seen.now.left_trumps seen.now.right_trumps }
-    ensures { has_entry position.now ≡ true → result ≡ true }
-{
-    let spades = may_enter(position, seen, Suit::Spades);
-    let hearts = may_enter(position, seen, Suit::Hearts);
-    let diamonds = may_enter(position, seen, Suit::Diamonds);
-    let clubs = may_enter(position, seen, Suit::Clubs);
-    any(spades, hearts, diamonds, clubs)
-}
-
-// Has the leader a card of the suit, and the partner one that no opponent can beat, and does nobody ruff it?
-#[inline(always)]
-fn may_enter(position: &Position, seen: &Seen, suit: Suit) -> bool
-    requires { IsSeen position.now seen.now.own seen.now.left seen.now.partner seen.now.right
-        seen.now.left_trumps seen.now.right_trumps }
-    ensures { is_entry position.now suit ≡ true → result ≡ true }
-{
-    let ranks = ranks_of(seen, suit);
-    let leads = 0 < ranks.own.len();
-    let wins = 0 < partners_unbeaten(&ranks).len();
-    all(leads, wins, is_followed(position, seen, suit, &ranks))
-}
-
-// Has each opponent with trumps a card of the suit? Not in trumps.
-#[inline(always)]
-fn is_followed(position: &Position, seen: &Seen, suit: Suit, ranks: &Ranks) -> bool
-    requires seen { IsSeen position.now seen.now.own seen.now.left seen.now.partner seen.now.right
-        seen.now.left_trumps seen.now.right_trumps }
-    requires ranks { AreRanks position.now position.now.first suit
-        ranks.now.own ranks.now.left ranks.now.partner ranks.now.right }
-    ensures { 1 ≤ partners_cashed position.now.strain position.now suit → result ≡ true }
-{
-    let left = follows(seen.left_trumps, ranks.left.len());
-    let right = follows(seen.right_trumps, ranks.right.len());
-    match position.strain() {
-        Strain::Trump(trump) if trump == suit => false,
-        _ => both(left, right),
-    }
-}
-
-// Does a hand with so many trumps and cards of a suit follow suit, or else not ruff?
-#[inline(always)]
-fn follows(trumps: u8, cards: u8) -> bool
-    ensures { result ≡ (trumps == 0 || nat_lt 0 cards) }
-{
-    (trumps == 0) | (0 < cards)
-}
-
-// Are both true?
-#[inline(always)]
-fn both(a: bool, b: bool) -> bool
-    ensures { result ≡ (a && b) }
-{
-    a & b
-}
-
-// Are all three true?
-#[inline(always)]
-fn all(a: bool, b: bool, c: bool) -> bool
-    ensures { result ≡ (a && (b && c)) }
-{
-    a & (b & c)
 }
 
 // What the partner takes in the suit, and whether the leader can cross there.

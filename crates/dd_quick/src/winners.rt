@@ -148,9 +148,9 @@ pub(crate) fn partners_run(ranks: &Ranks) -> Holding
     above_all(partners_unbeaten(ranks), low)
 }
 
-/// Of the partner's ranks those that no opponent can beat.
+// Of the partner's ranks those that no opponent can beat.
 #[inline(always)]
-pub(crate) fn partners_unbeaten(ranks: &Ranks) -> Holding
+fn partners_unbeaten(ranks: &Ranks) -> Holding
     ensures { (p : Board) (suit : SuitOf)
         → AreRanks p p.first suit ranks.now.own ranks.now.left ranks.now.partner ranks.now.right
         → map (card_of suit) result ≡ filter

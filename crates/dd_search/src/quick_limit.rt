@@ -6,6 +6,11 @@ use crate::suit_lanes::{LOWEST, LOWEST_FOUR, at, nonzero, place, several, sum, w
 use dd_cards::{Strain, Suit};
 use dd_rank::{Shape, TwoHighest};
 
+// The lengths of two hands that are partners, and the lowest bit of each.
+const BOTH: u64 = 0x0F0F_0F0F_0F0F_0F0F;
+
+const LOWEST_OF_BOTH: u64 = 0x0101_0101_0101_0101;
+
 // What a hand that has the lead, or is to have it, sees of the suits.
 #[derive(Clone, Copy, Debug)]
 struct SuitsSeen {
@@ -17,7 +22,7 @@ struct SuitsSeen {
     // whose the two highest cards are, four bits a suit, of which the lowest two are set where an opponent has the second highest and
     // the highest, the next two where the partner has it or the hand after it
     owners: u64,
-    // those beside trumps of which the side has the highest card
+    // those beside trumps of which the side has the highest card, and which no opponent ruffs at once
     heads: u64,
 }
 
@@ -38,7 +43,7 @@ pub(crate) fn may_have_quick_tricks(
             let partners = length(seen.partner, trump);
             let longer = own.max(partners);
             (
-                longer.saturating_sub(over_side(length(seen.owners, trump))),
+                joint_trumps(longer, length(seen.owners, trump)),
                 longer,
                 partners,
             )
@@ -62,7 +67,7 @@ pub(crate) fn others_may_have(shape: Shape, tops: TwoHighest, need: u8) -> bool 
         Strain::Trump(trump) if (shape.lengths() >> place(trump)) & 0xFFFF != 0 => {
             let lengths = shape.lengths() >> place(trump);
             let longer = length(lengths >> 4, Suit::Clubs).max(length(lengths >> 12, Suit::Clubs));
-            need <= longer.saturating_sub(over_opponents(tops.of_suit(trump)))
+            need <= joint_trumps(longer, !tops.of_suit(trump))
         }
         strain => {
             need <= 1
@@ -72,18 +77,24 @@ pub(crate) fn others_may_have(shape: Shape, tops: TwoHighest, need: u8) -> bool 
     }
 }
 
-// By whose the two highest trumps are, seen from a side: how many are above its highest, 2 for more.
+// No more joint trumps than this a side has, by how many the longer of its two hands has and by whose the two highest are: of the lowest
+// two bits the second is set where the other side has the highest, the first where it has the next. One fewer for each that the
+// other side has, but for the side's own highest.
 // By numbers: which case it is would seldom be foreseen.
 #[inline]
-fn over_side(owners: u8) -> u8 {
+fn joint_trumps(longer: u8, owners: u8) -> u8 {
     let first = (owners >> 1) & 1;
-    first + (first & owners)
+    let next = owners & 1;
+    let over = first.wrapping_add(next);
+    longer
+        .saturating_sub(over)
+        .max((first ^ 1) & next & nonzero_bit(longer))
 }
 
-// The same of the other side.
+// 1 for a number above 0.
 #[inline]
-fn over_opponents(owners: u8) -> u8 {
-    over_side(!owners & 3)
+fn nonzero_bit(number: u8) -> u8 {
+    if number == 0 { 0 } else { 1 }
 }
 
 impl SuitsSeen {
@@ -92,7 +103,7 @@ impl SuitsSeen {
         let opponents = lengths >> (4 - 4 * (places % 2));
         let owners = owners_seen_from(tops, places);
         let side = match strain {
-            Strain::Trump(trump) => LOWEST & !at(trump, 1),
+            Strain::Trump(trump) => LOWEST & !at(trump, 1) & !ruffed(opponents, trump),
             Strain::Notrump => LOWEST,
         };
         SuitsSeen {
@@ -141,6 +152,15 @@ impl SuitsSeen {
         let rest = self.partner.wrapping_sub(nonzero(self.partner));
         sum(where_set(rest, next) | where_set(self.partner, all) | (partners ^ all))
     }
+}
+
+// The suits of which one of the opponents has none, where it has trumps: by the lengths of both, four bits each, eight apart.
+#[inline(always)]
+fn ruffed(opponents: u64, trump: Suit) -> u64 {
+    let held = ((opponents & BOTH).wrapping_add(BOTH) >> 4) & LOWEST_OF_BOTH;
+    let with_trumps = (held >> place(trump)) & 0x0101;
+    let ruffing = (held ^ LOWEST_OF_BOTH) & with_trumps.wrapping_mul(LOWEST);
+    (ruffing | ruffing >> 8) & LOWEST
 }
 
 // How many cards of the suit are among these.
