@@ -18,7 +18,7 @@ import sys
 
 # Not the changelog: it is of what was, too.
 PAGES = ["README.md", "CONTRIBUTING.md", "docs/*.md", "crates/*/README.md", "bench/README.md", "cases/README.md", "examples/**/README.md"]
-CODE = (".rt", ".antt", ".sh", ".py", ".rs", ".cpp", ".txt", ".edit", ".tsv")
+CODE = (".rt", ".antt", ".sh", ".py", ".rs", ".c", ".h", ".cpp", ".txt", ".edit", ".tsv")
 FILES = (*CODE, ".md", ".jsonl", ".expected", ".pbn")
 # Where a path of a crate's README may begin.
 PARTS = ("", "src", "specs", "proofs", "must-fail")

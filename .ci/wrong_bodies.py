@@ -1,6 +1,7 @@
 #!/usr/bin/env python3
 """That each wrong body, of the gate or not, can be applied: its `file:` is one of the crate's, and each `old:` text stands there
-exactly once, after the replacements before it. Prints `file:line: what` for each that can't, and ends with status 1."""
+exactly once, after the replacements before it. One that tests refuse begins with the name of their crate. Prints
+`file:line: what` for each that can't, and ends with status 1."""
 import glob
 import os
 import sys
@@ -40,12 +41,28 @@ def breaches(edit, crate):
         yield 1, "there is no pair of old: and new: lines"
 
 
-found = 0
-for edit in sorted(glob.glob("crates/*/must-fail/*.edit") + glob.glob("wrong_bodies/*/*.edit")):
+def crate_of(edit):
+    """The folder of the crate whose wrong body it is."""
     parts = edit.split("/")
-    crate = f"crates/{parts[1]}"
-    if parts[0] == "wrong_bodies" and os.path.exists(f"{crate}/must-fail/{parts[2]}"):
+    return f"crates/{parts[2 if parts[1] == 'by_tests' else 1]}"
+
+
+def names_no_tests(edit):
+    """Whether its first line lacks a crate of tests."""
+    with open(edit, encoding="utf-8") as file:
+        word, _, tests = file.readline().rstrip("\n").partition(": ")
+    return word != "tests" or not tests.endswith("_tests") or not os.path.isdir(f"crates/{tests}")
+
+
+found = 0
+by_tests = glob.glob("wrong_bodies/by_tests/*/*.edit")
+for edit in sorted(glob.glob("crates/*/must-fail/*.edit") + glob.glob("wrong_bodies/*/*.edit") + by_tests):
+    crate = crate_of(edit)
+    if edit.startswith("wrong_bodies/") and os.path.exists(f"{crate}/must-fail/{os.path.basename(edit)}"):
         print(f"{edit}:1: stands under {crate}/must-fail/ too")
+        found += 1
+    if edit in by_tests and names_no_tests(edit):
+        print(f"{edit}:1: no line tests: with a crate of tests")
         found += 1
     for number, what in breaches(edit, crate):
         print(f"{edit}:{number}: {what}")

@@ -1,5 +1,5 @@
-"""Memory that is refused to a server, by a shim that is built here (a C compiler is needed). Words: which of `once`, `start`,
-`worker`, `stop`.
+"""Memory that is refused to a server, by `cases/tools/refuse.c`, which is built here (a C compiler is needed). Words: which of
+`once`, `start`, `worker`, `stop`.
 
 Each of the first 300 allocations is refused once: a client's job is done, or the client is told (19, the number of a job whose
 fetch was refused, or the end of its connection) and asks anew; a stop ends the program; and a program that can't go on says so,
@@ -14,32 +14,10 @@ import subprocess
 import sys
 import tempfile
 import time
-from client import CLOSING, ONE_CARD, PROGRAM, STOP, Lines, check, fetch, number_of, recorded
+from client import CASES, CLOSING, ONE_CARD, PROGRAM, STOP, Lines, check, fetch, number_of, recorded
 
 ALLOCATIONS, STARTS = 300, 150
-SHIM = """
-#include <errno.h>
-#include <stdlib.h>
-#include <unistd.h>
-static long count, refused = -1, since, least;
-static char *out;
-extern void *__libc_malloc(size_t), *__libc_realloc(void *, size_t);
-static long number(const char *name) { char *text = getenv(name); return text ? atol(text) : 0; }
-/* The allocation of this number is refused; each from that number on; and once the file OUT is there, each of so many bytes. */
-static int is_refused(size_t size) {
-    if (refused < 0) { refused = number("REFUSED"); since = number("SINCE"); least = number("LEAST"); out = getenv("OUT"); }
-    long now = __atomic_add_fetch(&count, 1, __ATOMIC_RELAXED);
-    return now == refused || (since && now >= since) || (out && size >= least && access(out, F_OK) == 0);
-}
-void *malloc(size_t size) {
-    if (is_refused(size)) { errno = ENOMEM; return NULL; }
-    return __libc_malloc(size);
-}
-void *realloc(void *old, size_t size) {
-    if (is_refused(size)) { errno = ENOMEM; return NULL; }
-    return __libc_realloc(old, size);
-}
-"""
+SHIM = os.path.join(CASES, "tools", "refuse.c")
 OUT, SHORT = "ddserve: out of memory\n", "ddserve: memory is short: a worker waits for it\n"
 WAITS = ONE_CARD[:-1] + ',"wait":5000}'
 
@@ -174,7 +152,7 @@ def stop(shim, folder):
 
 with tempfile.TemporaryDirectory() as folder:
     shim = os.path.join(folder, "shim.so")
-    subprocess.run(["cc", "-O2", "-shared", "-fPIC", "-x", "c", "-", "-o", shim], input=SHIM, text=True, check=True)
+    subprocess.run(["cc", "-O2", "-shared", "-fPIC", "-o", shim, SHIM], check=True)
     kinds = {"once": once, "start": at_start, "worker": for_worker, "stop": stop}
     for kind in sys.argv[1:] or kinds:
         with tempfile.TemporaryDirectory() as place:

@@ -58,7 +58,7 @@ abbrev pub TellsJob : List JobOf → Call → Reply → Type 0
 TellsJob jobs c (Submitted number) = (job : JobOf) × (job_at jobs number ≡ Some job) × (c ≡ Submit job.owner job.asked)
 TellsJob jobs c (Claimed number claim question) = Unit {0}
 TellsJob jobs c (ClaimedTarget number claim question) = Unit {0}
-TellsJob jobs c (ClaimedPart number part claim position) = Unit {0}
+TellsJob jobs c (ClaimedPart number part claim hands) = Unit {0}
 TellsJob jobs c (ClaimedPlayPart number part claim position side) = Unit {0}
 TellsJob jobs c NothingWaits = Unit {0}
 TellsJob jobs c Closing = Unit {0}

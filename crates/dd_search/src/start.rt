@@ -4,7 +4,7 @@ ghost use Rattle.dd_cards.specs.declared.suit.Suit.{Suit as SuitOf};
 ghost use Rattle.dd_play.specs.Board.{Board, IsBoard};
 ghost use Rattle.dd_play.specs.Covers.{count_of};
 ghost use Rattle.dd_play.specs.Value.{leaders_tricks, score};
-ghost use Rattle.dd_equal.specs.EqualCards.{tops};
+ghost use Rattle.dd_equal.specs.EqualCards.{classes_of, tops};
 ghost use Rattle.dd_rank.specs.Depths.{all_cards, depth_in, Covers};
 ghost use Rattle.dd_search.specs.Budgets.{EndsAs, IsEndless};
 
@@ -16,7 +16,7 @@ use crate::position_value::north_souths_tricks;
 use crate::table::Bounds;
 use arrayvec::ArrayVec;
 use dd_cards::Card;
-use dd_equal::classes;
+use dd_equal::Class;
 use dd_play::TrickStart;
 use dd_rank::Depths;
 
@@ -87,13 +87,15 @@ fn start_value_in_order<B: Bounds, M: Meter>(
     }
 }
 
-/// The score, 0 to 13, of each class's highest card: spades, hearts, diamonds, clubs, and in a suit the higher cards first;
-/// and depths such that each position that this one covers at them has the same value. Errors as at `score`.
+/// The score, 0 to 13, of the highest card of each of these classes, which are those of the start, in their order; and depths
+/// such that each position that this one covers at them has the same value. Errors as at `score`.
 pub fn start_scores<B: Bounds, M: Meter>(
     start: &TrickStart,
+    classes: &[Class],
     table: &mut B,
     meter: &mut M,
 ) -> Result<(ArrayVec<(Card, u8), 13>, Depths), Halt>
+    requires { classes.now ≡ classes_of start.now }
     ensures scores { IfOk result (λ found. found.0.items ≡ map
         (λ c. (c, score start.now c)) (tops start.now)) }
     ensures depths { IfOk result (λ found. (q : Board) → IsBoard q
@@ -105,26 +107,27 @@ pub fn start_scores<B: Bounds, M: Meter>(
     ensures answers { IsEndless M.says → IsOk result }
 {
     let (best, depths) = start_value(start, table, meter)?;
-    let scores = scores_up_to(start, best, table, meter)?;
+    let scores = scores_up_to(start, classes, best, table, meter)?;
     Ok((scores, depths))
 }
 
 // The score of each class's highest card, where none is above this one.
 fn scores_up_to<B: Bounds, M: Meter>(
     start: &TrickStart,
+    classes: &[Class],
     best: u8,
     table: &mut B,
     meter: &mut M,
 ) -> Result<ArrayVec<(Card, u8), 13>, Halt>
-    requires { best ≡ leaders_tricks start.now }
+    requires classes { classes.now ≡ classes_of start.now }
+    requires best { best ≡ leaders_tricks start.now }
     ensures scores { IfOk result (λ found. found.items ≡ map
         (λ c. (c, score start.now c)) (tops start.now)) }
     ensures ends { EndsAs (M.says meter.new) result }
 {
     let position = start.position();
-    let classes = classes(position);
     let mut scores = ArrayVec::new();
-    for class in classes.as_slice() {
+    for class in classes {
         let card = class.top;
         let score = score_up_to(position, card, best, table, meter)?;
         scores.push((card, score));

@@ -16,3 +16,13 @@ pub const NINE_CARDS: &str =
 /// The table of eight cards a hand.
 pub const EIGHT_CARDS_TABLE: &str =
     r#"{"do":"table","deal":"N:8.73.Q.AT97 954.A.974.8 AK.62.3.J32 T7.94.T85.Q"}"#;
+
+/// Eight cards a hand, of which some lead may reach the target.
+pub const EIGHT_CARDS_TARGET: &str =
+    r#"{"do":"solve","deal":"N:9.T7.KJ4.Q2 T.6.AQ7.JT7 653.Q3.95.K Q7.92.82.83","trump":0,"first":0,"solutions":2,"target":4}"#;
+
+/// A play of one trick, in which nobody had a choice: North's cards are equal, and the others had one heart each. So its last
+/// number takes the longest search, for the value of the position that the trick leaves. The number before the lead takes one
+/// question, which comes to one of that search's own, and the three numbers between them take none.
+pub const EIGHT_CARDS_PLAY: &str =
+    r#"{"do":"play","deal":"N:.98765432.. T64.Q.Q4.J6 J7.A.A6.K95 A9.K.J93.74","trump":4,"first":0,"cards":[[1,9],[1,12],[1,14],[1,13]]}"#;

@@ -7,6 +7,7 @@ ghost use Rattle.dd_play.specs.Play.{legal};
 
 use arrayvec::ArrayVec;
 use dd_cards::{Card, Hands, Rank, Seat, Strain, Suit};
+use dd_equal::classes;
 use dd_play::{Position, TrickStart};
 use dd_rank::Depths;
 use dd_search::{
@@ -323,7 +324,9 @@ fn each_class_has_its_score_in_the_order_of_the_suits(rt: HostRuntime) {
     ];
     for (hands, first, want, what) in table {
         let start = start_of(hands, first).expect(&rt, what);
-        let found = start_scores(&start, &mut NoTable, &mut Endless).expect(&rt, what);
+        let classes = classes(start.position());
+        let found = start_scores(&start, classes.as_slice(), &mut NoTable, &mut Endless);
+        let found = found.expect(&rt, what);
         let mut scores: ArrayVec<(u8, u8), 13> = ArrayVec::new();
         for (card, score) in found.0.as_slice() {
             let _fits = scores.try_push((card.code(), *score));
@@ -354,7 +357,9 @@ fn without_cards_there_is_no_score(rt: HostRuntime) {
     let start = start_of(&ONE_EACH, Seat::North).expect(&rt, "one card a hand");
     let end = after_a_trick(&start).expect(&rt, "four cards");
     let mut one = Budget::new(1);
-    let found = start_scores(&end, &mut NoTable, &mut one).expect(&rt, "one tick");
+    let classes = classes(end.position());
+    let found = start_scores(&end, classes.as_slice(), &mut NoTable, &mut one);
+    let found = found.expect(&rt, "one tick");
     assert!(rt; found.0.is_empty());
     assert_eq!(rt; four(found.1), [0, 0, 0, 0]);
     assert_eq!(rt; one.ticks(), 1);

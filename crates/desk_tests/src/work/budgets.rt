@@ -6,10 +6,15 @@ use crate::work::worked::{ask, enrol};
 use dd_book::Limits;
 use dd_desk::{Desk, Naming, Row};
 use dd_search::{Budget, NoTable};
-use dd_solve::{Asked, PARTS, Request, TableRequest, solve, solve_part};
+use dd_solve::{
+    Asked, PARTS, PlayRequest, Request, TableRequest, TargetRequest, solve, solve_part,
+    solve_play_part, solve_target,
+};
 use dd_wire::{LineAsked, read_request};
 use dd_work::{NoGate, worker};
-use request_tests::searched::{EIGHT_CARDS_TABLE, NINE_CARDS};
+use request_tests::searched::{
+    EIGHT_CARDS_PLAY, EIGHT_CARDS_TABLE, EIGHT_CARDS_TARGET, NINE_CARDS,
+};
 use std::alloc::{AllocError, Global};
 use std::marker::Brand;
 use std::process::Abort;
@@ -27,6 +32,13 @@ fn positions_of_leads(request: Request) -> Option<u64> {
     Some(budget.ticks())
 }
 
+// How many the search for all cards that reach the target visits.
+fn positions_of_target(request: TargetRequest) -> Option<u64> {
+    let mut budget = Budget::new(MOST);
+    solve_target(request, &mut NoTable, &mut budget).ok()?;
+    Some(budget.ticks())
+}
+
 // How many the longest search for one of the twenty results visits.
 fn positions_of_table(request: &TableRequest) -> Option<u64> {
     let mut most = 0u64;
@@ -38,11 +50,25 @@ fn positions_of_table(request: &TableRequest) -> Option<u64> {
     Some(most)
 }
 
+// How many the longest search for one of the play's numbers visits.
+fn positions_of_play(request: &PlayRequest) -> Option<u64> {
+    let mut most = 0u64;
+    for count in 0..=request.cards().len() {
+        let (position, _) = request.after(count);
+        let mut budget = Budget::new(MOST);
+        solve_play_part(position, request.declarers(), &mut NoTable, &mut budget).ok()?;
+        most = most.max(budget.ticks());
+    }
+    Some(most)
+}
+
 // The least budget within which a worker answers the line, where that is over `least`.
 fn least_budget(alloc: Global, line: &str, least: u64) -> Option<u64> {
     let count = match read_request(alloc, line.as_bytes()).ok()? {
         LineAsked::Cards(Asked::Solve(request)) => positions_of_leads(request)?,
+        LineAsked::Cards(Asked::Target(request)) => positions_of_target(request)?,
         LineAsked::Cards(Asked::Table(request)) => positions_of_table(&request)?,
+        LineAsked::Cards(Asked::Play(request)) => positions_of_play(&request)?,
         _ => return None,
     };
     Some(count).filter(|count| *count > least)
@@ -96,11 +122,14 @@ fn is_spent<R: Wait + Clock + Abort>(
 }
 
 #[test]
-fn a_large_budget_and_one_of_a_table_suffice_or_lack_one_position(
-    rt: HostRuntime,
-) -> Result<(), AllocError> {
+fn budgets_of_each_kind_suffice_or_lack_one_position(rt: HostRuntime) -> Result<(), AllocError> {
     let alloc = rt.alloc();
-    for (line, least) in [(NINE_CARDS, 30_000), (EIGHT_CARDS_TABLE, 1_000)] {
+    for (line, least) in [
+        (NINE_CARDS, 30_000),
+        (EIGHT_CARDS_TABLE, 1_000),
+        (EIGHT_CARDS_TARGET, 100),
+        (EIGHT_CARDS_PLAY, 100),
+    ] {
         let count = least_budget(alloc, line, least).expect(&rt, "so many positions");
         let suffices = !is_spent(&rt, alloc, line, count)?;
         let lacks_one = is_spent(&rt, alloc, line, count.saturating_sub(1))?;

@@ -1,21 +1,32 @@
 //! Lines whose budget just suffices, or lacks one position.
 use super::runs::run_within;
 use crate::devices::Pieces;
-use crate::searched::{EIGHT_CARDS, EIGHT_CARDS_TABLE, NINE_CARDS};
+use crate::searched::{
+    EIGHT_CARDS, EIGHT_CARDS_PLAY, EIGHT_CARDS_TABLE, EIGHT_CARDS_TARGET, NINE_CARDS,
+};
 use dd_cards::Seat;
 use dd_search::{Budget, NoTable, value, value_from_guess};
-use dd_solve::{Asked, PARTS, TableRequest, solve};
+use dd_solve::{Asked, PARTS, TableRequest, solve, solve_target};
 use dd_wire::{LineAsked, read_request};
 use std::alloc::Global;
 
-// How many positions the search for the line visits, over no table, where these are more than `least` and no more than `most`.
+// How many positions the search for the line visits, over no table, where these are more than `least` and no more than `most`; of a
+// play the search for its last number.
 fn positions(alloc: Global, line: &str, least: u64, most: u64) -> Option<u64> {
-    let Ok(LineAsked::Cards(Asked::Solve(request))) = read_request(alloc, line.as_bytes()) else {
+    let LineAsked::Cards(asked) = read_request(alloc, line.as_bytes()).ok()? else {
         return None;
     };
     let mut budget = Budget::new(most);
-    solve(request, &mut NoTable, &mut budget).ok()?;
-    Some(budget.ticks()).filter(|count| *count > least)
+    let found = match asked {
+        Asked::Solve(request) => solve(request, &mut NoTable, &mut budget).is_ok(),
+        Asked::Target(request) => solve_target(request, &mut NoTable, &mut budget).is_ok(),
+        Asked::Play(request) => {
+            let (last, _) = request.after(request.cards().len());
+            value(&last, &mut NoTable, &mut budget).is_ok()
+        }
+        Asked::Table(_) => false,
+    };
+    Some(budget.ticks()).filter(|count| found && *count > least)
 }
 
 // Is the line spent within this budget?
@@ -55,6 +66,15 @@ fn a_large_budget_suffices_or_lacks_one_position(rt: HostRuntime) {
     let count = positions(alloc, NINE_CARDS, 30_000, 1_000_000);
     let count = count.expect(&rt, "over 30,000 positions");
     assert!(rt; needs(alloc, NINE_CARDS, count));
+}
+
+#[test]
+fn a_budget_of_a_target_or_a_play_suffices_or_lacks_one_position(rt: HostRuntime) {
+    let alloc = rt.alloc();
+    for line in [EIGHT_CARDS_TARGET, EIGHT_CARDS_PLAY] {
+        let count = positions(alloc, line, 100, 100_000).expect(&rt, "over 100 positions");
+        assert!(rt; needs(alloc, line, count), "{line}");
+    }
 }
 
 #[test]

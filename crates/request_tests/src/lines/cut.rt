@@ -35,8 +35,9 @@ fn a_line_cut_at_any_byte_is_no_object_and_the_next_is_right(rt: HostRuntime) ->
     Ok(())
 }
 
-// `rt try --test --fail-alloc N` refuses the Nth growth; `rt test` refuses none. Of two lines one may be told that memory ran out,
-// and then the other is answered. What the writer of this test keeps grows too: a run whose write finds no memory ends there.
+// `rt try --test --fail-alloc N` refuses the Nth growth; `rt test` refuses none, and `cases/memory.sh` those of the built program.
+// Of two lines one may be told that memory ran out, and then the other is answered. What the writer of this test keeps grows too: a
+// run whose write finds no memory ends there.
 #[test]
 fn a_line_that_finds_no_memory_is_told_so_and_the_other_is_right(
     rt: HostRuntime,

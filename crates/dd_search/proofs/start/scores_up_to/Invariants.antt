@@ -6,6 +6,6 @@ use Rattle.dd_search.proofs.start.scores_up_to.Given as goal
 -- The classes so far have their scores.
 abbrev pub invariant-loop-class : goal.invariant-loop-class
 invariant-loop-class g l = record {
-  scores : l.scores.items ≡ map (top_score l.start) (take l.class-index l.class-items);
+  scores : l.scores.items ≡ map (top_score l.start) (take l.class-index l.classes);
   few : length l.scores.items ≤ l.class-index;
 }

@@ -1,0 +1,53 @@
+#!/usr/bin/env bash
+# Tries the wrong bodies that no contract refuses, since no clause says what they change (`by_tests/`). In a copy of the last
+# commit each is made by itself, and a test of the crate that its line `tests:` names has to fail; as the code stands, all of them
+# pass. It proves nothing, and takes some three minutes for each. Words: crates (all that have a folder in `by_tests/`).
+set -eu
+here=$(cd -- "$(dirname -- "$0")" && pwd)
+top=$(cd -- "$here/.." && pwd)
+for tool in git python3 rt; do
+    command -v "$tool" > /dev/null || { echo "wrong_bodies: the command $tool is missing" >&2; exit 1; }
+done
+[ $# -gt 0 ] || set -- $(cd "$here/by_tests" && ls)
+
+work=$(mktemp -d)
+trap 'rm -rf "$work"' EXIT
+git -C "$top" archive HEAD | tar -x -C "$work"
+python3 - "$work" "$@" <<'END'
+import glob, os, re, subprocess, sys
+work, *crates = sys.argv[1:]
+os.chdir(work)
+
+
+def outcome(tests):
+    """How the tests end, and those that fail."""
+    ran = subprocess.run(["rt", "try", "--test"], cwd=f"crates/{tests}", capture_output=True, text=True).stdout
+    ended = re.search(r"^test result: (\w+)\.", ran, re.M)
+    return ended[1] if ended else "no end", re.findall(r"^test (\S+) \.\.\. FAILED", ran, re.M)
+
+
+passed, missed = set(), 0
+for crate in crates:
+    edits = sorted(glob.glob(f"wrong_bodies/by_tests/{crate}/*.edit"))
+    if not edits:
+        sys.exit(f"wrong_bodies: there is no folder by_tests/{crate} with edits in the last commit")
+    for edit in edits:
+        pairs = [line.partition(": ")[::2] for line in open(edit, encoding="utf-8").read().splitlines()]
+        said = dict(pairs)
+        tests, path = said["tests"], f"crates/{crate}/{said['file']}"
+        if tests not in passed:
+            if outcome(tests)[0] != "ok":
+                sys.exit(f"wrong_bodies: {tests} fails as the code stands")
+            passed.add(tests)
+        right = open(path, encoding="utf-8").read()
+        wrong = right
+        for (_, old), (_, new) in zip(pairs[2::2], pairs[3::2]):
+            wrong = wrong.replace(old, new)
+        open(path, "w", encoding="utf-8").write(wrong)
+        ended, failed = outcome(tests)
+        open(path, "w", encoding="utf-8").write(right)
+        refused = ended == "FAILED"
+        missed += not refused
+        print(f"{edit}: {'refused by ' + ', '.join(failed) if refused else f'NOT refused: {ended}'}", flush=True)
+sys.exit(1 if missed else 0)
+END
