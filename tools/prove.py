@@ -5,7 +5,7 @@ Words: the form of x86-64 to compile for. `../ddserve` calls this, one at a time
 others out of a crate and of all below it while it works there, so that two never work side by side in one tree of crates that
 share one. So each crate is proved in a tree of its own under `crates/ddserve/out/prove/`, of hard links to the sources and to
 the libraries below, and what `rt` keeps, and the library, is then moved to the crate's own `out/`. After an interrupt the next
-start goes on there.
+start goes on there. `rt` is called by way of `rt.py`, which spares it most of its own time.
 """
 import fcntl
 import os
@@ -30,6 +30,8 @@ SHARE = 4 << 30
 JOB_SHARE = 2 << 30
 # More jobs in one crate seldom help.
 MOST_JOBS = 4
+# How rt is called.
+RT = (sys.executable, f"{TOP}/tools/rt.py")
 # rt ends so where the system killed the prover, mostly for memory.
 KILLED = (137, 247, -signal.SIGKILL)
 
@@ -175,7 +177,7 @@ class Crate:
         move_kept(self.own, f"{self.tree}/crates/{name}/out")
         self.begin = time.time()
         with open(self.log, "wb") as log:
-            words = ["rt", "lib", "--jobs", str(jobs)]
+            words = [*RT, "lib", "--jobs", str(jobs)]
             self.run = subprocess.Popen(words, cwd=f"{self.tree}/crates/{name}", **how_started(log, group))
 
     def has_ended(self):
@@ -279,7 +281,7 @@ class Prover:
         log, built = f"{OUT}/build.log", f"{OUT}/{PROGRAM}"
         with open(log, "wb") as file:
             # With no word the program ends at once, with status 2.
-            subprocess.run(["rt", "run", "--cpu", self.form], cwd=os.path.dirname(OUT), **how_started(file, self.guard.pid))
+            subprocess.run([*RT, "run", "--cpu", self.form], cwd=os.path.dirname(OUT), **how_started(file, self.guard.pid))
         said = read(log)
         # A program of an earlier start may still be there where this one was proved and not linked.
         is_new = re.search("^logic=proved", said, re.M) and os.path.isfile(built) and os.path.getmtime(built) > self.begin
