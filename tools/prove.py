@@ -5,7 +5,7 @@ Words: the form of x86-64 to compile for. `../ddserve` calls this, one at a time
 others out of a crate and of all below it while it works there, so that two never work side by side in one tree of crates that
 share one. So each crate is proved in a tree of its own under `crates/ddserve/out/prove/`, of hard links to the sources and to
 the libraries below, and what `rt` keeps, and the library, is then moved to the crate's own `out/`. After an interrupt the next
-start goes on there.
+start goes on there. `rt` is called by way of `rt.py`, which spares it most of its own time.
 """
 import fcntl
 import os
@@ -28,8 +28,16 @@ KEPT = ("incremental", "rlib")
 # The memory that one at a time is given, and that of a job.
 SHARE = 4 << 30
 JOB_SHARE = 2 << 30
-# More jobs in one crate seldom help.
+# The jobs of a crate on the longest way, and of one whose way is half as long at least. More seldom help, and each takes time to
+# read the libraries.
 MOST_JOBS = 4
+SOME_JOBS = 2
+# What it takes to read the libraries, as so many bytes of code.
+LOADING = 28_000
+# How much lower the priority of a crate is that nothing waits for, as nice counts.
+LOWEST = 15
+# How rt is called.
+RT = (sys.executable, f"{TOP}/tools/rt.py")
 # rt ends so where the system killed the prover, mostly for memory.
 KILLED = (137, 247, -signal.SIGKILL)
 
@@ -78,17 +86,22 @@ def closure(uses):
     return below
 
 
-def chains(uses):
-    """Returns of each crate the bytes of sources along the longest way from it up to the program."""
-    size = {}
+def weights(uses):
+    """Returns of each crate how long it takes, in bytes of code: written proofs make it hardly longer."""
+    weight = {}
     for name in uses:
-        walked = [os.path.join(at, it) for part in PARTS for at, _, names in os.walk(f"{TOP}/crates/{name}/{part}") for it in names]
-        size[name] = sum(map(os.path.getsize, walked))
+        walked = [os.path.join(at, it) for at, _, names in os.walk(f"{TOP}/crates/{name}/src") for it in names]
+        weight[name] = LOADING + sum(map(os.path.getsize, walked))
+    return weight
+
+
+def chains(uses, weight):
+    """Returns of each crate what the longest way from it up to the program takes."""
     found = {}
 
     def of(name):
         if name not in found:
-            found[name] = size[name] + max((of(it) for it in uses if name in uses[it]), default=0)
+            found[name] = weight[name] + max((of(it) for it in uses if name in uses[it]), default=0)
         return found[name]
 
     for name in uses:
@@ -124,9 +137,14 @@ def link(source, target):
         shutil.copy2(source, target)
 
 
-def how_started(log, group):
-    """Returns how to start a command of the group, with its output in the log."""
-    return {"stdin": subprocess.DEVNULL, "stdout": log, "stderr": subprocess.STDOUT, "preexec_fn": lambda: os.setpgid(0, group)}
+def how_started(log, group, nice=0):
+    """Returns how to start a command of the group, with its output in the log and its priority lowered by so much."""
+
+    def begin():
+        os.setpgid(0, group)
+        os.nice(nice)
+
+    return {"stdin": subprocess.DEVNULL, "stdout": log, "stderr": subprocess.STDOUT, "preexec_fn": begin}
 
 
 def move_kept(source, target):
@@ -150,7 +168,7 @@ def tidy():
 class Crate:
     """One run of `rt lib`, in a tree of its own."""
 
-    def __init__(self, name, below, jobs, group):
+    def __init__(self, name, below, jobs, nice, group):
         self.name, self.jobs = name, jobs
         self.log = f"{OUT}/log/{name}.log"
         self.own = f"{TOP}/crates/{name}/out"
@@ -175,8 +193,8 @@ class Crate:
         move_kept(self.own, f"{self.tree}/crates/{name}/out")
         self.begin = time.time()
         with open(self.log, "wb") as log:
-            words = ["rt", "lib", "--jobs", str(jobs)]
-            self.run = subprocess.Popen(words, cwd=f"{self.tree}/crates/{name}", **how_started(log, group))
+            words = [*RT, "lib", "--jobs", str(jobs)]
+            self.run = subprocess.Popen(words, cwd=f"{self.tree}/crates/{name}", **how_started(log, group, nice))
 
     def has_ended(self):
         """Tells whether rt ended, and then notes what it took: the crate, its jobs, seconds of wall and processor time."""
@@ -207,8 +225,9 @@ class Prover:
         self.form = form
         self.uses = crates_below()
         self.below = closure(self.uses)
-        chain = chains(self.uses)
-        self.order = sorted(self.uses, key=lambda it: (-chain[it], it))
+        self.weight = weights(self.uses)
+        self.chain = chains(self.uses, self.weight)
+        self.order = sorted(self.uses, key=lambda it: (-self.chain[it], it))
         self.most, self.most_jobs = side_by_side()
         self.done, self.running, self.again = set(), {}, set()
         self.begin = time.time()
@@ -231,10 +250,13 @@ class Prover:
         return "now " + ", ".join(it for it in self.order if it in self.running)
 
     def start_ready(self):
-        """Starts what can be, that with the longest way above it first and with what processors the others leave. Where memory
-        allows it a crate has two jobs even where others leave one, and on the longest way, which says how long the whole takes, four:
-        for a third of its time a run has work for one processor alone."""
+        """Starts what can be, that with the longest way above it first. That way says how long the whole takes, so a crate on it has
+        four jobs, and those beside it the less priority the shorter theirs is: they get what it leaves, and for a third of its time a
+        run has work for one processor alone."""
         left = [it for it in self.order if it != PROGRAM and it not in self.done and it not in self.running]
+        # (of what runs half is done)
+        halves = [self.chain[it] - self.weight[it] / 2 for it in self.running]
+        longest = max([*halves, *(self.chain[it] for it in left)], default=0)
         ready = [it for it in left if self.below[it] <= self.done]
         # What was killed once runs alone.
         lone = [it for it in ready if it in self.again]
@@ -245,9 +267,12 @@ class Prover:
                 break
             used = sum(it.jobs for it in self.running.values())
             free = self.most - used - (len(ready) - place - 1)
-            least = min(MOST_JOBS if name == left[0] else 2, self.most_jobs - used) if self.most > 2 else 1
+            share = self.chain[name] / longest
+            wanted = MOST_JOBS if share == 1 else SOME_JOBS if share >= 0.5 else 1
+            least = min(wanted, self.most_jobs - used) if self.most > 2 else 1
             jobs = 1 if name in self.again else max(1, least, min(free, MOST_JOBS))
-            self.running[name] = Crate(name, self.below[name], jobs, self.guard.pid)
+            nice = int(LOWEST * (1 - share))
+            self.running[name] = Crate(name, self.below[name], jobs, nice, self.guard.pid)
 
     def libraries(self):
         while len(self.done) < len(self.uses) - 1:
@@ -279,7 +304,7 @@ class Prover:
         log, built = f"{OUT}/build.log", f"{OUT}/{PROGRAM}"
         with open(log, "wb") as file:
             # With no word the program ends at once, with status 2.
-            subprocess.run(["rt", "run", "--cpu", self.form], cwd=os.path.dirname(OUT), **how_started(file, self.guard.pid))
+            subprocess.run([*RT, "run", "--cpu", self.form], cwd=os.path.dirname(OUT), **how_started(file, self.guard.pid))
         said = read(log)
         # A program of an earlier start may still be there where this one was proved and not linked.
         is_new = re.search("^logic=proved", said, re.M) and os.path.isfile(built) and os.path.getmtime(built) > self.begin

@@ -3,8 +3,8 @@ use Rattle.std.proofs.Common.{◌≡◌, ◌∙◌, ◌<◌, ℕ, refl, sym, ap,
 use Rattle.std.specs.Prelude.{IsOk, Result, Ok, Err, string_bytes}
 use Rattle.std.proofs.KnownBytes.{Appends-nil, Appends-trans}
 use Rattle.dd_lines.specs.CountedDevices.{FailedOnce}
-use Rattle.dd_program.specs.declared.command_line.Args.{Args}
-use Rattle.dd_program.specs.declared.command_line.Args.TheVariants.{Fill, Serve}
+use Rattle.dd_command.specs.declared.command_line.Args.{Args}
+use Rattle.dd_command.specs.declared.command_line.Args.TheVariants.{Fill, Serve}
 use Rattle.dd_server.specs.declared.args.ServeFault.{ServeFault}
 use Rattle.dd_server.specs.declared.args.ServeFault.TheVariants.{Listen, OutOfMemory as NoMemoryLeft}
 use Rattle.dd_server.specs.Runs.{AreTold}

@@ -1,16 +1,3 @@
-mod Asked
 mod Attended
 mod FilledUntil
-mod Given
-mod LeftOut
-mod Lines
 mod NamedTags
-mod Numbers
-mod Options
-mod OtherWords
-mod Programs
-mod Runs
-mod ServeWords
-mod Steps
-mod UseRows
-mod Words

@@ -9,16 +9,16 @@ use Rattle.dd_lines.specs.declared.counted_device.CountedDevice.{CountedDevice}
 use Rattle.dd_lines.specs.CountedDevices.{bytes_of, failures_of, FailedOnce}
 use Rattle.dd_lines.specs.Served.{WroteText}
 use Rattle.dd_tool.specs.Served.{IsReplyAs, ToldAll, ToldBeginning}
-use Rattle.dd_program.specs.declared.command_line.Args.{Args}
-use Rattle.dd_program.specs.declared.command_line.Args.TheVariants.{Fill, Serve, Solve}
-use Rattle.dd_program.specs.declared.command_line.ArgumentsFault.{ArgumentsFault}
-use Rattle.dd_program.specs.declared.command_line.ArgumentsFault.TheVariants.{NotText, OutOfMemory as NoMemory}
+use Rattle.dd_command.specs.declared.command_line.Args.{Args}
+use Rattle.dd_command.specs.declared.command_line.Args.TheVariants.{Fill, Serve, Solve}
+use Rattle.dd_command.specs.declared.command_line.ArgumentsFault.{ArgumentsFault}
+use Rattle.dd_command.specs.declared.command_line.ArgumentsFault.TheVariants.{NotText, OutOfMemory as NoMemory}
 use Rattle.dd_program.specs.declared.ending.Ending.{Ending}
 use Rattle.dd_program.specs.declared.ending.Ending.TheVariants.{Answered, Shown, Closed, Filled, BadLine, ReadFailed, WriteFailed, CannotListen, ListenFailed, OutOfMemory}
-use Rattle.dd_program.specs.CommandLine.{Text, Asks}
+use Rattle.dd_command.specs.CommandLine.{Text, Asks}
 use Rattle.dd_program.specs.ListenFaults.{line_of_fault}
 use Rattle.dd_program.specs.declared.listen_fault.ListenFault.{ListenFault}
-use Rattle.dd_program.specs.Program.{program_app}
+use Rattle.dd_command.specs.Program.{program_app}
 use Rattle.dd_program.specs.Tags.{wanted_by}
 use Rattle.dd_file.specs.Served.{FilledAll, FilledBeginning}
 use Rattle.dd_file.specs.declared.engine.FileFault.{FileFault}
@@ -29,7 +29,7 @@ use Rattle.dd_server.specs.Histories.{IsLengthOfHistory}
 use Rattle.dd_server.specs.declared.args.ServeFault.{ServeFault}
 use Rattle.dd_server.specs.declared.args.ServeFault.TheVariants.{Listen, OutOfMemory as NoMemoryLeft}
 use Rattle.dd_book.specs.Limits.{LimitsOf, limits_of}
-use Rattle.dd_book.specs.declared.limits.TheConstants.{MOST_OPEN_JOBS, MOST_JOBS, MOST_PASSES}
+use Rattle.dd_limits.specs.declared.limits.TheConstants.{MOST_OPEN_JOBS, MOST_JOBS, MOST_PASSES}
 
 -- the program's status after this ending
 abbrev pub status_of : Ending → ℕ

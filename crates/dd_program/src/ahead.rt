@@ -1,6 +1,6 @@
 //! Lines that several threads answer.
 ghost use Rattle.std.specs.Prelude.{◌≡◌, ◌≤◌};
-ghost use Rattle.dd_program.specs.CommandLine.{IsTableSize};
+ghost use Rattle.dd_command.specs.CommandLine.{IsTableSize};
 ghost use Rattle.dd_program.specs.Endings.{state_of, streams, SolvesUntil};
 ghost use Rattle.dd_tool.specs.Served.{IsReplyAs};
 

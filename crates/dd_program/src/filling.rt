@@ -1,7 +1,7 @@
 //! The filling of files.
 ghost use Rattle.std.specs.Prelude.{◌≡◌, ◌≤◌, IfErr};
 ghost use Rattle.dd_fill.specs.Told.{MaySpend};
-ghost use Rattle.dd_program.specs.CommandLine.{IsTableSize};
+ghost use Rattle.dd_command.specs.CommandLine.{IsTableSize};
 ghost use Rattle.dd_program.specs.Endings.{ending_of, line_of, state_of, streams, tags_line, EndsFilling, FillsUntil, Writes};
 
 use crate::ahead::{SHARDS, caches};
@@ -11,9 +11,10 @@ use crate::tags::wanted_by;
 use dd_cache::Cache;
 use dd_file::{FileFault, Wanted};
 use dd_fill::fill_deals;
+use dd_limits::MOST_SHARDS;
 use dd_lines::{CountedDevice, write_whole};
 use dd_search::Bounds;
-use dd_table::{MOST_SHARDS, SharedTable};
+use dd_table::SharedTable;
 use std::alloc::Global;
 use std::io::{Read, Write};
 use std::sync::Wait;

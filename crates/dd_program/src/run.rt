@@ -1,18 +1,18 @@
 //! What the program does: from its arguments and its streams to its ending.
 ghost use Rattle.std.specs.Prelude.{◌≡◌, ◌≤◌, ◌*◌, IfOk, IfErr, IfSome, option_map};
 ghost use Rattle.clap.specs.Words.{kind_of};
-ghost use Rattle.dd_program.specs.CommandLine.{IsIdle, IsInRange, IsTableSize};
+ghost use Rattle.dd_command.specs.CommandLine.{IsIdle, IsInRange, IsTableSize};
 ghost use Rattle.dd_program.specs.Endings.{line_of, state_of, streams, arguments_of, Device, AskFor, Explains, Writes, SolvesUntil, ShowsUntil, Runs};
 ghost use Rattle.dd_tool.specs.Served.{IsReplyAs};
 
 use crate::ahead::solve_ahead;
-use crate::command_line::{Args, ArgumentsFault, not_text, read_args};
 use crate::ending::Ending;
 use crate::filling::{FillArgs, fill};
 use crate::serving::serve;
 use clap::Error;
 use clap::error::ErrorKind;
 use dd_cache::Cache;
+use dd_command::{Args, ArgumentsFault, not_text, read_args};
 use dd_lines::{CountedDevice, LineFault, write_whole};
 use dd_search::Bounds;
 use dd_server::ServeArgs;

@@ -1,15 +1,16 @@
 //! The serving of clients.
 ghost use Rattle.std.specs.Prelude.{◌≡◌, ◌<◌, ◌≤◌, ℕ, List, All, IfOk, IsOk, OnOk, OnErr, false, length, string_bytes};
-ghost use Rattle.dd_program.specs.CommandLine.{IsEventCount};
+ghost use Rattle.dd_command.specs.CommandLine.{IsEventCount};
 ghost use Rattle.dd_program.specs.Endings.{EndsSo, limits_for, listening_text, state_of, streams, Device, ServesUntil, WritesAll, WritesBeginning};
-ghost use Rattle.dd_program.specs.declared.command_line.TheConstants.{MOST_WORKERS};
+ghost use Rattle.dd_command.specs.declared.command_line.TheConstants.{MOST_WORKERS};
 ghost use Rattle.dd_server.specs.ServeArgs.{HasTableSize};
 
 use crate::ending::Ending;
 use crate::listen_fault::ListenFault;
 use crate::run::fail;
 use crate::telling::{Telling, serve_told, tell};
-use dd_book::{Limits, MOST_JOBS, MOST_OPEN_JOBS, MOST_PASSES};
+use dd_book::Limits;
+use dd_limits::{MOST_JOBS, MOST_OPEN_JOBS, MOST_PASSES};
 use dd_lines::CountedDevice;
 use dd_server::{ServeArgs, ServeFault};
 use std::alloc::{AllocError, Global};

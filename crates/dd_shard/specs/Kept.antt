@@ -2,7 +2,7 @@
 use Rattle.std.specs.Prelude.{◌≤◌, List, map, Contains}
 use Rattle.lru.specs.LruCache.{LruCache}
 use Rattle.dd_rank.specs.Strings.{ShapeOf}
-use Rattle.dd_shard.specs.declared.shard.TheConstants.{MOST_SHAPES}
+use Rattle.dd_limits.specs.declared.limits.TheConstants.{MOST_SHAPES}
 use Rattle.dd_shard.specs.Entries.{Pair, Entry, Entries, IsEntry}
 
 -- a shape with the pairs of its slot

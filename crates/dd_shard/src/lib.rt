@@ -4,4 +4,4 @@
 mod shard;
 mod slot;
 
-pub use shard::{MOST_SHAPES, Shard};
+pub use shard::Shard;

@@ -11,15 +11,13 @@ ghost use Rattle.dd_shard.specs.Entries.{Pair, Entry, IsAbsent, AreEntries, Look
 ghost use Rattle.dd_shard.specs.Slots.{told_of};
 
 use crate::slot::Slot;
+use dd_limits::MOST_SHAPES;
 use dd_play::{Interval, TrickStart};
 use dd_rank::{Cover, Depths, OwnerStrings, Shape};
 use lru::LruCache;
 use std::alloc::{AllocError, Global};
 use std::marker::Model;
 use std::num::NonZeroUsize;
-
-/// The most shapes that a shard may have room for.
-pub const MOST_SHAPES: u32 = 65_536;
 
 /// Bounds of the values of positions, by shapes: the last used first, and at most a fixed number of them. A shape has one
 /// to eight pairs, each a cover with bounds of the value of each position that it covers, the newest first.

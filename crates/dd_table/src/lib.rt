@@ -13,5 +13,5 @@ pub use entry::FrontEntry;
 pub use front::front_slot;
 pub use laws::alike_positions_meet;
 pub use note::FrontNote;
-pub use shared_table::{FRONT_CELLS, MOST_SHARDS, SharedTable};
+pub use shared_table::{FRONT_CELLS, SharedTable};
 pub use view::View;

@@ -10,16 +10,14 @@ ghost use Rattle.dd_rank.specs.Strings.{strings_of};
 ghost use Rattle.dd_table.specs.Places.{shard_of};
 
 use crate::entry::FrontEntry;
+use dd_limits::{MOST_SHAPES, MOST_SHARDS};
 use dd_play::{Interval, TrickStart};
 use dd_rank::{Depths, OwnerStrings, Shape};
-use dd_shard::{MOST_SHAPES, Shard};
+use dd_shard::Shard;
 use once_cell::race::OnceBox;
 use std::alloc::{AllocError, Global};
 use std::marker::Model;
 use std::sync::{Mutex, Wait};
-
-/// The most shards that a table may have.
-pub const MOST_SHARDS: u32 = 256;
 
 /// The cells of a table's front.
 pub const FRONT_CELLS: u16 = 4096;

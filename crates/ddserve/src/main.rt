@@ -5,8 +5,9 @@
 //! failed or memory ran out outside a line, and 2 at a bad line of arguments.
 #![tactic(auto)]
 
+use dd_command::given_arguments;
 use dd_lines::CountedDevice;
-use dd_program::{given_arguments, run_program};
+use dd_program::run_program;
 use std::io;
 use std::io::IsTerminal;
 use std::process::ExitCode;

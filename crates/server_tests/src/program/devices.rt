@@ -1,6 +1,7 @@
 //! Devices of memory, and a run over them.
+use dd_command::ArgumentsFault;
 use dd_lines::CountedDevice;
-use dd_program::{ArgumentsFault, Ending, run_program};
+use dd_program::{Ending, run_program};
 use std::alloc::{AllocError, Global};
 use std::io;
 use std::io::{Error, ErrorKind, Read, Write};

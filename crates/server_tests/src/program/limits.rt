@@ -1,10 +1,9 @@
 //! The limits and the numbers of the faults, as the documents have them: numbers, and no names of constants.
-use dd_book::{Limits, MOST_EVENTS, MOST_JOBS, MOST_OPEN_JOBS, MOST_PASSES};
+use dd_book::Limits;
+use dd_command::MOST_WORKERS;
+use dd_limits::{MOST_EVENTS, MOST_JOBS, MOST_OPEN_JOBS, MOST_PASSES, MOST_SHAPES, MOST_SHARDS};
 use dd_lines::{LONGEST_LINE, LONGEST_REPLY};
-use dd_program::MOST_WORKERS;
-use dd_shard::MOST_SHAPES;
 use dd_solve::{PARTS, RESULTS, fault_numbers};
-use dd_table::MOST_SHARDS;
 
 #[test]
 fn the_limits_are_these_numbers(rt: HostRuntime) {

@@ -1,7 +1,7 @@
 use crate::program::devices::words_in;
 use clap::Error;
 use clap::error::ErrorKind;
-use dd_program::{Args, not_text, read_args};
+use dd_command::{Args, not_text, read_args};
 use std::alloc::Global;
 use std::test::Fail;
 

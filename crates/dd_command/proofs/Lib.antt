@@ -1,0 +1,13 @@
+mod Asked
+mod Given
+mod LeftOut
+mod Lines
+mod Numbers
+mod Options
+mod OtherWords
+mod Programs
+mod Runs
+mod ServeWords
+mod Steps
+mod UseRows
+mod Words

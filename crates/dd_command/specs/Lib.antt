@@ -1,0 +1,4 @@
+pub mod CommandLine
+pub mod FillWords
+pub mod Program
+pub mod ServeWords
