@@ -42,14 +42,13 @@ fn what_was_noted_settles_the_positions_that_it_covers(rt: HostRuntime) -> Resul
     let caught = start([3, 2, 13, 4, 14, 12, 6, 5], Seat::North).expect(&rt, "two cards a hand");
     // It has learned nothing, and the king before ace and queen is caught.
     let before = settled(&mut cache, &caught, 2);
-    assert_eq!(rt; (before, noted(&caught, &mut cache)), (None, Some(2)));
+    assert!(rt; (before, noted(&caught, &mut cache)) == (None, Some(2)));
     let strings = OwnerStrings::of(&caught);
     let told = cache
         .settle(&caught, &strings, 2)
         .expect(&rt, "the position itself");
-    assert_eq!(rt;
-        (told.0.lo, told.0.hi, told.1.of(Suit::Spades)),
-        (2, 2, 3),
+    assert!(rt;
+        (told.0.lo, told.0.hi, told.1.of(Suit::Spades)) == (2, 2, 3),
         "it rests on ace, king and queen"
     );
     let lower = start([6, 2, 13, 3, 14, 12, 5, 4], Seat::North).expect(&rt, "two cards a hand");
@@ -63,7 +62,7 @@ fn what_was_noted_settles_the_positions_that_it_covers(rt: HostRuntime) -> Resul
         // The king behind ace and queen is not caught.
         settled(&mut cache, &behind, 2),
     ];
-    assert_eq!(rt; found, [Some((2, 2)), Some((2, 2)), None]);
+    assert!(rt; found == [Some((2, 2)), Some((2, 2)), None]);
     Ok(())
 }
 
@@ -71,7 +70,7 @@ fn what_was_noted_settles_the_positions_that_it_covers(rt: HostRuntime) -> Resul
 fn what_was_read_ahead_settles_as_a_look_does(rt: HostRuntime) -> Result<(), AllocError> {
     let mut cache = Cache::new(rt.alloc(), NoTable)?;
     let caught = start([3, 2, 13, 4, 14, 12, 6, 5], Seat::North).expect(&rt, "two cards a hand");
-    assert_eq!(rt; noted(&caught, &mut cache), Some(2));
+    assert!(rt; noted(&caught, &mut cache) == Some(2));
     let strings = OwnerStrings::of(&caught);
     let shape = Shape::of(&caught);
     let place = cache.probe_hint(shape);
@@ -85,7 +84,7 @@ fn what_was_read_ahead_settles_as_a_look_does(rt: HostRuntime) -> Result<(), All
             .settle_at(&caught, &strings, NoTable.probe_hint(shape), 2)
             .is_some(),
     ];
-    assert_eq!(rt; found, [true, false, false]);
+    assert!(rt; found == [true, false, false]);
     Ok(())
 }
 
@@ -94,7 +93,7 @@ fn what_is_noted_reaches_the_table_behind(rt: HostRuntime) -> Result<(), AllocEr
     let near = Cache::new(rt.alloc(), NoTable)?;
     let mut cache = Cache::new(rt.alloc(), near)?;
     let caught = start([3, 2, 13, 4, 14, 12, 6, 5], Seat::North).expect(&rt, "two cards a hand");
-    assert_eq!(rt; noted(&caught, &mut cache), Some(2));
+    assert!(rt; noted(&caught, &mut cache) == Some(2));
     assert!(rt; settled(cache.behind(), &caught, 2).is_some());
     Ok(())
 }
@@ -119,12 +118,12 @@ fn the_value_of_one_trick_is_kept_nowhere(rt: HostRuntime) -> Result<(), AllocEr
         let near = Cache::new(rt.alloc(), NoTable)?;
         let mut cache = Cache::new(rt.alloc(), near)?;
         let start = suits(tricks).expect(&rt, "a suit in each hand");
-        assert_eq!(rt; noted(&start, &mut cache), Some(tricks));
+        assert!(rt; noted(&start, &mut cache) == Some(tricks));
         let found = [
             settled(&mut cache, &start, tricks).is_some(),
             settled(cache.behind(), &start, tricks).is_some(),
         ];
-        assert_eq!(rt; found, [tricks == 2, tricks == 2], "{tricks} tricks");
+        assert!(rt; found == [tricks == 2, tricks == 2], "{tricks} tricks");
     }
     Ok(())
 }
@@ -145,7 +144,7 @@ fn bounds_of_ten_tricks_reach_the_table_behind_and_of_nine_do_not(
     let mut cache = Cache::new(rt.alloc(), near)?;
     for tricks in 9..11 {
         let start = suits(tricks).expect(&rt, "a suit in each hand");
-        assert_eq!(rt; noted_above(&start, &mut cache), Some(tricks));
+        assert!(rt; noted_above(&start, &mut cache) == Some(tricks));
         let beyond = tricks + 1;
         let found = [
             // It is kept.
@@ -154,7 +153,7 @@ fn bounds_of_ten_tricks_reach_the_table_behind_and_of_nine_do_not(
             settled(&mut cache, &start, tricks).is_some(),
             settled(cache.behind(), &start, beyond).is_some(),
         ];
-        assert_eq!(rt; found, [true, false, tricks == 10], "{tricks} tricks");
+        assert!(rt; found == [true, false, tricks == 10], "{tricks} tricks");
     }
     Ok(())
 }
@@ -163,14 +162,14 @@ fn bounds_of_ten_tricks_reach_the_table_behind_and_of_nine_do_not(
 fn narrower_bounds_take_the_place_of_wider_ones(rt: HostRuntime) -> Result<(), AllocError> {
     let mut cache = Cache::new(rt.alloc(), NoTable)?;
     let start = suits(3).expect(&rt, "a suit in each hand");
-    assert_eq!(rt; noted_above(&start, &mut cache), Some(3));
-    assert_eq!(rt; settled(&mut cache, &start, 3), None, "0 to 3");
-    assert_eq!(rt; noted(&start, &mut cache), Some(3));
+    assert!(rt; noted_above(&start, &mut cache) == Some(3));
+    assert!(rt; settled(&mut cache, &start, 3) == None, "0 to 3");
+    assert!(rt; noted(&start, &mut cache) == Some(3));
     let found = [
         settled(&mut cache, &start, 3),
         settled(&mut cache, &start, 4),
     ];
-    assert_eq!(rt; found, [Some((3, 3)); 2], "the wider bounds are gone");
+    assert!(rt; found == [Some((3, 3)); 2], "the wider bounds are gone");
     Ok(())
 }
 
@@ -200,7 +199,7 @@ fn a_lead_is_remembered_by_shape_by_outline_and_by_leader(
 ) -> Result<(), AllocError> {
     let mut cache = Cache::new(rt.alloc(), NoTable)?;
     let start = dealt("N:32... K.4.. AQ... 65...").expect(&rt, "two cards a hand");
-    assert_eq!(rt; remembered(&cache, &start), [None; 3]);
+    assert!(rt; remembered(&cache, &start) == [None; 3]);
     assert!(rt; settled_by(&mut cache, &start, Suit::Hearts).is_some());
     // The ace is North's.
     let shape = dealt("N:A2... K.4.. Q3... 65...").expect(&rt, "two cards a hand");
@@ -217,15 +216,15 @@ fn a_lead_is_remembered_by_shape_by_outline_and_by_leader(
         remembered(&cache, &last),
     ];
     let hearts = Some(Suit::Hearts);
-    assert_eq!(rt;
-        found,
-        [
-            [hearts; 3],
-            [hearts, None, hearts],
-            [None, hearts, hearts],
-            [None, None, hearts],
-            [None; 3]
-        ]
+    assert!(rt;
+        found
+            == [
+                [hearts; 3],
+                [hearts, None, hearts],
+                [None, hearts, hearts],
+                [None, None, hearts],
+                [None; 3]
+            ]
     );
     Ok(())
 }
@@ -240,10 +239,10 @@ fn another_deal_forgets_the_leads(rt: HostRuntime) -> Result<(), AllocError> {
     let earlier = dealt("N:432... KT.4.. AQJ... 765...").expect(&rt, "three cards a hand");
     for of_the_deal in [&first, &later, &earlier] {
         cache.begin(of_the_deal.position());
-        assert_eq!(rt; remembered(&cache, &first), spades);
+        assert!(rt; remembered(&cache, &first) == spades);
     }
     let second = dealt("N:72... K.4.. AQ... 65...").expect(&rt, "two cards a hand");
     cache.begin(second.position());
-    assert_eq!(rt; remembered(&cache, &first), [None; 3]);
+    assert!(rt; remembered(&cache, &first) == [None; 3]);
     Ok(())
 }

@@ -93,7 +93,7 @@ fn blanks_and_case_change_no_deal(rt: HostRuntime) -> Result<(), Fail> {
     for text in SAME_DEALS.split(is_line_feed) {
         let deal = read_deal(text).ok().ok_or("the text spells a deal")?;
         let written = write_deal(rt.alloc(), &deal)?;
-        assert_eq!(rt; written.as_bytes(), b"N:32... K4... AQ... 65...".as_slice());
+        assert!(rt; written.as_bytes() == b"N:32... K4... AQ... 65...".as_slice());
     }
     Ok(())
 }
@@ -108,7 +108,7 @@ fn a_tag_holds_a_value(rt: HostRuntime) -> Result<(), Fail> {
     for text in TAGS.split(is_line_feed) {
         let deal = read_tag(text).ok().ok_or("the tag spells a deal")?;
         let written = write_deal(rt.alloc(), &deal)?;
-        assert_eq!(rt; written.as_bytes(), b"N:32... K4... AQ... 65...".as_slice());
+        assert!(rt; written.as_bytes() == b"N:32... K4... AQ... 65...".as_slice());
     }
     Ok(())
 }
@@ -128,7 +128,7 @@ fn what_is_written_is_read_back(rt: HostRuntime) -> Result<(), Fail> {
         for text in [fields.next().unwrap_or(&[]), canon] {
             let deal = read_deal(text).ok().ok_or("the text spells a deal")?;
             let written = write_deal(rt.alloc(), &deal)?;
-            assert_eq!(rt; written.as_bytes(), canon);
+            assert!(rt; written.as_bytes() == canon);
         }
     }
     Ok(())
@@ -193,7 +193,7 @@ grammar|[Deal \"N:A... K... Q... J...\"]";
 fn a_text_without_a_deal_has_its_first_fault(rt: HostRuntime) {
     for row in NO_DEALS.split(is_semicolon) {
         let (fault, text) = fault_and_text(row);
-        assert_eq!(rt; read_deal(text).err(), Some(fault), "at {text:?}");
+        assert!(rt; read_deal(text).err() == Some(fault), "at {text:?}");
     }
 }
 
@@ -217,6 +217,6 @@ grammar|[[Deal \"N:A... K... Q... J...\"]";
 fn a_tag_without_a_deal_has_its_first_fault(rt: HostRuntime) {
     for row in NO_TAGS.split(is_semicolon) {
         let (fault, text) = fault_and_text(row);
-        assert_eq!(rt; read_tag(text).err(), Some(fault), "at {text:?}");
+        assert!(rt; read_tag(text).err() == Some(fault), "at {text:?}");
     }
 }

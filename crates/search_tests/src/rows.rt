@@ -7,3 +7,8 @@ pub fn is_line_feed(byte: &u8) -> bool {
 pub fn is_space(byte: &u8) -> bool {
     *byte == b' '
 }
+
+/// The word of a row at this place, empty where it has fewer.
+pub fn word(row: &[u8], place: usize) -> &[u8] {
+    row.split(is_space).nth(place).unwrap_or(&[])
+}
