@@ -1,11 +1,7 @@
-use crate::rows::{is_line_feed, is_space};
+use crate::rows::{is_bar, is_line_feed, is_space};
 use dd_cards::{Hands, Seat, Suit};
 use dd_pbn::{PbnFault, read_deal, read_tag, write_deal};
 use std::test::*;
-
-fn is_bar(byte: &u8) -> bool {
-    *byte == b'|'
-}
 
 fn is_semicolon(byte: &u8) -> bool {
     *byte == b';'

@@ -13,7 +13,7 @@ ghost use Rattle.dd_play.specs.Intervals.{Holds};
 ghost use Rattle.dd_rank.specs.Depths.{all_cards, depth_in, Covers};
 
 use super::{BEHIND, BEHIND_AN_ACE, Holdings, card_of, position_of, start_of};
-use crate::rows::{is_line_feed, word};
+use crate::rows::{is_line_feed, number, word};
 use arrayvec::ArrayVec;
 use dd_cards::Seat;
 use dd_play::{Interval, Position, TrickStart};
@@ -156,17 +156,6 @@ fn named(name: &[u8]) -> Option<Position> {
     } else {
         None
     }
-}
-
-// The number of a word of digits.
-fn number(word: &[u8]) -> u8 {
-    let mut number = 0u8;
-    for digit in word {
-        number = number
-            .saturating_mul(10)
-            .saturating_add(digit.wrapping_sub(b'0'));
-    }
-    number
 }
 
 fn spelled(answer: Result<bool, Halt>) -> &'static [u8] {
