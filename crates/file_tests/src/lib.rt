@@ -1,4 +1,4 @@
-//! Tests of files with added lines, by the public surfaces of `dd_file` and `dd_fill`.
+//! Tests of scores, of par and of files with added lines, by the public surfaces of `dd_score`, `dd_file` and `dd_fill`.
 #![tactic(auto)]
 
 #[cfg(test)]
@@ -9,3 +9,5 @@ mod deals;
 mod devices;
 #[cfg(test)]
 mod files;
+#[cfg(test)]
+mod score;

@@ -1,26 +1,27 @@
+use crate::rows::{is_bar, is_line_feed, number, word};
 use dd_cache::Cache;
-use dd_cards::{Card, Hands, Rank, Seat, Strain, Suit};
+use dd_cards::{Seat, Strain, Suit};
 use dd_pbn::read_deal;
 use dd_play::{Interval, Position, TrickStart};
 use dd_rank::{OwnerStrings, Shape};
 use dd_search::{Bounds, Endless, NoTable, ProbeHint, start_value};
 use std::alloc::AllocError;
+use std::process::Abort;
 
-// North and the others clockwise with two spades each, at notrump with this leader.
-fn start(ranks: [u8; 8], first: Seat) -> Option<TrickStart> {
-    let mut hands = Hands::new();
-    for (place, rank) in ranks.iter().enumerate() {
-        let seat = Seat::from_code((place / 2) as u8)?;
-        let rank = Rank::from_code(*rank)?;
-        let suit = Suit::Spades;
-        hands.insert(seat, Card { suit, rank });
-    }
+// The deal at notrump, with the hand on lead with which it begins, North's or East's.
+fn start(deal: &[u8]) -> Option<TrickStart> {
+    let hands = read_deal(deal).ok()?;
+    let first = if deal.first() == Some(&b'E') {
+        Seat::East
+    } else {
+        Seat::North
+    };
     let position = Position::new(hands, Strain::Notrump, first, &[]).ok()?;
     TrickStart::of(&position)
 }
 
 // Finds the value over the table, and notes it with its depths.
-fn noted<B: Bounds>(start: &TrickStart, table: &mut B) -> Option<u8> {
+fn noted<T: Bounds>(table: &mut T, start: &TrickStart) -> Option<u8> {
     let (tricks, depths) = start_value(start, table, &mut Endless).ok()?;
     let interval = Interval {
         lo: tricks,
@@ -30,48 +31,138 @@ fn noted<B: Bounds>(start: &TrickStart, table: &mut B) -> Option<u8> {
     Some(tricks)
 }
 
-// The bounds with which the table settles whether the value reaches the need.
-fn settled<B: Bounds>(table: &mut Cache<B>, start: &TrickStart, need: u8) -> Option<(u8, u8)> {
-    let (interval, _) = table.settle(start, &OwnerStrings::of(start), need)?;
-    Some((interval.lo, interval.hi))
+// Notes that the value is no more than it is, with its depths.
+fn noted_above<T: Bounds>(table: &mut T, start: &TrickStart) -> Option<u8> {
+    let (tricks, depths) = start_value(start, &mut NoTable, &mut Endless).ok()?;
+    let interval = Interval { lo: 0, hi: tricks };
+    table.note(start, depths, interval);
+    Some(tricks)
 }
 
+// A lead of this suit settled the start, of which the value is then noted.
+fn settled_by<T: Bounds>(table: &mut T, start: &TrickStart, lead: Suit) -> Option<u8> {
+    noted(table, start)?;
+    table.note_lead(start.position(), &OwnerStrings::of(start), lead);
+    noted(table, start)
+}
+
+fn digit(number: u8) -> u8 {
+    number.wrapping_add(b'0')
+}
+
+// The bounds with which the table settles whether the value reaches the need, and how many spades they rest on, a digit each.
+fn settled<T: Bounds>(table: &mut T, start: &TrickStart, need: u8) -> Option<[u8; 3]> {
+    let (interval, depths) = table.settle(start, &OwnerStrings::of(start), need)?;
+    Some([
+        digit(interval.lo),
+        digit(interval.hi),
+        digit(depths.of(Suit::Spades)),
+    ])
+}
+
+// Does it settle that with these bounds, or these and so many spades, or not at all?
+fn settles<T: Bounds>(table: &mut T, start: &TrickStart, need: u8, want: &[u8]) -> bool {
+    match settled(table, start, need) {
+        Some(found) if want == b"some".as_slice() => found.len() == 3,
+        Some(found) => want == found.as_slice() || want == &found[..2],
+        None => want == b"none".as_slice(),
+    }
+}
+
+fn letter(lead: Option<Suit>) -> u8 {
+    match lead {
+        Some(Suit::Spades) => b's',
+        Some(Suit::Hearts) => b'h',
+        Some(Suit::Diamonds) => b'd',
+        Some(Suit::Clubs) => b'c',
+        None => b'-',
+    }
+}
+
+// Are these the suits of leads that are remembered for the start: by shape, by outline, and by leader and number of tricks?
+fn remembers<T: Bounds>(table: &T, start: &TrickStart, want: &[u8]) -> bool {
+    let leads = table.lead_history(start.position(), &OwnerStrings::of(start));
+    let found = [
+        letter(leads.of_shape),
+        letter(leads.of_outline),
+        letter(leads.of_leader),
+    ];
+    found.as_slice() == want
+}
+
+// Does to the table what a row says before its bar, with the deal after it, and tells whether it found what the row has. Rows:
+// `notes VALUE`, `bounds VALUE` (0 to the value), `hearts` and `spades` (a lead that settled it), `begins`; `settles NEED BOUNDS`
+// and `leads SUITS`.
+fn holds<T: Bounds>(table: &mut T, row: &[u8]) -> Option<bool> {
+    let mut parts = row.split(is_bar);
+    let words = parts.next()?;
+    let start = start(parts.next()?)?;
+    let (what, want) = (word(words, 0), word(words, 1));
+    if what == b"notes".as_slice() {
+        Some(noted(table, &start)? == number(want))
+    } else if what == b"bounds".as_slice() {
+        Some(noted_above(table, &start)? == number(want))
+    } else if what == b"hearts".as_slice() {
+        Some(settled_by(table, &start, Suit::Hearts).is_some())
+    } else if what == b"spades".as_slice() {
+        Some(settled_by(table, &start, Suit::Spades).is_some())
+    } else if what == b"begins".as_slice() {
+        table.begin(start.position());
+        Some(true)
+    } else if what == b"settles".as_slice() {
+        Some(settles(table, &start, number(want), word(words, 2)))
+    } else if what == b"leads".as_slice() {
+        Some(remembers(table, &start, want))
+    } else {
+        None
+    }
+}
+
+// Follows rows on a table. They are one text, so that the proof does not grow with them.
+fn follow<T: Bounds>(rt: &impl Abort, table: &mut T, rows: &[u8]) {
+    for row in rows.split(is_line_feed) {
+        assert!(rt; holds(table, row) == Some(true), "at {row:?}");
+    }
+}
+
+// .. on a new cache
+fn follow_alone<R: AllocGlobal + Abort>(rt: &R, rows: &[u8]) -> Result<(), AllocError> {
+    let mut cache = Cache::new(rt.alloc(), NoTable)?;
+    follow(rt, &mut cache, rows);
+    Ok(())
+}
+
+// .. on a new cache, and then others on the one behind it
+fn follow_both<R: AllocGlobal + Abort>(
+    rt: &R,
+    rows: &[u8],
+    behind: &[u8],
+) -> Result<(), AllocError> {
+    let near = Cache::new(rt.alloc(), NoTable)?;
+    let mut cache = Cache::new(rt.alloc(), near)?;
+    follow(rt, &mut cache, rows);
+    follow(rt, cache.behind(), behind);
+    Ok(())
+}
+
+// It has learned nothing, and the king before ace and queen is caught: that rests on ace, king and queen. It is told of a deal
+// with other cards below the queen and of all seats turned by one. The king behind ace and queen is not caught.
 #[test]
 fn what_was_noted_settles_the_positions_that_it_covers(rt: HostRuntime) -> Result<(), AllocError> {
-    let mut cache = Cache::new(rt.alloc(), NoTable)?;
-    let caught = start([3, 2, 13, 4, 14, 12, 6, 5], Seat::North).expect(&rt, "two cards a hand");
-    // It has learned nothing, and the king before ace and queen is caught.
-    let before = settled(&mut cache, &caught, 2);
-    assert_eq!(rt; (before, noted(&caught, &mut cache)), (None, Some(2)));
-    let strings = OwnerStrings::of(&caught);
-    let told = cache
-        .settle(&caught, &strings, 2)
-        .expect(&rt, "the position itself");
-    assert_eq!(rt;
-        (told.0.lo, told.0.hi, told.1.of(Suit::Spades)),
-        (2, 2, 3),
-        "it rests on ace, king and queen"
-    );
-    let lower = start([6, 2, 13, 3, 14, 12, 5, 4], Seat::North).expect(&rt, "two cards a hand");
-    let turned = start([6, 5, 3, 2, 13, 4, 14, 12], Seat::East).expect(&rt, "two cards a hand");
-    let behind = start([3, 2, 6, 5, 14, 12, 13, 4], Seat::North).expect(&rt, "two cards a hand");
-    let found = [
-        // Other cards below the queen.
-        settled(&mut cache, &lower, 2),
-        // All seats turned by one.
-        settled(&mut cache, &turned, 2),
-        // The king behind ace and queen is not caught.
-        settled(&mut cache, &behind, 2),
-    ];
-    assert_eq!(rt; found, [Some((2, 2)), Some((2, 2)), None]);
-    Ok(())
+    let rows = b"settles 2 none|N:32... K4... AQ... 65...\n\
+        notes 2|N:32... K4... AQ... 65...\n\
+        settles 2 223|N:32... K4... AQ... 65...\n\
+        settles 2 22|N:62... K3... AQ... 54...\n\
+        settles 2 22|E:32... K4... AQ... 65...\n\
+        settles 2 none|N:32... 65... AQ... K4...";
+    follow_alone(&rt, rows)
 }
 
 #[test]
 fn what_was_read_ahead_settles_as_a_look_does(rt: HostRuntime) -> Result<(), AllocError> {
     let mut cache = Cache::new(rt.alloc(), NoTable)?;
-    let caught = start([3, 2, 13, 4, 14, 12, 6, 5], Seat::North).expect(&rt, "two cards a hand");
-    assert_eq!(rt; noted(&caught, &mut cache), Some(2));
+    let caught = start(b"N:32... K4... AQ... 65...").expect(&rt, "two cards a hand");
+    assert!(rt; noted(&mut cache, &caught) == Some(2));
     let strings = OwnerStrings::of(&caught);
     let shape = Shape::of(&caught);
     let place = cache.probe_hint(shape);
@@ -91,159 +182,75 @@ fn what_was_read_ahead_settles_as_a_look_does(rt: HostRuntime) -> Result<(), All
 
 #[test]
 fn what_is_noted_reaches_the_table_behind(rt: HostRuntime) -> Result<(), AllocError> {
-    let near = Cache::new(rt.alloc(), NoTable)?;
-    let mut cache = Cache::new(rt.alloc(), near)?;
-    let caught = start([3, 2, 13, 4, 14, 12, 6, 5], Seat::North).expect(&rt, "two cards a hand");
-    assert_eq!(rt; noted(&caught, &mut cache), Some(2));
-    assert!(rt; settled(cache.behind(), &caught, 2).is_some());
-    Ok(())
+    let rows = b"notes 2|N:32... K4... AQ... 65...";
+    follow_both(&rt, rows, b"settles 2 some|N:32... K4... AQ... 65...")
 }
 
-// A suit in each hand, from the ace down, so many cards each, with North on lead at notrump: it takes all tricks.
-fn suits(tricks: u8) -> Option<TrickStart> {
-    let mut hands = Hands::new();
-    for seat in 0..4 {
-        for lower in 0..tricks.min(13) {
-            let suit = Suit::from_code(seat)?;
-            let rank = Rank::from_code(14 - lower)?;
-            hands.insert(Seat::from_code(seat)?, Card { suit, rank });
-        }
-    }
-    let position = Position::new(hands, Strain::Notrump, Seat::North, &[]).ok()?;
-    TrickStart::of(&position)
-}
-
+// A suit in each hand: North takes all tricks.
 #[test]
 fn the_value_of_one_trick_is_kept_nowhere(rt: HostRuntime) -> Result<(), AllocError> {
-    for tricks in 1..3 {
-        let near = Cache::new(rt.alloc(), NoTable)?;
-        let mut cache = Cache::new(rt.alloc(), near)?;
-        let start = suits(tricks).expect(&rt, "a suit in each hand");
-        assert_eq!(rt; noted(&start, &mut cache), Some(tricks));
-        let found = [
-            settled(&mut cache, &start, tricks).is_some(),
-            settled(cache.behind(), &start, tricks).is_some(),
-        ];
-        assert_eq!(rt; found, [tricks == 2, tricks == 2], "{tricks} tricks");
-    }
-    Ok(())
+    let rows = b"notes 1|N:A... .A.. ..A. ...A\n\
+        settles 1 none|N:A... .A.. ..A. ...A";
+    follow_both(&rt, rows, b"settles 1 none|N:A... .A.. ..A. ...A")?;
+    let rows = b"notes 2|N:AK... .AK.. ..AK. ...AK\n\
+        settles 2 some|N:AK... .AK.. ..AK. ...AK";
+    follow_both(&rt, rows, b"settles 2 some|N:AK... .AK.. ..AK. ...AK")
 }
 
-// Notes that the value is no more than it is, with its depths.
-fn noted_above<B: Bounds>(start: &TrickStart, table: &mut B) -> Option<u8> {
-    let (tricks, depths) = start_value(start, &mut NoTable, &mut Endless).ok()?;
-    let interval = Interval { lo: 0, hi: tricks };
-    table.note(start, depths, interval);
-    Some(tricks)
-}
-
+// Each is kept, and the bounds leave the value itself open.
 #[test]
 fn bounds_of_ten_tricks_reach_the_table_behind_and_of_nine_do_not(
     rt: HostRuntime,
 ) -> Result<(), AllocError> {
-    let near = Cache::new(rt.alloc(), NoTable)?;
-    let mut cache = Cache::new(rt.alloc(), near)?;
-    for tricks in 9..11 {
-        let start = suits(tricks).expect(&rt, "a suit in each hand");
-        assert_eq!(rt; noted_above(&start, &mut cache), Some(tricks));
-        let beyond = tricks + 1;
-        let found = [
-            // It is kept.
-            settled(&mut cache, &start, beyond).is_some(),
-            // The bounds leave it open.
-            settled(&mut cache, &start, tricks).is_some(),
-            settled(cache.behind(), &start, beyond).is_some(),
-        ];
-        assert_eq!(rt; found, [true, false, tricks == 10], "{tricks} tricks");
-    }
-    Ok(())
+    let rows = b"bounds 9|N:AKQJT9876... .AKQJT9876.. ..AKQJT9876. ...AKQJT9876\n\
+        settles 10 some|N:AKQJT9876... .AKQJT9876.. ..AKQJT9876. ...AKQJT9876\n\
+        settles 9 none|N:AKQJT9876... .AKQJT9876.. ..AKQJT9876. ...AKQJT9876\n\
+        bounds 10|N:AKQJT98765... .AKQJT98765.. ..AKQJT98765. ...AKQJT98765\n\
+        settles 11 some|N:AKQJT98765... .AKQJT98765.. ..AKQJT98765. ...AKQJT98765\n\
+        settles 10 none|N:AKQJT98765... .AKQJT98765.. ..AKQJT98765. ...AKQJT98765";
+    let behind = b"settles 10 none|N:AKQJT9876... .AKQJT9876.. ..AKQJT9876. ...AKQJT9876\n\
+        settles 11 some|N:AKQJT98765... .AKQJT98765.. ..AKQJT98765. ...AKQJT98765";
+    follow_both(&rt, rows, behind)
 }
 
+// Bounds of 0 to 3, and then 3 to 3: the wider ones are gone.
 #[test]
 fn narrower_bounds_take_the_place_of_wider_ones(rt: HostRuntime) -> Result<(), AllocError> {
-    let mut cache = Cache::new(rt.alloc(), NoTable)?;
-    let start = suits(3).expect(&rt, "a suit in each hand");
-    assert_eq!(rt; noted_above(&start, &mut cache), Some(3));
-    assert_eq!(rt; settled(&mut cache, &start, 3), None, "0 to 3");
-    assert_eq!(rt; noted(&start, &mut cache), Some(3));
-    let found = [
-        settled(&mut cache, &start, 3),
-        settled(&mut cache, &start, 4),
-    ];
-    assert_eq!(rt; found, [Some((3, 3)); 2], "the wider bounds are gone");
-    Ok(())
+    let rows = b"bounds 3|N:AKQ... .AKQ.. ..AKQ. ...AKQ\n\
+        settles 3 none|N:AKQ... .AKQ.. ..AKQ. ...AKQ\n\
+        notes 3|N:AKQ... .AKQ.. ..AKQ. ...AKQ\n\
+        settles 3 33|N:AKQ... .AKQ.. ..AKQ. ...AKQ\n\
+        settles 4 33|N:AKQ... .AKQ.. ..AKQ. ...AKQ";
+    follow_alone(&rt, rows)
 }
 
-// The deal with North to lead at notrump.
-fn dealt(deal: &str) -> Option<TrickStart> {
-    let hands = read_deal(deal.as_bytes()).ok()?;
-    let position = Position::new(hands, Strain::Notrump, Seat::North, &[]).ok()?;
-    TrickStart::of(&position)
-}
-
-// The suits of leads that are remembered for the start: by shape, by outline, and by leader and number of tricks.
-fn remembered<B: Bounds>(cache: &Cache<B>, start: &TrickStart) -> [Option<Suit>; 3] {
-    let leads = cache.lead_history(start.position(), &OwnerStrings::of(start));
-    [leads.of_shape, leads.of_outline, leads.of_leader]
-}
-
-// A lead of this suit settled the start, of which the value is then noted.
-fn settled_by<B: Bounds>(cache: &mut Cache<B>, start: &TrickStart, lead: Suit) -> Option<u8> {
-    noted(start, cache)?;
-    cache.note_lead(start.position(), &OwnerStrings::of(start), lead);
-    noted(start, cache)
-}
-
+// After the deal itself: one in which the ace is North's, which has its shape; one in which East has no spade, and North's
+// lengths and the holders of the highest cards are the same; one with neither; and one with another number of tricks left.
 #[test]
 fn a_lead_is_remembered_by_shape_by_outline_and_by_leader(
     rt: HostRuntime,
 ) -> Result<(), AllocError> {
-    let mut cache = Cache::new(rt.alloc(), NoTable)?;
-    let start = dealt("N:32... K.4.. AQ... 65...").expect(&rt, "two cards a hand");
-    assert_eq!(rt; remembered(&cache, &start), [None; 3]);
-    assert!(rt; settled_by(&mut cache, &start, Suit::Hearts).is_some());
-    // The ace is North's.
-    let shape = dealt("N:A2... K.4.. Q3... 65...").expect(&rt, "two cards a hand");
-    // East has no spade, and North's lengths and the holders of the highest cards are the same.
-    let outline = dealt("N:32... .54.. AQ... 65...").expect(&rt, "two cards a hand");
-    let neither = dealt("N:A2... .54.. Q3... 65...").expect(&rt, "two cards a hand");
-    // One trick left, and North leads.
-    let last = dealt("N:A... .4.. Q... 6...").expect(&rt, "one card a hand");
-    let found = [
-        remembered(&cache, &start),
-        remembered(&cache, &shape),
-        remembered(&cache, &outline),
-        remembered(&cache, &neither),
-        remembered(&cache, &last),
-    ];
-    let hearts = Some(Suit::Hearts);
-    assert_eq!(rt;
-        found,
-        [
-            [hearts; 3],
-            [hearts, None, hearts],
-            [None, hearts, hearts],
-            [None, None, hearts],
-            [None; 3]
-        ]
-    );
-    Ok(())
+    let rows = b"leads ---|N:32... K.4.. AQ... 65...\n\
+        hearts|N:32... K.4.. AQ... 65...\n\
+        leads hhh|N:32... K.4.. AQ... 65...\n\
+        leads h-h|N:A2... K.4.. Q3... 65...\n\
+        leads -hh|N:32... .54.. AQ... 65...\n\
+        leads --h|N:A2... .54.. Q3... 65...\n\
+        leads ---|N:A... .4.. Q... 6...";
+    follow_alone(&rt, rows)
 }
 
+// A position of the deal itself, one later in it and one earlier forget nothing; one of another deal does.
 #[test]
 fn another_deal_forgets_the_leads(rt: HostRuntime) -> Result<(), AllocError> {
-    let mut cache = Cache::new(rt.alloc(), NoTable)?;
-    let first = dealt("N:32... K.4.. AQ... 65...").expect(&rt, "two cards a hand");
-    assert!(rt; settled_by(&mut cache, &first, Suit::Spades).is_some());
-    let spades = [Some(Suit::Spades); 3];
-    let later = dealt("N:3... .4.. Q... 6...").expect(&rt, "one card a hand");
-    let earlier = dealt("N:432... KT.4.. AQJ... 765...").expect(&rt, "three cards a hand");
-    for of_the_deal in [&first, &later, &earlier] {
-        cache.begin(of_the_deal.position());
-        assert_eq!(rt; remembered(&cache, &first), spades);
-    }
-    let second = dealt("N:72... K.4.. AQ... 65...").expect(&rt, "two cards a hand");
-    cache.begin(second.position());
-    assert_eq!(rt; remembered(&cache, &first), [None; 3]);
-    Ok(())
+    let rows = b"spades|N:32... K.4.. AQ... 65...\n\
+        begins|N:32... K.4.. AQ... 65...\n\
+        leads sss|N:32... K.4.. AQ... 65...\n\
+        begins|N:3... .4.. Q... 6...\n\
+        leads sss|N:32... K.4.. AQ... 65...\n\
+        begins|N:432... KT.4.. AQJ... 765...\n\
+        leads sss|N:32... K.4.. AQ... 65...\n\
+        begins|N:72... K.4.. AQ... 65...\n\
+        leads ---|N:32... K.4.. AQ... 65...";
+    follow_alone(&rt, rows)
 }

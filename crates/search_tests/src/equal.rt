@@ -39,9 +39,9 @@ fn the_jack_on_the_trick_separates_the_queen_and_the_ten(rt: HostRuntime) {
     ];
     let jack = Card::from_code(11).expect(&rt, "the jack of spades");
     let found = classes_at(&cards, Seat::East, &[jack]);
-    assert_eq!(rt; found.len(), 2);
-    assert_eq!(rt; class_at(&found, 0), (12, 0));
-    assert_eq!(rt; class_at(&found, 1), (10, 0));
+    assert!(rt; found.len() == 2);
+    assert!(rt; class_at(&found, 0) == (12, 0));
+    assert!(rt; class_at(&found, 1) == (10, 0));
 }
 
 #[test]
@@ -57,8 +57,8 @@ fn cards_that_are_out_of_play_separate_nothing(rt: HostRuntime) {
         (Seat::West, 16 + 9),
     ];
     let found = classes_at(&cards, Seat::North, &[]);
-    assert_eq!(rt; found.len(), 1);
-    assert_eq!(rt; class_at(&found, 0), (14, 2048));
+    assert!(rt; found.len() == 1);
+    assert!(rt; class_at(&found, 0) == (14, 2048));
 }
 
 #[test]
@@ -77,8 +77,8 @@ fn the_thirteen_spades_are_one_class(rt: HostRuntime) {
         "thirteen cards a hand",
     );
     let found = classes(&position);
-    assert_eq!(rt; found.len(), 1);
-    assert_eq!(rt; class_at(&found, 0), (14, 16380));
+    assert!(rt; found.len() == 1);
+    assert!(rt; class_at(&found, 0) == (14, 16380));
 }
 
 // Is the card of this code in just one of the classes, as its highest or in the mask of its others?
@@ -123,7 +123,7 @@ fn each_legal_card_is_in_one_class(rt: HostRuntime) {
         (Seat::West, 48 + 5),
     ];
     let found = classes_at(&cards, Seat::North, &[]);
-    assert_eq!(rt; found.len(), 4);
+    assert!(rt; found.len() == 4);
     for code in [14, 13, 11, 16 + 5, 16 + 3] {
         assert!(rt; is_in_one(&found, code), "at {code}");
     }

@@ -1,4 +1,4 @@
-//! Tests of cards, texts of deals, play, likeness, quick tricks and tables, by their public surfaces.
+//! Tests of cards, texts of deals, play, likeness, relative ranks, quick tricks and tables, by their public surfaces.
 #![tactic(auto)]
 
 #[cfg(test)]
@@ -15,6 +15,8 @@ mod play;
 mod quick;
 #[cfg(test)]
 mod rank;
+#[cfg(test)]
+mod relative;
 #[cfg(test)]
 mod rows;
 #[cfg(test)]

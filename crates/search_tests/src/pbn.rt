@@ -1,11 +1,7 @@
-use crate::rows::{is_line_feed, is_space};
+use crate::rows::{is_bar, is_line_feed, is_space};
 use dd_cards::{Hands, Seat, Suit};
 use dd_pbn::{PbnFault, read_deal, read_tag, write_deal};
 use std::test::*;
-
-fn is_bar(byte: &u8) -> bool {
-    *byte == b'|'
-}
 
 fn is_semicolon(byte: &u8) -> bool {
     *byte == b';'
@@ -93,7 +89,7 @@ fn blanks_and_case_change_no_deal(rt: HostRuntime) -> Result<(), Fail> {
     for text in SAME_DEALS.split(is_line_feed) {
         let deal = read_deal(text).ok().ok_or("the text spells a deal")?;
         let written = write_deal(rt.alloc(), &deal)?;
-        assert_eq!(rt; written.as_bytes(), b"N:32... K4... AQ... 65...".as_slice());
+        assert!(rt; written.as_bytes() == b"N:32... K4... AQ... 65...".as_slice());
     }
     Ok(())
 }
@@ -108,7 +104,7 @@ fn a_tag_holds_a_value(rt: HostRuntime) -> Result<(), Fail> {
     for text in TAGS.split(is_line_feed) {
         let deal = read_tag(text).ok().ok_or("the tag spells a deal")?;
         let written = write_deal(rt.alloc(), &deal)?;
-        assert_eq!(rt; written.as_bytes(), b"N:32... K4... AQ... 65...".as_slice());
+        assert!(rt; written.as_bytes() == b"N:32... K4... AQ... 65...".as_slice());
     }
     Ok(())
 }
@@ -128,7 +124,7 @@ fn what_is_written_is_read_back(rt: HostRuntime) -> Result<(), Fail> {
         for text in [fields.next().unwrap_or(&[]), canon] {
             let deal = read_deal(text).ok().ok_or("the text spells a deal")?;
             let written = write_deal(rt.alloc(), &deal)?;
-            assert_eq!(rt; written.as_bytes(), canon);
+            assert!(rt; written.as_bytes() == canon);
         }
     }
     Ok(())
@@ -193,7 +189,7 @@ grammar|[Deal \"N:A... K... Q... J...\"]";
 fn a_text_without_a_deal_has_its_first_fault(rt: HostRuntime) {
     for row in NO_DEALS.split(is_semicolon) {
         let (fault, text) = fault_and_text(row);
-        assert_eq!(rt; read_deal(text).err(), Some(fault), "at {text:?}");
+        assert!(rt; read_deal(text).err() == Some(fault), "at {text:?}");
     }
 }
 
@@ -217,6 +213,6 @@ grammar|[[Deal \"N:A... K... Q... J...\"]";
 fn a_tag_without_a_deal_has_its_first_fault(rt: HostRuntime) {
     for row in NO_TAGS.split(is_semicolon) {
         let (fault, text) = fault_and_text(row);
-        assert_eq!(rt; read_tag(text).err(), Some(fault), "at {text:?}");
+        assert!(rt; read_tag(text).err() == Some(fault), "at {text:?}");
     }
 }

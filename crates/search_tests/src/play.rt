@@ -66,7 +66,7 @@ fn the_first_fault_is_named(rt: HostRuntime) {
         Some(PlayFault::Empty),
         None,
     ];
-    assert_eq!(rt; faults, want);
+    assert!(rt; faults == want);
 }
 
 // The position after these cards of `ruffing_hands`, and the winner of a trick that the last one completes. Hearts are
@@ -99,19 +99,18 @@ fn a_low_trump_takes_an_ace(rt: HostRuntime) {
     let (led, none) = after(&rt, &[ace]);
     let (third, _) = after(&rt, &[ace, trump, two]);
     let (next, seat) = after(&rt, &[ace, trump, two, three]);
-    assert_eq!(rt;
-        [seen(&start), seen(&led), seen(&next)],
-        [
-            (Seat::North, Seat::North, 2),
-            (Seat::North, Seat::East, 2),
-            (Seat::East, Seat::East, 1)
-        ]
+    assert!(rt;
+        [seen(&start), seen(&led), seen(&next)]
+            == [
+                (Seat::North, Seat::North, 2),
+                (Seat::North, Seat::East, 2),
+                (Seat::East, Seat::East, 1)
+            ]
     );
-    assert_eq!(rt; (none, seat), (None, Some(Seat::East)));
-    assert_eq!(rt; led.trick(), [ace].as_slice());
-    assert_eq!(rt;
-        led.legal().as_slice(),
-        [card(Suit::Hearts, 4), trump].as_slice(),
+    assert!(rt; (none, seat) == (None, Some(Seat::East)));
+    assert!(rt; led.trick() == [ace].as_slice());
+    assert!(rt;
+        led.legal().as_slice() == [card(Suit::Hearts, 4), trump].as_slice(),
         "no spade to follow with"
     );
     // West has a spade, and South's card is not West's.
@@ -123,9 +122,9 @@ fn a_low_trump_takes_an_ace(rt: HostRuntime) {
         next.hands().has(Seat::West, diamond),
         next.hands().has(Seat::North, ace),
     ];
-    assert_eq!(rt; (legal, held), ([false, false], [true, false]));
-    assert_eq!(rt; third.choices().pop_first(), Some(three));
-    assert_eq!(rt; next.strain(), Strain::Trump(Suit::Hearts));
+    assert!(rt; (legal, held) == ([false, false], [true, false]));
+    assert!(rt; third.choices().pop_first() == Some(three));
+    assert!(rt; next.strain() == Strain::Trump(Suit::Hearts));
 }
 
 #[test]
@@ -141,7 +140,7 @@ fn the_highest_trump_or_card_of_the_suit_led_wins(rt: HostRuntime) {
         winner(&trick, Seat::West, Strain::Trump(Suit::Diamonds)),
         winner(&trick, Seat::West, Strain::Trump(Suit::Hearts)),
     ];
-    assert_eq!(rt; winners, [Seat::East, Seat::South, Seat::North, Seat::East]);
+    assert!(rt; winners == [Seat::East, Seat::South, Seat::North, Seat::East]);
 }
 
 #[test]
@@ -150,7 +149,7 @@ fn a_begun_trick_is_no_start(rt: HostRuntime) {
         .ok()
         .expect(&rt, "even hands");
     let start = TrickStart::of(&position).expect(&rt, "no card is on the trick");
-    assert_eq!(rt; start.copy().position().copy().mover(), Seat::West);
+    assert!(rt; start.copy().position().copy().mover() == Seat::West);
     let (begun, _) = after(&rt, &[card(Suit::Spades, 14)]);
     assert!(rt; TrickStart::of(&begun).is_none());
 }
@@ -161,5 +160,5 @@ fn intervals_meet_where_they_share_a_number(rt: HostRuntime) {
     let high = Interval::new(5, 9).expect(&rt, "in order");
     let above = Interval::new(6, 6).expect(&rt, "in order");
     let met = [Interval::new(3, 2), low.meet(high), low.meet(above)];
-    assert_eq!(rt; met, [None, Interval::new(5, 5), None]);
+    assert!(rt; met == [None, Interval::new(5, 5), None]);
 }

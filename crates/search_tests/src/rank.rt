@@ -80,7 +80,7 @@ fn positions_are_alike_by_the_owners_seen_from_the_leader(rt: HostRuntime) {
             hash_of(&key) == hash_of(&other_key),
             key.hash_code() == other_key.hash_code(),
         ];
-        assert_eq!(rt; found, [want; 4], "{what}");
+        assert!(rt; found == [want; 4], "{what}");
         assert!(rt; are_alike(other_key.sample(), &other), "the sample: {what}");
     }
 }
@@ -113,7 +113,7 @@ fn a_position_covers_those_with_the_same_owners_of_the_highest_cards(rt: HostRun
         // Four spades, and a depth of eight.
         covers(&ace_high, Depths::full(&one), &ace_high),
     ];
-    assert_eq!(rt; found, [true, false, true, true, false]);
+    assert!(rt; found == [true, false, true, true, false]);
 }
 
 #[test]
@@ -131,8 +131,8 @@ fn covers_are_the_same_where_depths_and_owners_are(rt: HostRuntime) {
         all.is_same(&none),
         are_alike(all.start(), &one),
     ];
-    assert_eq!(rt; found, [true, true, true, false, true]);
-    assert_eq!(rt; all.depths().of(Suit::Spades), 8);
+    assert!(rt; found == [true, true, true, false, true]);
+    assert!(rt; all.depths().of(Suit::Spades) == 8);
 }
 
 #[test]
@@ -157,7 +157,7 @@ fn equal_shapes_have_one_hash(rt: HostRuntime) {
         OwnerStrings::of(&one) == *RankKey::of(&one).strings(),
         OwnerStrings::with_shape(&two, Shape::of(&two)) == OwnerStrings::of(&two).copy(),
     ];
-    assert_eq!(rt; found, [true, true, false, true, true]);
+    assert!(rt; found == [true, true, false, true, true]);
 }
 
 #[test]
@@ -173,7 +173,7 @@ fn first_owners_are_those_of_the_highest_cards(rt: HostRuntime) {
         all.depths().of(Suit::Spades),
         none.depths().of(Suit::Spades),
     );
-    assert_eq!(rt; depths, (8, 0));
+    assert!(rt; depths == (8, 0));
     let behind = start(&[3, 6, 14, 13, 2, 5, 12, 4], Strain::Notrump, Seat::North).expect(
         &rt,
         "two cards a hand",
@@ -190,5 +190,5 @@ fn first_owners_are_those_of_the_highest_cards(rt: HostRuntime) {
         all.are_in(&behind),
         none.are_in(&behind),
     ];
-    assert_eq!(rt; found, [true, true, true, true, false, false, true]);
+    assert!(rt; found == [true, true, true, true, false, false, true]);
 }

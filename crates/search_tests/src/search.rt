@@ -152,26 +152,20 @@ fn a_king_before_the_ace_and_queen_is_caught(rt: HostRuntime) {
     let position = position_of(&CAUGHT, Seat::North, &[]).expect(&rt, "a position");
     let three = spade(3);
     assert!(rt; position.is_legal(three));
-    assert_eq!(rt; endless_score(&position, three), Ok(2));
+    assert!(rt; endless_score(&position, three) == Ok(2));
 }
 
 #[test]
 fn a_king_wins_nothing_before_the_ace(rt: HostRuntime) {
     let position = position_of(&ONE_EACH, Seat::East, &[]).expect(&rt, "a position");
-    assert_eq!(rt;
-        score_of(&position, spade(13), &mut NoTable, &mut Endless),
-        Some(Ok(0))
-    );
+    assert!(rt; score_of(&position, spade(13), &mut NoTable, &mut Endless) == Some(Ok(0)));
 }
 
 #[test]
 fn a_suit_in_one_hand_takes_all_tricks(rt: HostRuntime) {
     let position = position_of(&A_SUIT_EACH, Seat::North, &[]).expect(&rt, "a position");
     let mut budget = Budget::new(1_000);
-    assert_eq!(rt;
-        score_of(&position, spade(14), &mut NoTable, &mut budget),
-        Some(Ok(13))
-    );
+    assert!(rt; score_of(&position, spade(14), &mut NoTable, &mut budget) == Some(Ok(13)));
 }
 
 #[test]
@@ -180,42 +174,30 @@ fn the_last_card_is_one_position(rt: HostRuntime) {
     let position = position_of(&LAST_CARD, Seat::East, &trick).expect(&rt, "a position");
     let mut one = Budget::new(1);
     let mut none = Budget::new(0);
-    assert_eq!(rt;
-        score_of(&position, spade(14), &mut NoTable, &mut one),
-        Some(Ok(1))
-    );
-    assert_eq!(rt; one.ticks(), 1);
-    assert_eq!(rt;
-        score_of(&position, spade(14), &mut NoTable, &mut none),
-        Some(Err(Halt::Spent))
-    );
-    assert_eq!(rt; none.ticks(), 0);
+    assert!(rt; score_of(&position, spade(14), &mut NoTable, &mut one) == Some(Ok(1)));
+    assert!(rt; one.ticks() == 1);
+    assert!(rt; score_of(&position, spade(14), &mut NoTable, &mut none) == Some(Err(Halt::Spent)));
+    assert!(rt; none.ticks() == 0);
 }
 
 #[test]
 fn a_value_is_that_of_the_side_to_play(rt: HostRuntime) {
-    assert_eq!(rt; value_of(&CAUGHT, Seat::North), Some(Ok(2)));
-    assert_eq!(rt; value_of(&BEHIND, Seat::North), Some(Ok(1)));
-    assert_eq!(rt; value_of(&ONE_EACH, Seat::North), Some(Ok(1)));
-    assert_eq!(rt; value_of(&ONE_EACH, Seat::East), Some(Ok(0)));
-    assert_eq!(rt; value_of(&A_SUIT_EACH, Seat::West), Some(Ok(13)));
+    assert!(rt; value_of(&CAUGHT, Seat::North) == Some(Ok(2)));
+    assert!(rt; value_of(&BEHIND, Seat::North) == Some(Ok(1)));
+    assert!(rt; value_of(&ONE_EACH, Seat::North) == Some(Ok(1)));
+    assert!(rt; value_of(&ONE_EACH, Seat::East) == Some(Ok(0)));
+    assert!(rt; value_of(&A_SUIT_EACH, Seat::West) == Some(Ok(13)));
 }
 
 #[test]
 fn a_card_reaches_its_score_and_no_more(rt: HostRuntime) {
     let caught = position_of(&CAUGHT, Seat::North, &[]).expect(&rt, "a position");
     let three = spade(3);
-    assert_eq!(rt; reaches_of(&caught, three, 2, &mut Endless), Some(Ok(true)));
-    assert_eq!(rt;
-        reaches_of(&caught, three, 3, &mut Endless),
-        Some(Ok(false))
-    );
+    assert!(rt; reaches_of(&caught, three, 2, &mut Endless) == Some(Ok(true)));
+    assert!(rt; reaches_of(&caught, three, 3, &mut Endless) == Some(Ok(false)));
     let behind = position_of(&BEHIND, Seat::North, &[]).expect(&rt, "a position");
-    assert_eq!(rt; reaches_of(&behind, three, 1, &mut Endless), Some(Ok(true)));
-    assert_eq!(rt;
-        reaches_of(&behind, three, 2, &mut Endless),
-        Some(Ok(false))
-    );
+    assert!(rt; reaches_of(&behind, three, 1, &mut Endless) == Some(Ok(true)));
+    assert!(rt; reaches_of(&behind, three, 2, &mut Endless) == Some(Ok(false)));
 }
 
 #[test]
@@ -225,32 +207,17 @@ fn a_card_of_east_or_west_reaches_the_tricks_of_its_side(rt: HostRuntime) {
         suit: Suit::Clubs,
         rank: Rank::of(14),
     };
-    assert_eq!(rt;
-        reaches_of(&position, ace, 13, &mut Endless),
-        Some(Ok(true))
-    );
-    assert_eq!(rt;
-        reaches_of(&position, ace, 14, &mut Endless),
-        Some(Ok(false))
-    );
+    assert!(rt; reaches_of(&position, ace, 13, &mut Endless) == Some(Ok(true)));
+    assert!(rt; reaches_of(&position, ace, 14, &mut Endless) == Some(Ok(false)));
 }
 
 #[test]
 fn no_search_is_needed_where_counting_settles_it(rt: HostRuntime) {
     let position = position_of(&ONE_EACH, Seat::East, &[]).expect(&rt, "a position");
     let mut none = Budget::new(0);
-    assert_eq!(rt;
-        reaches_of(&position, spade(13), 0, &mut none),
-        Some(Ok(true))
-    );
-    assert_eq!(rt;
-        reaches_of(&position, spade(13), 2, &mut none),
-        Some(Ok(false))
-    );
-    assert_eq!(rt;
-        reaches_of(&position, spade(13), 1, &mut none),
-        Some(Err(Halt::Spent))
-    );
+    assert!(rt; reaches_of(&position, spade(13), 0, &mut none) == Some(Ok(true)));
+    assert!(rt; reaches_of(&position, spade(13), 2, &mut none) == Some(Ok(false)));
+    assert!(rt; reaches_of(&position, spade(13), 1, &mut none) == Some(Err(Halt::Spent)));
 }
 
 #[test]
@@ -259,9 +226,8 @@ fn all_honours_take_all_tricks(rt: HostRuntime) {
     for suit in 0..4u8 {
         let ace = card_of(suit, 14).expect(&rt, "an ace");
         let mut budget = Budget::new(10_000);
-        assert_eq!(rt;
-            score_of(&position, ace, &mut NoTable, &mut budget),
-            Some(Ok(13)),
+        assert!(rt;
+            score_of(&position, ace, &mut NoTable, &mut budget) == Some(Ok(13)),
             "{suit}"
         );
     }
@@ -300,11 +266,10 @@ fn a_value_rests_on_the_cards_that_win(rt: HostRuntime) {
     for (hands, first, want, depths, what) in table {
         let start = start_of(hands, first).expect(&rt, what);
         let found = start_value(&start, &mut NoTable, &mut Endless).expect(&rt, what);
-        assert_eq!(rt; (found.0, four(found.1)), (want, depths), "{what}");
+        assert!(rt; (found.0, four(found.1)) == (want, depths), "{what}");
         let found = start_value_for_first(&start, &mut NoTable, &mut Endless).expect(&rt, what);
-        assert_eq!(rt;
-            (found.0, four(found.1)),
-            (want, depths),
+        assert!(rt;
+            (found.0, four(found.1)) == (want, depths),
             "{what}, as listed"
         );
     }
@@ -331,7 +296,7 @@ fn each_class_has_its_score_in_the_order_of_the_suits(rt: HostRuntime) {
         for (card, score) in found.0.as_slice() {
             let _fits = scores.try_push((card.code(), *score));
         }
-        assert_eq!(rt; scores.as_slice(), want, "{what}");
+        assert!(rt; scores.as_slice() == want, "{what}");
     }
 }
 
@@ -361,6 +326,6 @@ fn without_cards_there_is_no_score(rt: HostRuntime) {
     let found = start_scores(&end, classes.as_slice(), &mut NoTable, &mut one);
     let found = found.expect(&rt, "one tick");
     assert!(rt; found.0.is_empty());
-    assert_eq!(rt; four(found.1), [0, 0, 0, 0]);
-    assert_eq!(rt; one.ticks(), 1);
+    assert!(rt; four(found.1) == [0, 0, 0, 0]);
+    assert!(rt; one.ticks() == 1);
 }

@@ -368,17 +368,17 @@ fn a_note_of_a_shape_that_is_there_succeeds(rt: HostRuntime) -> Result<(), Fail>
     };
     let a = caught_king(&rt);
     if note_most(&mut shard, &a, b'2').is_err() {
-        assert_eq!(rt; shard.len(), 0);
+        assert!(rt; shard.len() == 0);
         return Ok(());
     }
     let place = match note_known(&mut shard, &ace(&rt), 1, 1, 1) {
         Ok(_) => 1,
         Err(_) => 0,
     };
-    assert_eq!(rt; shard.len(), place + 1);
+    assert!(rt; shard.len() == place + 1);
     assert!(rt; lists(&shard, place, b"96", b"028"));
     let again = note_known(&mut shard, &a, 2, 1, 2);
-    assert_eq!(rt; again.ok(), Some(true), "its shape is known");
+    assert!(rt; again.ok() == Some(true), "its shape is known");
     assert!(rt; lists(&shard, 0, b"96", b"128"));
     Ok(())
 }

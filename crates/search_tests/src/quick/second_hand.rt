@@ -1,8 +1,10 @@
 //! What second or fourth hand takes with the highest card of a suit that may be led.
-use super::start;
-use dd_cards::{Hand, Seat, Strain, Suit};
+use super::{digit, number, start};
+use crate::rows::{is_line_feed, word};
+use dd_cards::{Hand, Suit};
 use dd_play::TrickStart;
 use dd_quick::for_second_hand;
+use std::process::Abort;
 
 // The winners of either opponent of the leader on which it rests that so many tricks are theirs after a lead of spades.
 fn after_spades(start: &TrickStart, need: u8) -> Option<Hand> {
@@ -14,241 +16,74 @@ fn after_spades(start: &TrickStart, need: u8) -> Option<Hand> {
     }
 }
 
-// How many cards of each suit.
+// How many cards of each suit, a digit each.
 fn by_suit(cards: Hand) -> [u8; 4] {
     [
-        cards.of_suit(Suit::Spades).len(),
-        cards.of_suit(Suit::Hearts).len(),
-        cards.of_suit(Suit::Diamonds).len(),
-        cards.of_suit(Suit::Clubs).len(),
+        digit(cards.of_suit(Suit::Spades).len()),
+        digit(cards.of_suit(Suit::Hearts).len()),
+        digit(cards.of_suit(Suit::Diamonds).len()),
+        digit(cards.of_suit(Suit::Clubs).len()),
     ]
+}
+
+// Where so many tricks are asked for as the first word after the position says, are so many winners of each suit listed as
+// the next, or none?
+fn lists(row: &[u8]) -> bool {
+    let (Some(start), Some(need)) = (start(row), number(word(row, 5))) else {
+        return false;
+    };
+    let want = word(row, 6);
+    match after_spades(&start, need) {
+        Some(cards) => by_suit(cards).as_slice() == want,
+        None => want == b"none".as_slice(),
+    }
+}
+
+// Looks at each row.
+fn list_each(rt: &impl Abort, rows: &[u8]) {
+    for row in rows.split(is_line_feed) {
+        assert!(rt; lists(row), "at {row:?}");
+    }
 }
 
 // North leads a spade. Of each suit so many winners of East and West's are listed.
 #[test]
 fn the_highest_card_of_the_suit_led_wins_and_more_are_cashed(rt: HostRuntime) {
-    let notrump = Strain::Notrump;
-    let hearts = Strain::Trump(Suit::Hearts);
-    let table = [
-        (
-            ["32...", "AK...", "54...", "76..."],
-            notrump,
-            2,
-            Some([2, 0, 0, 0]),
-            "second hand has the ace and the king",
-        ),
-        (
-            ["32...", "76...", "54...", "AK..."],
-            notrump,
-            2,
-            Some([2, 0, 0, 0]),
-            "fourth hand has them",
-        ),
-        (
-            ["32...", "AK...", "54...", "76..."],
-            notrump,
-            1,
-            Some([1, 0, 0, 0]),
-            "one is asked for",
-        ),
-        (
-            ["32...", "AK...", "54...", "76..."],
-            notrump,
-            3,
-            None,
-            "no more than are left",
-        ),
-        (
-            ["32...", "K6...", "A4...", "Q7..."],
-            notrump,
-            1,
-            None,
-            "third hand has the ace",
-        ),
-        (
-            ["A2...", "KQ...", "54...", "76..."],
-            notrump,
-            1,
-            None,
-            "the leader has the ace",
-        ),
-        (
-            ["2.32..", "A.54..", "3.76..", "4.AK.."],
-            notrump,
-            3,
-            Some([1, 2, 0, 0]),
-            "its partner takes two more once it has crossed",
-        ),
-        (
-            ["2.32..", "4.AK..", "3.76..", "A.54.."],
-            notrump,
-            2,
-            Some([1, 1, 0, 0]),
-            "one of them is asked for of fourth hand",
-        ),
-        (
-            ["2.3..9", "A...54", "3.76..", "4.AK.."],
-            notrump,
-            2,
-            None,
-            "it has no card to lead to its partner",
-        ),
-        (
-            ["2.32.2.", "A.54.3.", "3.87.4.", ".AK6.5."],
-            notrump,
-            4,
-            Some([1, 2, 0, 0]),
-            "and a third with a low card of its long suit",
-        ),
-        (
-            ["2.3.2.", "A..54.", "3.2.3.", "4..AK."],
-            hearts,
-            2,
-            Some([1, 0, 1, 0]),
-            "beside trumps it crosses while both follow",
-        ),
-        (
-            ["2.3.2.", "A..54.", "3.2.3.", "4..AK."],
-            hearts,
-            3,
-            None,
-            "and no further",
-        ),
-        (
-            ["2.32..", "A.AK..", "3.54..", "4.76.."],
-            notrump,
-            1,
-            Some([1, 0, 0, 0]),
-            "the first trick is that of the suit led",
-        ),
-        (
-            ["2.32..", "A.AK..", "3.54..", "4.76.."],
-            notrump,
-            3,
-            Some([1, 2, 0, 0]),
-            "hearts after it",
-        ),
-        (
-            ["2.32..", "A.54..", "3.AK..", "4.76.."],
-            notrump,
-            2,
-            None,
-            "third hand has the hearts",
-        ),
-        (
-            ["32...", "AK...", ".32..", "76..."],
-            hearts,
-            1,
-            None,
-            "third hand ruffs",
-        ),
-        (
-            ["32...", "AK...", "..32.", "76..."],
-            hearts,
-            2,
-            Some([2, 0, 0, 0]),
-            "third hand has no trump",
-        ),
-        (
-            ["32...", "AK...", "4.2..", "76..."],
-            hearts,
-            1,
-            Some([1, 0, 0, 0]),
-            "third hand follows once",
-        ),
-        (
-            ["32...", "AK...", "4.2..", "76..."],
-            hearts,
-            2,
-            None,
-            "and ruffs the king",
-        ),
-        (
-            ["32...", "AK...", "54...", ".32.."],
-            hearts,
-            1,
-            None,
-            "the partner has only trumps, and wins the trick itself",
-        ),
-        (
-            ["32...", "A.K..", "4..3.", "5.A.."],
-            hearts,
-            2,
-            Some([1, 0, 0, 0]),
-            "a trump is kept, and the other side has none",
-        ),
-        (
-            ["2.2..", "A.K..", "4.3..", "5.A.."],
-            hearts,
-            2,
-            Some([1, 1, 0, 0]),
-            "a trump is kept, the other side has two",
-        ),
-    ];
-    for (hands, strain, need, want, what) in table {
-        let start = start(hands, strain, Seat::North).expect(&rt, "even hands");
-        let found = after_spades(&start, need).map(by_suit);
-        assert_eq!(rt; found, want, "{what}");
-    }
+    let rows = b"32... AK... 54... 76... nN 2 2000 second hand has the ace and the king\n\
+        32... 76... 54... AK... nN 2 2000 fourth hand has them\n\
+        32... AK... 54... 76... nN 1 1000 one is asked for\n\
+        32... AK... 54... 76... nN 3 none no more than are left\n\
+        32... K6... A4... Q7... nN 1 none third hand has the ace\n\
+        A2... KQ... 54... 76... nN 1 none the leader has the ace\n\
+        2.32.. A.54.. 3.76.. 4.AK.. nN 3 1200 its partner takes two more once it has crossed\n\
+        2.32.. 4.AK.. 3.76.. A.54.. nN 2 1100 one of them is asked for of fourth hand\n\
+        2.3..9 A...54 3.76.. 4.AK.. nN 2 none it has no card to lead to its partner\n\
+        2.32.2. A.54.3. 3.87.4. .AK6.5. nN 4 1200 and a third with a low card of its long suit\n\
+        2.3.2. A..54. 3.2.3. 4..AK. hN 2 1010 beside trumps it crosses while both follow\n\
+        2.3.2. A..54. 3.2.3. 4..AK. hN 3 none and no further\n\
+        2.32.. A.AK.. 3.54.. 4.76.. nN 1 1000 the first trick is that of the suit led\n\
+        2.32.. A.AK.. 3.54.. 4.76.. nN 3 1200 hearts after it\n\
+        2.32.. A.54.. 3.AK.. 4.76.. nN 2 none third hand has the hearts\n\
+        32... AK... .32.. 76... hN 1 none third hand ruffs\n\
+        32... AK... ..32. 76... hN 2 2000 third hand has no trump\n\
+        32... AK... 4.2.. 76... hN 1 1000 third hand follows once\n\
+        32... AK... 4.2.. 76... hN 2 none and ruffs the king\n\
+        32... AK... 54... .32.. hN 1 none the partner has only trumps, and wins the trick itself\n\
+        32... A.K.. 4..3. 5.A.. hN 2 1000 a trump is kept, and the other side has none\n\
+        2.2.. A.K.. 4.3.. 5.A.. hN 2 1100 a trump is kept, the other side has two";
+    list_each(&rt, rows);
 }
 
 // The same where spades are trumps.
 #[test]
 fn the_highest_trump_wins_and_side_suits_are_cashed(rt: HostRuntime) {
-    let table = [
-        (
-            ["32...", "AK...", "54...", "7.2.."],
-            2,
-            Some([2, 0, 0, 0]),
-            "the ace and the king",
-        ),
-        (
-            ["2.3..", "A.K..", ".54..", ".76.."],
-            2,
-            Some([1, 1, 0, 0]),
-            "a heart after the ace",
-        ),
-        (
-            ["2...", "A...", "..3.", "..4."],
-            1,
-            Some([1, 0, 0, 0]),
-            "the partner throws its last card",
-        ),
-        (
-            ["32...", "A4...", "65...", "K.2.."],
-            1,
-            Some([1, 0, 0, 0]),
-            "the ace",
-        ),
-        (
-            ["32...", "A4...", "65...", "K.2.."],
-            2,
-            None,
-            "the partner's king is not counted",
-        ),
-        (
-            ["42...", "A.K..", "3.5..", "5.6.."],
-            2,
-            None,
-            "North ruffs the heart",
-        ),
-        (
-            ["32...", "K6...", "A4...", "Q7..."],
-            1,
-            None,
-            "third hand has the ace",
-        ),
-        (
-            ["32...", "AK...", "54...", "76..."],
-            1,
-            None,
-            "the partner has only trumps: not counted",
-        ),
-    ];
-    for (hands, need, want, what) in table {
-        let spades = Strain::Trump(Suit::Spades);
-        let start = start(hands, spades, Seat::North).expect(&rt, "even hands");
-        let found = after_spades(&start, need).map(by_suit);
-        assert_eq!(rt; found, want, "{what}");
-    }
+    let rows = b"32... AK... 54... 7.2.. sN 2 2000 the ace and the king\n\
+        2.3.. A.K.. .54.. .76.. sN 2 1100 a heart after the ace\n\
+        2... A... ..3. ..4. sN 1 1000 the partner throws its last card\n\
+        32... A4... 65... K.2.. sN 1 1000 the ace\n\
+        32... A4... 65... K.2.. sN 2 none the partner's king is not counted\n\
+        42... A.K.. 3.5.. 5.6.. sN 2 none North ruffs the heart\n\
+        32... K6... A4... Q7... sN 1 none third hand has the ace\n\
+        32... AK... 54... 76... sN 1 none the partner has only trumps: not counted";
+    list_each(&rt, rows);
 }

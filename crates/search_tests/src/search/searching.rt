@@ -13,6 +13,7 @@ ghost use Rattle.dd_play.specs.Intervals.{Holds};
 ghost use Rattle.dd_rank.specs.Depths.{all_cards, depth_in, Covers};
 
 use super::{BEHIND, BEHIND_AN_ACE, Holdings, card_of, position_of, start_of};
+use crate::rows::{is_line_feed, number, word};
 use arrayvec::ArrayVec;
 use dd_cards::Seat;
 use dd_play::{Interval, Position, TrickStart};
@@ -20,25 +21,13 @@ use dd_rank::Depths;
 use dd_search::{
     Bounds, Budget, Endless, Halt, Meter, NoTable, reaches, start_value, value, value_at_least,
 };
+use std::process::Abort;
 
-// What a search did with its table, at a start of a trick with so many tricks left.
-#[derive(Clone, Copy, Debug, PartialEq, Eq)]
-enum Event {
-    Look { left: u8 },
-    Note { left: u8, lo: u8, hi: u8 },
-}
-
-impl Default for Event {
-    fn default() -> Event {
-        Event::Look { left: 0 }
-    }
-}
-
-// Writes down what it is asked and told. It knows the value of each start of a trick with so many tricks left, by a search
-// of its own, and nothing of others.
+// Writes down what it is asked and told: a look as `L` and the tricks left, a note as `N`, the tricks left and the bounds. It
+// knows the value of each start of a trick with so many tricks left, by a search of its own, and nothing of others.
 #[derive(Drop)]
 struct Log {
-    events: ArrayVec<Event, 16>,
+    events: ArrayVec<u8, 64>,
     knows: u8,
     // how many searches began
     begun: u8,
@@ -55,6 +44,16 @@ impl Log {
             begun: 0,
         }
     }
+
+    fn write(&mut self, bytes: &[u8]) {
+        for byte in bytes {
+            let _fits = self.events.try_push(*byte);
+        }
+    }
+}
+
+fn digit(number: u8) -> u8 {
+    number.wrapping_add(b'0')
 }
 
 // The value as bounds that hold at its depths.
@@ -88,7 +87,7 @@ impl Bounds for Log {
 
     fn look(&mut self, start: &TrickStart) -> Option<(Interval, Depths)> {
         let left = start.position().tricks_left();
-        let _fits = self.events.try_push(Event::Look { left });
+        self.write(&[b'L', digit(left)]);
         if left != self.knows {
             return None;
         }
@@ -97,8 +96,7 @@ impl Bounds for Log {
 
     fn note(&mut self, start: &TrickStart, _depths: Depths, interval: Interval) {
         let left = start.position().tricks_left();
-        let (lo, hi) = (interval.lo, interval.hi);
-        let _fits = self.events.try_push(Event::Note { left, lo, hi });
+        self.write(&[b'N', digit(left), digit(interval.lo), digit(interval.hi)]);
     }
 }
 
@@ -141,17 +139,62 @@ fn asked<B: Bounds, M: Meter>(
     }
 }
 
+// The deal a seat on: East leads.
+fn turned() -> Option<Position> {
+    let [north, east, south, west] = BEHIND;
+    before_the_jack(&[west, north, east, south], Seat::East)
+}
+
+// The deal of this name.
+fn named(name: &[u8]) -> Option<Position> {
+    if name == b"behind".as_slice() {
+        before_the_jack(&BEHIND, Seat::North)
+    } else if name == b"turned".as_slice() {
+        turned()
+    } else if name == b"ace".as_slice() {
+        before_the_jack(&BEHIND_AN_ACE, Seat::North)
+    } else {
+        None
+    }
+}
+
+fn spelled(answer: Result<bool, Halt>) -> &'static [u8] {
+    match answer {
+        Ok(true) => b"yes",
+        Ok(false) => b"no",
+        Err(Halt::Spent) => b"spent",
+        Err(Halt::Stopped) => b"stopped",
+    }
+}
+
+// A row is a deal before its jack, the tricks of which it is asked whether North and South take so many, the tricks left at
+// which the table knows the value (none: 14) and the budget; then the answer, the ticks (`any`: not looked at) and what the
+// table was asked and told.
+fn is_searched(row: &[u8]) -> Option<bool> {
+    let position = named(word(row, 0))?;
+    let mut log = Log::knowing(number(word(row, 2)));
+    let mut budget = Budget::new(number(word(row, 3)) as u64);
+    let answer = asked(&position, number(word(row, 1)), &mut log, &mut budget)?;
+    let ticks = word(row, 5);
+    Some(
+        spelled(answer) == word(row, 4)
+            && (ticks == b"any".as_slice() || budget.ticks() == number(ticks) as u64)
+            && log.events.as_slice() == word(row, 6),
+    )
+}
+
+// Looks at each row.
+fn search_each(rt: &impl Abort, rows: &[u8]) {
+    for row in rows.split(is_line_feed) {
+        assert!(rt; is_searched(row) == Some(true), "at {row:?}");
+    }
+}
+
 // One trick is a quick trick: North crosses to the ace. So the first position is the only one: what the look there doesn't
 // settle the quick trick does, and nothing is noted.
 #[test]
 fn a_quick_trick_settles_what_a_look_does_not(rt: HostRuntime) {
-    let position = before_the_jack(&BEHIND, Seat::North).expect(&rt, "two cards a hand");
-    let mut log = Log::knowing(NONE);
-    let mut budget = Budget::new(100);
-    let answer = asked(&position, 1, &mut log, &mut budget);
-    assert_eq!(rt; answer, Some(Ok(true)));
-    assert_eq!(rt; budget.ticks(), 1);
-    assert_eq!(rt; log.events.as_slice(), [Event::Look { left: 2 }].as_slice());
+    search_each(&rt, b"behind 1 14 100 yes 1 L2");
 }
 
 // Two tricks are not had. North's 3 and East's 6 have equals below them, so there is one card to try in each hand. South
@@ -159,81 +202,23 @@ fn a_quick_trick_settles_what_a_look_does_not(rt: HostRuntime) {
 // position is visited before each of four cards. Then South has the queen to lead, the fifth position, where quick tricks
 // settle that West's king takes it; so West's 4 was enough. South tries the queen in the first trick too, which the ace's
 // failure, by the king, doesn't spare: one position more, West's, where the king settles it by counting. That is six.
+// There is a look at each start of a trick. What is noted at that of the trick that was played is the answer there.
 #[test]
 fn each_position_is_one_tick_where_two_tricks_are_asked_for(rt: HostRuntime) {
-    let position = before_the_jack(&BEHIND, Seat::North).expect(&rt, "two cards a hand");
-    let mut log = Log::knowing(NONE);
-    let mut budget = Budget::new(100);
-    let answer = asked(&position, 2, &mut log, &mut budget);
-    assert_eq!(rt; answer, Some(Ok(false)));
-    assert_eq!(rt; budget.ticks(), 6);
-    // There is a look at each start of a trick. What is noted at that of the trick that was played is the answer there.
-    assert_eq!(rt;
-        log.events.as_slice(),
-        [
-            Event::Look { left: 2 },
-            Event::Look { left: 1 },
-            Event::Note {
-                left: 2,
-                lo: 0,
-                hi: 1,
-            },
-        ]
-        .as_slice()
-    );
-}
-
-// The deal a seat on: East leads.
-fn turned() -> Option<Position> {
-    let [north, east, south, west] = BEHIND;
-    before_the_jack(&[west, north, east, south], Seat::East)
+    search_each(&rt, b"behind 2 14 100 no 6 L2L1N201");
 }
 
 // East and West have the cards, and the leader's side is theirs: North and South take one trick, since these don't take two.
 // What is noted of them is the same.
 #[test]
 fn each_position_is_one_tick_where_the_other_side_asks(rt: HostRuntime) {
-    let position = turned().expect(&rt, "two cards a hand");
-    let mut log = Log::knowing(NONE);
-    let mut budget = Budget::new(100);
-    let answer = asked(&position, 1, &mut log, &mut budget);
-    assert_eq!(rt; answer, Some(Ok(true)));
-    assert_eq!(rt; budget.ticks(), 6);
-    assert_eq!(rt;
-        log.events.as_slice(),
-        [
-            Event::Look { left: 2 },
-            Event::Look { left: 1 },
-            Event::Note {
-                left: 2,
-                lo: 0,
-                hi: 1,
-            },
-        ]
-        .as_slice()
-    );
+    search_each(&rt, b"turned 1 14 100 yes 6 L2L1N201");
 }
 
+// Two tricks of the leader's side, and one of the other side.
 #[test]
 fn a_look_that_settles_it_is_the_end(rt: HostRuntime) {
-    let ours = before_the_jack(&BEHIND, Seat::North).expect(&rt, "two cards a hand");
-    let theirs = turned().expect(&rt, "two cards a hand");
-    let table = [
-        (&ours, 2, false, "two tricks of the leader's side"),
-        (&theirs, 1, true, "one trick of the other side"),
-    ];
-    for (position, need, want, what) in table {
-        let mut log = Log::knowing(2);
-        let mut budget = Budget::new(100);
-        let answer = asked(position, need, &mut log, &mut budget);
-        assert_eq!(rt; answer, Some(Ok(want)), "{what}");
-        assert_eq!(rt; budget.ticks(), 1, "{what}");
-        assert_eq!(rt;
-            log.events.as_slice(),
-            [Event::Look { left: 2 }].as_slice(),
-            "{what}"
-        );
-    }
+    search_each(&rt, b"behind 2 2 100 no 1 L2\nturned 1 2 100 yes 1 L2");
 }
 
 // With a heart more in each hand, North's the ace, three tricks are not had. North leads the ace, and at the second trick is
@@ -241,74 +226,52 @@ fn a_look_that_settles_it_is_the_end(rt: HostRuntime) {
 // of which the look tells as much.
 #[test]
 fn a_look_at_the_second_trick_saves_its_positions(rt: HostRuntime) {
-    let position = before_the_jack(&BEHIND_AN_ACE, Seat::North).expect(&rt, "three cards a hand");
-    let mut log = Log::knowing(2);
-    let mut budget = Budget::new(100);
-    let answer = asked(&position, 3, &mut log, &mut budget);
-    assert_eq!(rt; answer, Some(Ok(false)));
-    assert_eq!(rt;
-        log.events.as_slice(),
-        [
-            Event::Look { left: 3 },
-            Event::Look { left: 2 },
-            Event::Look { left: 2 },
-            Event::Note {
-                left: 3,
-                lo: 0,
-                hi: 2,
-            },
-        ]
-        .as_slice()
-    );
+    search_each(&rt, b"ace 3 2 100 no any L3L2L2N302");
 }
 
 // The second start of a trick is the fifth position.
 #[test]
 fn a_search_ticks_before_it_looks(rt: HostRuntime) {
-    let position = before_the_jack(&BEHIND_AN_ACE, Seat::North).expect(&rt, "three cards a hand");
-    let table = [
-        (0, [].as_slice(), "no tick"),
-        (4, [Event::Look { left: 3 }].as_slice(), "four ticks"),
-        (
-            5,
-            [Event::Look { left: 3 }, Event::Look { left: 2 }].as_slice(),
-            "five ticks",
-        ),
-    ];
-    for (ticks, want, what) in table {
-        let mut log = Log::knowing(NONE);
-        let mut budget = Budget::new(ticks);
-        let answer = asked(&position, 3, &mut log, &mut budget);
-        assert_eq!(rt; answer, Some(Err(Halt::Spent)), "{what}");
-        assert_eq!(rt; log.events.as_slice(), want, "{what}");
-    }
+    let rows = b"ace 3 14 0 spent any\n\
+        ace 3 14 4 spent any L3\n\
+        ace 3 14 5 spent any L3L2";
+    search_each(&rt, rows);
+}
+
+// The value of `BEHIND` over a table that knows it, within this budget, with the ticks and what the table was asked and told.
+fn known_value(most: u64) -> Option<(Option<u8>, u64, Log)> {
+    let start = start_of(&BEHIND, Seat::North)?;
+    let mut log = Log::knowing(2);
+    let mut budget = Budget::new(most);
+    let value = match start_value(&start, &mut log, &mut budget) {
+        Ok((tricks, _)) => Some(tricks),
+        Err(_) => None,
+    };
+    Some((value, budget.ticks(), log))
 }
 
 // A value ticks and looks before its first question; where the look gives it, that is all.
 #[test]
 fn a_value_that_is_known_is_one_tick(rt: HostRuntime) {
-    let start = start_of(&BEHIND, Seat::North).expect(&rt, "two cards a hand");
-    let mut log = Log::knowing(2);
-    let mut one = Budget::new(1);
-    let found = start_value(&start, &mut log, &mut one).expect(&rt, "one tick");
-    assert_eq!(rt; found.0, 1);
-    assert_eq!(rt; one.ticks(), 1);
-    assert_eq!(rt; log.events.as_slice(), [Event::Look { left: 2 }].as_slice());
-    let mut log = Log::knowing(2);
-    let mut none = Budget::new(0);
-    assert!(rt; start_value(&start, &mut log, &mut none).is_err());
-    assert!(rt; log.events.is_empty());
+    let (value, ticks, log) = known_value(1).expect(&rt, "two cards a hand");
+    assert!(rt; value == Some(1) && ticks == 1 && log.events.as_slice() == b"L2".as_slice());
+    let (value, _, log) = known_value(0).expect(&rt, "two cards a hand");
+    assert!(rt; value.is_none() && log.events.is_empty());
 }
 
-// A table may forget what it learned of another deal then.
+// A table may forget what it learned of another deal then. The searches: the value, the value from some tricks up, what a card
+// reaches.
 #[test]
 fn each_search_tells_its_table_that_it_begins(rt: HostRuntime) {
     let position = before_the_jack(&BEHIND, Seat::North).expect(&rt, "two cards a hand");
     let mut log = Log::knowing(NONE);
-    assert!(rt; value(&position, &mut log, &mut Endless).is_ok());
-    assert_eq!(rt; log.begun, 1, "the value");
-    assert!(rt; value_at_least(&position, 0, &mut log, &mut Endless).is_ok());
-    assert_eq!(rt; log.begun, 2, "the value from some tricks up");
-    assert!(rt; asked(&position, 1, &mut log, &mut Endless).is_some());
-    assert_eq!(rt; log.begun, 3, "what a card reaches");
+    let mut begun = [0; 3];
+    let has_value = value(&position, &mut log, &mut Endless).is_ok();
+    begun[0] = log.begun;
+    let is_told = value_at_least(&position, 0, &mut log, &mut Endless).is_ok();
+    begun[1] = log.begun;
+    let is_asked = asked(&position, 1, &mut log, &mut Endless).is_some();
+    begun[2] = log.begun;
+    assert!(rt; has_value && is_told && is_asked);
+    assert!(rt; begun == [1, 2, 3]);
 }

@@ -30,16 +30,16 @@ fn alike_positions_share_a_cell_that_is_set_once(rt: HostRuntime) -> Result<(), 
     let turned = start(&rt, TURNED, Seat::East);
     let alike = start(&rt, ALIKE, Seat::North);
     let slots = [front_slot(&caught), front_slot(&turned), front_slot(&alike)];
-    assert_eq!(rt; slots, [front_slot(&caught); 3]);
-    assert_eq!(rt; (got(&table, &caught), got(&table, &turned)), (None, None));
-    assert_eq!(rt; offered(&table, &caught)?, true, "the cell was empty");
+    assert!(rt; slots == [front_slot(&caught); 3]);
+    assert!(rt; (got(&table, &caught), got(&table, &turned)) == (None, None));
+    assert!(rt; offered(&table, &caught)? == true, "the cell was empty");
     let values = [
         got(&table, &turned),
         got(&table, &alike),
         got(&table, &caught),
     ];
-    assert_eq!(rt; values, [Some(2); 3], "by new notes");
-    assert_eq!(rt; offered(&table, &turned)?, false, "the cell is set");
+    assert!(rt; values == [Some(2); 3], "by new notes");
+    assert!(rt; offered(&table, &turned)? == false, "the cell is set");
     Ok(())
 }
 
@@ -47,23 +47,22 @@ fn alike_positions_share_a_cell_that_is_set_once(rt: HostRuntime) -> Result<(), 
 fn a_cell_tells_nothing_of_positions_that_are_not_alike(rt: HostRuntime) -> Result<(), AllocError> {
     let table = SharedTable::new(rt.alloc(), 1, 1)?;
     let caught = start(&rt, CAUGHT, Seat::North);
-    assert_eq!(rt; offered(&table, &caught)?, true);
+    assert!(rt; offered(&table, &caught)? == true);
     let mut note = table.front_note(front_slot(&caught));
     let found = [
         table.front_get(&mut note, &start(&rt, BEHIND, Seat::North)),
         table.front_get(&mut note, &start(&rt, LOWER, Seat::North)),
         table.front_get(&mut note, &caught),
     ];
-    assert_eq!(rt; found, [None, None, Some(2)]);
+    assert!(rt; found == [None, None, Some(2)]);
     let entry = table.front_held(&mut note).expect(&rt, "it is set");
-    assert_eq!(rt;
+    assert!(rt;
         (
             entry.value(),
             entry.value_of(&start(&rt, BEHIND, Seat::North))
-        ),
-        (2, None)
+        ) == (2, None)
     );
-    assert_eq!(rt; front_slot(entry.start()), front_slot(&caught));
+    assert!(rt; front_slot(entry.start()) == front_slot(&caught));
     Ok(())
 }
 
@@ -98,11 +97,11 @@ fn a_note_that_is_kept_sees_what_is_set_later(rt: HostRuntime) -> Result<(), All
     let table = SharedTable::new(rt.alloc(), 1, 1)?;
     let caught = start(&rt, CAUGHT, Seat::North);
     let mut watched = Watched::new(&table, front_slot(&caught)).expect(&rt, "a slot");
-    assert_eq!(rt; watched.get(&caught), None);
-    assert_eq!(rt; offered(&table, &caught)?, true);
+    assert!(rt; watched.get(&caught) == None);
+    assert!(rt; offered(&table, &caught)? == true);
     let alike = start(&rt, ALIKE, Seat::North);
     let found = [watched.get(&caught), watched.get(&alike)];
-    assert_eq!(rt; found, [Some(2); 2]);
+    assert!(rt; found == [Some(2); 2]);
     assert!(rt; Watched::new(&table, 4096).is_none());
     Ok(())
 }
@@ -114,13 +113,12 @@ fn an_offer_that_finds_no_memory_leaves_the_cell(rt: HostRuntime) -> Result<(), 
     };
     let caught = start(&rt, CAUGHT, Seat::North);
     if offered(&table, &caught).is_err() {
-        assert_eq!(rt; got(&table, &caught), None, "nothing was set");
-        assert_eq!(rt;
-            offered(&table, &caught).ok(),
-            Some(true),
+        assert!(rt; got(&table, &caught) == None, "nothing was set");
+        assert!(rt;
+            offered(&table, &caught).ok() == Some(true),
             "it is still empty"
         );
     }
-    assert_eq!(rt; got(&table, &caught), Some(2));
+    assert!(rt; got(&table, &caught) == Some(2));
     Ok(())
 }

@@ -25,22 +25,19 @@ fn a_shape_keeps_a_value_for_each_cover(rt: HostRuntime) -> Result<(), AllocErro
     let caught = start(&rt, CAUGHT, Seat::North);
     let lower = start(&rt, LOWER, Seat::North);
     let behind = start(&rt, BEHIND, Seat::North);
-    assert_eq!(rt; remember_value(&mut shard, &caught), Some(2));
+    assert!(rt; remember_value(&mut shard, &caught) == Some(2));
     let (interval, depths) = shard.look(&lower).expect(&rt, "it is covered");
-    assert_eq!(rt; (interval.lo, interval.hi), (2, 2));
-    assert_eq!(rt; depths.of(Suit::Spades), 3, "ace, king and queen");
-    assert_eq!(rt;
-        depths.of(Suit::Hearts) | depths.of(Suit::Diamonds) | depths.of(Suit::Clubs),
-        0
-    );
+    assert!(rt; (interval.lo, interval.hi) == (2, 2));
+    assert!(rt; depths.of(Suit::Spades) == 3, "ace, king and queen");
+    assert!(rt; depths.of(Suit::Hearts) | depths.of(Suit::Diamonds) | depths.of(Suit::Clubs) == 0);
     assert!(rt;
         shard.look(&behind).is_none(),
         "the king is behind ace and queen"
     );
-    assert_eq!(rt; remember_value(&mut shard, &behind), Some(1));
-    assert_eq!(rt; shard.len(), 1, "one shape");
+    assert!(rt; remember_value(&mut shard, &behind) == Some(1));
+    assert!(rt; shard.len() == 1, "one shape");
     let (interval, _) = shard.look(&caught).expect(&rt, "its cover is there too");
-    assert_eq!(rt; (interval.lo, interval.hi), (2, 2));
+    assert!(rt; (interval.lo, interval.hi) == (2, 2));
     let Some((newest, _, interval)) = shard.entry(0) else {
         panic!(rt; "one shape");
     };
@@ -52,7 +49,7 @@ fn a_shape_keeps_a_value_for_each_cover(rt: HostRuntime) -> Result<(), AllocErro
         newest.position().hands().has(Seat::West, king),
         "the one noted last"
     );
-    assert_eq!(rt; (interval.lo, interval.hi), (1, 1));
+    assert!(rt; (interval.lo, interval.hi) == (1, 1));
     Ok(())
 }
 
@@ -69,6 +66,6 @@ fn the_cache_and_the_table_behind_it_remember_a_solved_position(
         "the cache"
     );
     let (interval, _) = cache.behind().look(&lower).expect(&rt, "the table behind");
-    assert_eq!(rt; (interval.lo, interval.hi), (2, 2));
+    assert!(rt; (interval.lo, interval.hi) == (2, 2));
     Ok(())
 }

@@ -34,15 +34,14 @@ fn solve_both<R: Threads + Wait + Sync>(rt: &R, table: &SharedTable) -> (u8, u8)
 #[test]
 fn two_threads_solve_over_one_table(rt: HostRuntime) -> Result<(), AllocError> {
     let table = SharedTable::new(rt.alloc(), 1, 1)?;
-    assert_eq!(rt; solve_both(&rt, &table), (ROUNDS, ROUNDS));
+    assert!(rt; solve_both(&rt, &table) == (ROUNDS, ROUNDS));
     let mut view = table.view(&rt);
     let found = [
         bounds_told(&mut view, &start(&rt, CAUGHT, Seat::North)),
         bounds_told(&mut view, &start(&rt, BEHIND, Seat::North)),
     ];
-    assert_eq!(rt;
-        found,
-        [Some((2, 2)), Some((1, 1))],
+    assert!(rt;
+        found == [Some((2, 2)), Some((1, 1))],
         "what both noted is there"
     );
     Ok(())
@@ -74,6 +73,6 @@ fn a_thread_gets_what_another_offers(rt: HostRuntime) -> Result<(), AllocError> 
     assert!(rt; taken);
     let both = Some((2, Some(2)));
     assert!(rt; seen == both || seen.is_none());
-    assert_eq!(rt; wait_for(&table, &turned), both);
+    assert!(rt; wait_for(&table, &turned) == both);
     Ok(())
 }

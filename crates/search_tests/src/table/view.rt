@@ -18,9 +18,8 @@ fn table_after_caught<R: Abort + AllocGlobal + Wait>(
     let table = SharedTable::new(rt.alloc(), shards.max(1) as u32, 64)?;
     let caught = start(rt, CAUGHT, Seat::North);
     let before = bounds_told(&mut table.view(rt), &caught);
-    assert_eq!(rt;
-        (before, table.len(rt)),
-        (None, 0),
+    assert!(rt;
+        (before, table.len(rt)) == (None, 0),
         "it has learned nothing"
     );
     assert!(rt; answers(&mut table.view(rt), CAUGHT, Seat::North, CAUGHT_ANSWER));
@@ -41,7 +40,7 @@ fn a_solved_position_is_told_of_those_that_it_covers(rt: HostRuntime) -> Result<
             bounds_told(&mut view, &start(&rt, BEHIND, Seat::North)),
         ];
         let two = Some((2, 2));
-        assert_eq!(rt; found, [two, two, two, two, None], "{shards} shards");
+        assert!(rt; found == [two, two, two, two, None], "{shards} shards");
     }
     Ok(())
 }
@@ -60,7 +59,7 @@ fn answers_over_a_table_that_knows_the_position_are_the_same(
         answers(&mut view, LOWER, Seat::North, lower),
         answers(&mut view, TURNED, Seat::East, CAUGHT_ANSWER),
     ];
-    assert_eq!(rt; found, [true; 3]);
+    assert!(rt; found == [true; 3]);
     Ok(())
 }
 
@@ -72,13 +71,12 @@ fn a_note_of_what_was_told_adds_no_shape(rt: HostRuntime) -> Result<(), AllocErr
     let mut view = table.view(&rt);
     let alike = start(&rt, ALIKE, Seat::North);
     let (interval, depths) = view.look(&alike).expect(&rt, "it is covered");
-    assert_eq!(rt;
-        depths.of(Suit::Spades),
-        3,
+    assert!(rt;
+        depths.of(Suit::Spades) == 3,
         "it rests on ace, king and queen"
     );
     view.note(&alike, depths, interval);
-    assert_eq!(rt; table.len(&rt), shapes);
+    assert!(rt; table.len(&rt) == shapes);
     Ok(())
 }
 
@@ -95,17 +93,13 @@ fn a_value_that_the_shard_forgot_is_told_by_the_front(rt: HostRuntime) -> Result
     let table = SharedTable::new(rt.alloc(), 1, 1)?;
     let mut view = table.view(&rt);
     let caught = start(&rt, CAUGHT, Seat::North);
-    assert_eq!(rt; tell(&mut view, &caught, true), Some(2));
-    assert_eq!(rt;
-        tell(&mut view, &start(&rt, ACE, Seat::North), true),
-        Some(1)
-    );
-    assert_eq!(rt; table.len(&rt), 1, "the shape of the ace is there alone");
+    assert!(rt; tell(&mut view, &caught, true) == Some(2));
+    assert!(rt; tell(&mut view, &start(&rt, ACE, Seat::North), true) == Some(1));
+    assert!(rt; table.len(&rt) == 1, "the shape of the ace is there alone");
     assert!(rt; table.look(&rt, &caught).is_none(), "the shard forgot it");
     let (interval, depths) = view.look(&caught).expect(&rt, "the front has it");
-    assert_eq!(rt;
-        (interval.lo, interval.hi, depths.of(Suit::Spades)),
-        (2, 2, 8),
+    assert!(rt;
+        (interval.lo, interval.hi, depths.of(Suit::Spades)) == (2, 2, 8),
         "at the depths of all cards"
     );
     let found = [
@@ -114,7 +108,7 @@ fn a_value_that_the_shard_forgot_is_told_by_the_front(rt: HostRuntime) -> Result
         // The front has values of alike positions alone.
         bounds_told(&mut view, &start(&rt, LOWER, Seat::North)),
     ];
-    assert_eq!(rt; found, [Some((2, 2)), Some((2, 2)), None]);
+    assert!(rt; found == [Some((2, 2)), Some((2, 2)), None]);
     Ok(())
 }
 
@@ -123,16 +117,12 @@ fn bounds_that_are_no_value_do_not_reach_the_front(rt: HostRuntime) -> Result<()
     let table = SharedTable::new(rt.alloc(), 1, 1)?;
     let mut view = table.view(&rt);
     let behind = start(&rt, BEHIND, Seat::North);
-    assert_eq!(rt; tell(&mut view, &behind, false), Some(1));
-    assert_eq!(rt;
-        bounds_told(&mut view, &behind),
-        Some((0, 1)),
+    assert!(rt; tell(&mut view, &behind, false) == Some(1));
+    assert!(rt;
+        bounds_told(&mut view, &behind) == Some((0, 1)),
         "by the shard"
     );
-    assert_eq!(rt;
-        tell(&mut view, &start(&rt, ACE, Seat::North), true),
-        Some(1)
-    );
-    assert_eq!(rt; bounds_told(&mut view, &behind), None);
+    assert!(rt; tell(&mut view, &start(&rt, ACE, Seat::North), true) == Some(1));
+    assert!(rt; bounds_told(&mut view, &behind) == None);
     Ok(())
 }

@@ -1,0 +1,3 @@
+//! Tests of scores and par.
+mod par;
+mod points;
