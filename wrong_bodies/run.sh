@@ -7,7 +7,7 @@ top=$(cd -- "$here/.." && pwd)
 for tool in git rt; do
     command -v "$tool" > /dev/null || { echo "wrong_bodies: the command $tool is missing" >&2; exit 1; }
 done
-[ $# -gt 0 ] || set -- $(cd "$here" && ls -d -- dd_*/ | tr -d /)
+[ $# -gt 0 ] || set -- $(cd "$here" && ls -d -- dd*/ | tr -d /)
 
 work=$(mktemp -d)
 trap 'rm -rf "$work"' EXIT
