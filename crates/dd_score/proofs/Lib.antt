@@ -1,5 +1,7 @@
 pub mod CallerLemmas
+pub mod BidLemmas
 pub mod PointLemmas
+pub mod PointTable
 pub mod TableLemmas
 pub mod WorthLemmas
 pub mod Strategies

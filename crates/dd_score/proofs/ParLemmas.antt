@@ -1,5 +1,5 @@
 -- what stands when all bids were offered to all seats is par
-use Rattle.std.proofs.Common.{◌≡◌, ℕ, zero, suc, ◌+◌, ◌-◌, ◌<◌, ◌≤◌, nat_le, Bool, true, false, cond, List, [], ◌∷◌, refl, sym, ap, ap₂, subst, ◌∙◌, inl, inr, ℤ, pos, arith}
+use Rattle.std.proofs.Common.{◌≡◌, ℕ, zero, suc, ◌+◌, ◌-◌, ◌*◌, ◌<◌, ◌≤◌, nat_le, Bool, true, false, cond, List, [], ◌∷◌, refl, sym, ap, ap₂, subst, ◌∙◌, inl, inr, ℤ, pos, arith}
 use Rattle.std.specs.Prelude.{◌||◌, ◌&&◌, int_le}
 use Rattle.std.proofs.lemmas.Bool.{leb-false}
 use Rattle.std.proofs.lemmas.Bool.Decides.{eqb_tells, leb_tells}
@@ -24,6 +24,7 @@ use Rattle.dd_score.specs.Auctions.{Auction, opened_by, last_bid, declarer, doub
 use Rattle.dd_score.specs.Values.{CanReach, IsValue, IsPar, is_as_good, final_score, better}
 use Rattle.dd_score.specs.Worths.{as_north_souths, makes, score_of, worth}
 use Rattle.dd_score.specs.Stands.{offered, stands}
+use Rattle.dd_score.specs.Levels.{level_offered}
 use Rattle.dd_score.proofs.PointOrder.{made-doubled, failed-undoubled, failed-redoubled}
 use Rattle.dd_score.proofs.ScoreTests.{better-test, as-good-self, own-good, other-good}
 use Rattle.dd_score.proofs.Strategies.{calls_left, reach}
@@ -274,18 +275,29 @@ pub none-stands : (table : List (List ℕ)) (vulnerable : Vulnerable) (order : O
 unfolding stands
 none-stands table vulnerable order = refl
 
--- one bid more
-pub more-stands : (table : List (List ℕ)) (vulnerable : Vulnerable) (order : Order) (n k : ℕ) (seats : List Seat) (score r : ℤ) → 1 ≤ n → k ≡ n
-    → asked order ≡ seats → score ≡ stands table vulnerable order (n - 1) → r ≡ offered table vulnerable k seats score
-    → r ≡ stands table vulnerable order (n + 1 - 1)
-unfolding stands
-more-stands table vulnerable order zero k seats score r some same all before e = absurd (omega arith)
-more-stands table vulnerable order (suc n) k seats score r some same all before e =
-    let last : suc n - 1 ≡ n = omega arith in
-    let next : suc n + 1 - 1 ≡ suc n = omega arith in
-    e ∙ ap (λ j. offered table vulnerable j seats score) same ∙ ap (λ l. offered table vulnerable (suc n) l score) (sym all)
-    ∙ ap (offered table vulnerable (suc n) (asked order)) (before ∙ ap (stands table vulnerable order) last)
+-- five bids more
+pub more-stands : (table : List (List ℕ)) (vulnerable : Vulnerable) (order : Order) (level : ℕ) (seats : List Seat) (score r : ℤ) → 1 ≤ level
+    → asked order ≡ seats → score ≡ stands table vulnerable order (5 * (level - 1)) → r ≡ level_offered table vulnerable level seats score
+    → r ≡ stands table vulnerable order (5 * (level + 1 - 1))
+unfolding stands level_offered
+more-stands table vulnerable order zero seats score r some all before e = absurd (omega arith)
+more-stands table vulnerable order (suc n) seats score r some all before e =
+    let at : 5 * (suc n - 1) ≡ 5 * n = omega arith in
+    let clubs : 5 * (suc n - 1) + 0 + 1 ≡ suc (5 * n) = omega arith in
+    let diamonds : 5 * (suc n - 1) + 1 + 1 ≡ suc (suc (5 * n)) = omega arith in
+    let hearts : 5 * (suc n - 1) + 2 + 1 ≡ suc (suc (suc (5 * n))) = omega arith in
+    let spades : 5 * (suc n - 1) + 3 + 1 ≡ suc (suc (suc (suc (5 * n)))) = omega arith in
+    let notrump : 5 * (suc n - 1) + 4 + 1 ≡ suc (suc (suc (suc (suc (5 * n))))) = omega arith in
+    let next : 5 * (suc n + 1 - 1) ≡ suc (suc (suc (suc (suc (5 * n))))) = omega arith in
+    e ∙ ap (λ l. level_offered table vulnerable (suc n) l score) (sym all)
+    ∙ ap (level_offered table vulnerable (suc n) (asked order)) (before ∙ ap (stands table vulnerable order) at)
+    ∙ five clubs diamonds hearts spades notrump
     ∙ sym (ap (stands table vulnerable order) next)
+  where
+    five : {a b c d f : ℕ} → a ≡ suc (5 * n) → b ≡ suc (suc (5 * n)) → c ≡ suc (suc (suc (5 * n))) → d ≡ suc (suc (suc (suc (5 * n)))) → f ≡ suc (suc (suc (suc (suc (5 * n)))))
+        → offered table vulnerable f (asked order) (offered table vulnerable d (asked order) (offered table vulnerable c (asked order) (offered table vulnerable b (asked order) (offered table vulnerable a (asked order) (stands table vulnerable order (5 * n))))))
+        ≡ stands table vulnerable order (suc (suc (suc (suc (suc (5 * n))))))
+    five p q r s t = rw (p, q, r, s, t) refl
 
 -- all results have a par
 pub some-par : (table : List (List ℕ)) (vulnerable : Vulnerable) (order : Order) → (v : ℤ) × IsPar table vulnerable order v

@@ -12,7 +12,9 @@ use Rattle.dd_score.specs.declared.doubling.Doubling.TheVariants.{Undoubled, Dou
 use Rattle.dd_score.specs.declared.vulnerable.Vulnerable.{Vulnerable}
 use Rattle.dd_score.specs.Vulnerability.{is_vulnerable}
 use Rattle.dd_score.specs.Tables.{tricks_of}
-use Rattle.dd_score.specs.Bids.{level_of, strain_of}
+use Rattle.dd_score.specs.Bids.{level_of, strain_of, bid_of}
+use Rattle.dd_score.specs.PointRows.{doubled_if_failed}
+use Rattle.dd_score.proofs.BidLemmas.{level-again, strain-of-bid}
 use Rattle.dd_score.specs.Law77.{points}
 use Rattle.dd_score.specs.Worths.{as_north_souths, score_of, worth}
 
@@ -27,6 +29,13 @@ worth-from table vulnerable bid declarer level tricks strain doubling is p l s t
     rw (← l, ← s, ← t, ← v, le-leb (level + 6) tricks h.0, ← h.1, ← e) refl
 worth-from table vulnerable bid declarer level tricks strain doubling is p l s t (inr h) v e =
     rw (← l, ← s, ← t, ← v, lt-leb (level + 6) tricks h.0, ← h.1, ← e) refl
+
+-- the same of a level's bid
+pub worth-by_level : (table : List (List ℕ)) (vulnerable : Vulnerable) (level : ℕ) (strain : Strain) (declarer : Seat) (p : ℤ) → 1 ≤ level
+    → p ≡ points level strain (doubled_if_failed level (tricks_of table strain declarer)) (is_vulnerable vulnerable (side_of declarer)) (tricks_of table strain declarer)
+    → as_north_souths (side_of declarer) p ≡ worth table vulnerable (bid_of level strain) declarer
+unfolding worth score_of
+worth-by_level table vulnerable level strain declarer p some e = rw (level-again level strain some, strain-of-bid level strain, ← e) refl
 
 -- North and South's points stand as they are
 pub theirs : (side : Side) (p w : ℤ) → same_side side NorthSouth ≡ true → negsuc 7999 ≤ℤ p → p ≤ℤ pos 8000 → as_north_souths side p ≡ w

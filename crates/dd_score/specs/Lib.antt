@@ -7,4 +7,6 @@ pub mod Orders
 pub mod Auctions
 pub mod Values
 pub mod Stands
+pub mod PointRows
+pub mod Levels
 pub mod ParContracts

@@ -14,8 +14,10 @@ mod par_contract;
 mod par_list;
 mod par_of_results;
 mod par_score;
+mod point_table;
 mod results;
 mod vulnerable;
+mod worths;
 
 pub use bid::Bid;
 pub use contract_score::points;

@@ -8,6 +8,7 @@ use crate::par_list::{Sought, par_list};
 use crate::par_score::par_score;
 use crate::results::Results;
 use crate::vulnerable::Vulnerable;
+use crate::worths::Worths;
 use arrayvec::ArrayVec;
 
 /// Par: its score in North and South's points, less than 0 where East and West score; and the par contracts, at most ten and
@@ -29,7 +30,8 @@ pub fn par(results: &Results, vulnerable: Vulnerable, order: Order) -> ParResult
         result.score }
     ensures none { (result.contracts.items ≡ []) ↔ (result.score ≡ pos 0) }
 {
-    let score = par_score(results, vulnerable, order);
+    let worths = Worths::of(results, vulnerable);
+    let score = par_score(&worths, order);
     let sought = Sought {
         vulnerable,
         order,

@@ -46,6 +46,15 @@ impl Results {
         let row = self.tricks[strain.code() as usize];
         row[declarer.code() as usize]
     }
+
+    // All twenty.
+    #[inline]
+    pub(crate) fn table(&self) -> [[u8; 4]; 5]
+        ensures value { result ≡ self.now }
+        ensures valid { IsTable result }
+    {
+        self.tricks
+    }
 }
 
 // Are all four at most 13?

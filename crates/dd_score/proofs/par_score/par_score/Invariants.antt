@@ -1,6 +1,6 @@
-use Rattle.std.proofs.Common.{◌≡◌, ◌-◌}
+use Rattle.std.proofs.Common.{◌≡◌, ◌-◌, ◌*◌}
 use Rattle.dd_score.specs.Stands.{stands}
 use Rattle.dd_score.proofs.par_score.par_score.Given as goal
 
-abbrev pub invariant-loop-number : goal.invariant-loop-number
-invariant-loop-number l = l.score ≡ stands l.results l.vulnerable l.fn.order (l.number - 1)
+abbrev pub invariant-loop-level : goal.invariant-loop-level
+invariant-loop-level l = l.score ≡ stands l.worths.tricks l.worths.vulnerable l.fn.order (5 * (l.level - 1))
