@@ -12,6 +12,7 @@ pub mod Chosen
 pub mod PointOrder
 pub mod ScoreTests
 pub mod ParLemmas
+pub mod HeightLemmas
 pub mod ListLemmas
 pub mod OneValue
 pub mod Nonzero

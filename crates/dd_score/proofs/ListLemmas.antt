@@ -1,59 +1,14 @@
 -- the list of par contracts, step by step
-use Rattle.std.proofs.Common.{◌≡◌, ℕ, zero, suc, ◌+◌, ◌-◌, ◌<◌, ◌≤◌, Bool, true, false, List, [], refl, sym, ap, ◌∙◌, ℤ, Option, None, Some, is_some, arith}
-use Rattle.std.specs.Prelude.{◌||◌}
-use Rattle.dd_cards.specs.declared.seat.Seat.{Seat}
+use Rattle.std.proofs.Common.{◌≡◌, ℕ, suc, ◌+◌, ◌-◌, ◌<◌, true, false, List, [], refl, sym, ap, ◌∙◌, ℤ, Option, None, Some, is_some, arith}
 use Rattle.dd_cards.specs.declared.side.Side.{Side}
 use Rattle.dd_cards.specs.declared.side.Side.TheVariants.{NorthSouth, EastWest}
 use Rattle.dd_cards.specs.declared.strain.Strain.{Strain}
 use Rattle.dd_score.specs.declared.order.Order.{Order}
 use Rattle.dd_score.specs.declared.vulnerable.Vulnerable.{Vulnerable}
 use Rattle.dd_score.specs.declared.par_contract.ParContract.{ParContract}
-use Rattle.dd_score.specs.ParContracts.{is_bettered_at, is_bettered, all_at, first_of, least_from, least_of, with_contract, strain_coded, contracts_below}
+use Rattle.dd_score.specs.ParContracts.{all_at, first_of, least_from, least_of, with_contract, strain_coded, contracts_below}
 
 module _ (table : List (List ℕ)) (vulnerable : Vulnerable) (order : Order) (v : ℤ) where
-  -- ---- whether a contract is bettered
-  -- by no bid
-  pub not_bettered : (k : ℕ) (s : Seat) → is_bettered table vulnerable order v k s 0 ≡ false
-  unfolding is_bettered
-  not_bettered k s = refl
-
-  -- nor by one more
-  pub not_bettered-more : (k : ℕ) (s : Seat) (n j : ℕ) → 1 ≤ n → j ≡ n → is_bettered table vulnerable order v k s (n - 1) ≡ false
-      → false ≡ is_bettered_at table vulnerable order v k s j → is_bettered table vulnerable order v k s (n + 1 - 1) ≡ false
-  unfolding is_bettered
-  not_bettered-more k s zero j some same before here = absurd (omega arith)
-  not_bettered-more k s (suc n) j some same before here =
-      let last : suc n - 1 ≡ n = omega arith in
-      let next : suc n + 1 - 1 ≡ suc n = omega arith in
-      ap (is_bettered table vulnerable order v k s) next
-      ∙ neither (is_bettered table vulnerable order v k s n) _ (ap (is_bettered table vulnerable order v k s) (sym last) ∙ before)
-      (ap (is_bettered_at table vulnerable order v k s) (sym same) ∙ sym here)
-    where
-      neither : (a b : Bool) → a ≡ false → b ≡ false → (a || b) ≡ false
-      neither a b p q = rw (p, q) refl
-
-  -- by one, so by more
-  bettered-on : (k : ℕ) (s : Seat) (n more : ℕ) → is_bettered table vulnerable order v k s n ≡ true → is_bettered table vulnerable order v k s (more + n) ≡ true
-  unfolding is_bettered
-  bettered-on k s n zero h = ap (is_bettered table vulnerable order v k s) (let e : zero + n ≡ n = omega arith in e) ∙ h
-  bettered-on k s n (suc more) h =
-      ap (is_bettered table vulnerable order v k s) (let e : suc more + n ≡ suc (more + n) = omega arith in e)
-      ∙ rw (bettered-on k s n more h) refl
-
-  pub bettered : (k : ℕ) (s : Seat) (n j : ℕ) → 1 ≤ n → n ≤ 35 → j ≡ n → true ≡ is_bettered_at table vulnerable order v k s j
-      → true ≡ is_bettered table vulnerable order v k s 35
-  unfolding is_bettered
-  bettered k s zero j some most same here = absurd (omega arith)
-  bettered k s (suc n) j some most same here =
-      let at : is_bettered table vulnerable order v k s (suc n) ≡ true =
-      second (is_bettered table vulnerable order v k s n) _ (ap (is_bettered_at table vulnerable order v k s) (sym same) ∙ sym here) in
-      sym (ap (is_bettered table vulnerable order v k s) (let e : 35 ≡ (35 - suc n) + suc n = omega arith in e)
-      ∙ bettered-on k s (suc n) (35 - suc n) at)
-    where
-      second : (a b : Bool) → b ≡ true → (a || b) ≡ true
-      second true b h = refl
-      second false b h = h
-
   -- ---- the least level
   -- found
   pub least-found : (side : Side) (strain : Strain) (level : ℕ) (found : Option ParContract) → level < 8

@@ -10,3 +10,4 @@ pub mod Stands
 pub mod PointRows
 pub mod Levels
 pub mod ParContracts
+pub mod Heights

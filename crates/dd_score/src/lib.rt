@@ -8,6 +8,7 @@ mod bid;
 mod contract_score;
 mod contract_worth;
 mod doubling;
+mod highest_bettering;
 mod laws;
 mod order;
 mod par_contract;

@@ -1,4 +1,4 @@
-ghost use Rattle.std.specs.Prelude.{◌≡◌, ◌∷◌, []};
+ghost use Rattle.std.specs.Prelude.{◌≡◌, ◌∷◌, [], ◌≤◌};
 ghost use Rattle.dd_cards.specs.Seats.{seat_after};
 ghost use Rattle.dd_score.specs.Orders.{asked};
 ghost use Rattle.dd_score.specs.ParContracts.{place_in};
@@ -40,7 +40,8 @@ impl Order {
 
     // How many are asked before this seat; the seats of one side, where it is asked first, have one place.
     pub(crate) fn place(self, seat: Seat) -> u8
-        ensures { result ≡ place_in self seat }
+        ensures value { result ≡ place_in self seat }
+        ensures bound { result ≤ 3 }
     {
         match self {
             Order::Dealer(dealer) => (seat.code() + 4 - dealer.code()) % 4,

@@ -1,36 +1,36 @@
-ghost use Rattle.std.specs.Prelude.{◌≡◌, ◌+◌, ◌*◌, ◌<◌, ◌≤◌, ◌||◌};
+ghost use Rattle.std.specs.Prelude.{◌≡◌, ◌+◌, ◌*◌, ◌<◌, ◌≤◌};
 ghost use Rattle.arrayvec.specs.ArrayVec.{array_vec_len};
-ghost use Rattle.dd_score.specs.ParContracts.{is_over_bid, betters, is_bettered_at, is_bettered, is_par_contract, listed, listed_by, all_at, least_of, with_contract, strain_coded, par_contracts, one_of, partner_of};
-ghost use Rattle.dd_score.specs.Values.{is_as_good};
-ghost use Rattle.dd_cards.specs.Sides.{side_of, other_side, is_side};
+ghost use Rattle.dd_score.specs.Bids.{bid_of};
+ghost use Rattle.dd_score.specs.Heights.{highest_bettering};
+ghost use Rattle.dd_score.specs.ParContracts.{is_par_contract, listed, listed_by, all_at, least_of, with_contract, strain_coded, par_contracts, one_of, partner_of};
+ghost use Rattle.dd_cards.specs.Sides.{side_of};
 
-use crate::bid::Bid;
-use crate::contract_worth::worth;
+use crate::highest_bettering::{height, highest_bettering};
 use crate::order::Order;
 use crate::par_contract::{Declarers, ParContract};
-use crate::results::Results;
-use crate::vulnerable::Vulnerable;
+use crate::worths::Worths;
 use arrayvec::ArrayVec;
 use dd_cards::{Seat, Side, Strain, Suit};
 
 // What par contracts are to reach, and for whom.
 #[derive(Clone, Copy)]
 pub(crate) struct Sought {
-    pub vulnerable: Vulnerable,
     pub order: Order,
     pub score: i16,
 }
 
 // The list of par contracts.
-pub(crate) fn par_list(results: &Results, sought: Sought) -> ArrayVec<ParContract, 10>
-    ensures { result.items ≡ par_contracts results.now sought.vulnerable sought.order sought.score }
+pub(crate) fn par_list(worths: &Worths, sought: Sought) -> ArrayVec<ParContract, 10>
+    ensures { result.items ≡ par_contracts worths.now.tricks worths.now.vulnerable sought.order sought.score }
 {
+    let over_theirs = highest_bettering(worths, sought, Side::NorthSouth);
+    let over_others = highest_bettering(worths, sought, Side::EastWest);
     let mut contracts = ArrayVec::new();
     for code in 0..5 {
         let strain = strain_of_code(code);
-        let theirs = least(results, sought, strain, Side::NorthSouth);
+        let theirs = least(worths, sought, strain, Side::NorthSouth, over_theirs);
         add(&mut contracts, theirs);
-        let others = least(results, sought, strain, Side::EastWest);
+        let others = least(worths, sought, strain, Side::EastWest, over_others);
         add(&mut contracts, others);
     }
     contracts
@@ -62,11 +62,19 @@ fn add(contracts: &mut ArrayVec<ParContract, 10>, more: Option<ParContract>)
 }
 
 // Of a side's par contracts in a strain those of the least level, as one.
-fn least(results: &Results, sought: Sought, strain: Strain, side: Side) -> Option<ParContract>
-    ensures { result ≡ least_of results.now sought.vulnerable sought.order sought.score strain side }
+fn least(
+    worths: &Worths,
+    sought: Sought,
+    strain: Strain,
+    side: Side,
+    highest: u8,
+) -> Option<ParContract>
+    requires { highest ≡ highest_bettering worths.now.tricks worths.now.vulnerable sought.order
+        sought.score side 35 }
+    ensures { result ≡ least_of worths.now.tricks worths.now.vulnerable sought.order sought.score strain side }
 {
     for level in 1..8 {
-        let found = at_level(results, sought, strain, side, level);
+        let found = at_level(worths, sought, strain, side, level, highest);
         if found.is_some() {
             return found;
         }
@@ -77,45 +85,48 @@ fn least(results: &Results, sought: Sought, strain: Strain, side: Side) -> Optio
 // A side's par contracts of this level and strain, as one.
 #[tactic(auto, unfolding(crate::specs::ParContracts::all_at))]
 fn at_level(
-    results: &Results,
+    worths: &Worths,
     sought: Sought,
     strain: Strain,
     side: Side,
     level: u8,
+    highest: u8,
 ) -> Option<ParContract>
-    requires { (1 ≤ level) × (level ≤ 7) }
-    ensures { result ≡ all_at results.now sought.vulnerable sought.order sought.score side strain
+    requires level { (1 ≤ level) × (level ≤ 7) }
+    requires highest { highest ≡ highest_bettering worths.now.tricks worths.now.vulnerable
+        sought.order sought.score side 35 }
+    ensures { result ≡ all_at worths.now.tricks worths.now.vulnerable sought.order sought.score side strain
         level }
 {
     let (one, partner) = seats_of(side);
-    let bid = Bid::new(level, strain);
-    let by_one = is_par_contract(results, sought, bid, one);
-    let by_partner = is_par_contract(results, sought, bid, partner);
-    listed_by(results, side, level, strain, by_one, by_partner)
+    let by_one = is_par_contract(worths, sought, level, strain, one, highest);
+    let by_partner = is_par_contract(worths, sought, level, strain, partner, highest);
+    listed_by(worths, side, level, strain, by_one, by_partner)
 }
 
 // Of a side's two seats those that have a par contract, as one listed contract.
 fn listed_by(
-    results: &Results,
+    worths: &Worths,
     side: Side,
     level: u8,
     strain: Strain,
     by_one: bool,
     by_partner: bool,
 ) -> Option<ParContract>
-    ensures { result ≡ listed_by results.now side level strain by_one by_partner }
+    ensures { result ≡ listed_by worths.now.tricks side level strain by_one by_partner }
 {
     let (one, partner) = seats_of(side);
     match (by_one, by_partner) {
-        (true, true) => Some(listed(results, level, strain, one, Declarers::Both(side))),
-        (true, false) => Some(listed(results, level, strain, one, Declarers::One(one))),
-        (false, true) => Some(listed(results, level, strain, partner, Declarers::One(partner))),
+        (true, true) => Some(listed(worths, level, strain, one, Declarers::Both(side))),
+        (true, false) => Some(listed(worths, level, strain, one, Declarers::One(one))),
+        (false, true) => Some(listed(worths, level, strain, partner, Declarers::One(partner))),
         (false, false) => None,
     }
 }
 
 // The two seats of a side.
-fn seats_of(side: Side) -> (Seat, Seat)
+#[inline(always)]
+pub(crate) fn seats_of(side: Side) -> (Seat, Seat)
     ensures one { result.0 ≡ one_of side }
     ensures partner { result.1 ≡ partner_of side }
 {
@@ -127,103 +138,40 @@ fn seats_of(side: Side) -> (Seat, Seat)
 
 // A contract as it is listed.
 fn listed(
-    results: &Results,
+    worths: &Worths,
     level: u8,
     strain: Strain,
     declarer: Seat,
     declarers: Declarers,
 ) -> ParContract
-    ensures { result ≡ listed results.now level strain declarer declarers }
+    ensures { result ≡ listed worths.now.tricks level strain declarer declarers }
 {
     ParContract {
         level,
         strain,
-        tricks: results.tricks(strain, declarer),
+        tricks: worths.tricks(strain, declarer),
         declarers,
     }
 }
 
-// Is it a par contract: worth the score of par, and no bid of the other side betters it?
+// Is it a par contract: worth the score of par, and no bid of the other side betters it? `highest`: how high the highest bid
+// stands that betters a contract of the side.
 #[tactic(auto, unfolding(crate::specs::ParContracts::is_par_contract))]
-fn is_par_contract(results: &Results, sought: Sought, bid: Bid, seat: Seat) -> bool
-    ensures { result ≡ is_par_contract results.now sought.vulnerable sought.order sought.score bid
-        seat }
-{
-    worth(results, sought.vulnerable, bid, seat) == sought.score
-        && !is_bettered(results, sought, bid, seat)
-}
-
-// Does a bid of the other side better it?
-fn is_bettered(results: &Results, sought: Sought, bid: Bid, seat: Seat) -> bool
-    ensures { result ≡ is_bettered results.now sought.vulnerable sought.order sought.score bid seat
-        35 }
-{
-    for number in 1..36 {
-        if is_bettered_at(results, sought, bid, seat, Bid::of(number)) {
-            return true;
-        }
-    }
-    false
-}
-
-// Does this bid, by some seat, better it?
-#[tactic(auto, unfolding(crate::specs::ParContracts::is_bettered_at))]
-fn is_bettered_at(results: &Results, sought: Sought, bid: Bid, seat: Seat, over: Bid) -> bool
-    ensures { result ≡ is_bettered_at results.now sought.vulnerable sought.order sought.score bid
-        seat over }
-{
-    betters(results, sought, bid, seat, over, Seat::North)
-        || betters(results, sought, bid, seat, over, Seat::East)
-        || betters(results, sought, bid, seat, over, Seat::South)
-        || betters(results, sought, bid, seat, over, Seat::West)
-}
-
-// Does this bid by an opponent better it: made over it, and better for that side than par?
-#[tactic(auto, unfolding(crate::specs::ParContracts::betters))]
-fn betters(
-    results: &Results,
+#[inline(always)]
+fn is_par_contract(
+    worths: &Worths,
     sought: Sought,
-    bid: Bid,
+    level: u8,
+    strain: Strain,
     seat: Seat,
-    over: Bid,
-    opponent: Seat,
+    highest: u8,
 ) -> bool
-    ensures { result ≡ betters results.now sought.vulnerable sought.order sought.score bid seat over
-        opponent }
+    requires level { (1 ≤ level) × (level ≤ 7) }
+    requires highest { highest ≡ highest_bettering worths.now.tricks worths.now.vulnerable
+        sought.order sought.score (side_of seat) 35 }
+    ensures { result ≡ is_par_contract worths.now.tricks worths.now.vulnerable sought.order
+        sought.score (bid_of level strain) seat }
 {
-    are_opponents(seat, opponent)
-        && is_over(sought.order, bid, seat, over, opponent)
-        && !is_as_good(
-            seat.side(),
-            sought.score,
-            worth(results, sought.vulnerable, over, opponent),
-        )
-}
-
-// Are the two seats on different sides?
-fn are_opponents(seat: Seat, other: Seat) -> bool
-    ensures { result ≡ is_side (other_side (side_of seat)) other }
-{
-    match (seat.side(), other.side()) {
-        (Side::NorthSouth, Side::EastWest) | (Side::EastWest, Side::NorthSouth) => true,
-        _ => false,
-    }
-}
-
-// Is a score at least as good for the side as par?
-fn is_as_good(side: Side, par: i16, score: i16) -> bool
-    ensures { result ≡ is_as_good side par score }
-{
-    match side {
-        Side::NorthSouth => par <= score,
-        Side::EastWest => score <= par,
-    }
-}
-
-// Is a bid made over another: higher, or the same and its seat asked earlier?
-fn is_over(order: Order, bid: Bid, seat: Seat, over: Bid, other: Seat) -> bool
-    ensures { result ≡ is_over_bid order bid seat over other }
-{
-    bid.number() < over.number()
-        || bid.number() == over.number() && order.place(other) < order.place(seat)
+    worths.at(level, strain, seat) == sought.score
+        && !(height(sought.order, level, strain, seat) < highest)
 }

@@ -32,13 +32,9 @@ pub fn par(results: &Results, vulnerable: Vulnerable, order: Order) -> ParResult
 {
     let worths = Worths::of(results, vulnerable);
     let score = par_score(&worths, order);
-    let sought = Sought {
-        vulnerable,
-        order,
-        score,
-    };
+    let sought = Sought { order, score };
     ParResult {
         score,
-        contracts: par_list(results, sought),
+        contracts: par_list(&worths, sought),
     }
 }

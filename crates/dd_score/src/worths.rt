@@ -2,7 +2,7 @@
 ghost use Rattle.std.specs.Prelude.{◌≡◌, ◌≤◌};
 ghost use Rattle.dd_score.specs.Bids.{bid_of};
 ghost use Rattle.dd_score.specs.PointRows.{all_rows, declarers_row};
-ghost use Rattle.dd_score.specs.Tables.{IsTable};
+ghost use Rattle.dd_score.specs.Tables.{IsTable, tricks_of};
 ghost use Rattle.dd_score.specs.Worths.{worth};
 
 use crate::point_table::points_row;
@@ -70,6 +70,14 @@ impl Worths {
         let row = &self.rows[4 * strain.code() as usize + declarer.code() as usize];
         let won = row[level as usize];
         if declarer.is_north_south() { won } else { -won }
+    }
+
+    /// The tricks that this declarer takes in this strain.
+    pub(crate) fn tricks(&self, strain: Strain, declarer: Seat) -> u8
+        ensures { result ≡ tricks_of self.now.tricks strain declarer }
+    {
+        let row = self.tricks[strain.code() as usize];
+        row[declarer.code() as usize]
     }
 }
 

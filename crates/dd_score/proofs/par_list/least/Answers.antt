@@ -5,17 +5,17 @@ use Rattle.dd_score.proofs.par_list.least.Goals as goal
 
 pub returns-then-is_some : goal.returns-then-is_some
 returns-then-is_some c =
-    least-found c.args.results.now c.args.sought.vulnerable c.args.sought.order c.args.sought.score c.args.side c.args.strain c.loop-level.level
+    least-found c.args.worths.now.tricks c.args.worths.now.vulnerable c.args.sought.order c.args.sought.score c.args.side c.args.strain c.loop-level.level
     c.at_level-found.result (omega arith) c.at_level-found.ensures (search rules) c.loop-level.invariant
 
 pub loop-level-preserved : goal.loop-level-preserved
 loop-level-preserved c =
-    least-on c.args.results.now c.args.sought.vulnerable c.args.sought.order c.args.sought.score c.args.side c.args.strain c.loop-level.level
+    least-on c.args.worths.now.tricks c.args.worths.now.vulnerable c.args.sought.order c.args.sought.score c.args.side c.args.strain c.loop-level.level
     c.at_level-found.result (omega arith) c.at_level-found.ensures (search rules) c.loop-level.invariant
 
 pub returns : goal.returns
 returns c =
     let at : c.loop-level.level ≡ 8 = omega arith in
     sym (c.loop-level.invariant
-    ∙ ap (λ n. least_from c.args.results.now c.args.sought.vulnerable c.args.sought.order c.args.sought.score c.args.side c.args.strain (8 - n) n) at
-    ∙ least-none c.args.results.now c.args.sought.vulnerable c.args.sought.order c.args.sought.score c.args.side c.args.strain)
+    ∙ ap (λ n. least_from c.args.worths.now.tricks c.args.worths.now.vulnerable c.args.sought.order c.args.sought.score c.args.side c.args.strain (8 - n) n) at
+    ∙ least-none c.args.worths.now.tricks c.args.worths.now.vulnerable c.args.sought.order c.args.sought.score c.args.side c.args.strain)

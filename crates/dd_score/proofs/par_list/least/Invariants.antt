@@ -4,5 +4,5 @@ use Rattle.dd_score.proofs.par_list.least.Given as goal
 
 abbrev pub invariant-loop-level : goal.invariant-loop-level
 invariant-loop-level l =
-    least_of l.results l.sought.vulnerable l.sought.order l.sought.score l.strain l.side
-    ≡ least_from l.results l.sought.vulnerable l.sought.order l.sought.score l.side l.strain (8 - l.level) l.level
+    least_of l.worths.tricks l.worths.vulnerable l.sought.order l.sought.score l.strain l.side
+    ≡ least_from l.worths.tricks l.worths.vulnerable l.sought.order l.sought.score l.side l.strain (8 - l.level) l.level

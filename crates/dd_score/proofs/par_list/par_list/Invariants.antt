@@ -5,6 +5,6 @@ use Rattle.dd_score.proofs.par_list.par_list.Given as goal
 
 abbrev pub invariant-loop-code : goal.invariant-loop-code
 invariant-loop-code l = record {
-  listed : l.contracts.items ≡ contracts_below l.results l.sought.vulnerable l.sought.order l.sought.score l.code;
+  listed : l.contracts.items ≡ contracts_below l.worths.tricks l.worths.vulnerable l.sought.order l.sought.score l.code;
   short : array_vec_len l.contracts ≤ 2 * l.code;
 }
