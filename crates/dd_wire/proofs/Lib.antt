@@ -19,4 +19,7 @@ pub mod ParRows
 pub mod RequestExamples
 pub mod Starts
 pub mod Texts
+pub mod UsualFields
+pub mod UsualMeanings
+pub mod UsualValues
 pub mod WantMeanings

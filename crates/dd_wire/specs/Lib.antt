@@ -4,6 +4,7 @@ pub mod Requests
 pub mod ParLines
 pub mod PlayLines
 pub mod Lines
+pub mod UsualLines
 pub mod Wants
 pub mod Reading
 pub mod ReadingPar

@@ -42,9 +42,9 @@ pub(crate) enum FirstCode {
 // The fields of a request for par.
 #[derive(Drop)]
 pub(crate) struct ParFields<'a> {
-    given: Given<'a>,
-    first: FirstCode,
-    vulnerable: u64,
+    pub(crate) given: Given<'a>,
+    pub(crate) first: FirstCode,
+    pub(crate) vulnerable: u64,
 }
 
 // The fields, where all of them are there, each of its kind, and no other is.

@@ -22,6 +22,7 @@ use crate::line_asked::LineAsked;
 use crate::par_reader::{par_asked, par_fields};
 use crate::play_reader::{play_asked, play_fields};
 use crate::target_reader::{target_asked, target_fields};
+use crate::usual_asked::usual_asked;
 use crate::wish::LONGEST_WAIT;
 use arrayvec::ArrayVec;
 use dd_cards::{Card, Hands, Rank, Seat, Strain, Suit};
@@ -33,7 +34,7 @@ use serde_json::{Error, Map, Value};
 use std::alloc::Global;
 
 // The most cards that lie on a trick before it is complete.
-const MOST_PLAYED: usize = 3;
+pub(crate) const MOST_PLAYED: usize = 3;
 
 /// What a request line asks, or the line's first fault; `OutOfMemory` where memory ran out while the line was read as
 /// JSON. The line comes without its line end.
@@ -45,6 +46,9 @@ pub fn read_request(alloc: Global, line: &[u8]) -> Result<LineAsked, Fault>
 {
     if line.len() > LONGEST_LINE {
         return Err(Fault::LineTooLong);
+    }
+    if let Some(meaning) = usual_asked(line) {
+        return meaning;
     }
     let object = read_object(alloc, line)?;
     wait_at(&object).ok_or(Fault::WrongField)?;
@@ -248,7 +252,7 @@ fn played_of(values: &[Value]) -> Option<Option<Played>>
 }
 
 // The cards with that of one more pair.
-fn with_pair(played: Option<Played>, suit: u64, rank: u64) -> Option<Played>
+pub(crate) fn with_pair(played: Option<Played>, suit: u64, rank: u64) -> Option<Played>
     ensures { (pairs : List (ℕ × ℕ)) → ArePlayed (cards_in played) pairs →
         ArePlayed (cards_in result) (pairs ++ (suit, rank) ∷ []) }
 {
@@ -317,7 +321,7 @@ fn solve_asked(object: &Map<String, Value>) -> Result<Asked, Fault>
 }
 
 // What the fields ask, or their first fault.
-fn request_of(fields: &SolveFields<'_>) -> Result<Request, Fault>
+pub(crate) fn request_of(fields: &SolveFields<'_>) -> Result<Request, Fault>
     ensures { (pairs : List (ℕ × ℕ)) → ArePlayed (played_in fields.now) pairs →
         MeansFields (fields_of fields.now pairs) result }
 {
