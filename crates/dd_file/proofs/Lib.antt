@@ -10,10 +10,12 @@ pub mod AgainOver
 pub mod AgainStates
 pub mod AgainTagLines
 pub mod AgainTags
+pub mod Calm
 pub mod Going
 pub mod Joined
 pub mod Passed
 pub mod Spelled
+pub mod Staying
 pub mod Steps
 pub mod WovenLemmas
 pub mod Written

@@ -10,7 +10,7 @@ use Rattle.dd_file.specs.Marks.{after_blanks}
 use Rattle.dd_file.specs.Tags.{after_gap, after_name, after_string, is_gap, is_name, string_at}
 
 -- what a slice pattern leaves of a text is its tail
-tail-is : (byte : ℕ) (text : List ℕ) → take (length (byte ∷ text) - 1) text ≡ text
+pub tail-is : (byte : ℕ) (text : List ℕ) → take (length (byte ∷ text) - 1) text ≡ text
 tail-is byte text = take_all (length (byte ∷ text) - 1) text (omega arith)
 
 -- ---- blanks

@@ -9,6 +9,7 @@ pub mod Marked
 pub mod Marks
 pub mod Modes
 pub mod Passing
+pub mod Quiet
 pub mod Served
 pub mod Tags
 pub mod Values

@@ -1,8 +1,9 @@
 //! A file in, the file with its lines out.
-ghost use Rattle.std.specs.Prelude.{◌≡◌, ◌+◌, ◌<◌, ◌≤◌, ◌++◌, ◌&&◌, [], drop, false, length, nat_le, take, OnOk, OnErr, IfErr, IfSome};
+ghost use Rattle.std.specs.Prelude.{◌≡◌, ◌+◌, ◌<◌, ◌≤◌, ◌++◌, ◌&&◌, [], drop, false, length, nat_le, take, OnOk, OnErr, IfErr, IfOk, IfSome};
 ghost use Rattle.std.specs.Io.KnownBytes.{Appends};
 ghost use Rattle.dd_lines.specs.CountedDevices.{HasFailed, bytes_of};
 ghost use Rattle.dd_lines.specs.Served.{WroteText};
+ghost use Rattle.dd_file.specs.Quiet.{PassesSome};
 ghost use Rattle.dd_file.specs.Served.{FillsAll, FillsBeginning, StopsAtFirstFailure, StopsAtWrite};
 ghost use Rattle.dd_file.specs.Windows.{Ended, PassesFront, WritesBegun, WritesFront, WritesLast, point_of};
 
@@ -272,10 +273,34 @@ fn pass_front<A: Analyst>(
     ensures { OnOk result (PassesFront A.gives is_all filler.old filler.new
         window.now (drop count window.now) out.old.items out.new.items) }
 {
-    for at in 0..count {
-        pass_first(&window[at..], is_all, filler, analyst, out)?;
+    let mut at = 0;
+    while at < count {
+        at += pass_some(&window[at..], count - at, is_all, filler, analyst, out)?;
     }
     Ok(())
+}
+
+// Passes on the first of these bytes, at least one and so many at most, and tells how many.
+fn pass_some<A: Analyst>(
+    rest: &[u8],
+    most: usize,
+    is_all: bool,
+    filler: &mut Filler,
+    analyst: &mut A,
+    out: &mut Vec<u8>,
+) -> Result<usize, AllocError>
+    requires some { 0 < most }
+    requires within { most ≤ length rest.now }
+    requires room { is_all ≡ false → most + NEAR ≤ length rest.now }
+    ensures { IfOk result (λ count. PassesSome A.gives is_all filler.old filler.new
+        rest.now most count out.old.items out.new.items) }
+{
+    let count = filler.pass_quiet(&rest[..most], out)?;
+    if count >= most {
+        return Ok(count);
+    }
+    pass_first(&rest[count..], is_all, filler, analyst, out)?;
+    Ok(count + 1)
 }
 
 // Passes on the first of these bytes.

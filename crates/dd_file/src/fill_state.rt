@@ -1,8 +1,10 @@
 //! The game at hand, and what it has from those before.
-ghost use Rattle.std.specs.Prelude.{◌≡◌, OnOk};
-ghost use Rattle.dd_file.specs.Games.{after_end, conditions_of, ends, first_state, has_name, is_required, lacks, line_ends, marked_name, told, with_byte, with_tag, with_value_of};
+ghost use Rattle.std.specs.Prelude.{◌≡◌, ◌<◌, ◌==◌, ◌||◌, false, IfSome, OnOk};
+ghost use Rattle.dd_file.specs.Games.{after_end, conditions_of, ends, first_state, has_name, is_required, lacks, line_ends, marked_name, told, with_byte, with_value_of};
 ghost use Rattle.dd_file.specs.Kepts.{value_of};
 ghost use Rattle.dd_file.specs.Marks.{shown};
+ghost use Rattle.dd_file.specs.Quiet.{noted, with_line_bytes};
+ghost use Rattle.dd_file.specs.Values.{unescaped};
 
 use crate::kept::Kept;
 use crate::known_tag::{
@@ -112,25 +114,37 @@ impl FillState {
         self.vulnerable.end_game();
     }
 
-    /// A tag comes.
-    #[tactic(auto, unfolding(crate::specs::Games::with_tag))]
+    /// A tag of this number comes, or of a name that doesn't matter.
     pub(crate) fn tell_tag(
         &mut self,
         alloc: Global,
-        name: &[u8],
+        number: Option<u8>,
         quoted: &[u8],
     ) -> Result<(), AllocError>
-        ensures { OnOk result (self.new ≡ with_tag name.now quoted.now self.old) }
+        requires { IfSome number (λ n. n < 19) }
+        ensures { OnOk result (self.new ≡ told number (unescaped false quoted.now) self.old) }
     {
-        let Some(number) = known_number(name) else {
+        let Some(number) = number else {
             self.begun = true;
             return Ok(());
         };
+        if !has_value(number) {
+            self.note(number);
+            return Ok(());
+        }
         let text = unescaped(alloc, quoted)?;
-        self.begun = true;
-        self.names[number as usize] = true;
+        self.note(number);
         self.tell(number, text.as_slice());
         Ok(())
+    }
+
+    // A tag of this number is there.
+    fn note(&mut self, number: u8)
+        requires { number < 19 }
+        ensures { self.new ≡ noted number self.old }
+    {
+        self.begun = true;
+        self.names[number as usize] = true;
     }
 
     // The tag of this number has this text.
@@ -155,6 +169,15 @@ impl FillState {
             self.has_return = self.last == CARRIAGE_RETURN;
         }
         self.last = byte;
+    }
+
+    /// Bytes that end no line are passed on.
+    pub(crate) fn pass_line_bytes(&mut self, bytes: &[u8])
+        ensures { self.new ≡ with_line_bytes bytes.now self.old }
+    {
+        if let [.., last] = bytes {
+            self.last = *last;
+        }
     }
 
     /// The tags that it lacks of those that are wanted.
@@ -188,4 +211,11 @@ impl FillState {
             leads: self.last != LINE_FEED,
         }
     }
+}
+
+// Does it matter what the value of a tag of this number is?
+fn has_value(number: u8) -> bool
+    ensures { result ≡ ((number == DEAL || number == DEALER) || number == VULNERABLE) }
+{
+    number == DEAL || number == DEALER || number == VULNERABLE
 }

@@ -1,14 +1,15 @@
 //! A file passed on byte by byte, with the lines that its games lack.
-ghost use Rattle.std.specs.Prelude.{◌≡◌, ◌<◌, ◌++◌, length, slice_index, OnOk};
+ghost use Rattle.std.specs.Prelude.{◌≡◌, ◌<◌, ◌-◌, ◌++◌, length, slice_index, IfOk, OnOk};
 ghost use Rattle.dd_cards.specs.Hands.{FourHands};
 ghost use Rattle.dd_file.specs.Deals.{IsThirteen};
 ghost use Rattle.dd_file.specs.Filled.{IsParFound, added_text, ask_at, ask_of, ask_with, asked_here, ends_last, has_place, needs, par_text, text_here, where_lacking};
-ghost use Rattle.dd_file.specs.Games.{after_end, conditions_of, first_state, lacks, line_ends, next_state, with_mark};
+ghost use Rattle.dd_file.specs.Games.{after_end, conditions_of, first_state, lacks, line_ends, next_state, with_byte, with_mark};
 ghost use Rattle.dd_file.specs.Lines.{contract_line, line_with, score_line, table_text, tricks_line};
 ghost use Rattle.dd_file.specs.Marked.{is_closed, left_of, left_within};
 ghost use Rattle.dd_file.specs.Marks.{shown};
 ghost use Rattle.dd_file.specs.Modes.{next_mode};
 ghost use Rattle.dd_file.specs.Passing.{AddsAnswer, AddsFound, AddsLast, EndsBefore, KeepsPlace, PassesByte, begins_now, par_found};
+ghost use Rattle.dd_file.specs.Quiet.{PassesQuiet, Takes};
 
 use crate::analyst::{Analyst, Reason};
 use crate::fill_state::{Conditions, FillState};
@@ -16,6 +17,7 @@ use crate::known_tag::{BOARD, known_number};
 use crate::line_text::{LineEnds, push_contracts, push_score, push_table, push_tricks};
 use crate::mark::{Mark, mark_at};
 use crate::mode::Mode;
+use crate::quiet::{after_calm, is_quiet_within};
 use crate::value::{Unfit, thirteen_in, unescaped};
 use crate::wanted::Wanted;
 use dd_cards::Hands;
@@ -93,6 +95,78 @@ impl Filler {
         self.take(&mark, byte)
     }
 
+    /// Passes on the first of these bytes, as far as nothing begins at them, and tells how many.
+    pub(crate) fn pass_quiet(&mut self, text: &[u8], out: &mut Vec<u8>) -> Result<usize, AllocError>
+        ensures { IfOk result (λ count. PassesQuiet self.old self.new text.now count out.old.items out.new.items) }
+    {
+        if !self.begins_quiet(text) {
+            return Ok(0);
+        }
+        let count = text.len().saturating_sub(self.take_quiet(text).len());
+        out.extend_from_slice(&text[..count])?;
+        self.passed = self.passed.saturating_add(count as u64);
+        Ok(count)
+    }
+
+    // Does nothing begin at the first of these bytes?
+    fn begins_quiet(&self, text: &[u8]) -> bool {
+        match text {
+            [first, ..] => is_quiet_within(self.left, self.mode, *first),
+            [] => false,
+        }
+    }
+
+    // Takes such bytes in, and gives those after them.
+    fn take_quiet<'a>(&mut self, text: &'a [u8]) -> &'a [u8]
+        ensures { Takes self.old self.new text.now result.now }
+    {
+        let mut rest = text;
+        loop {
+            let after = self.take_stretch(rest);
+            if after.len() >= rest.len() {
+                return after;
+            }
+            rest = after;
+        }
+    }
+
+    // Takes calm bytes in, and one more behind them if nothing begins at it.
+    fn take_stretch<'a>(&mut self, text: &'a [u8]) -> &'a [u8]
+        ensures { Takes self.old self.new text.now result.now }
+    {
+        let rest = self.take_calm(text);
+        match rest {
+            [first, tail @ ..] if is_quiet_within(self.left, self.mode, *first) => {
+                self.take_byte(*first);
+                tail
+            }
+            _ => rest,
+        }
+    }
+
+    // Takes calm bytes in.
+    fn take_calm<'a>(&mut self, text: &'a [u8]) -> &'a [u8]
+        ensures { Takes self.old self.new text.now result.now }
+    {
+        let rest = after_calm(self.mode, text);
+        let bytes = &text[..text.len().saturating_sub(rest.len())];
+        self.state.pass_line_bytes(bytes);
+        self.left = self.left.saturating_sub(bytes.len());
+        rest
+    }
+
+    // Takes a byte in at which nothing begins.
+    fn take_byte(&mut self, byte: u8)
+        ensures state { self.new.state ≡ with_byte byte self.old.state }
+        ensures mode { self.new.mode ≡ next_mode self.old.mode byte }
+        ensures left { self.new.left ≡ self.old.left - 1 }
+        ensures wanted { self.new.wanted ≡ self.old.wanted }
+    {
+        self.state.pass(byte);
+        self.left = self.left.saturating_sub(1);
+        self.mode = self.mode.next(byte);
+    }
+
     // What begins at the first of these bytes.
     fn mark<'a>(&self, near: &'a [u8], is_all: bool) -> Mark<'a>
         ensures { shown result ≡ begins_now self.now.left self.now.mode is_all near.now }
@@ -149,25 +223,27 @@ impl Filler {
     }
 
     // Takes a tag in.
+    #[tactic(auto, unfolding(crate::specs::Games::with_tag))]
     fn tell(&mut self, mark: &Mark<'_>) -> Result<(), AllocError>
         ensures state { OnOk result (self.new.state ≡ with_mark (shown mark.now) self.old.state) }
         ensures place { OnOk result (KeepsPlace self.old self.new) }
     {
         match *mark {
             Mark::Tag { name, quoted, .. } => {
-                self.note_board(name, quoted)?;
-                self.state.tell_tag(self.alloc, name, quoted)
+                let number = known_number(name);
+                self.note_board(number, quoted)?;
+                self.state.tell_tag(self.alloc, number, quoted)
             }
             _ => Ok(()),
         }
     }
 
-    // Notes what a tag Board says.
-    fn note_board(&mut self, name: &[u8], quoted: &[u8]) -> Result<(), AllocError>
+    // Notes what a tag says whose number is that of Board.
+    fn note_board(&mut self, number: Option<u8>, quoted: &[u8]) -> Result<(), AllocError>
         ensures state { OnOk result (self.new.state ≡ self.old.state) }
         ensures place { OnOk result (KeepsPlace self.old self.new) }
     {
-        if known_number(name) == Some(BOARD) {
+        if number == Some(BOARD) {
             self.board = unescaped(self.alloc, quoted)?;
         }
         Ok(())

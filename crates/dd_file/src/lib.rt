@@ -12,6 +12,7 @@ mod laws;
 mod line_text;
 mod mark;
 mod mode;
+mod quiet;
 mod tag_reader;
 mod value;
 mod wanted;

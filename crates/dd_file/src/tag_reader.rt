@@ -4,6 +4,7 @@ ghost use Rattle.dd_file.specs.Modes.{is_blank};
 ghost use Rattle.dd_file.specs.Tags.{Reads, after_gap, after_name, after_string, byte_at, front_of, is_gap, is_name, name_at, parts_of, string_at, tag_at};
 
 use crate::mode::{LINE_FEED, Mode, is_blank};
+use crate::quiet::after_quoted;
 
 /// Why no tag was read.
 #[derive(Clone, Copy, Debug, PartialEq, Eq)]
@@ -140,7 +141,7 @@ fn after_string(text: &[u8]) -> Result<&[u8], Miss>
     ensures { Reads (λ rest. rest.now) result (after_string Mode.Quoted text.now) }
 {
     let mut mode = Mode::Quoted;
-    let mut rest = text;
+    let mut rest = after_quoted(text);
     while let [first, tail @ ..] = rest {
         mode = mode.next(*first);
         rest = tail;

@@ -8,6 +8,7 @@ ghost use Rattle.dd_file.specs.Values.{behind_two, begins_colon, closed_up, deal
 use crate::analyst::DealFault;
 use crate::kept::{Told, Value};
 use crate::mark::after_blanks;
+use crate::quiet::after_quoted;
 use arrayvec::ArrayVec;
 use dd_cards::{Hands, Seat};
 use dd_pbn::{PbnFault, read_deal};
@@ -54,9 +55,10 @@ impl Value for Option<Vulnerable> {
 pub(crate) fn unescaped(alloc: Global, quoted: &[u8]) -> Result<Vec<u8>, AllocError>
     ensures { IfOk result (λ text. text.items ≡ unescaped false quoted.now) }
 {
-    let mut text = Vec::new(alloc);
+    let rest = after_quoted(quoted);
+    let mut text = Vec::from_slice(alloc, &quoted[..quoted.len().saturating_sub(rest.len())])?;
     let mut is_behind_backslash = false;
-    for byte in quoted {
+    for byte in rest {
         is_behind_backslash = push_unescaped(&mut text, is_behind_backslash, *byte)?;
     }
     if is_behind_backslash {

@@ -1,0 +1,88 @@
+-- Bytes that are passed on many at once, since nothing begins at them.
+use Rattle.std.specs.Prelude.{◌≡◌, ℕ, zero, suc, ◌<◌, ◌≤◌, ◌==◌, ◌&&◌, ◌||◌, Bool, true, false, List, [], ◌∷◌, ◌++◌, length, take, drop, Option, if◌then◌else◌}
+use mathlib.Core.Bool.{not}
+use Rattle.dd_cards.specs.Hands.{FourHands}
+use Rattle.dd_file.specs.declared.fill_state.FillState.{FillState}
+use Rattle.dd_file.specs.declared.filler.Filler.{Filler}
+use Rattle.dd_file.specs.declared.mode.Mode.{Mode}
+use Rattle.dd_file.specs.declared.mode.Mode.TheVariants.{Head, Mark1, Mark2, Start, Plain, Escaped, Remark, Braced, Quoted, Backslash}
+use Rattle.dd_file.specs.declared.wanted.Wanted.{Wanted}
+use Rattle.dd_file.specs.Filled.{Found, asks_from, filled_from}
+use Rattle.dd_file.specs.Games.{marked_name}
+use Rattle.dd_file.specs.Modes.{is_blank}
+use Rattle.dd_file.specs.Windows.{PassesFront, Point, point_of, marked_at}
+
+-- does nothing begin at a byte that stands so, outside of tags, whatever follows?
+abbrev pub is_quiet : Mode → ℕ → Bool
+is_quiet Head byte = false
+is_quiet Mark1 byte = false
+is_quiet Mark2 byte = false
+is_quiet Start byte = not ((is_blank byte || byte == 10) || byte == 91)
+is_quiet Plain byte = not (byte == 91)
+is_quiet Escaped byte = true
+is_quiet Remark byte = true
+is_quiet Braced byte = true
+is_quiet Quoted byte = true
+is_quiet Backslash byte = true
+
+-- the same where so many bytes with this one belong to a tag
+abbrev pub is_quiet_within : ℕ → Mode → ℕ → Bool
+is_quiet_within zero mode byte = is_quiet mode byte
+is_quiet_within (suc more) mode byte = true
+
+-- and does the next byte stand as this one, on the same line?
+abbrev pub is_calm : Mode → ℕ → Bool
+is_calm Head byte = false
+is_calm Mark1 byte = false
+is_calm Mark2 byte = false
+is_calm Start byte = false
+is_calm Plain byte = (((not (byte == 10) && not (byte == 34)) && not (byte == 59)) && not (byte == 91)) && not (byte == 123)
+is_calm Escaped byte = not (byte == 10)
+is_calm Remark byte = not (byte == 10)
+is_calm Braced byte = not (byte == 10) && not (byte == 125)
+is_calm Quoted byte = (not (byte == 10) && not (byte == 34)) && not (byte == 92)
+is_calm Backslash byte = false
+
+-- the text after such bytes
+unfoldable pub after_calm : Mode → List ℕ → List ℕ
+after_calm mode [] = []
+after_calm mode (byte ∷ text) = (if is_calm mode byte then after_calm mode text else byte ∷ text)
+
+-- the last of these bytes, and this one where there is none
+abbrev pub last_of : List ℕ → ℕ → ℕ
+last_of [] last = last
+last_of (byte ∷ bytes) last = last_of bytes byte
+
+-- the game at hand behind bytes that end no line
+abbrev pub with_line_bytes : List ℕ → FillState → FillState
+with_line_bytes bytes state = record state { last = last_of bytes state.last }
+
+-- the game at hand with a tag of this number, whatever its value
+abbrev pub noted : ℕ → FillState → FillState
+noted number state = record state { begun = true; names = marked_name number state.names }
+
+-- From one place to another these bytes come out as they are, whatever is wanted, answered and follows, and no game ends.
+pub record Stays (p q : Point) (bytes : List ℕ) : Type 0 where
+  pub fills : (wanted : Wanted) (answers : List (Option Found)) (rest : List ℕ)
+      → filled_from wanted answers p.state (marked_at p (bytes ++ rest)) ≡ bytes ++ filled_from wanted answers q.state (marked_at q rest)
+  pub asks : (wanted : Wanted) (rest : List ℕ) → asks_from wanted p.state (marked_at p (bytes ++ rest)) ≡ asks_from wanted q.state (marked_at q rest)
+
+-- the first bytes of a text were taken in so, and the rest is left
+pub record Takes (old new : Filler) (before after : List ℕ) : Type 0 where
+  pub wanted : new.wanted ≡ old.wanted
+  pub bytes : List ℕ
+  pub split : before ≡ bytes ++ after
+  pub stays : Stays (point_of old) (point_of new) bytes
+
+-- the first so many bytes of a text were passed on so
+pub record PassesQuiet (old new : Filler) (text : List ℕ) (count : ℕ) (out_old out_new : List ℕ) : Type 0 where
+  pub within : count ≤ length text
+  pub wanted : new.wanted ≡ old.wanted
+  pub appended : out_new ≡ out_old ++ take count text
+  pub stays : Stays (point_of old) (point_of new) (take count text)
+
+-- the first bytes were passed on, at least one and so many at most
+pub record PassesSome (gives : FourHands → Option (List (List ℕ)) → Type 0) (is_all : Bool) (old new : Filler) (rest : List ℕ) (most count : ℕ) (out_old out_new : List ℕ) : Type 0 where
+  pub some : 0 < count
+  pub within : count ≤ most
+  pub front : PassesFront gives is_all old new rest (drop count rest) out_old out_new

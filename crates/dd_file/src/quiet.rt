@@ -1,0 +1,119 @@
+//! Bytes at which nothing begins, whatever follows: they are passed on many at once.
+ghost use Rattle.std.specs.Prelude.{◌≡◌};
+ghost use Rattle.dd_file.specs.Quiet.{after_calm, is_calm, is_quiet, is_quiet_within};
+
+use crate::mode::{LINE_FEED, Mode, is_blank};
+
+/// Does nothing begin at a byte that stands so, of which so many with those after it belong to a tag?
+pub(crate) fn is_quiet_within(left: usize, mode: Mode, byte: u8) -> bool
+    ensures { result ≡ is_quiet_within left mode byte }
+{
+    match left {
+        0 => is_quiet(mode, byte),
+        _ => true,
+    }
+}
+
+// Does nothing begin at a byte that stands so, outside of tags?
+fn is_quiet(mode: Mode, byte: u8) -> bool
+    ensures { result ≡ is_quiet mode byte }
+{
+    match mode {
+        Mode::Head | Mode::Mark1 | Mode::Mark2 => false,
+        Mode::Start => !(is_blank(byte) || byte == LINE_FEED || byte == b'['),
+        Mode::Plain => byte != b'[',
+        _ => true,
+    }
+}
+
+/// The text after its calm bytes: nothing begins at them, they stand alike, and end no line.
+pub(crate) fn after_calm(mode: Mode, text: &[u8]) -> &[u8]
+    ensures { result.now ≡ after_calm mode text.now }
+{
+    match mode {
+        Mode::Plain => after_plain(text),
+        Mode::Escaped | Mode::Remark => after_line(text),
+        Mode::Braced => after_braced(text),
+        Mode::Quoted => after_quoted(text),
+        _ => text,
+    }
+}
+
+// Each kind of calm bytes has a loop of its own: so it runs without a choice of the mode at each byte.
+fn after_plain(text: &[u8]) -> &[u8]
+    ensures { result.now ≡ after_calm Mode.Plain text.now }
+{
+    let mut rest = text;
+    while let [first, tail @ ..] = rest {
+        if !is_calm_plain(*first) {
+            break;
+        }
+        rest = tail;
+    }
+    rest
+}
+
+fn is_calm_plain(byte: u8) -> bool
+    ensures { result ≡ is_calm Mode.Plain byte }
+{
+    byte != LINE_FEED && byte != b'"' && byte != b';' && byte != b'[' && byte != b'{'
+}
+
+fn after_line(text: &[u8]) -> &[u8]
+    ensures escaped { result.now ≡ after_calm Mode.Escaped text.now }
+    ensures remark { result.now ≡ after_calm Mode.Remark text.now }
+{
+    let mut rest = text;
+    while let [first, tail @ ..] = rest {
+        if !is_calm_line(*first) {
+            break;
+        }
+        rest = tail;
+    }
+    rest
+}
+
+fn is_calm_line(byte: u8) -> bool
+    ensures { result ≡ is_calm Mode.Escaped byte }
+{
+    byte != LINE_FEED
+}
+
+fn after_braced(text: &[u8]) -> &[u8]
+    ensures { result.now ≡ after_calm Mode.Braced text.now }
+{
+    let mut rest = text;
+    while let [first, tail @ ..] = rest {
+        if !is_calm_braced(*first) {
+            break;
+        }
+        rest = tail;
+    }
+    rest
+}
+
+fn is_calm_braced(byte: u8) -> bool
+    ensures { result ≡ is_calm Mode.Braced byte }
+{
+    byte != LINE_FEED && byte != b'}'
+}
+
+/// The text of a string after its first bytes that are no backslash, no quote and no line feed.
+pub(crate) fn after_quoted(text: &[u8]) -> &[u8]
+    ensures { result.now ≡ after_calm Mode.Quoted text.now }
+{
+    let mut rest = text;
+    while let [first, tail @ ..] = rest {
+        if !is_calm_quoted(*first) {
+            break;
+        }
+        rest = tail;
+    }
+    rest
+}
+
+fn is_calm_quoted(byte: u8) -> bool
+    ensures { result ≡ is_calm Mode.Quoted byte }
+{
+    byte != LINE_FEED && byte != b'"' && byte != b'\\'
+}
