@@ -59,14 +59,14 @@ abbrev pub is_quiet : List ℕ → Bool
 is_quiet [] = true
 is_quiet (b ∷ p) = (if b == 10 then false else is_quiet p)
 
-quiet-first : (b : ℕ) (p : List ℕ) → is_quiet (b ∷ p) ≡ true → (b == 10) ≡ false
+pub quiet-first : (b : ℕ) (p : List ℕ) → is_quiet (b ∷ p) ≡ true → (b == 10) ≡ false
 quiet-first b p quiet = go (b == 10) quiet
   where
     go : (t : Bool) → (if t then false else is_quiet p) ≡ true → t ≡ false
     go true e = sym e
     go false e = refl
 
-quiet-rest : (b : ℕ) (p : List ℕ) → is_quiet (b ∷ p) ≡ true → is_quiet p ≡ true
+pub quiet-rest : (b : ℕ) (p : List ℕ) → is_quiet (b ∷ p) ≡ true → is_quiet p ≡ true
 quiet-rest b p quiet = go (b == 10) quiet
   where
     go : (t : Bool) → (if t then false else is_quiet p) ≡ true → is_quiet p ≡ true

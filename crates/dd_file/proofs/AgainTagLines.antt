@@ -13,12 +13,14 @@ use Rattle.dd_file.specs.Lines.{line_with}
 use Rattle.dd_file.specs.Marked.{begins, marked}
 use Rattle.dd_file.specs.Marks.{tag, line_mark, mark_at, mark_read}
 use Rattle.dd_file.specs.Modes.{next_mode}
+use Rattle.dd_file.specs.Quiet.{are_names}
 use Rattle.dd_file.specs.Tags.{◌>>=◌, after_gap, after_name, after_string, byte_at, front_of, is_gap, is_name, tag_at}
 use Rattle.dd_file.proofs.AgainMarks.{blank-stop, is_all, line-begins, line-read, take-over}
 use Rattle.dd_file.proofs.AgainMiss.{gap-step, gap-stop, name-step, name-stop, read-first, read_end, read_name, read_string, read_value, tag-steps}
 use Rattle.dd_file.proofs.AgainOver.{Goes, Spot, at_spot, goes-byte, goes-then, goes-within, is_quiet, last_of, last-append, modes, modes-append, plain-nothing, quiet-append, spot}
 use Rattle.dd_file.proofs.AgainTags.{as_tag, byte-found, front-is}
 use Rattle.dd_file.proofs.Going.{asks-byte}
+use Rattle.dd_file.proofs.ShortTags.{name-read, near-split, opened-read, split-size, value-read}
 
 -- ---- line ends
 -- where a line end ends the line, and no tag begins at it
@@ -143,18 +145,6 @@ module _ (wanted : Wanted) (state : FillState) where
       ))
 
   -- ---- tags
-  abbrev pub are_names : List ℕ → Bool
-  are_names [] = true
-  are_names (b ∷ p) = (if is_name b then are_names p else false)
-
-  name-run : (name : List ℕ) (t : List ℕ) → are_names name ≡ true → after_name (name ++ 32 ∷ t) ≡ 32 ∷ t
-  name-run [] t all = name-stop 32 t refl
-  name-run (b ∷ name) t all = go (is_name b) refl all (name-run name t)
-    where
-      go : (g : Bool) → is_name b ≡ g → (if g then are_names name else false) ≡ true → (are_names name ≡ true → after_name (name ++ 32 ∷ t) ≡ 32 ∷ t) → after_name (b ∷ (name ++ 32 ∷ t)) ≡ 32 ∷ t
-      go true e all more = name-step b (name ++ 32 ∷ t) e ∙ more all
-      go false e all more = absurd (true≢false (sym all))
-
   -- a tag's bytes behind its bracket
   abbrev pub tag_rest : List ℕ → List ℕ → List ℕ
   tag_rest name content = name ++ 32 ∷ 34 ∷ (content ++ 34 ∷ 93 ∷ [])
@@ -177,38 +167,6 @@ module _ (wanted : Wanted) (state : FillState) where
     pub read : (t : List ℕ) → after_string Quoted (content ++ 34 ∷ t) ≡ Ok t
     pub quoted : modes Quoted content ≡ Quoted
     pub quiet : is_quiet content ≡ true
-
-  rest-names : (c : ℕ) (name : List ℕ) → are_names (c ∷ name) ≡ true → are_names name ≡ true
-  rest-names c name all = go (is_name c) all
-    where
-      go : (g : Bool) → (if g then are_names name else false) ≡ true → are_names name ≡ true
-      go true all = all
-      go false all = absurd (true≢false (sym all))
-
-  value-read : (called string r : List ℕ) → after_string Quoted string ≡ Ok (93 ∷ r) → read_value called (32 ∷ 34 ∷ string) ≡ as_tag called (front_of string (93 ∷ r) 1) r
-  value-read called string r is =
-      ap (λ l. byte_at 34 l >>= (λ k. read_string called k)) (gap-step Plain 32 (34 ∷ string) refl ∙ gap-stop Plain 34 string refl)
-      ∙ ap (λ (t : Result (List ℕ) Miss). t >>= (λ k. read_string called k)) (byte-found 34 34 string refl)
-      ∙ ap (λ (t : Result (List ℕ) Miss). t >>= (λ l. read_end called (front_of string l 1) l)) is
-      ∙ ap (λ l. byte_at 93 l >>= (λ k. as_tag called (front_of string (93 ∷ r) 1) k)) (gap-stop Plain 93 r refl)
-      ∙ ap (λ (t : Result (List ℕ) Miss). t >>= (λ k. as_tag called (front_of string (93 ∷ r) 1) k)) (byte-found 93 93 r refl)
-
-  name-read : (c : ℕ) (name string : List ℕ) → are_names (c ∷ name) ≡ true → is_name c ≡ true → read_name (c ∷ (name ++ 32 ∷ string)) ≡ read_value (c ∷ name) (32 ∷ string)
-  name-read c name string all first =
-      read-first c (name ++ 32 ∷ string)
-      ∙ ap (λ (g : Bool). (if g then Ok (after_name (name ++ 32 ∷ string)) else Err NoTag) >>= (λ k. read_value (front_of (c ∷ (name ++ 32 ∷ string)) k 0) k)) first
-      ∙ ap (λ k. read_value (front_of (c ∷ (name ++ 32 ∷ string)) k 0) k) (name-run name string (rest-names c name all))
-      ∙ ap (λ n. read_value n (32 ∷ string)) (front-is (c ∷ name) (32 ∷ string) 0 ∙ (let whole : length (c ∷ name) ≤ length (c ∷ name) - 0 = omega arith in take_all (length (c ∷ name) - 0) (c ∷ name) whole))
-
-  opened-read : (c : ℕ) (text : List ℕ) → is_gap Plain c ≡ false → tag_at (91 ∷ c ∷ text) ≡ read_name (c ∷ text)
-  opened-read c text gap =
-      tag-steps (91 ∷ c ∷ text) ∙ ap (λ (t : Result (List ℕ) Miss). t >>= (λ bracket. read_name (after_gap Plain bracket))) (byte-found 91 91 (c ∷ text) refl) ∙ ap read_name (gap-stop Plain c text gap)
-
-  near-split : (n : ℕ) (p r : List ℕ) → length p ≤ n → 91 ∷ take n (p ++ r) ≡ 91 ∷ (p ++ take (n - length p) r)
-  near-split n p r few = ap (λ l. 91 ∷ l) (take-over n p r few)
-
-  split-size : (near p rest : List ℕ) → near ≡ 91 ∷ (p ++ rest) → length near - length rest ≡ suc (length p)
-  split-size near p rest e = let lengths : length near ≡ length (91 ∷ (p ++ rest)) = ap (λ (l : List ℕ). length l) e in omega (arith, length-append {A = ℕ})
 
   tag-begins : (p called : List ℕ) → ((r : List ℕ) → (quoted : List ℕ) × (tag_at (91 ∷ (p ++ r)) ≡ as_tag called quoted r)) → length p ≤ 65535 → (r : List ℕ)
       → (quoted : List ℕ) × (begins Start (91 ∷ (p ++ r)) ≡ tag true (suc (length p)) called quoted)

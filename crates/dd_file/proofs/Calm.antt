@@ -6,14 +6,10 @@ use mathlib.Core.Bool.{not}
 use Rattle.dd_file.specs.declared.mode.Mode.{Mode}
 use Rattle.dd_file.specs.declared.mode.Mode.TheVariants.{Head, Mark1, Mark2, Start, Plain, Escaped, Remark, Braced, Quoted, Backslash}
 use Rattle.dd_file.specs.Modes.{next_mode}
-use Rattle.dd_file.specs.Quiet.{after_calm, is_calm, last_of}
+use Rattle.dd_file.specs.Quiet.{after_calm, are_calm, is_calm, last_of}
 use Rattle.dd_file.specs.Tags.{after_string, string_at}
 use Rattle.dd_file.specs.Values.{unescaped}
 use Rattle.dd_file.proofs.Steps.{tail-is}
-
-abbrev pub are_calm : Mode → List ℕ → Bool
-are_calm mode [] = true
-are_calm mode (b ∷ bytes) = is_calm mode b && are_calm mode bytes
 
 -- ---- the text after its calm bytes
 calm-step : (mode : Mode) (b : ℕ) (text : List ℕ) → is_calm mode b ≡ true → after_calm mode (b ∷ text) ≡ after_calm mode text
@@ -52,11 +48,11 @@ calm-front mode (b ∷ text) = go (is_calm mode b) refl (calm-front mode text)
     go false other more = record { bytes = []; split = sym (calm-stop mode b text other); calm = refl }
 
 -- ---- fronts
-take-front : (bytes after : List ℕ) → take (length bytes) (bytes ++ after) ≡ bytes
+pub take-front : (bytes after : List ℕ) → take (length bytes) (bytes ++ after) ≡ bytes
 take-front [] after = refl
 take-front (b ∷ bytes) after = ap (λ l. b ∷ l) (take-front bytes after)
 
-front-count : (text bytes after : List ℕ) → text ≡ bytes ++ after → length text - length after ≡ length bytes
+pub front-count : (text bytes after : List ℕ) → text ≡ bytes ++ after → length text - length after ≡ length bytes
 front-count text bytes after split =
     let whole : length text ≡ length bytes + length after = ap length split ∙ length-append bytes after in omega arith
 
@@ -96,7 +92,7 @@ lines-alike [] = refl
 lines-alike (b ∷ text) = ap (λ l. if not (b == 10) then l else b ∷ text) (lines-alike text)
 
 -- ---- strings
-quoted-stays : (b : ℕ) → is_calm Quoted b ≡ true → next_mode Quoted b ≡ Quoted
+pub quoted-stays : (b : ℕ) → is_calm Quoted b ≡ true → next_mode Quoted b ≡ Quoted
 quoted-stays b calm =
     let parts = and_parts (not (b == 10) && not (b == 34)) (not (b == 92)) calm in
     let first = and_parts (not (b == 10)) (not (b == 34)) parts.0 in
@@ -104,7 +100,7 @@ quoted-stays b calm =
     ∙ ap (λ (t : Bool). if t then Backslash else if b == 10 then Start else Quoted) (not-true (b == 92) parts.1)
     ∙ ap (λ (t : Bool). if t then Start else Quoted) (not-true (b == 10) first.0)
 
-quoted-step : (b : ℕ) (text : List ℕ) → is_calm Quoted b ≡ true → after_string Quoted (b ∷ text) ≡ after_string Quoted text
+pub quoted-step : (b : ℕ) (text : List ℕ) → is_calm Quoted b ≡ true → after_string Quoted (b ∷ text) ≡ after_string Quoted text
 unfolding after_string
 quoted-step b text calm = ap (λ (m : Mode). string_at m text (after_string m text)) (quoted-stays b calm)
 

@@ -15,12 +15,12 @@ use Rattle.dd_file.specs.Games.{with_byte}
 use Rattle.dd_file.specs.Marked.{begins_within, left_within}
 use Rattle.dd_file.specs.Marks.{nothing, empty_line, line_mark, mark_at, mark_read}
 use Rattle.dd_file.specs.Modes.{is_blank, next_mode}
-use Rattle.dd_file.specs.Quiet.{PassesQuiet, PassesSome, Stays, Takes, after_calm, is_calm, is_quiet, is_quiet_within, last_of, with_line_bytes}
+use Rattle.dd_file.specs.Quiet.{PassesQuiet, PassesSome, Stays, Takes, after_calm, are_calm, is_calm, is_quiet, is_quiet_within, last_of, with_line_bytes}
 use Rattle.dd_file.specs.Tags.{tag_at}
 use Rattle.dd_file.specs.Windows.{PassesFront, Point, marked_at, point_of}
 use Rattle.dd_file.proofs.AgainMarks.{blank-stop, is_all, line-begins, line-read, no-tag}
 use Rattle.dd_file.proofs.AgainOver.{plain-nothing}
-use Rattle.dd_file.proofs.Calm.{are_calm, calm-front, front-taken, last-of}
+use Rattle.dd_file.proofs.Calm.{calm-front, front-taken, last-of}
 use Rattle.dd_file.proofs.Going.{PassesFront-then, asks-byte, filled-byte}
 use Rattle.dd_file.proofs.Steps.{tail-is}
 
@@ -54,10 +54,10 @@ quiet-nothing zero Quoted b quiet rest = refl
 quiet-nothing zero Backslash b quiet rest = refl
 
 -- the place behind such a byte
-abbrev behind : Point → ℕ → Point
+abbrev pub behind : Point → ℕ → Point
 behind p b = record { state = with_byte b p.state; left = left_within p.left nothing; mode = next_mode p.mode b }
 
-byte-stays : (p : Point) (b : ℕ) → is_quiet_within p.left p.mode b ≡ true → Stays p (behind p b) (b ∷ [])
+pub byte-stays : (p : Point) (b : ℕ) → is_quiet_within p.left p.mode b ≡ true → Stays p (behind p b) (b ∷ [])
 byte-stays p b quiet =
     record {
       fills = λ wanted answers rest. filled-byte wanted answers p.state p.left p.mode b rest nothing (quiet-nothing p.left p.mode b quiet rest);
@@ -65,10 +65,10 @@ byte-stays p b quiet =
     }
 
 -- ---- bytes behind bytes
-Stays-none : (p : Point) → Stays p p []
+pub Stays-none : (p : Point) → Stays p p []
 Stays-none p = record { fills = λ wanted answers rest. refl; asks = λ wanted rest. refl }
 
-Stays-then : (p q r : Point) (a b : List ℕ) → Stays p q a → Stays q r b → Stays p r (a ++ b)
+pub Stays-then : (p q r : Point) (a b : List ℕ) → Stays p q a → Stays q r b → Stays p r (a ++ b)
 Stays-then p q r a b first second =
     record {
       fills = λ wanted answers rest.
@@ -160,7 +160,7 @@ calm-stays p (b ∷ bytes) calm =
     Stays-then p (behind_calm p (b ∷ [])) (behind_calm p (b ∷ bytes)) (b ∷ []) bytes (calm-byte p b parts.0) (calm-stays (behind_calm p (b ∷ [])) bytes parts.1)
 
 -- ---- what was taken in
-same-point : (p : Point) (new : Filler) → new.state ≡ p.state → new.left ≡ p.left → new.mode ≡ p.mode → point_of new ≡ p
+pub same-point : (p : Point) (new : Filler) → new.state ≡ p.state → new.left ≡ p.left → new.mode ≡ p.mode → point_of new ≡ p
 same-point p new states lefts modes =
     ap (λ (s : FillState). (let q : Point = record { state = s; left = new.left; mode = new.mode } in q)) states
     ∙ ap (λ (n : ℕ). (let q : Point = record { state = p.state; left = n; mode = new.mode } in q)) lefts
@@ -216,7 +216,7 @@ PassesQuiet-taken old mid new text after count out_old out_new takes counted wan
       stays = subst (λ (p : Point). Stays (point_of old) p (take count text)) (sym point) (subst (λ (l : List ℕ). Stays (point_of old) (point_of mid) l) (sym is) takes.stays);
     }
 
-take-of-take : (n m : ℕ) (l : List ℕ) → n ≤ m → take n (take m l) ≡ take n l
+pub take-of-take : (n m : ℕ) (l : List ℕ) → n ≤ m → take n (take m l) ≡ take n l
 take-of-take zero m l few = refl
 take-of-take (suc n) zero l few = absurd (omega arith)
 take-of-take (suc n) (suc m) [] few = refl
@@ -264,17 +264,18 @@ PassesSome-quiet gives is_all old new rest most count o0 o1 some room passes all
     let few : count ≤ most = omega arith in
     record { some = omega arith; within = few; front = PassesFront-quiet gives is_all old new rest most count o0 o1 room passes few }
 
--- and one byte more
-pub PassesSome-first : (gives : FourHands → Option (List (List ℕ)) → Type 0) (is_all : Bool) (old mid new : Filler) (rest : List ℕ) (most count : ℕ) (o0 o1 o2 : List ℕ) → most ≤ length rest
-    → PassesQuiet old mid (take most rest) count o0 o1 → count < most
-    → PassesFront gives is_all mid new (take (length rest - count) (drop count rest)) (drop 1 (take (length rest - count) (drop count rest))) o1 o2
-    → PassesSome gives is_all old new rest most (count + 1) o0 o2
-PassesSome-first gives is_all old mid new rest most count o0 o1 o2 room passes more first =
+-- and more behind it
+pub PassesSome-then : (gives : FourHands → Option (List (List ℕ)) → Type 0) (is_all : Bool) (old mid new : Filler) (rest : List ℕ) (most count more : ℕ) (o0 o1 o2 : List ℕ) → most ≤ length rest
+    → PassesQuiet old mid (take most rest) count o0 o1 → count < most → PassesSome gives is_all mid new (take (length rest - count) (drop count rest)) (most - count) more o1 o2
+    → PassesSome gives is_all old new rest most (count + more) o0 o2
+PassesSome-then gives is_all old mid new rest most count more o0 o1 o2 room passes under next =
     let few : count ≤ most = omega arith in
     let reached : count ≤ length rest = omega arith in
+    let some : 0 < more = next.some in
+    let within : more ≤ most - count = next.within in
     record {
       some = omega arith;
       within = omega arith;
-      front = PassesFront-then gives is_all old mid new rest (drop count rest) (drop (count + 1) rest) o0 o1 o2 (PassesFront-quiet gives is_all old mid rest most count o0 o1 room passes few)
-          (PassesFront-behind gives is_all mid new rest count 1 o1 o2 reached first);
+      front = PassesFront-then gives is_all old mid new rest (drop count rest) (drop (count + more) rest) o0 o1 o2 (PassesFront-quiet gives is_all old mid rest most count o0 o1 room passes few)
+          (PassesFront-behind gives is_all mid new rest count more o1 o2 reached next.front);
     }

@@ -10,7 +10,8 @@ use Rattle.dd_file.specs.declared.wanted.Wanted.{Wanted}
 use Rattle.dd_file.specs.Filled.{Found, asks_from, filled_from}
 use Rattle.dd_file.specs.Games.{marked_name}
 use Rattle.dd_file.specs.Modes.{is_blank}
-use Rattle.dd_file.specs.Windows.{PassesFront, Point, point_of, marked_at}
+use Rattle.dd_file.specs.Tags.{is_name}
+use Rattle.dd_file.specs.Windows.{Passed, PassesFront, Point, point_of, marked_at}
 
 -- does nothing begin at a byte that stands so, outside of tags, whatever follows?
 abbrev pub is_quiet : Mode → ℕ → Bool
@@ -42,6 +43,11 @@ is_calm Remark byte = not (byte == 10)
 is_calm Braced byte = not (byte == 10) && not (byte == 125)
 is_calm Quoted byte = (not (byte == 10) && not (byte == 34)) && not (byte == 92)
 is_calm Backslash byte = false
+
+-- are all of these so?
+abbrev pub are_calm : Mode → List ℕ → Bool
+are_calm mode [] = true
+are_calm mode (byte ∷ bytes) = is_calm mode byte && are_calm mode bytes
 
 -- the text after such bytes
 unfoldable pub after_calm : Mode → List ℕ → List ℕ
@@ -86,3 +92,42 @@ pub record PassesSome (gives : FourHands → Option (List (List ℕ)) → Type 0
   pub some : 0 < count
   pub within : count ≤ most
   pub front : PassesFront gives is_all old new rest (drop count rest) out_old out_new
+
+-- ---- tags on one line
+
+-- letters, digits and underscores
+abbrev pub are_names : List ℕ → Bool
+are_names [] = true
+are_names (byte ∷ name) = (if is_name byte then are_names name else false)
+
+-- `[`, a name, a space, a string of bytes that are no backslash, no quote and no line feed, and `]`
+abbrev pub short_tag : List ℕ → List ℕ → List ℕ
+short_tag name quoted = 91 ∷ (name ++ 32 ∷ 34 ∷ (quoted ++ 34 ∷ 93 ∷ []))
+
+-- the text begins with such a tag
+pub record BeginsShort (text name quoted rest : List ℕ) : Type 0 where
+  pub some : 1 ≤ length name
+  pub names : are_names name ≡ true
+  pub calm : are_calm Quoted quoted ≡ true
+  pub spelled : text ≡ short_tag name quoted ++ rest
+
+-- can a tag begin at a byte that stands so, and is it the first thing on its line then?
+abbrev pub IsPlace : Mode → Bool → Type 0
+IsPlace Start is_first = is_first ≡ true
+IsPlace Plain is_first = is_first ≡ false
+IsPlace Head is_first = ⊥
+IsPlace Mark1 is_first = ⊥
+IsPlace Mark2 is_first = ⊥
+IsPlace Escaped is_first = ⊥
+IsPlace Remark is_first = ⊥
+IsPlace Braced is_first = ⊥
+IsPlace Quoted is_first = ⊥
+IsPlace Backslash is_first = ⊥
+
+-- The first so many bytes of a text were passed on, a tag or none, with the lines of a game that ends before it, whatever follows.
+pub record PassesTag (gives : FourHands → Option (List (List ℕ)) → Type 0) (old new : Filler) (text : List ℕ) (count : ℕ) (out_old out_new : List ℕ) : Type 0 where
+  pub within : count ≤ length text
+  pub wanted : new.wanted ≡ old.wanted
+  pub added : List ℕ
+  pub appended : out_new ≡ out_old ++ added
+  pub passed : Passed gives false old.wanted (point_of old) (point_of new) (take count text) [] added

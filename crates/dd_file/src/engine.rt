@@ -299,8 +299,31 @@ fn pass_some<A: Analyst>(
     if count >= most {
         return Ok(count);
     }
-    pass_first(&rest[count..], is_all, filler, analyst, out)?;
-    Ok(count + 1)
+    let more = pass_next(&rest[count..], most - count, is_all, filler, analyst, out)?;
+    Ok(count + more)
+}
+
+// Passes on a tag or a byte.
+fn pass_next<A: Analyst>(
+    rest: &[u8],
+    most: usize,
+    is_all: bool,
+    filler: &mut Filler,
+    analyst: &mut A,
+    out: &mut Vec<u8>,
+) -> Result<usize, AllocError>
+    requires some { 0 < most }
+    requires within { most ≤ length rest.now }
+    requires room { is_all ≡ false → most + NEAR ≤ length rest.now }
+    ensures { IfOk result (λ count. PassesSome A.gives is_all filler.old filler.new
+        rest.now most count out.old.items out.new.items) }
+{
+    let count = filler.pass_tag(&rest[..most], analyst, out)?;
+    if count > 0 {
+        return Ok(count);
+    }
+    pass_first(rest, is_all, filler, analyst, out)?;
+    Ok(1)
 }
 
 // Passes on the first of these bytes.

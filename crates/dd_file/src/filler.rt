@@ -1,5 +1,5 @@
 //! A file passed on byte by byte, with the lines that its games lack.
-ghost use Rattle.std.specs.Prelude.{◌≡◌, ◌<◌, ◌-◌, ◌++◌, length, slice_index, IfOk, OnOk};
+ghost use Rattle.std.specs.Prelude.{◌≡◌, ◌<◌, ◌-◌, ◌++◌, length, slice_index, IfOk, IfSome, OnOk};
 ghost use Rattle.dd_cards.specs.Hands.{FourHands};
 ghost use Rattle.dd_file.specs.Deals.{IsThirteen};
 ghost use Rattle.dd_file.specs.Filled.{IsParFound, added_text, ask_at, ask_of, ask_with, asked_here, ends_last, has_place, needs, par_text, text_here, where_lacking};
@@ -9,15 +9,16 @@ ghost use Rattle.dd_file.specs.Marked.{is_closed, left_of, left_within};
 ghost use Rattle.dd_file.specs.Marks.{shown};
 ghost use Rattle.dd_file.specs.Modes.{next_mode};
 ghost use Rattle.dd_file.specs.Passing.{AddsAnswer, AddsFound, AddsLast, EndsBefore, KeepsPlace, PassesByte, begins_now, par_found};
-ghost use Rattle.dd_file.specs.Quiet.{PassesQuiet, Takes};
+ghost use Rattle.dd_file.specs.Quiet.{IsPlace, PassesQuiet, PassesTag, Takes, with_line_bytes};
 
 use crate::analyst::{Analyst, Reason};
 use crate::fill_state::{Conditions, FillState};
 use crate::known_tag::{BOARD, known_number};
 use crate::line_text::{LineEnds, push_contracts, push_score, push_table, push_tricks};
-use crate::mark::{Mark, mark_at};
+use crate::mark::{Mark, NEAR, mark_at};
 use crate::mode::Mode;
 use crate::quiet::{after_calm, is_quiet_within};
+use crate::tag_reader::read_short_tag;
 use crate::value::{Unfit, thirteen_in, unescaped};
 use crate::wanted::Wanted;
 use dd_cards::Hands;
@@ -106,6 +107,58 @@ impl Filler {
         out.extend_from_slice(&text[..count])?;
         self.passed = self.passed.saturating_add(count as u64);
         Ok(count)
+    }
+
+    /// Passes on a tag that the text begins with, where it stands on one line and is read at once, and tells how many bytes it
+    /// has: 0 where there is none.
+    pub(crate) fn pass_tag<A: Analyst>(
+        &mut self,
+        text: &[u8],
+        analyst: &mut A,
+        out: &mut Vec<u8>,
+    ) -> Result<usize, AllocError>
+        ensures { IfOk result (λ count. PassesTag A.gives self.old self.new text.now count out.old.items out.new.items) }
+    {
+        let Some(is_first) = tag_place(self.left, self.mode) else {
+            return Ok(0);
+        };
+        let Some(tag) = read_short_tag(text) else {
+            return Ok(0);
+        };
+        let length = text.len().saturating_sub(tag.rest.len());
+        if length > NEAR {
+            return Ok(0);
+        }
+        let mark = Mark::Tag {
+            is_first,
+            length,
+            name: tag.name,
+            quoted: tag.quoted,
+        };
+        self.end_before(&mark, analyst, out)?;
+        self.pass_whole(&mark, &text[..length], out)?;
+        Ok(length)
+    }
+
+    // Passes on all bytes of a tag on one line.
+    fn pass_whole(
+        &mut self,
+        mark: &Mark<'_>,
+        bytes: &[u8],
+        out: &mut Vec<u8>,
+    ) -> Result<(), AllocError>
+        ensures state { OnOk result (self.new.state ≡ with_line_bytes bytes.now (with_mark (shown mark.now) self.old.state)) }
+        ensures mode { OnOk result (self.new.mode ≡ Mode.Plain) }
+        ensures left { OnOk result (self.new.left ≡ self.old.left) }
+        ensures wanted { OnOk result (self.new.wanted ≡ self.old.wanted) }
+        ensures text { OnOk result (out.new.items ≡ out.old.items ++ bytes.now) }
+    {
+        out.extend_from_slice(bytes)?;
+        self.tell(mark)?;
+        self.state.pass_line_bytes(bytes);
+        self.mode = Mode::Plain;
+        self.passed = self.passed.saturating_add(bytes.len() as u64);
+        Ok(())
     }
 
     // Does nothing begin at the first of these bytes?
@@ -354,6 +407,19 @@ impl Filler {
 
 /// The most bytes of the value of a tag Board that are told.
 const BOARD_BYTES: usize = 32;
+
+// Whether a tag that begins at a byte that stands so is the first thing on its line, where one can begin. The byte is not
+// within a tag, nor the first of the file or of its text behind a byte-order mark.
+fn tag_place(left: usize, mode: Mode) -> Option<bool>
+    ensures left { IfSome result (λ is_first. left ≡ 0) }
+    ensures mode { IfSome result (λ is_first. IsPlace mode is_first) }
+{
+    match (left, mode) {
+        (0, Mode::Start) => Some(true),
+        (0, Mode::Plain) => Some(false),
+        _ => None,
+    }
+}
 
 fn reason_of(unfit: Unfit) -> Reason {
     match unfit {

@@ -1,6 +1,7 @@
 //! The tag that a text begins with.
-ghost use Rattle.std.specs.Prelude.{◌≡◌, ◌-◌, ◌≤◌, length, take, List, ℕ};
+ghost use Rattle.std.specs.Prelude.{◌≡◌, ◌-◌, ◌≤◌, ◌∷◌, length, take, List, ℕ, IfSome};
 ghost use Rattle.dd_file.specs.Modes.{is_blank};
+ghost use Rattle.dd_file.specs.Quiet.{BeginsShort, after_calm};
 ghost use Rattle.dd_file.specs.Tags.{Reads, after_gap, after_name, after_string, byte_at, front_of, is_gap, is_name, name_at, parts_of, string_at, tag_at};
 
 use crate::mode::{LINE_FEED, Mode, is_blank};
@@ -42,6 +43,38 @@ pub(crate) fn read_tag(text: &[u8]) -> Result<TagText<'_>, Miss>
         quoted: front_of(string, last, 1),
         rest,
     })
+}
+
+/// The tag that the text begins with, where it stands on one line so: `[`, a name, a space, a string without a backslash,
+/// and `]`.
+pub(crate) fn read_short_tag(text: &[u8]) -> Option<TagText<'_>>
+    ensures { IfSome result (λ tag. BeginsShort text.now tag.name.now tag.quoted.now tag.rest.now) }
+{
+    let inner = behind(b'[', text)?;
+    let after = after_name_bytes(inner);
+    let opened = behind(b' ', after)?;
+    let string = behind(b'"', opened)?;
+    let last = after_quoted(string);
+    let closed = behind(b'"', last)?;
+    let rest = behind(b']', closed)?;
+    if after.len() >= inner.len() {
+        return None;
+    }
+    Some(TagText {
+        name: front_of(inner, after, 0),
+        quoted: front_of(string, last, 0),
+        rest,
+    })
+}
+
+// What follows this byte, where the text begins with it.
+fn behind(byte: u8, text: &[u8]) -> Option<&[u8]>
+    ensures { IfSome result (λ rest. text.now ≡ byte ∷ rest.now) }
+{
+    match text {
+        [first, rest @ ..] if *first == byte => Some(rest),
+        _ => None,
+    }
 }
 
 // Of a text what stands before this rest of it, without so many bytes at its end.

@@ -1,5 +1,4 @@
-use Rattle.std.proofs.Common.{◌<◌, arith}
-use Rattle.dd_file.proofs.Staying.{PassesSome-first, PassesSome-quiet}
+use Rattle.dd_file.proofs.Staying.{PassesSome-quiet, PassesSome-then}
 use Rattle.dd_file.proofs.engine.pass_some.Goals as goal
 
 pub returns-then-count-most : goal.returns-then-count-most
@@ -7,4 +6,4 @@ returns-then-count-most g c = PassesSome-quiet g.A.Analyst.gives c.args.is_all _
 
 pub returns : goal.returns
 returns g c =
-    PassesSome-first g.A.Analyst.gives c.args.is_all _ _ _ c.args.rest.now c.args.most _ _ _ _ c.requires.within c.in_ok-count.ensures c.if-count-most.false c.in_ok-pass_first.ensures
+    PassesSome-then g.A.Analyst.gives c.args.is_all _ _ _ c.args.rest.now c.args.most _ _ _ _ _ c.requires.within c.in_ok-count.ensures c.if-count-most.false c.in_ok-more.ensures
