@@ -13,6 +13,7 @@ pub mod AgainTags
 pub mod Calm
 pub mod Going
 pub mod Joined
+pub mod Lengths
 pub mod Passed
 pub mod ShortTags
 pub mod Spelled

@@ -1,7 +1,7 @@
 -- Bytes at which nothing begins come out as they are.
-use Rattle.std.proofs.Common.{◌≡◌, ◌∙◌, ℕ, zero, suc, ◌==◌, ◌+◌, ◌-◌, ◌<◌, ◌≤◌, Bool, true, false, List, [], ◌∷◌, ◌++◌, length, get_or, take, drop, refl, sym, ap, subst, arith, inr, true≢false, append_assoc, append-nil, length-append, length-drop, take_all, take-append-drop, Option}
+use Rattle.std.proofs.Common.{◌≡◌, ◌∙◌, ℕ, zero, suc, ◌==◌, ◌+◌, ◌-◌, ◌<◌, ◌≤◌, Bool, true, false, List, [], ◌∷◌, ◌++◌, length, get_or, take, drop, refl, sym, ap, subst, arith, inl, inr, ◌⊎◌, true≢false, eqb-true, append_assoc, append-nil, length-append, length-drop, take_all, take-append-drop, Option}
 use Rattle.std.specs.Prelude.{◌&&◌, ◌||◌, if◌then◌else◌}
-use Rattle.std.proofs.lemmas.Bool.{and_parts, not-true}
+use Rattle.std.proofs.lemmas.Bool.{and_parts, not-true, or_cases}
 use Rattle.std.proofs.lemmas.List.{drop-drop, length-take-le}
 use mathlib.Core.Bool.{not}
 use Rattle.dd_cards.specs.Hands.{FourHands}
@@ -10,12 +10,12 @@ use Rattle.dd_file.specs.declared.filler.Filler.{Filler}
 use Rattle.dd_file.specs.declared.mode.Mode.{Mode}
 use Rattle.dd_file.specs.declared.mode.Mode.TheVariants.{Head, Mark1, Mark2, Start, Plain, Escaped, Remark, Braced, Quoted, Backslash}
 use Rattle.dd_file.specs.declared.wanted.Wanted.{Wanted}
-use Rattle.dd_file.specs.Filled.{asks_from, filled_from}
-use Rattle.dd_file.specs.Games.{with_byte}
-use Rattle.dd_file.specs.Marked.{begins_within, left_within}
+use Rattle.dd_file.specs.Filled.{answers_after, ask_at, asked_here, asks_from, filled_from, state_here, text_here}
+use Rattle.dd_file.specs.Games.{next_state, with_byte}
+use Rattle.dd_file.specs.Marked.{begins_within, left_within, marked}
 use Rattle.dd_file.specs.Marks.{nothing, empty_line, line_mark, mark_at, mark_read}
 use Rattle.dd_file.specs.Modes.{is_blank, next_mode}
-use Rattle.dd_file.specs.Quiet.{PassesQuiet, PassesSome, Stays, Takes, after_calm, are_calm, is_calm, is_quiet, is_quiet_within, last_of, with_line_bytes}
+use Rattle.dd_file.specs.Quiet.{PassesQuiet, PassesSome, Stays, Takes, after_calm, are_calm, is_alone, is_calm, is_idle, is_quiet, is_quiet_within, last_of, with_line_bytes}
 use Rattle.dd_file.specs.Tags.{tag_at}
 use Rattle.dd_file.specs.Windows.{PassesFront, Point, marked_at, point_of}
 use Rattle.dd_file.proofs.AgainMarks.{blank-stop, is_all, line-begins, line-read, no-tag}
@@ -63,6 +63,44 @@ byte-stays p b quiet =
       fills = λ wanted answers rest. filled-byte wanted answers p.state p.left p.mode b rest nothing (quiet-nothing p.left p.mode b quiet rest);
       asks = λ wanted rest. asks-byte wanted p.state p.left p.mode b rest nothing (quiet-nothing p.left p.mode b quiet rest);
     }
+
+empty-begins : (b : ℕ) (r : List ℕ) → b ≡ 10 → begins_within 0 Start (b ∷ r) ≡ empty_line
+empty-begins b r feed =
+    let other : is_blank b ≡ false = ap is_blank feed in
+    line-begins Start b r (inr refl) ∙ ap (λ k. line_mark (is_all b r) (b ∷ take 65535 r) k) (blank-stop b (take 65535 r) other) ∙ line-read (is_all b r) (b ∷ take 65535 r) b (take 65535 r)
+    ∙ ap (λ (n : ℕ). if n == 10 then empty_line else mark_read true (is_all b r) (b ∷ take 65535 r) (tag_at (b ∷ take 65535 r))) feed
+
+-- an empty line ends no game that hasn't begun
+idle-stays : (state : FillState) (begun : Bool) (left : ℕ) (mode : Mode) (b : ℕ) → state.begun ≡ begun → is_idle begun left mode b ≡ true
+    → Stays (record { state = state; left = left; mode = mode }) (record { state = with_byte b state; left = left_within left nothing; mode = next_mode mode b }) (b ∷ [])
+idle-stays state false zero Start b none idle =
+    let starts : (r : List ℕ) → begins_within 0 Start (b ∷ r) ≡ empty_line = λ r. empty-begins b r (eqb-true b 10 idle) in
+    record {
+      fills = λ wanted answers rest.
+          filled-byte wanted answers state 0 Start b rest empty_line (starts rest)
+          ∙ ap (λ (t : Bool). text_here t wanted state answers ++ b ∷ filled_from wanted (answers_after t answers) (next_state (state_here t state) empty_line b) (marked 0 (next_mode Start b) rest)) none;
+      asks = λ wanted rest.
+          asks-byte wanted state 0 Start b rest empty_line (starts rest)
+          ∙ ap (λ (t : Bool). asked_here t (ask_at true wanted state) ++ asks_from wanted (next_state (state_here t state) empty_line b) (marked 0 (next_mode Start b) rest)) none;
+    }
+idle-stays state true left mode b none idle = absurd (true≢false (sym idle))
+idle-stays state false (suc more) mode b none idle = absurd (true≢false (sym idle))
+idle-stays state false zero Head b none idle = absurd (true≢false (sym idle))
+idle-stays state false zero Mark1 b none idle = absurd (true≢false (sym idle))
+idle-stays state false zero Mark2 b none idle = absurd (true≢false (sym idle))
+idle-stays state false zero Plain b none idle = absurd (true≢false (sym idle))
+idle-stays state false zero Escaped b none idle = absurd (true≢false (sym idle))
+idle-stays state false zero Remark b none idle = absurd (true≢false (sym idle))
+idle-stays state false zero Braced b none idle = absurd (true≢false (sym idle))
+idle-stays state false zero Quoted b none idle = absurd (true≢false (sym idle))
+idle-stays state false zero Backslash b none idle = absurd (true≢false (sym idle))
+
+alone-stays : (p : Point) (b : ℕ) → is_alone p.state.begun p.left p.mode b ≡ true → Stays p (behind p b) (b ∷ [])
+alone-stays p b alone = go (or_cases (is_quiet_within p.left p.mode b) (is_idle p.state.begun p.left p.mode b) alone)
+  where
+    go : (is_quiet_within p.left p.mode b ≡ true) ⊎ (is_idle p.state.begun p.left p.mode b ≡ true) → Stays p (behind p b) (b ∷ [])
+    go (inl quiet) = byte-stays p b quiet
+    go (inr idle) = idle-stays p.state p.state.begun p.left p.mode b refl idle
 
 -- ---- bytes behind bytes
 pub Stays-none : (p : Point) → Stays p p []
@@ -193,7 +231,7 @@ Takes-calm old new text bytes after rest front states lefts modes wanted =
           (sym (same-point (behind_calm (point_of old) bytes) new states (lefts ∙ sym (left-after old.left bytes)) modes)) (calm-stays (point_of old) bytes calm);
     }
 
-pub Takes-byte : (old new : Filler) (text : List ℕ) → 1 ≤ length text → is_quiet_within old.left old.mode (get_or text 0 0) ≡ true → new.state ≡ with_byte (get_or text 0 0) old.state
+pub Takes-byte : (old new : Filler) (text : List ℕ) → 1 ≤ length text → is_alone old.state.begun old.left old.mode (get_or text 0 0) ≡ true → new.state ≡ with_byte (get_or text 0 0) old.state
     → new.mode ≡ next_mode old.mode (get_or text 0 0) → new.left ≡ old.left - 1 → new.wanted ≡ old.wanted → Takes old new text (take (length text - 1) (drop 1 text))
 Takes-byte old new [] some_left quiet states modes lefts wanted = absurd (omega arith)
 Takes-byte old new (b ∷ text) some_left quiet states modes lefts wanted =
@@ -201,7 +239,7 @@ Takes-byte old new (b ∷ text) some_left quiet states modes lefts wanted =
       wanted = wanted;
       bytes = b ∷ [];
       split = ap (λ l. b ∷ l) (sym (tail-is b text));
-      stays = subst (λ (p : Point). Stays (point_of old) p (b ∷ [])) (sym (same-point (behind (point_of old) b) new states (lefts ∙ sym (within-one old.left)) modes)) (byte-stays (point_of old) b quiet);
+      stays = subst (λ (p : Point). Stays (point_of old) p (b ∷ [])) (sym (same-point (behind (point_of old) b) new states (lefts ∙ sym (within-one old.left)) modes)) (alone-stays (point_of old) b quiet);
     }
 
 -- ---- what was passed on

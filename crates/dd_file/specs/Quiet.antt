@@ -31,7 +31,26 @@ abbrev pub is_quiet_within : ℕ → Mode → ℕ → Bool
 is_quiet_within zero mode byte = is_quiet mode byte
 is_quiet_within (suc more) mode byte = true
 
--- and does the next byte stand as this one, on the same line?
+-- is it the end of an empty line, where no game has begun that could end there?
+abbrev pub is_idle : Bool → ℕ → Mode → ℕ → Bool
+is_idle true left mode byte = false
+is_idle false (suc more) mode byte = false
+is_idle false zero Start byte = byte == 10
+is_idle false zero Head byte = false
+is_idle false zero Mark1 byte = false
+is_idle false zero Mark2 byte = false
+is_idle false zero Plain byte = false
+is_idle false zero Escaped byte = false
+is_idle false zero Remark byte = false
+is_idle false zero Braced byte = false
+is_idle false zero Quoted byte = false
+is_idle false zero Backslash byte = false
+
+-- Does a byte come out alone, whatever follows? A game has begun, or not.
+abbrev pub is_alone : Bool → ℕ → Mode → ℕ → Bool
+is_alone begun left mode byte = is_quiet_within left mode byte || is_idle begun left mode byte
+
+-- does the next byte stand as a quiet one, on the same line?
 abbrev pub is_calm : Mode → ℕ → Bool
 is_calm Head byte = false
 is_calm Mark1 byte = false

@@ -9,7 +9,7 @@ ghost use Rattle.dd_file.specs.Marked.{is_closed, left_of, left_within};
 ghost use Rattle.dd_file.specs.Marks.{shown};
 ghost use Rattle.dd_file.specs.Modes.{next_mode};
 ghost use Rattle.dd_file.specs.Passing.{AddsAnswer, AddsFound, AddsLast, EndsBefore, KeepsPlace, PassesByte, begins_now, par_found};
-ghost use Rattle.dd_file.specs.Quiet.{IsPlace, PassesQuiet, PassesTag, Takes, with_line_bytes};
+ghost use Rattle.dd_file.specs.Quiet.{IsPlace, PassesQuiet, PassesTag, Takes, is_alone, with_line_bytes};
 
 use crate::analyst::{Analyst, Reason};
 use crate::fill_state::{Conditions, FillState};
@@ -17,7 +17,7 @@ use crate::known_tag::{BOARD, known_number};
 use crate::line_text::{LineEnds, push_contracts, push_score, push_table, push_tricks};
 use crate::mark::{Mark, NEAR, mark_at};
 use crate::mode::Mode;
-use crate::quiet::{after_calm, is_quiet_within};
+use crate::quiet::{after_calm, is_alone};
 use crate::tag_reader::read_short_tag;
 use crate::value::{Unfit, thirteen_in, unescaped};
 use crate::wanted::Wanted;
@@ -161,12 +161,19 @@ impl Filler {
         Ok(())
     }
 
-    // Does nothing begin at the first of these bytes?
+    // Does the first of these bytes come out alone?
     fn begins_quiet(&self, text: &[u8]) -> bool {
         match text {
-            [first, ..] => is_quiet_within(self.left, self.mode, *first),
+            [first, ..] => self.is_alone(*first),
             [] => false,
         }
+    }
+
+    // Does this byte come out alone if it is the next one, whatever follows?
+    fn is_alone(&self, byte: u8) -> bool
+        ensures { result ≡ is_alone self.now.state.begun self.now.left self.now.mode byte }
+    {
+        is_alone(self.state.begun, self.left, self.mode, byte)
     }
 
     // Takes such bytes in, and gives those after them.
@@ -183,13 +190,13 @@ impl Filler {
         }
     }
 
-    // Takes calm bytes in, and one more behind them if nothing begins at it.
+    // Takes calm bytes in, and one more behind them if it comes out alone.
     fn take_stretch<'a>(&mut self, text: &'a [u8]) -> &'a [u8]
         ensures { Takes self.old self.new text.now result.now }
     {
         let rest = self.take_calm(text);
         match rest {
-            [first, tail @ ..] if is_quiet_within(self.left, self.mode, *first) => {
+            [first, tail @ ..] if self.is_alone(*first) => {
                 self.take_byte(*first);
                 tail
             }
@@ -208,7 +215,7 @@ impl Filler {
         rest
     }
 
-    // Takes a byte in at which nothing begins.
+    // Takes a byte in that comes out alone.
     fn take_byte(&mut self, byte: u8)
         ensures state { self.new.state ≡ with_byte byte self.old.state }
         ensures mode { self.new.mode ≡ next_mode self.old.mode byte }
@@ -232,6 +239,7 @@ impl Filler {
     }
 
     // Ends the game that ends before what begins here, if it does.
+    #[inline(always)]
     fn end_before<A: Analyst>(
         &mut self,
         mark: &Mark<'_>,
@@ -276,6 +284,7 @@ impl Filler {
     }
 
     // Takes a tag in.
+    #[inline(always)]
     #[tactic(auto, unfolding(crate::specs::Games::with_tag))]
     fn tell(&mut self, mark: &Mark<'_>) -> Result<(), AllocError>
         ensures state { OnOk result (self.new.state ≡ with_mark (shown mark.now) self.old.state) }

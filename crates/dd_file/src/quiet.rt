@@ -1,11 +1,29 @@
 //! Bytes at which nothing begins, whatever follows: they are passed on many at once.
 ghost use Rattle.std.specs.Prelude.{◌≡◌};
-ghost use Rattle.dd_file.specs.Quiet.{after_calm, is_calm, is_quiet, is_quiet_within};
+ghost use Rattle.dd_file.specs.Quiet.{after_calm, is_alone, is_calm, is_idle, is_quiet, is_quiet_within};
 
 use crate::mode::{LINE_FEED, Mode, is_blank};
 
-/// Does nothing begin at a byte that stands so, of which so many with those after it belong to a tag?
-pub(crate) fn is_quiet_within(left: usize, mode: Mode, byte: u8) -> bool
+/// Does a byte that stands so come out alone, whatever follows? A game has begun, or not, and so many bytes with it belong to
+/// a tag.
+pub(crate) fn is_alone(begun: bool, left: usize, mode: Mode, byte: u8) -> bool
+    ensures { result ≡ is_alone begun left mode byte }
+{
+    is_quiet_within(left, mode, byte) || is_idle(begun, left, mode, byte)
+}
+
+// Is it the end of an empty line, where no game has begun that could end there?
+fn is_idle(begun: bool, left: usize, mode: Mode, byte: u8) -> bool
+    ensures { result ≡ is_idle begun left mode byte }
+{
+    match (begun, left, mode) {
+        (false, 0, Mode::Start) => byte == LINE_FEED,
+        _ => false,
+    }
+}
+
+// Does nothing begin at a byte that stands so?
+fn is_quiet_within(left: usize, mode: Mode, byte: u8) -> bool
     ensures { result ≡ is_quiet_within left mode byte }
 {
     match left {
