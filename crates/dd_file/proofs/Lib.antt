@@ -13,7 +13,6 @@ pub mod AgainTags
 pub mod Calm
 pub mod Going
 pub mod Joined
-pub mod Lengths
 pub mod Passed
 pub mod ShortTags
 pub mod Spelled

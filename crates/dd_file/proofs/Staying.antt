@@ -216,6 +216,13 @@ Takes-then old mid new t0 t1 t2 first second =
       stays = Stays-then (point_of old) (point_of mid) (point_of new) first.bytes second.bytes first.stays second.stays;
     }
 
+pub Takes-shorter : (old new : Filler) (text after : List ℕ) → Takes old new text after → 1 ≤ length after → length (take (length after - 1) (drop 1 after)) < length text
+Takes-shorter old new text [] takes some = absurd (omega arith)
+Takes-shorter old new text (b ∷ after) takes some =
+    let whole : length text ≡ length takes.bytes + length (b ∷ after) = ap length takes.split ∙ length-append takes.bytes (b ∷ after) in
+    let rest : length (take (length (b ∷ after) - 1) after) ≡ length after = ap length (tail-is b after) in
+    omega (arith, whole, rest)
+
 pub Takes-calm : (old new : Filler) (text bytes after : List ℕ) → after ≡ after_calm old.mode text → bytes ≡ take (length text - length after) text
     → new.state ≡ with_line_bytes bytes old.state → new.left ≡ old.left - length bytes → new.mode ≡ old.mode → new.wanted ≡ old.wanted → Takes old new text after
 Takes-calm old new text bytes after rest front states lefts modes wanted =

@@ -176,31 +176,21 @@ impl Filler {
         is_alone(self.state.begun, self.left, self.mode, byte)
     }
 
-    // Takes such bytes in, and gives those after them.
+    // Takes such bytes in, and gives those after them: calm bytes, and one behind them that comes out alone, by turns.
     fn take_quiet<'a>(&mut self, text: &'a [u8]) -> &'a [u8]
         ensures { Takes self.old self.new text.now result.now }
     {
         let mut rest = text;
-        loop {
-            let after = self.take_stretch(rest);
-            if after.len() >= rest.len() {
+        'stretches: loop {
+            let after = self.take_calm(rest);
+            let [first, tail @ ..] = after else {
+                return after;
+            };
+            if !self.is_alone(*first) {
                 return after;
             }
-            rest = after;
-        }
-    }
-
-    // Takes calm bytes in, and one more behind them if it comes out alone.
-    fn take_stretch<'a>(&mut self, text: &'a [u8]) -> &'a [u8]
-        ensures { Takes self.old self.new text.now result.now }
-    {
-        let rest = self.take_calm(text);
-        match rest {
-            [first, tail @ ..] if self.is_alone(*first) => {
-                self.take_byte(*first);
-                tail
-            }
-            _ => rest,
+            self.take_byte(*first);
+            rest = tail;
         }
     }
 

@@ -1,6 +1,6 @@
 //! The names of tags that matter.
 ghost use Rattle.std.specs.Prelude.{◌≡◌, ◌<◌, IfSome};
-ghost use Rattle.dd_file.specs.KnownTags.{added_number, first_number, known_number, last_number, or_else};
+ghost use Rattle.dd_file.specs.KnownTags.{added_number, first_number, known_number, last_number};
 
 use crate::value::is_word;
 
@@ -27,28 +27,18 @@ pub(crate) const CONTRACT: usize = 17;
 
 pub(crate) const TABLE: usize = 18;
 
-/// The number of a name, in either case. Its length tells which words it can be.
+/// The number of a name, in either case.
+#[tactic(auto, unfolding(crate::specs::KnownTags::known_number))]
 pub(crate) fn known_number(name: &[u8]) -> Option<u8>
     ensures value { result ≡ known_number name.now }
     ensures below { IfSome result (λ number. number < 19) }
 {
-    if name.len() > 10 {
-        added_number(name)
-    } else if name.len() > 5 {
-        last_number(name)
-    } else {
-        short_number(name)
-    }
-}
-
-// The number of a name that is none of those that are added.
-fn short_number(name: &[u8]) -> Option<u8>
-    ensures value { result ≡ or_else (first_number name.now) (last_number name.now) }
-    ensures below { IfSome result (λ number. number < 19) }
-{
     match first_number(name) {
         Some(number) => Some(number),
-        None => last_number(name),
+        None => match last_number(name) {
+            Some(number) => Some(number),
+            None => added_number(name),
+        },
     }
 }
 

@@ -163,9 +163,9 @@ fn after_name_bytes(text: &[u8]) -> &[u8]
 fn is_name(byte: u8) -> bool
     ensures { result ≡ is_name byte }
 {
-    (b'0' <= byte && byte <= b'9')
+    (b'a' <= byte && byte <= b'z')
         || (b'A' <= byte && byte <= b'Z')
-        || (b'a' <= byte && byte <= b'z')
+        || (b'0' <= byte && byte <= b'9')
         || byte == b'_'
 }
 
