@@ -147,8 +147,22 @@ fn read_member<'a>(text: &'a [u8], fields: &mut Fields<'a>) -> Option<&'a [u8]>
     }
 }
 
-// The name of a field, and what follows its colon.
+// The name of a field, and what follows its colon. The first letter says which it may be.
 fn read_key(text: &[u8]) -> Option<(KeyName, &[u8])>
+    ensures { IfSome result (λ found. text.now ≡ 34 ∷ (key_text found.0 ++ 34 ∷ 58 ∷ found.1.now)) }
+{
+    match *text.get(1)? {
+        b'd' => key_in_d(text),
+        b'f' => Some((KeyName::First, after(text, b"\"first\":")?)),
+        b'p' => Some((KeyName::Played, after(text, b"\"played\":")?)),
+        b's' => key_in_s(text),
+        b't' => key_in_t(text),
+        b'v' => Some((KeyName::Vulnerable, after(text, b"\"vulnerable\":")?)),
+        _ => None,
+    }
+}
+
+fn key_in_d(text: &[u8]) -> Option<(KeyName, &[u8])>
     ensures { IfSome result (λ found. text.now ≡ 34 ∷ (key_text found.0 ++ 34 ∷ 58 ∷ found.1.now)) }
 {
     if let Some(rest) = after(text, b"\"do\":") {
@@ -157,34 +171,28 @@ fn read_key(text: &[u8]) -> Option<(KeyName, &[u8])>
     if let Some(rest) = after(text, b"\"deal\":") {
         return Some((KeyName::Deal, rest));
     }
-    if let Some(rest) = after(text, b"\"trump\":") {
-        return Some((KeyName::Trump, rest));
-    }
-    if let Some(rest) = after(text, b"\"first\":") {
-        return Some((KeyName::First, rest));
-    }
+    Some((KeyName::Dealer, after(text, b"\"dealer\":")?))
+}
+
+fn key_in_s(text: &[u8]) -> Option<(KeyName, &[u8])>
+    ensures { IfSome result (λ found. text.now ≡ 34 ∷ (key_text found.0 ++ 34 ∷ 58 ∷ found.1.now)) }
+{
     if let Some(rest) = after(text, b"\"solutions\":") {
         return Some((KeyName::Solutions, rest));
     }
-    if let Some(rest) = after(text, b"\"played\":") {
-        return Some((KeyName::Played, rest));
+    Some((KeyName::Side, after(text, b"\"side\":")?))
+}
+
+fn key_in_t(text: &[u8]) -> Option<(KeyName, &[u8])>
+    ensures { IfSome result (λ found. text.now ≡ 34 ∷ (key_text found.0 ++ 34 ∷ 58 ∷ found.1.now)) }
+{
+    if let Some(rest) = after(text, b"\"trump\":") {
+        return Some((KeyName::Trump, rest));
     }
     if let Some(rest) = after(text, b"\"table\":") {
         return Some((KeyName::Table, rest));
     }
-    if let Some(rest) = after(text, b"\"dealer\":") {
-        return Some((KeyName::Dealer, rest));
-    }
-    if let Some(rest) = after(text, b"\"vulnerable\":") {
-        return Some((KeyName::Vulnerable, rest));
-    }
-    if let Some(rest) = after(text, b"\"side\":") {
-        return Some((KeyName::Side, rest));
-    }
-    if let Some(rest) = after(text, b"\"target\":") {
-        return Some((KeyName::Target, rest));
-    }
-    None
+    Some((KeyName::Target, after(text, b"\"target\":")?))
 }
 
 fn put_number<'a>(text: &'a [u8], field: &mut Option<u64>) -> Option<&'a [u8]>
