@@ -2,7 +2,7 @@
 # Refuses memory to the built program as the line tool (`tools/refuse.c`, for which a C compiler is needed): of each of its
 # first 400 allocations, one a run, with one worker and with two. A run whose start finds no memory answers nothing, and ends with
 # status 1 and its line. Each other one ends with status 0 and answers every line as recorded, but for one line at most, which is
-# told 19. With one worker each line is told so in some run. It takes seconds.
+# told 19. The first lines are read with no memory, and never told so; with one worker each other one is in some run. It takes seconds.
 set -eu
 here=$(cd -- "$(dirname -- "$0")" && pwd)
 data=$here/data
@@ -15,13 +15,23 @@ trap 'rm -rf "$work"' EXIT
 program=${DDSERVE:-$here/../crates/ddserve/out/ddserve}
 [ -n "${DDSERVE:-}" ] || "$here/../ddserve" --version > /dev/null
 cc -O2 -shared -fPIC -o "$work/refuse.so" "$here/tools/refuse.c"
-for name in written target_faults play_faults par; do
+# Those of a usual form, then the same in another form, with a space before the brace, then other kinds.
+for name in written par; do
     head -n 4 "$data/$name.jsonl" >> "$work/lines"
     head -n 4 "$data/$name.expected" >> "$work/expected"
 done
-python3 - "$program" "$work" <<'END'
+usual=$(wc -l < "$work/lines")
+for name in written par; do
+    head -n 4 "$data/$name.jsonl" | sed 's/}$/ }/' >> "$work/lines"
+    head -n 4 "$data/$name.expected" >> "$work/expected"
+done
+for name in target_faults play_faults; do
+    head -n 4 "$data/$name.jsonl" >> "$work/lines"
+    head -n 4 "$data/$name.expected" >> "$work/expected"
+done
+python3 - "$program" "$work" "$usual" <<'END'
 import os, subprocess, sys
-program, work = sys.argv[1:]
+program, work, usual = sys.argv[1:]
 ALLOCATIONS = 400
 OUT, REFUSED = "ddserve: out of memory\n", '{"fault":19}'
 asked = open(f"{work}/lines").read()
@@ -49,6 +59,7 @@ for workers in "1", "2":
         assert len(others) <= 1 and all(replies[line] == REFUSED for line in others), f"{place}: {replies}"
         told += others
     assert ended and told, f"{workers} workers: {ended} runs ended at the start, {len(told)} lines were told 19"
-    assert workers != "1" or set(told) == set(range(len(wanted))), f"lines that were never told 19: {set(range(len(wanted))) - set(told)}"
+    needing = set(range(int(usual), len(wanted)))
+    assert workers != "1" or set(told) == needing, f"lines told 19 wrongly or never: {needing ^ set(told)}"
     print(f"memory: of {ALLOCATIONS} allocations refused singly with --workers {workers}, {ended} end the program at its start, {len(told)} are told of one line, and all other lines are right")
 END
