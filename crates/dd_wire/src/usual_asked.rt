@@ -1,5 +1,5 @@
 //! What lines of the usual forms ask.
-ghost use Rattle.std.specs.Prelude.{◌≡◌, ◌<◌, ◌≤◌, ℕ, List, Result, [], length, map, true, Some, None, IfSome};
+ghost use Rattle.std.specs.Prelude.{◌≡◌, ◌<◌, ◌≤◌, ℕ, List, Result, length, map, true, Some, None, IfSome};
 ghost use Rattle.dd_lines.specs.Line.{longest_line};
 ghost use Rattle.dd_solve.specs.Questions.{Question};
 ghost use Rattle.dd_wire.specs.Lines.{Means, MeansMembers};

@@ -1,7 +1,7 @@
 //! Lines of the usual forms, read in one pass with no tree of their values: par of given results, and cards of a position. The keys
 //! stand in any order, a space may follow a comma, a colon or an opening bracket, and numbers have one digit or two. What
 //! else stands in a line isn't read here.
-ghost use Rattle.std.specs.Prelude.{◌≡◌, ◌≤◌, ◌<◌, ℕ, length, take, ◌+◌, ◌∷◌, ◌++◌, map, true, false, None, Some, IfSome};
+ghost use Rattle.std.specs.Prelude.{◌≡◌, ◌≤◌, ◌<◌, length, take, ◌+◌, ◌∷◌, ◌++◌, map, true, false, None, Some, IfSome};
 ghost use Rattle.std.specs.List.{list_all};
 ghost use Rattle.std.specs.Str.{bytes_eq};
 ghost use Rattle.json.specs.Lex.{lex, between, fresh, begins_colon};
