@@ -1,11 +1,9 @@
 -- Lines of tags and of rows are passed over, with their ends.
-use Rattle.std.proofs.Common.{◌≡◌, ◌∙◌, ℕ, suc, ◌==◌, ◌-◌, ◌≤◌, Bool, true, false, List, [], ◌∷◌, ◌++◌, length, take, refl, sym, ap, subst, arith, append_assoc, append-nil, length-append, take_all, true≢false, inr, Option, None, Result, Ok, Err}
+use Rattle.std.proofs.Common.{◌≡◌, ◌∙◌, ℕ, suc, ◌==◌, ◌-◌, ◌≤◌, Bool, true, false, List, [], ◌∷◌, ◌++◌, length, take, refl, sym, ap, subst, arith, append_assoc, append-nil, inr, Option, None, Ok}
 use Rattle.std.specs.Prelude.{if◌then◌else◌, slice_set}
 use Rattle.dd_file.specs.declared.fill_state.FillState.{FillState}
 use Rattle.dd_file.specs.declared.mode.Mode.{Mode}
 use Rattle.dd_file.specs.declared.mode.Mode.TheVariants.{Head, Mark1, Mark2, Start, Plain, Escaped, Remark, Braced, Quoted, Backslash}
-use Rattle.dd_file.specs.declared.tag_reader.Miss.{Miss}
-use Rattle.dd_file.specs.declared.tag_reader.Miss.TheVariants.{NoTag}
 use Rattle.dd_file.specs.declared.wanted.Wanted.{Wanted}
 use Rattle.dd_file.specs.Filled.{ask_at, asked_here, asks_from, state_here}
 use Rattle.dd_file.specs.Games.{has_name, is_required, next_state, with_byte, with_tag}
@@ -14,11 +12,10 @@ use Rattle.dd_file.specs.Marked.{begins, marked}
 use Rattle.dd_file.specs.Marks.{tag, line_mark, mark_at, mark_read}
 use Rattle.dd_file.specs.Modes.{next_mode}
 use Rattle.dd_file.specs.Quiet.{are_names}
-use Rattle.dd_file.specs.Tags.{◌>>=◌, after_gap, after_name, after_string, byte_at, front_of, is_gap, is_name, tag_at}
-use Rattle.dd_file.proofs.AgainMarks.{blank-stop, is_all, line-begins, line-read, take-over}
-use Rattle.dd_file.proofs.AgainMiss.{gap-step, gap-stop, name-step, name-stop, read-first, read_end, read_name, read_string, read_value, tag-steps}
+use Rattle.dd_file.specs.Tags.{after_string, front_of, is_gap, is_name, tag_at}
+use Rattle.dd_file.proofs.AgainMarks.{blank-stop, is_all, line-begins, line-read}
 use Rattle.dd_file.proofs.AgainOver.{Goes, Spot, at_spot, goes-byte, goes-then, goes-within, is_quiet, last_of, last-append, modes, modes-append, plain-nothing, quiet-append, spot}
-use Rattle.dd_file.proofs.AgainTags.{as_tag, byte-found, front-is}
+use Rattle.dd_file.proofs.AgainTags.{as_tag}
 use Rattle.dd_file.proofs.Going.{asks-byte}
 use Rattle.dd_file.proofs.ShortTags.{name-read, near-split, opened-read, split-size, value-read}
 

@@ -1,5 +1,5 @@
 -- What was answered of a game that ends, and its lines.
-use Rattle.std.proofs.Common.{◌≡◌, ◌∙◌, ℕ, Bool, true, List, [], ◌∷◌, ◌++◌, refl, sym, ap, subst, Option, None, Some, Ok}
+use Rattle.std.proofs.Common.{◌≡◌, ◌∙◌, ℕ, Bool, true, List, [], ◌∷◌, ◌++◌, sym, ap, subst, Option, None, Some, Ok}
 use Rattle.std.specs.Prelude.{is_some, if◌then◌else◌}
 use Rattle.dd_cards.specs.Hands.{FourHands}
 use Rattle.dd_file.specs.declared.fill_state.Conditions.{Conditions}

@@ -1,6 +1,6 @@
 -- Tags that stand on one line are read at once, and what stands outside behind them.
 use Rattle.std.proofs.Common.{◌≡◌, ◌∙◌, ℕ, suc, ◌==◌, ◌+◌, ◌-◌, ◌≤◌, ◌<◌, Bool, true, false, List, [], ◌∷◌, ◌++◌, length, take, drop, refl, sym, ap, subst, arith, append_assoc, append-nil, length-append, take_all, take-append-drop, true≢false, eqb-true, inl, inr, Option, Result, Ok, Err}
-use Rattle.std.specs.Prelude.{◌&&◌, ◌||◌, if◌then◌else◌}
+use Rattle.std.specs.Prelude.{◌&&◌, if◌then◌else◌}
 use Rattle.std.proofs.lemmas.Bool.{and_parts, not-true}
 use Rattle.std.proofs.lemmas.List.{length-take-le}
 use mathlib.Core.Bool.{not}
@@ -15,12 +15,12 @@ use Rattle.dd_file.specs.declared.tag_reader.Miss.TheVariants.{NoTag}
 use Rattle.dd_file.specs.declared.wanted.Wanted.{Wanted}
 use Rattle.dd_file.specs.Filled.{Found, AreAnswers, answers_after, ask_at, asked_here, asks_from, filled_from, state_here, text_here}
 use Rattle.dd_file.specs.Games.{ends, with_byte, with_mark}
-use Rattle.dd_file.specs.Marked.{begins, begins_within, left_of, left_within, marked}
-use Rattle.dd_file.specs.Marks.{Begins, nothing, tag, line_mark, mark_read}
-use Rattle.dd_file.specs.Modes.{is_blank, next_mode, outside_mode}
+use Rattle.dd_file.specs.Marked.{begins, marked}
+use Rattle.dd_file.specs.Marks.{tag, line_mark, mark_read}
+use Rattle.dd_file.specs.Modes.{next_mode, outside_mode}
 use Rattle.dd_file.specs.Passing.{EndsBefore}
-use Rattle.dd_file.specs.Quiet.{BeginsShort, IsPlace, PassesSome, PassesTag, Stays, after_calm, are_calm, are_names, is_calm, last_of, short_tag, with_line_bytes}
-use Rattle.dd_file.specs.Tags.{◌>>=◌, after_gap, after_name, after_string, byte_at, front_of, is_gap, is_name, string_at, tag_at}
+use Rattle.dd_file.specs.Quiet.{BeginsShort, IsPlace, PassesSome, PassesTag, Stays, after_calm, are_calm, are_names, is_calm, with_line_bytes}
+use Rattle.dd_file.specs.Tags.{◌>>=◌, after_gap, after_name, after_string, byte_at, front_of, is_gap, is_name, tag_at}
 use Rattle.dd_file.specs.Windows.{Passed, PassesFront, Point, marked_at, point_of}
 use Rattle.dd_file.proofs.AgainMarks.{blank-stop, is_all, line-begins, line-read, plain-begins, take-over}
 use Rattle.dd_file.proofs.AgainMiss.{gap-step, gap-stop, name-step, name-stop, read-first, read_end, read_name, read_string, read_value, tag-steps}

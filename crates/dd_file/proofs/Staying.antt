@@ -1,5 +1,5 @@
 -- Bytes at which nothing begins come out as they are.
-use Rattle.std.proofs.Common.{◌≡◌, ◌∙◌, ℕ, zero, suc, ◌==◌, ◌+◌, ◌-◌, ◌<◌, ◌≤◌, Bool, true, false, List, [], ◌∷◌, ◌++◌, length, get_or, take, drop, refl, sym, ap, subst, arith, inl, inr, ◌⊎◌, true≢false, eqb-true, append_assoc, append-nil, length-append, length-drop, take_all, take-append-drop, Option}
+use Rattle.std.proofs.Common.{◌≡◌, ◌∙◌, ℕ, zero, suc, ◌==◌, ◌+◌, ◌-◌, ◌<◌, ◌≤◌, Bool, true, false, List, [], ◌∷◌, ◌++◌, length, get_or, take, drop, refl, sym, ap, subst, arith, inl, inr, ◌⊎◌, true≢false, eqb-true, append_assoc, length-append, length-drop, take_all, take-append-drop, Option}
 use Rattle.std.specs.Prelude.{◌&&◌, ◌||◌, if◌then◌else◌}
 use Rattle.std.proofs.lemmas.Bool.{and_parts, not-true, or_cases}
 use Rattle.std.proofs.lemmas.List.{drop-drop, length-take-le}
@@ -9,18 +9,17 @@ use Rattle.dd_file.specs.declared.fill_state.FillState.{FillState}
 use Rattle.dd_file.specs.declared.filler.Filler.{Filler}
 use Rattle.dd_file.specs.declared.mode.Mode.{Mode}
 use Rattle.dd_file.specs.declared.mode.Mode.TheVariants.{Head, Mark1, Mark2, Start, Plain, Escaped, Remark, Braced, Quoted, Backslash}
-use Rattle.dd_file.specs.declared.wanted.Wanted.{Wanted}
 use Rattle.dd_file.specs.Filled.{answers_after, ask_at, asked_here, asks_from, filled_from, state_here, text_here}
 use Rattle.dd_file.specs.Games.{next_state, with_byte}
 use Rattle.dd_file.specs.Marked.{begins_within, left_within, marked}
 use Rattle.dd_file.specs.Marks.{nothing, empty_line, line_mark, mark_at, mark_read}
 use Rattle.dd_file.specs.Modes.{is_blank, next_mode}
-use Rattle.dd_file.specs.Quiet.{PassesQuiet, PassesSome, Stays, Takes, after_calm, are_calm, is_alone, is_calm, is_idle, is_quiet, is_quiet_within, last_of, with_line_bytes}
+use Rattle.dd_file.specs.Quiet.{KeepsCounts, PassesQuiet, PassesSome, Stays, Takes, after_calm, are_calm, is_alone, is_calm, is_idle, is_quiet, is_quiet_within, with_line_bytes}
 use Rattle.dd_file.specs.Tags.{tag_at}
 use Rattle.dd_file.specs.Windows.{PassesFront, Point, marked_at, point_of}
 use Rattle.dd_file.proofs.AgainMarks.{blank-stop, is_all, line-begins, line-read, no-tag}
 use Rattle.dd_file.proofs.AgainOver.{plain-nothing}
-use Rattle.dd_file.proofs.Calm.{calm-front, front-taken, last-of}
+use Rattle.dd_file.proofs.Calm.{calm-front, front-taken}
 use Rattle.dd_file.proofs.Going.{PassesFront-then, asks-byte, filled-byte}
 use Rattle.dd_file.proofs.Steps.{tail-is}
 
@@ -203,6 +202,10 @@ same-point p new states lefts modes =
     ap (λ (s : FillState). (let q : Point = record { state = s; left = new.left; mode = new.mode } in q)) states
     ∙ ap (λ (n : ℕ). (let q : Point = record { state = p.state; left = n; mode = new.mode } in q)) lefts
     ∙ ap (λ (m : Mode). (let q : Point = record { state = p.state; left = p.left; mode = m } in q)) modes
+
+pub KeepsCounts-then : (old mid new : Filler) → KeepsCounts old mid → KeepsCounts mid new → KeepsCounts old new
+KeepsCounts-then old mid new first second =
+    record { number = second.number ∙ first.number; board = second.board ∙ first.board; passed = second.passed ∙ first.passed }
 
 pub Takes-none : (old : Filler) (text : List ℕ) → Takes old old text text
 Takes-none old text = record { wanted = refl; bytes = []; split = refl; stays = Stays-none (point_of old) }

@@ -1,13 +1,11 @@
 -- What is put in between the bytes of a file.
-use Rattle.std.proofs.Common.{◌≡◌, ℕ, Bool, true, false, List, [], ◌∷◌, ◌++◌, refl, Option, None, Some}
+use Rattle.std.proofs.Common.{ℕ, Bool, true, false, List, [], ◌∷◌, refl, Option, None, Some}
 use Rattle.dd_file.specs.declared.fill_state.FillState.{FillState}
-use Rattle.dd_file.specs.declared.line_text.LineEnds.{LineEnds}
 use Rattle.dd_file.specs.declared.mode.Mode.{Mode}
 use Rattle.dd_file.specs.declared.wanted.Wanted.{Wanted}
 use Rattle.dd_file.specs.Filled.{Found, added_text, answers_after, ends_last, filled_from, state_here, text_here}
 use Rattle.dd_file.specs.Games.{ends, lacks, line_ends, next_state}
-use Rattle.dd_file.specs.Marked.{Marked, begins_within, is_closed, left_within, marked}
-use Rattle.dd_file.specs.Marks.{Begins}
+use Rattle.dd_file.specs.Marked.{begins_within, is_closed, left_within, marked}
 use Rattle.dd_file.specs.Modes.{next_mode}
 use Rattle.dd_file.specs.Woven.{AreLines, HasLines}
 

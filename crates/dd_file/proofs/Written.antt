@@ -15,7 +15,7 @@ use Rattle.dd_file.specs.declared.mode.Mode.{Mode}
 use Rattle.dd_file.specs.declared.mode.Mode.TheVariants.{Head}
 use Rattle.dd_file.specs.Games.{first_state}
 use Rattle.dd_file.specs.declared.wanted.Wanted.{Wanted}
-use Rattle.dd_file.specs.Filled.{Ask, Found, AreAnswers, ask_of, asked_here, ends_last, text_here}
+use Rattle.dd_file.specs.Filled.{AreAnswers, ask_of, asked_here, ends_last, text_here}
 use Rattle.dd_file.specs.Marked.{is_closed}
 use Rattle.dd_file.specs.Passing.{AddsLast}
 use Rattle.dd_file.specs.Served.{FilledAll, FilledBeginning, StopsAtFirstFailure, StopsAtWrite}

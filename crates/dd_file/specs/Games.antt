@@ -1,16 +1,14 @@
 -- To be believed: the games of a file: where one ends, which tags it has, and what their values are.
-use Rattle.std.specs.Prelude.{ℕ, ◌==◌, ◌&&◌, ◌||◌, nat_lt, Bool, true, false, List, slice_index_or, slice_set, replicate, Option, Some, None, is_some, option_and_then, Result, Ok, Err, if◌then◌else◌}
+use Rattle.std.specs.Prelude.{ℕ, ◌==◌, ◌&&◌, nat_lt, Bool, true, false, List, slice_index_or, slice_set, replicate, Option, Some, None, option_and_then, Err, if◌then◌else◌}
 use mathlib.Core.Bool.{not}
 use Rattle.dd_cards.specs.declared.seat.Seat.{Seat}
-use Rattle.dd_cards.specs.Hands.{FourHands}
 use Rattle.dd_score.specs.declared.vulnerable.Vulnerable.{Vulnerable}
 use Rattle.dd_file.specs.declared.fill_state.FillState.{FillState}
 use Rattle.dd_file.specs.declared.fill_state.Conditions.{Conditions}
 use Rattle.dd_file.specs.declared.kept.Kept.{Kept}
-use Rattle.dd_file.specs.declared.known_tag.TheConstants.{BOARD, CONTRACT, DEAL, DEALER, NAMES, REQUIRED, SCORE, TABLE, TRICKS, VULNERABLE}
+use Rattle.dd_file.specs.declared.known_tag.TheConstants.{CONTRACT, DEAL, DEALER, NAMES, REQUIRED, SCORE, TABLE, TRICKS, VULNERABLE}
 use Rattle.dd_file.specs.declared.line_text.LineEnds.{LineEnds}
-use Rattle.dd_file.specs.declared.value.Unfit.{Unfit}
-use Rattle.dd_file.specs.declared.value.Unfit.TheVariants.{NoDeal, Refused}
+use Rattle.dd_file.specs.declared.value.Unfit.TheVariants.{NoDeal}
 use Rattle.dd_file.specs.declared.wanted.Wanted.{Wanted}
 use Rattle.dd_file.specs.Kepts.{value_of, with_value, after_game}
 use Rattle.dd_file.specs.KnownTags.{known_number}

@@ -1,5 +1,5 @@
 -- To be believed: a value of a game, with what it has from the games before.
-use Rattle.std.specs.Prelude.{Option, None, Some, unwrap_or}
+use Rattle.std.specs.Prelude.{None, Some, unwrap_or}
 use Rattle.dd_file.specs.declared.kept.Kept.{Kept}
 use Rattle.dd_file.specs.declared.kept.Told.{Told}
 use Rattle.dd_file.specs.declared.kept.Told.TheVariants.{AsBefore, FromHere, Here}

@@ -9,7 +9,7 @@ use Rattle.dd_file.specs.declared.line_text.LineEnds.{LineEnds}
 use Rattle.dd_file.specs.declared.mode.Mode.{Mode}
 use Rattle.dd_file.specs.declared.wanted.Wanted.{Wanted}
 use Rattle.dd_file.specs.Filled.{Ask, Found, ParFound, AreAnswers, IsAnswer, IsParFound, added_text, ask_at, ask_of, asked_here, ends_last, has_place, state_here, text_here, text_of}
-use Rattle.dd_file.specs.Games.{ends, next_state, with_mark}
+use Rattle.dd_file.specs.Games.{ends, next_state}
 use Rattle.dd_file.specs.Marked.{left_within}
 use Rattle.dd_file.specs.Marks.{Begins, nothing, mark_at}
 use Rattle.dd_file.specs.Modes.{next_mode}

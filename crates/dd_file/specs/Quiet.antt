@@ -1,5 +1,5 @@
--- Bytes that are passed on many at once, since nothing begins at them.
-use Rattle.std.specs.Prelude.{◌≡◌, ℕ, zero, suc, ◌<◌, ◌≤◌, ◌==◌, ◌&&◌, ◌||◌, Bool, true, false, List, [], ◌∷◌, ◌++◌, length, take, drop, Option, if◌then◌else◌}
+-- Bytes that are passed on many at once, since they come out alone.
+use Rattle.std.specs.Prelude.{◌≡◌, ℕ, zero, suc, ◌+◌, ◌-◌, ◌^◌, min, ◌<◌, ◌≤◌, ◌==◌, ◌&&◌, ◌||◌, Bool, true, false, List, [], ◌∷◌, ◌++◌, length, take, drop, Option, if◌then◌else◌}
 use mathlib.Core.Bool.{not}
 use Rattle.dd_cards.specs.Hands.{FourHands}
 use Rattle.dd_file.specs.declared.fill_state.FillState.{FillState}
@@ -98,6 +98,19 @@ pub record Takes (old new : Filler) (before after : List ℕ) : Type 0 where
   pub bytes : List ℕ
   pub split : before ≡ bytes ++ after
   pub stays : Stays (point_of old) (point_of new) bytes
+
+-- the number of the game at hand, what its tag Board says and how many bytes were passed on are as they were
+pub record KeepsCounts (old new : Filler) : Type 0 where
+  pub number : new.number ≡ old.number
+  pub board : new.board ≡ old.board
+  pub passed : new.passed ≡ old.passed
+
+-- So many bytes more were passed on, in the same game; a count that is too great stays at the most.
+pub record Counts (old new : Filler) (count : ℕ) : Type 0 where
+  pub number : new.number ≡ old.number
+  pub board : new.board ≡ old.board
+  pub some : 0 < count → new.passed ≡ min (old.passed + count) (2 ^ 64 - 1)
+  pub none : count ≡ 0 → new.passed ≡ old.passed
 
 -- the first so many bytes of a text were passed on so
 pub record PassesQuiet (old new : Filler) (text : List ℕ) (count : ℕ) (out_old out_new : List ℕ) : Type 0 where

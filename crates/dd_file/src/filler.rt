@@ -1,5 +1,5 @@
-//! A file passed on byte by byte, with the lines that its games lack.
-ghost use Rattle.std.specs.Prelude.{◌≡◌, ◌<◌, ◌-◌, ◌++◌, length, slice_index, IfOk, IfSome, OnOk};
+//! A file passed on by stretches, tags and single bytes, with the lines that its games lack.
+ghost use Rattle.std.specs.Prelude.{◌≡◌, ◌<◌, ◌+◌, ◌-◌, ◌^◌, ◌++◌, length, min, slice_index, IfOk, IfSome, OnOk};
 ghost use Rattle.dd_cards.specs.Hands.{FourHands};
 ghost use Rattle.dd_file.specs.Deals.{IsThirteen};
 ghost use Rattle.dd_file.specs.Filled.{IsParFound, added_text, ask_at, ask_of, ask_with, asked_here, ends_last, has_place, needs, par_text, text_here, where_lacking};
@@ -9,7 +9,7 @@ ghost use Rattle.dd_file.specs.Marked.{is_closed, left_of, left_within};
 ghost use Rattle.dd_file.specs.Marks.{shown};
 ghost use Rattle.dd_file.specs.Modes.{next_mode};
 ghost use Rattle.dd_file.specs.Passing.{AddsAnswer, AddsFound, AddsLast, EndsBefore, KeepsPlace, PassesByte, begins_now, par_found};
-ghost use Rattle.dd_file.specs.Quiet.{IsPlace, PassesQuiet, PassesTag, Takes, is_alone, with_line_bytes};
+ghost use Rattle.dd_file.specs.Quiet.{Counts, IsPlace, KeepsCounts, PassesQuiet, PassesTag, Takes, is_alone, with_line_bytes};
 
 use crate::analyst::{Analyst, Reason};
 use crate::fill_state::{Conditions, FillState};
@@ -96,9 +96,10 @@ impl Filler {
         self.take(&mark, byte)
     }
 
-    /// Passes on the first of these bytes, as far as nothing begins at them, and tells how many.
+    /// Passes on the first of these bytes, as far as they come out alone, and tells how many.
     pub(crate) fn pass_quiet(&mut self, text: &[u8], out: &mut Vec<u8>) -> Result<usize, AllocError>
-        ensures { IfOk result (λ count. PassesQuiet self.old self.new text.now count out.old.items out.new.items) }
+        ensures passes { IfOk result (λ count. PassesQuiet self.old self.new text.now count out.old.items out.new.items) }
+        ensures counts { IfOk result (λ count. Counts self.old self.new count) }
     {
         if !self.begins_quiet(text) {
             return Ok(0);
@@ -117,7 +118,9 @@ impl Filler {
         analyst: &mut A,
         out: &mut Vec<u8>,
     ) -> Result<usize, AllocError>
-        ensures { IfOk result (λ count. PassesTag A.gives self.old self.new text.now count out.old.items out.new.items) }
+        ensures passes { IfOk result (λ count. PassesTag A.gives self.old self.new text.now count out.old.items out.new.items) }
+        ensures counts { IfOk result (λ count. (0 < count → self.new.passed ≡ min (self.old.passed + count) (2 ^ 64 - 1))
+            × (count ≡ 0 → KeepsCounts self.old self.new)) }
     {
         let Some(is_first) = tag_place(self.left, self.mode) else {
             return Ok(0);
@@ -152,6 +155,8 @@ impl Filler {
         ensures left { OnOk result (self.new.left ≡ self.old.left) }
         ensures wanted { OnOk result (self.new.wanted ≡ self.old.wanted) }
         ensures text { OnOk result (out.new.items ≡ out.old.items ++ bytes.now) }
+        ensures passed { OnOk result (self.new.passed ≡ min (self.old.passed + length bytes.now) (2 ^ 64 - 1)) }
+        ensures number { OnOk result (self.new.number ≡ self.old.number) }
     {
         out.extend_from_slice(bytes)?;
         self.tell(mark)?;
@@ -178,7 +183,8 @@ impl Filler {
 
     // Takes such bytes in, and gives those after them: calm bytes, and one behind them that comes out alone, by turns.
     fn take_quiet<'a>(&mut self, text: &'a [u8]) -> &'a [u8]
-        ensures { Takes self.old self.new text.now result.now }
+        ensures takes { Takes self.old self.new text.now result.now }
+        ensures counts { KeepsCounts self.old self.new }
     {
         let mut rest = text;
         'stretches: loop {
@@ -196,7 +202,8 @@ impl Filler {
 
     // Takes calm bytes in.
     fn take_calm<'a>(&mut self, text: &'a [u8]) -> &'a [u8]
-        ensures { Takes self.old self.new text.now result.now }
+        ensures takes { Takes self.old self.new text.now result.now }
+        ensures counts { KeepsCounts self.old self.new }
     {
         let rest = after_calm(self.mode, text);
         let bytes = &text[..text.len().saturating_sub(rest.len())];
@@ -211,6 +218,7 @@ impl Filler {
         ensures mode { self.new.mode ≡ next_mode self.old.mode byte }
         ensures left { self.new.left ≡ self.old.left - 1 }
         ensures wanted { self.new.wanted ≡ self.old.wanted }
+        ensures counts { KeepsCounts self.old self.new }
     {
         self.state.pass(byte);
         self.left = self.left.saturating_sub(1);
@@ -236,8 +244,9 @@ impl Filler {
         analyst: &mut A,
         out: &mut Vec<u8>,
     ) -> Result<(), AllocError>
-        ensures { OnOk result (EndsBefore A.gives self.old self.new (shown mark.now)
+        ensures ends { OnOk result (EndsBefore A.gives self.old self.new (shown mark.now)
             out.old.items out.new.items) }
+        ensures passed { OnOk result (self.new.passed ≡ self.old.passed) }
     {
         if !self.state.ends(mark) {
             return Ok(());
@@ -252,6 +261,7 @@ impl Filler {
     fn end_game(&mut self)
         ensures state { self.new.state ≡ after_end self.old.state }
         ensures place { KeepsPlace self.old self.new }
+        ensures passed { self.new.passed ≡ self.old.passed }
     {
         self.state.end_game();
         self.number = self.number.saturating_add(1);
@@ -279,6 +289,8 @@ impl Filler {
     fn tell(&mut self, mark: &Mark<'_>) -> Result<(), AllocError>
         ensures state { OnOk result (self.new.state ≡ with_mark (shown mark.now) self.old.state) }
         ensures place { OnOk result (KeepsPlace self.old self.new) }
+        ensures passed { OnOk result (self.new.passed ≡ self.old.passed) }
+        ensures number { OnOk result (self.new.number ≡ self.old.number) }
     {
         match *mark {
             Mark::Tag { name, quoted, .. } => {
@@ -294,6 +306,8 @@ impl Filler {
     fn note_board(&mut self, number: Option<u8>, quoted: &[u8]) -> Result<(), AllocError>
         ensures state { OnOk result (self.new.state ≡ self.old.state) }
         ensures place { OnOk result (KeepsPlace self.old self.new) }
+        ensures passed { OnOk result (self.new.passed ≡ self.old.passed) }
+        ensures number { OnOk result (self.new.number ≡ self.old.number) }
     {
         if number == Some(BOARD) {
             self.board = unescaped(self.alloc, quoted)?;

@@ -1,4 +1,5 @@
-//! Bytes at which nothing begins, whatever follows: they are passed on many at once.
+//! Bytes that come out alone, whatever follows: nothing begins at them, or an empty line ends at which no game does. They are passed
+//! on many at once.
 ghost use Rattle.std.specs.Prelude.{◌≡◌};
 ghost use Rattle.dd_file.specs.Quiet.{after_calm, is_alone, is_calm, is_idle, is_quiet, is_quiet_within};
 

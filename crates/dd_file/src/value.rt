@@ -56,7 +56,9 @@ pub(crate) fn unescaped(alloc: Global, quoted: &[u8]) -> Result<Vec<u8>, AllocEr
     ensures { IfOk result (λ text. text.items ≡ unescaped false quoted.now) }
 {
     let rest = after_quoted(quoted);
-    let mut text = Vec::from_slice(alloc, &quoted[..quoted.len().saturating_sub(rest.len())])?;
+    // Room for all of it at once: where it grew, memory would be asked for more often.
+    let mut text = Vec::with_capacity(alloc, quoted.len())?;
+    text.extend_from_slice(&quoted[..quoted.len().saturating_sub(rest.len())])?;
     let mut is_behind_backslash = false;
     for byte in rest {
         is_behind_backslash = push_unescaped(&mut text, is_behind_backslash, *byte)?;

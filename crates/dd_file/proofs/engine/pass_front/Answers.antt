@@ -1,4 +1,4 @@
-use Rattle.std.proofs.Common.{◌≡◌, ◌≤◌, ◌+◌, ◌-◌, length, arith}
+use Rattle.std.proofs.Common.{◌≡◌, ◌≤◌, ◌-◌, length, arith}
 use Rattle.dd_file.proofs.Going.{PassesFront-then, PassesFront-none}
 use Rattle.dd_file.proofs.Staying.{PassesFront-behind}
 use Rattle.dd_file.proofs.engine.pass_front.Goals as goal

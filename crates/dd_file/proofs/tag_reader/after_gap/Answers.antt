@@ -1,5 +1,4 @@
-use Rattle.std.proofs.Common.{◌∙◌, sym, ap}
-use Rattle.dd_file.specs.Tags.{after_gap}
+use Rattle.std.proofs.Common.{◌∙◌, sym}
 use Rattle.dd_file.proofs.Steps.{after_gap-gap, after_gap-other, after_gap-end}
 use Rattle.dd_file.proofs.tag_reader.after_gap.Goals as goal
 

@@ -1,4 +1,4 @@
-use Rattle.std.proofs.Common.{◌≡◌, ◌<◌, ◌≤◌, ℕ, List, ap, arith, length}
+use Rattle.std.proofs.Common.{ℕ, List, ap, arith, length}
 use Rattle.dd_file.proofs.Steps.{after_blanks-shorter, tail-shorter}
 use Rattle.dd_file.proofs.value.closed_up.Goals as goal
 

@@ -5,8 +5,8 @@ use Rattle.dd_file.specs.Marks.{shown}
 use Rattle.dd_file.proofs.Passed.{answers-ended, text-ended, state-ended}
 use Rattle.dd_file.proofs.filler.Filler.end_before.Goals as goal
 
-pub returns : goal.returns
-returns g c =
+pub returns-clause-ends : goal.returns-clause-ends
+returns-clause-ends g c =
     let state = c.args.self.now.state in
     let wanted = c.args.self.now.wanted in
     let is : ends state (shown c.args.mark.now) ≡ true = sym c.ends.ensures ∙ c.if-not-ends.false in

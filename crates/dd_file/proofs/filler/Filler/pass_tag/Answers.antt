@@ -1,17 +1,17 @@
 use Rattle.dd_file.proofs.ShortTags.{PassesTag-none, PassesTag-short}
 use Rattle.dd_file.proofs.filler.Filler.pass_tag.Goals as goal
 
-pub returns-in_default : goal.returns-in_default
-returns-in_default g c = PassesTag-none g.A.Analyst.gives _ _ _
+pub returns-in_default-clause-passes : goal.returns-in_default-clause-passes
+returns-in_default-clause-passes g c = PassesTag-none g.A.Analyst.gives _ _ _
 
-pub returns-in_default-read_short_tag : goal.returns-in_default-read_short_tag
-returns-in_default-read_short_tag g c = PassesTag-none g.A.Analyst.gives _ _ _
+pub returns-in_default-read_short_tag-clause-passes : goal.returns-in_default-read_short_tag-clause-passes
+returns-in_default-read_short_tag-clause-passes g c = PassesTag-none g.A.Analyst.gives _ _ _
 
-pub returns-then-length-gt-NEAR : goal.returns-then-length-gt-NEAR
-returns-then-length-gt-NEAR g c = PassesTag-none g.A.Analyst.gives _ _ _
+pub returns-then-length-gt-NEAR-clause-passes : goal.returns-then-length-gt-NEAR-clause-passes
+returns-then-length-gt-NEAR-clause-passes g c = PassesTag-none g.A.Analyst.gives _ _ _
 
-pub returns : goal.returns
-returns g c =
+pub returns-clause-passes : goal.returns-clause-passes
+returns-clause-passes g c =
     let whole = c.in_ok-pass_whole.ensures in
     PassesTag-short g.A.Analyst.gives _ _ _ _ _ _ _ _ _ _ _ _ c.in-Some.ensures.left c.in-Some.ensures.mode c.in-Some-read_short_tag.ensures c.saturating_sub-length.ensures c.if-length-gt-NEAR.false
-    c.in_ok-end_before.ensures whole.state whole.mode whole.left whole.wanted whole.text
+    c.in_ok-end_before.ensures.ends whole.state whole.mode whole.left whole.wanted whole.text
