@@ -1,11 +1,16 @@
 //! Lines that are cut short at each of their bytes, between whole ones.
 use super::runs::run;
 use crate::devices::Pieces;
-use std::alloc::AllocError;
+use std::alloc::{AllocError, Global};
 use std::test::Fail;
 
 fn whole() -> &'static [u8] {
     br#"{"do":"solve","deal":"N:A... K... Q... J...","trump":4,"first":0,"solutions":3}"#
+}
+
+// The same in no usual form: it is read as JSON, which asks for memory.
+fn spaced() -> &'static [u8] {
+    br#"{"do":"solve","deal":"N:A... K... Q... J...","trump":4,"first":0,"solutions":3 }"#
 }
 
 fn reply() -> &'static [u8] {
@@ -35,27 +40,39 @@ fn a_line_cut_at_any_byte_is_no_object_and_the_next_is_right(rt: HostRuntime) ->
     Ok(())
 }
 
-// `rt try --test --fail-alloc N` refuses the Nth growth; `rt test` refuses none, and `cases/memory.sh` those of the built program.
-// Of two lines one may be told that memory ran out, and then the other is answered. What the writer of this test keeps grows too: a
-// run whose write finds no memory ends there.
-#[test]
-fn a_line_that_finds_no_memory_is_told_so_and_the_other_is_right(
-    rt: HostRuntime,
-) -> Result<(), Fail> {
-    let mut lines = Vec::new(rt.alloc());
-    push_line(&mut lines, whole())?;
-    push_line(&mut lines, whole())?;
-    let mut right = Vec::from_slice(rt.alloc(), reply())?;
-    let mut first_refused = Vec::from_slice(rt.alloc(), b"{\"fault\":19}\n")?;
-    let mut last_refused = Vec::from_slice(rt.alloc(), reply())?;
+// Does a run over this line twice answer both, or one, and tell the other that memory ran out? What the writer of this test keeps
+// grows too: a run whose write finds no memory ends there.
+fn is_told_of_one_at_most(alloc: Global, line: &[u8]) -> Result<bool, AllocError> {
+    let mut lines = Vec::new(alloc);
+    push_line(&mut lines, line)?;
+    push_line(&mut lines, line)?;
+    let mut right = Vec::from_slice(alloc, reply())?;
+    let mut first_refused = Vec::from_slice(alloc, b"{\"fault\":19}\n")?;
+    let mut last_refused = Vec::from_slice(alloc, reply())?;
     right.extend_from_slice(reply())?;
     first_refused.extend_from_slice(reply())?;
     last_refused.extend_from_slice(b"{\"fault\":19}\n")?;
-    let run = run(rt.alloc(), Pieces::of(&lines), usize::MAX, usize::MAX);
+    let run = run(alloc, Pieces::of(&lines), usize::MAX, usize::MAX);
     let written = run.written.as_slice();
     let told = written == right.as_slice()
         || written == first_refused.as_slice()
         || written == last_refused.as_slice();
-    assert!(rt; told && run.result.is_ok() || run.failed_writes == 1);
+    Ok(told && run.result.is_ok() || run.failed_writes == 1)
+}
+
+// `rt try --test --fail-alloc N` refuses the Nth growth; `rt test` refuses none, and `cases/memory.sh` those of the built program.
+// Lines of a usual form ask for no memory: only what the test itself keeps can be refused.
+#[test]
+fn a_line_that_finds_no_memory_is_told_so_and_the_other_is_right(
+    rt: HostRuntime,
+) -> Result<(), Fail> {
+    assert!(rt; is_told_of_one_at_most(rt.alloc(), whole())?);
+    Ok(())
+}
+
+// Here either line may be told so.
+#[test]
+fn a_line_that_is_read_as_json_and_finds_no_memory_is_told_so(rt: HostRuntime) -> Result<(), Fail> {
+    assert!(rt; is_told_of_one_at_most(rt.alloc(), spaced())?);
     Ok(())
 }
