@@ -8,4 +8,5 @@ mod recorded;
 mod solving;
 mod spelled;
 mod tables;
+mod two_forms;
 mod worked;

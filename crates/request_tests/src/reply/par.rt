@@ -2,7 +2,7 @@
 use super::worked::first_with_another_reply;
 
 /// Each row is a line, a bar and its reply without a budget.
-const REPLIES: &[u8] =
+pub(super) const REPLIES: &[u8] =
     br#"{"do":"par","table":[[5,8,5,8],[6,6,6,6],[5,7,5,7],[7,5,7,5],[6,6,6,6]],"dealer":0,"vulnerable":0}|{"contracts":[{"declarers":[1,3],"level":2,"tricks":8,"trump":0}],"score":-110}
 {"vulnerable":0,"dealer":0,"table":[[6,6,6,6],[6,6,6,6],[6,6,6,6],[6,6,6,6],[6,6,6,6]],"do":"par"}|{"contracts":[],"score":0}
 {"do":"par","table":[[6,6,6,6],[6,6,6,6],[6,6,6,6],[6,6,6,6],[7,7,7,7]],"dealer":0,"vulnerable":0}|{"contracts":[{"declarers":[0],"level":1,"tricks":7,"trump":4}],"score":90}
@@ -19,7 +19,7 @@ const REPLIES: &[u8] =
 {"do":"par","deal":"[Deal \"n:akqjt98765432... .akqjt98765432.. ..akqjt98765432. ...akqjt98765432\"]","side":1,"vulnerable":1}|{"contracts":[{"declarers":[0,2],"level":7,"tricks":13,"trump":0}],"score":2210}"#;
 
 /// The first fault of each line.
-const FAULTS: &[u8] = br#"{"do":"par"}|{"fault":3}
+pub(super) const FAULTS: &[u8] = br#"{"do":"par"}|{"fault":3}
 {"do":"par","table":[[6,6,6,6],[6,6,6,6],[6,6,6,6],[6,6,6,6],[6,6,6,6]],"vulnerable":0}|{"fault":3}
 {"do":"par","table":[[6,6,6,6],[6,6,6,6],[6,6,6,6],[6,6,6,6],[6,6,6,6]],"dealer":0}|{"fault":3}
 {"do":"par","dealer":0,"vulnerable":0}|{"fault":3}

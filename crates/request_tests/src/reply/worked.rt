@@ -5,7 +5,7 @@ use dd_wire::reply_to_line;
 use std::alloc::Global;
 
 /// Each row is a line, a bar and its reply without a budget.
-const REPLIES: &[u8] =
+pub(super) const REPLIES: &[u8] =
     br#"{"do":"solve","deal":"N:A... K... Q... J...","trump":4,"first":0,"solutions":3}|{"cards":[{"equals":0,"rank":14,"score":1,"suit":0}]}
 {"do":"solve","deal":"N:A... K... Q... J...","trump":4,"first":1,"solutions":3}|{"cards":[{"equals":0,"rank":13,"score":0,"suit":0}]}
 {"do":"solve","deal":"N:32... K4... AQ... 65...","trump":4,"first":0,"solutions":3}|{"cards":[{"equals":4,"rank":3,"score":2,"suit":0}]}
