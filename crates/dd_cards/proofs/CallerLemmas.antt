@@ -149,6 +149,8 @@ pub use Rattle.dd_cards.proofs.SuitBits.{lane-valid}
 pub use Rattle.dd_cards.proofs.SuitBits.{suit-ones}
 -- a hand has a card where the bit of its rank is set in the lane of its suit
 pub use Rattle.dd_cards.proofs.SuitBits.{card-bit}
+-- the first card of a set stands at the highest place
+pub use Rattle.dd_cards.proofs.Firsts.{set-first}
 -- ---- what is the same by the tests
 -- the same cards in the same order are one list
 pub use Rattle.dd_cards.proofs.SameLaws.{same_cards-is}

@@ -12,11 +12,12 @@ use Rattle.dd_cards.specs.Suits.{suit_code, suit_shift}
 use Rattle.dd_cards.specs.PlayingCard.{PlayingCard}
 use Rattle.dd_cards.specs.Cards.{is_of, same_card, deck, has_card, place_of, without}
 use Rattle.dd_cards.specs.HandMasks.{in_hand, cards_of, IsHandMask}
+use Rattle.dd_cards.specs.Hands.{IsSet}
 use Rattle.dd_cards.proofs.CardLists.{suit_from, suit_code-suit_from, suit_code-lt, same_card-eq, has_card-deck}
 use Rattle.dd_cards.specs.Ranks.{IsRank}
 use Rattle.dd_cards.proofs.HandLists.{passes, filter-deck, cards_of-remove, place_of-lt}
 use Rattle.dd_cards.proofs.Masks.{IsHighest, highest_at}
-use Rattle.dd_cards.proofs.General.{and-false, and-left, and-right, and-true, filter-filter}
+use Rattle.dd_cards.proofs.General.{and-both, and-false, and-left, and-right, and-true, filter-filter}
 
 -- the places fall along the list
 abbrev pub falls : List PlayingCard → Bool
@@ -149,3 +150,32 @@ not-empty m valid small none =
           absurd (cc)
           )
     ]
+
+-- ---- a set
+-- what all pass, all of a part pass
+part-all : (t p : PlayingCard → Bool) (cards : List PlayingCard) → list_all t cards ≡ true → list_all t (filter p cards) ≡ true
+part-all t p [] all = refl
+part-all t p (c ∷ cards) all =
+    let rest : list_all t (filter p cards) ≡ true = part-all t p cards (and-right (t c) (list_all t cards) all) in
+    elim (p c) as (λ b. list_all t (cond b (c ∷ filter p cards) (filter p cards)) ≡ true) [
+      | true ↦ and-both (t c) (list_all t (filter p cards)) (and-left (t c) (list_all t cards) all) rest
+      | false ↦ rest
+    ]
+
+-- where places fall along a list, they fall along a part of it
+part-falls : (p : PlayingCard → Bool) (cards : List PlayingCard) → falls cards ≡ true → falls (filter p cards) ≡ true
+part-falls p [] fall = refl
+part-falls p (c ∷ cards) fall =
+    let lower = λ (d : PlayingCard). nat_lt (place_of d) (place_of c) in
+    let rest : falls (filter p cards) ≡ true = part-falls p cards (and-right (list_all lower cards) (falls cards) fall) in
+    elim (p c) as (λ b. falls (cond b (c ∷ filter p cards) (filter p cards)) ≡ true) [
+      | true ↦ and-both (list_all lower (filter p cards)) (falls (filter p cards)) (part-all lower p cards (and-left (list_all lower cards) (falls cards) fall)) rest
+      | false ↦ rest
+    ]
+
+-- the first card of a set stands at the highest place
+pub set-first : (c : PlayingCard) (rest : List PlayingCard) → IsSet (c ∷ rest) → (d : PlayingCard) → has_card rest d ≡ true → place_of d < place_of c
+set-first c rest set d has =
+    let fall : falls (c ∷ rest) ≡ true = subst (λ (l : List PlayingCard). falls l ≡ true) set (part-falls (has_card (c ∷ rest)) deck falls-deck) in
+    let lower = λ (x : PlayingCard). nat_lt (place_of x) (place_of c) in
+    ltb-true (place_of d) (place_of c) (passes lower d rest (and-left (list_all lower rest) (falls rest) fall) has)

@@ -20,4 +20,6 @@ pub mod MaskRanks
 pub mod General
 pub mod SuitBits
 pub mod SameLaws
+pub mod Places
 pub mod CallerLemmas
+pub mod Below

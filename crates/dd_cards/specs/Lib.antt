@@ -12,3 +12,5 @@ pub mod HandMaskLaws
 pub mod Hands
 pub mod Same
 pub mod Sequences
+pub mod Places
+pub mod PlaceLaws

@@ -8,6 +8,7 @@ ghost use Rattle.dd_cards.specs.Sequences.{is_above, is_headed, heads};
 
 use crate::card::Card;
 use crate::holding::Holding;
+use crate::place::Place;
 use crate::rank::Rank;
 use crate::suit::Suit;
 use std::marker::Model;
@@ -228,6 +229,105 @@ impl Hand {
         let place = 63 - self.mask.leading_zeros() as u8;
         self.mask &= !(1 << place);
         Some(Card::at(place))
+    }
+}
+
+// The same by the places of cards, which are known at once where a card's suit and rank would have to be put together.
+impl Hand {
+    /// Is the card of this place in the hand?
+    #[inline(always)]
+    pub fn has_place(self, place: Place) -> bool
+        ensures { result ≡ has_card self place }
+    {
+        self.mask & (1 << place.number()) != 0
+    }
+
+    /// These cards and the one of this place.
+    #[inline(always)]
+    pub fn with_place(self, place: Place) -> Hand
+        ensures { result ≡ with_card self place }
+    {
+        Hand {
+            mask: self.mask | 1 << place.number(),
+        }
+    }
+
+    /// These cards but the one of this place.
+    #[inline(always)]
+    pub fn without_place(self, place: Place) -> Hand
+        ensures { result ≡ without self place }
+    {
+        Hand {
+            mask: self.mask & !(1 << place.number()),
+        }
+    }
+
+    /// The cards of this place's suit.
+    #[inline(always)]
+    pub fn of_suit_at(self, place: Place) -> Hand
+        ensures { result ≡ filter (is_of place.suit) self }
+    {
+        Hand {
+            mask: self.mask & (0xffff << place.shift()),
+        }
+    }
+
+    /// Of all cards those of this place's suit from the ace down to its own.
+    #[inline(always)]
+    pub fn down_to(place: Place) -> Hand
+        ensures { result
+            ≡ filter (λ c. is_of place.suit c && not (nat_lt c.rank place.rank)) deck }
+    {
+        // up to the bit over the ace's
+        Hand {
+            mask: (1 << (place.shift() + 15)) - (1 << place.number()),
+        }
+    }
+
+    /// Takes the first card out: the highest of the first suit. None where no card is left.
+    #[inline(always)]
+    pub fn take_first(&mut self) -> Option<Place>
+        ensures { MatchOption result ((self.old ≡ []) × (self.new ≡ [])) (λ card. self.old ≡ card
+            ∷ self.new) }
+    {
+        if self.mask == 0 {
+            return None;
+        }
+        let number = 63 - self.mask.leading_zeros() as u8;
+        self.mask &= !(1 << number);
+        Some(Place::at(number))
+    }
+
+    /// The card of the lowest bit: the lowest of the last suit. None where there is no card.
+    #[inline(always)]
+    pub fn lowest_place(self) -> Option<Place>
+        ensures { MatchOption result (self ≡ []) (λ card. has_card self card ≡ true) }
+    {
+        if self.mask == 0 {
+            return None;
+        }
+        Some(Place::at(self.mask.trailing_zeros() as u8))
+    }
+
+    /// The card of the highest bit: the highest of the first suit. None where there is no card.
+    #[inline(always)]
+    pub fn highest_place(self) -> Option<Place>
+        ensures { MatchOption result (self ≡ []) (λ card. has_card self card ≡ true) }
+    {
+        if self.mask == 0 {
+            return None;
+        }
+        Some(Place::at(63 - self.mask.leading_zeros() as u8))
+    }
+
+    /// Of these cards those whose bits the mask has. It may have others.
+    #[inline(always)]
+    pub fn among(self, mask: u64) -> Hand
+        ensures { (c : PlayingCard) → has_card result c ≡ true → has_card self c ≡ true }
+    {
+        Hand {
+            mask: self.mask & mask,
+        }
     }
 }
 

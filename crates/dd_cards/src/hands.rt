@@ -36,6 +36,17 @@ impl Hands {
         Hands { masks: [0; 4] }
     }
 
+    /// These four hands.
+    #[inline(always)]
+    pub fn of_four(north: Hand, east: Hand, south: Hand, west: Hand) -> Hands
+        requires { AreHands (dealt north east south west) }
+        ensures { result ≡ dealt north east south west }
+    {
+        Hands {
+            masks: [north.mask(), east.mask(), south.mask(), west.mask()],
+        }
+    }
+
     /// Four equal hands. It takes no memory.
     pub fn copy(&self) -> Hands
         ensures { result ≡ self.now }
