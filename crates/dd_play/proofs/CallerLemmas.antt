@@ -188,6 +188,16 @@ pub use Rattle.dd_play.proofs.Worth.{reach-of}
 pub use Rattle.dd_play.proofs.Worth.{reach-within}
 -- with a card each higher one of its suit is reached
 pub use Rattle.dd_play.proofs.Worth.{reach-upward}
+-- ---- starts of tricks
+-- the hands of a board are four hands
+pub use Rattle.dd_play.proofs.LedBy.{board-hands}
+-- ---- the card on which a trick's winner rests
+-- four cards of a trick, its leader and winner, the winner's place among them and its card
+pub use Rattle.dd_play.proofs.Contests.{IsFour}
+-- a trick whose winning card is a top card is settled
+pub use Rattle.dd_play.proofs.Contests.{settled-by-top}
+-- and one whose winning card is alone of its suit
+pub use Rattle.dd_play.proofs.Contests.{settled-alone}
 -- ---- what is the same by the tests
 -- the same hands, strain, leader and trick are one position
 pub use Rattle.dd_play.proofs.SameLaws.{same_board-is}

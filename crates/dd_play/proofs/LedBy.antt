@@ -1,5 +1,5 @@
 -- a start of a trick is one whichever seat leads
-use Rattle.std.proofs.Common.{◌≡◌, ℕ, ◌+◌, ◌<◌, ◌≤◌, ap, ◌∙◌, arith, subst, List, [], length, zero-le}
+use Rattle.std.proofs.Common.{◌≡◌, ℕ, ◌+◌, ◌<◌, ◌≤◌, refl, ap, ◌∙◌, arith, subst, List, [], length, zero-le}
 use Rattle.std.specs.Prelude.{nat_lt, ◌||◌, if◌then◌else◌}
 use Rattle.std.proofs.lemmas.Bool.Decides.{nat_tests}
 use Rattle.dd_cards.specs.declared.seat.Seat.{Seat}
@@ -7,9 +7,10 @@ use Rattle.dd_cards.specs.declared.seat.Seat.TheVariants.{North, East, South, We
 use Rattle.dd_cards.specs.PlayingCard.{PlayingCard}
 use Rattle.dd_cards.specs.Cards.{has_card}
 use Rattle.dd_cards.specs.Seats.{seat_after}
-use Rattle.dd_cards.specs.Hands.{FourHands, hand_of, times}
+use Rattle.dd_cards.specs.Hands.{FourHands, hand_of, times, AreHands}
 use Rattle.dd_play.specs.InPlay.{is_in_hands, is_in_play}
 use Rattle.dd_play.specs.Board.{Board, IsBoard, board_of, cards_at, times_in, tricks_left}
+use Rattle.dd_play.proofs.Values.{times-has}
 
 -- where all hands have as many cards, counted from one seat, each has
 each : (hands : FourHands) (first : Seat) (n : ℕ) → ((k : ℕ) → k < 4 → length (hand_of hands (seat_after first k)) ≡ n) → (s : Seat) → length (hand_of hands s) ≡ n
@@ -61,3 +62,28 @@ led-by p s valid start =
 -- and the same cards are in play
 pub in-play-led : (p : Board) (s : Seat) → p.trick ≡ [] → (c : PlayingCard) → is_in_play p c ≡ is_in_play (board_of p.hands p.strain s []) c
 in-play-led p s start c = ap (λ (t : List PlayingCard). is_in_hands p.hands c || has_card t c) start
+
+-- the hands of a board are four hands
+pub board-hands : (p : Board) → IsBoard p → AreHands p.hands
+board-hands p valid = record { sets = valid.sets; disjoint = λ c s t h k. go c s t (times-has _ c h) (times-has _ c k) (fewer c) }
+  where
+    fewer : (c : PlayingCard) → times_in p.hands c ≤ 1
+    fewer c = (let o = valid.once c in omega (arith, o))
+
+    go : (c : PlayingCard) (s t : Seat) → 1 ≤ times (cards_at p s) c → 1 ≤ times (cards_at p t) c → times_in p.hands c ≤ 1 → s ≡ t
+    go c North North a b o = refl
+    go c North East a b o = absurd (omega (arith, a, b, o))
+    go c North South a b o = absurd (omega (arith, a, b, o))
+    go c North West a b o = absurd (omega (arith, a, b, o))
+    go c East North a b o = absurd (omega (arith, a, b, o))
+    go c East East a b o = refl
+    go c East South a b o = absurd (omega (arith, a, b, o))
+    go c East West a b o = absurd (omega (arith, a, b, o))
+    go c South North a b o = absurd (omega (arith, a, b, o))
+    go c South East a b o = absurd (omega (arith, a, b, o))
+    go c South South a b o = refl
+    go c South West a b o = absurd (omega (arith, a, b, o))
+    go c West North a b o = absurd (omega (arith, a, b, o))
+    go c West East a b o = absurd (omega (arith, a, b, o))
+    go c West South a b o = absurd (omega (arith, a, b, o))
+    go c West West a b o = refl

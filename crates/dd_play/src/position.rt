@@ -1,10 +1,11 @@
 ghost use Rattle.std.specs.Prelude.{◌≡◌, ◌+◌, ◌<◌, ◌≤◌, ◌↔◌, ℕ, Bool, true, false, IsTrue, IsOk, IfOk, IfSome, Some, None, Err, [], ◌∷◌, nat_lt, length, take, slice_set, slice_index_or, if◌then◌else◌};
 ghost use Rattle.std.specs.Bool.{OnTrue, OnFalse};
+ghost use Rattle.dd_cards.specs.declared.seat.Seat.TheVariants.{North};
 ghost use Rattle.dd_cards.specs.PlayingCard.{PlayingCard};
 ghost use Rattle.dd_cards.specs.Cards.{has_card, is_of};
 ghost use Rattle.dd_cards.specs.Ranks.{IsRank};
 ghost use Rattle.dd_cards.specs.Seats.{seat_after};
-ghost use Rattle.dd_cards.specs.Hands.{hand_of, times, AreHands};
+ghost use Rattle.dd_cards.specs.Hands.{dealt, hand_of, times, AreHands};
 ghost use Rattle.dd_cards.specs.Same.{same_cards};
 ghost use Rattle.dd_play.specs.Board.{board_of, IsBoard, mover, tricks_left, times_in};
 ghost use Rattle.dd_play.specs.InPlay.{is_in_hands, is_in_play};
@@ -90,6 +91,31 @@ impl Position {
             trick: places,
             played,
         })
+    }
+
+    // The start of a trick that North leads to, of these hands from North on.
+    #[inline(always)]
+    pub(crate) fn led_by_north(
+        north: Hand,
+        east: Hand,
+        south: Hand,
+        west: Hand,
+        strain: Strain,
+    ) -> Position
+        requires { IsBoard (board_of (dealt north east south west) strain North []) }
+        ensures { result ≡ board_of (dealt north east south west) strain North [] }
+    {
+        let north_east = north.union(east);
+        let south_west = south.union(west);
+        let in_play = north_east.union(south_west);
+        Position {
+            hands: Hands::of_four(north, east, south, west),
+            in_play,
+            strain,
+            first: Seat::North,
+            trick: [Card::default(); 3],
+            played: 0,
+        }
     }
 
     /// An equal position.

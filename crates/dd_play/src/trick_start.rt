@@ -1,7 +1,10 @@
 ghost use Rattle.std.specs.Prelude.{◌≡◌, ◌≢◌, [], MatchOption};
-ghost use Rattle.dd_play.specs.Board.{IsBoard};
+ghost use Rattle.dd_cards.specs.declared.seat.Seat.TheVariants.{North};
+ghost use Rattle.dd_cards.specs.Hands.{dealt};
+ghost use Rattle.dd_play.specs.Board.{board_of, IsBoard};
 
 use crate::position::Position;
+use dd_cards::{Hand, Strain};
 use std::marker::Model;
 
 /// A position in which no card has been played to the current trick.
@@ -33,6 +36,23 @@ impl TrickStart {
             })
         } else {
             None
+        }
+    }
+
+    /// The start of a trick that North leads to, of these hands from North on.
+    #[inline(always)]
+    pub fn led_by_north(
+        north: Hand,
+        east: Hand,
+        south: Hand,
+        west: Hand,
+        strain: Strain,
+    ) -> TrickStart
+        requires { IsBoard (board_of (dealt north east south west) strain North []) }
+        ensures { result ≡ board_of (dealt north east south west) strain North [] }
+    {
+        TrickStart {
+            position: Position::led_by_north(north, east, south, west, strain),
         }
     }
 
