@@ -26,6 +26,8 @@ pub mod FourLanes
 pub mod Spread
 pub mod Fields
 pub mod Masked
+pub mod Closed
 pub mod TopPlaces
+pub mod TopRanks
 pub mod Highest
 pub mod CallerLemmas

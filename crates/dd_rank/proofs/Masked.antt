@@ -79,11 +79,11 @@ all-together l s t f i j k n li ls lt lf = record {
 
 -- ---- owners
 -- a test as a bit
-abbrev bit_of : Bool → ℕ
+abbrev pub bit_of : Bool → ℕ
 bit_of b = cond b 1 0
 
 -- a card's bit, where the hand has it
-card-is : (m : ℕ) (u : Suit) (r : ℕ) → IsRank r → bit_at (lane m u) r ≡ bit_of (has_card (cards_of m) (card_of u r))
+pub card-is : (m : ℕ) (u : Suit) (r : ℕ) → IsRank r → bit_at (lane m u) r ≡ bit_of (has_card (cards_of m) (card_of u r))
 card-is m u r real =
     lane-bit m u r (let h = real.1 in omega (arith, h)) ∙ one (bit_at (m / 2 ^ suit_shift u) r) (bit_at-lt (m / 2 ^ suit_shift u) r) ∙ ap bit_of (sym (card-bit m u r real))
   where
@@ -103,7 +103,7 @@ gone-is m u r fits low =
     shift u = omega arith
 
 -- a card is in a union where it is in one of the two
-union-has : (x y : List PlayingCard) (u : Suit) (r : ℕ) → IsRank r → has_card (filter (λ c. has_card x c || has_card y c) deck) (card_of u r) ≡ (has_card x (card_of u r) || has_card y (card_of u r))
+pub union-has : (x y : List PlayingCard) (u : Suit) (r : ℕ) → IsRank r → has_card (filter (λ c. has_card x c || has_card y c) deck) (card_of u r) ≡ (has_card x (card_of u r) || has_card y (card_of u r))
 union-has x y u r real =
     has_card-filter (λ c. has_card x c || has_card y c) deck (card_of u r) ∙ ap (λ b. (has_card x (card_of u r) || has_card y (card_of u r)) && b) (has_card-deck (card_of u r) real)
     ∙ sym (and-true (has_card x (card_of u r) || has_card y (card_of u r)))
@@ -165,7 +165,7 @@ gone-apart l s t f odd far left a u r low gone = (
     ]
 
 -- the holder of a card, by who has it
-held : (l s t f : List PlayingCard) → AreHands (dealt l s t f) → (c : PlayingCard) → IsTold (holder (dealt l s t f) c) ((has_card l c || has_card t c) || (has_card s c || has_card f c))
+pub held : (l s t f : List PlayingCard) → AreHands (dealt l s t f) → (c : PlayingCard) → IsTold (holder (dealt l s t f) c) ((has_card l c || has_card t c) || (has_card s c || has_card f c))
     (bit_of (has_card s c || has_card f c) + 2 * bit_of (has_card t c || has_card f c))
 unfolding holder
 held l s t f hands c =

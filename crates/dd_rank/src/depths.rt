@@ -1,5 +1,5 @@
 //! How many of the highest cards of each suit matter, and which cards these are.
-ghost use Rattle.std.specs.Prelude.{◌≡◌, ◌≤◌, ◌<◌, ◌^◌, ◌↔◌, ◌&&◌, true, IsTrue, length, filter};
+ghost use Rattle.std.specs.Prelude.{◌≡◌, ◌+◌, ◌≤◌, ◌<◌, ◌^◌, ◌↔◌, ◌&&◌, true, IsTrue, length, filter, nat_lt};
 ghost use Rattle.dd_cards.specs.PlayingCard.{PlayingCard};
 ghost use Rattle.dd_cards.specs.declared.suit.Suit.{Suit as SuitOf};
 ghost use Rattle.dd_cards.specs.Ranks.{IsRank};
@@ -80,6 +80,17 @@ impl Depths {
             + (suit_tops(self.hearts) << 32)
             + (suit_tops(self.diamonds) << 16)
             + suit_tops(self.clubs)
+    }
+
+    /// So many of the highest ranks of each suit, as cards.
+    #[inline(always)]
+    pub fn top_ranks(self) -> Hand
+        requires { (u : SuitOf) → depth_in self u ≤ 13 }
+        ensures cards { (c : PlayingCard) → IsRank c.rank
+            → has_card result c ≡ nat_lt 14 (c.rank + depth_in self c.suit) }
+        ensures real { (c : PlayingCard) → has_card result c ≡ true → IsRank c.rank }
+    {
+        Hand::of_mask(self.tops())
     }
 
     /// The depths of all cards left at a position.

@@ -1,11 +1,15 @@
 //! Who holds the cards that are left, as one number a suit.
 
-ghost use Rattle.std.specs.Prelude.{◌≡◌};
+ghost use Rattle.std.specs.Prelude.{◌≡◌, ◌≤◌, true};
+ghost use Rattle.dd_cards.specs.PlayingCard.{PlayingCard};
+ghost use Rattle.dd_cards.specs.declared.seat.Seat.TheVariants.{North};
+ghost use Rattle.dd_cards.specs.Cards.{has_card};
+ghost use Rattle.dd_rank.specs.Depths.{all_cards};
 ghost use Rattle.dd_rank.specs.Strings.{strings_of, shape_of, shape_in, hash_in, outline_number_in, same_strings, same-strings, same-strings-partial, string_in};
 
 use crate::lanes::OwnerPlanes;
 use crate::shape::{Shape, mix};
-use dd_cards::Suit;
+use dd_cards::{Seat, Suit};
 use dd_play::TrickStart;
 use std::marker::Model;
 
@@ -85,6 +89,32 @@ impl OwnerStrings {
         OwnerStrings {
             shape,
             places: OwnerPlanes::close_up(odd.mask(), far.mask(), !left.mask()),
+        }
+    }
+
+    /// The owner strings of a start of a trick that North leads to, and whose suits have no gaps; its shape is known.
+    // No card is gone above another that is left, so the cards stand at their places.
+    #[inline(always)]
+    pub fn of_closed_up(start: &TrickStart, shape: Shape) -> OwnerStrings
+        requires shape { shape ≡ shape_of start.now }
+        requires leader { start.now.first ≡ North }
+        requires closed { (c d : PlayingCard) → has_card (all_cards start.now) c ≡ true → d.suit ≡ c.suit
+            → c.rank ≤ d.rank → d.rank ≤ 14 → has_card (all_cards start.now) d ≡ true }
+        ensures { result ≡ strings_of start.now }
+    {
+        let position = start.position();
+        let hands = position.hands();
+        let second = hands.hand(Seat::East);
+        let third = hands.hand(Seat::South);
+        let fourth = hands.hand(Seat::West);
+        let odd = second.union(fourth);
+        let far = third.union(fourth);
+        OwnerStrings {
+            shape,
+            places: OwnerPlanes {
+                odd: odd.mask(),
+                far: far.mask(),
+            },
         }
     }
 
