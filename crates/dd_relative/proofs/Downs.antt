@@ -5,7 +5,7 @@ use mathlib.Core.Bool.{not}
 use Rattle.std.proofs.lemmas.Bool.{le-ltb, ltb-false}
 use Rattle.dd_cards.specs.PlayingCard.{PlayingCard}
 use Rattle.dd_cards.specs.Ranks.{IsRank}
-use Rattle.dd_cards.specs.Cards.{deck, is_of}
+use Rattle.dd_cards.specs.Cards.{deck, has_card, is_of}
 use Rattle.dd_cards.proofs.CallerLemmas.{IsSet-deck, and-both, and-left, and-right, false-not, filter-filter, filter-same, has_card-deck, has_card-filter, not-true, real-set}
 use Rattle.dd_play.proofs.CallerLemmas.{filter-has, of-suit', suit-of}
 use Rattle.dd_relative.specs.WinningRanks.{AreTop}
@@ -38,3 +38,8 @@ down-top card c d has suit low high =
     let of : is_of card.suit d ≡ true = of-suit' card.suit d (suit ∙ suit-of card.suit c (and-left (is_of card.suit c) (not (nat_lt c.rank card.rank)) passes)) in
     filter-has (λ x. is_of card.suit x && not (nat_lt x.rank card.rank)) deck d (has_card-deck d (omega (arith, two, low), high))
     (and-both _ _ of (false-not _ (le-ltb d.rank card.rank (omega (arith, least, low)))))
+
+-- it has each card of the suit from this rank up
+pub down-has : (card d : PlayingCard) → IsRank d.rank → d.suit ≡ card.suit → card.rank ≤ d.rank → has_card (filter (λ c. is_of card.suit c && not (nat_lt c.rank card.rank)) deck) d ≡ true
+down-has card d real suit low =
+    filter-has (λ x. is_of card.suit x && not (nat_lt x.rank card.rank)) deck d (has_card-deck d real) (and-both _ _ (of-suit' card.suit d suit) (false-not _ (le-ltb d.rank card.rank low)))

@@ -9,10 +9,16 @@ pub mod Heads
 pub mod Tops
 pub mod Starts
 pub mod Joined
+pub mod Bits
 pub mod Opened
 pub mod TrickRanks
+pub mod Lefts
+pub mod Fourths
+pub mod Reached
 pub mod Places
 pub mod Ranked
 pub mod Whole
 pub mod Claims
 pub mod Downs
+pub mod Winners
+pub mod Reaches

@@ -2,11 +2,9 @@
 use Rattle.std.proofs.Common.{◌≡◌, ◌≢◌, ℕ, zero, suc, ◌+◌, ◌-◌, ◌*◌, ◌/◌, ◌%◌, ◌^◌, ◌<◌, ◌≤◌, ◌⊎◌, true, false, sym, ap, ◌∙◌, arith, inl, inr, bit_and}
 use Rattle.std.specs.Prelude.{◌==◌, ◌&&◌}
 use Rattle.std.specs.Int.{bit_at}
-use mathlib.Core.Path.{ap₂}
-use Rattle.std.proofs.Math.Nat.{pow-le-pow_right}
 use Rattle.std.proofs.lemmas.Bool.{cases_lt}
 use Rattle.std.proofs.lemmas.Bool.Decides.{eqb_tells}
-use Rattle.std.proofs.lemmas.Nat.{and_le_l, one_shl, mod-pow-add, mod_below, mul-add-lt, pow-add, pow_pos, pow_below, shr_split}
+use Rattle.std.proofs.lemmas.Nat.{and_le_l, mod-pow-add, mod_below, mul-add-lt, pow-add, pow_pos, pow_below, shr_split}
 use Rattle.std.proofs.lemmas.Nat.Bits.{and_high, bit_at-lt, bit_at-suc, bit_at_cat_low, bit_at_cat_high}
 use Rattle.dd_cards.specs.Suits.{suit_code, suit_shift}
 use Rattle.dd_cards.specs.PlayingCard.{PlayingCard}
@@ -214,20 +212,3 @@ moved-cards m g valid real clear =
         let at : place_of d ≡ suc (s + (d.rank - 1)) = omega (arith, e, b) in
         ap (λ n. n == 1) (ap (bit_at (up m s r)) at ∙ up-next m s r (s + (d.rank - 1)) clear (omega arith) (omega (arith, b, h)))
         ∙ known d (d.rank - 1) below.0 (omega (arith, b)) (omega (arith, t)) ∙ ap (has_card (cards_of m)) (sym (lowered-below g d below.0 below.1))
-
--- ---- the bits below a card's, as they are written
-place-fits : (k r : ℕ) → k < 4 → r ≤ 14 → (1 * 2 ^ (48 - 16 * k) % 2 ^ 64 ≡ 2 ^ (48 - 16 * k)) × (1 * 2 ^ (48 - 16 * k + r) % 2 ^ 64 ≡ 2 ^ (48 - 16 * k + r))
-place-fits k r few top = (one_shl (48 - 16 * k) 64 (omega (arith, few)), one_shl (48 - 16 * k + r) 64 (omega (arith, few, top)))
-
-pub places-fall : (k r : ℕ) → k < 4 → r ≤ 14 → 1 * 2 ^ (48 - 16 * k) % 2 ^ 64 ≤ 1 * 2 ^ (48 - 16 * k + r) % 2 ^ 64
-places-fall k r few top =
-    let f = place-fits k r few top in
-    let a = f.0 in
-    let b = f.1 in
-    let c : 2 ^ (48 - 16 * k) ≤ 2 ^ (48 - 16 * k + r) = pow-le-pow_right {n = 2} (omega arith) {i = 48 - 16 * k} {j = 48 - 16 * k + r} (omega arith) in
-    omega (arith, a, b, c)
-
-pub places-are : (c : PlayingCard) (k r : ℕ) → k < 4 → r ≤ 14 → k ≡ suit_code c.suit → r ≡ c.rank → 1 * 2 ^ (48 - 16 * k + r) % 2 ^ 64 - 1 * 2 ^ (48 - 16 * k) % 2 ^ 64 ≡ 2 ^ place_of c - 2 ^ suit_shift c.suit
-places-are c k r few top suit rank =
-    let f = place-fits k r few top in
-    ap₂ (λ m n. m - n) f.1 f.0 ∙ ap₂ (λ i j. 2 ^ (48 - 16 * i + j) - 2 ^ (48 - 16 * i)) suit rank

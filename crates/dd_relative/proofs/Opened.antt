@@ -1,32 +1,22 @@
 -- winning ranks before gaps were closed
-use Rattle.std.proofs.Common.{◌≡◌, ◌+◌, ◌≤◌, true, false, refl, sym, ap, ◌∙◌, subst, arith, List, [], ◌∷◌}
-use Rattle.std.specs.Prelude.{◌||◌}
+use Rattle.std.proofs.Common.{◌≡◌, true, refl, ap, ◌∙◌, subst, List, [], ◌∷◌}
+use Rattle.std.specs.Prelude.{map, ◌||◌}
 use Rattle.dd_cards.specs.declared.strain.Strain.{Strain}
 use Rattle.dd_cards.specs.PlayingCard.{PlayingCard}
-use Rattle.dd_cards.specs.Cards.{has_card, same_card}
-use Rattle.dd_cards.specs.Hands.{dealt, hand_of, times, IsSet}
-use Rattle.dd_cards.proofs.CallerLemmas.{else-false, real-set, same_card-self, times-cons, times-set}
+use Rattle.dd_cards.specs.Cards.{has_card}
+use Rattle.dd_cards.specs.Hands.{dealt, hand_of}
+use Rattle.dd_cards.proofs.CallerLemmas.{real-set, same_card-self}
 use Rattle.dd_play.specs.Board.{Board}
-use Rattle.dd_play.proofs.CallerLemmas.{flag_of, times-has}
-use Rattle.dd_relative.specs.Gaps.{raised, lowered, moved_up}
+use Rattle.dd_relative.specs.Gaps.{raised, lowered, moved_hands, moved_up}
 use Rattle.dd_relative.specs.Gapped.{IsGapped}
 use Rattle.dd_relative.specs.Relative.{led_by_north}
 use Rattle.dd_relative.specs.Turned.{from_leader}
 use Rattle.dd_relative.specs.WinningRanks.{AreTop, AreOpened, AreBefore, with_next}
 use Rattle.dd_relative.proofs.Boards.{holder-of, one-of-all}
 use Rattle.dd_relative.proofs.Cards.{is-apart}
-use Rattle.dd_relative.proofs.Gapped.{alike-same, alike-then, closed-alike, closed-up, closes, gap-none}
+use Rattle.dd_relative.proofs.Gapped.{alike-same, alike-then, closed-alike, closed-one, closed-up, closing-start, gap-none}
 use Rattle.dd_relative.proofs.Joined.{next-raised}
 use Rattle.dd_relative.proofs.Turned.{places_to_north, turned-alike, turned-all}
-
--- a card stands once in a set
-pub first-once : (g : PlayingCard) (rest : List PlayingCard) → IsSet (g ∷ rest) → has_card rest g ≡ false
-first-once g rest set = else-false _ (λ h.
-    let a : 1 ≤ times rest g = times-has rest g h in
-    let b : times (g ∷ rest) g ≡ flag_of (same_card g g) + times rest g = times-cons g rest g in
-    let c : flag_of (same_card g g) ≡ 1 = ap flag_of (same_card-self g) in
-    let d : times (g ∷ rest) g ≤ 1 = times-set (g ∷ rest) g set in
-    omega (arith, a, b, c, d))
 
 -- with no gap they are the same
 pub opened-none : (l s t f gaps later cards : List PlayingCard) (strain : Strain) → gaps ≡ [] → cards ≡ later → IsGapped (led_by_north l s t f strain) gaps → AreOpened (led_by_north l s t f strain) later cards
@@ -75,12 +65,25 @@ opened-before p gaps later cards gapped o = record {
   same = λ c h. o.same c (turned-all p c ∙ h);
 }
 
--- .. as a call does it that comes to itself with one gap less
-pub opened-in : (l s t f gaps rest left mid later cards : List PlayingCard) (strain : Strain) (g : PlayingCard) → gaps ≡ g ∷ rest → left ≡ moved_up g rest → AreTop mid → cards ≡ with_next g mid
-    → ((l s t f : List PlayingCard) (strain : Strain) → IsGapped (led_by_north l s t f strain) left → AreOpened (led_by_north l s t f strain) later mid)
-    → IsGapped (led_by_north l s t f strain) gaps → AreOpened (led_by_north l s t f strain) later cards
-opened-in l s t f gaps rest left mid later cards strain g popped el top are inner gapped =
-    let here : IsGapped (led_by_north l s t f strain) (g ∷ rest) = subst (λ (x : List PlayingCard). IsGapped (led_by_north l s t f strain) x) popped gapped in
-    let next : IsGapped (led_by_north (moved_up g l) (moved_up g s) (moved_up g t) (moved_up g f) strain) left =
-    subst (λ (x : List PlayingCard). IsGapped (led_by_north (moved_up g l) (moved_up g s) (moved_up g t) (moved_up g f) strain) x) (sym el) (closes l s t f rest strain g here) in
-    opened-step l s t f gaps rest mid later cards strain g popped top are (inner (moved_up g l) (moved_up g s) (moved_up g t) (moved_up g f) strain next) gapped
+-- the relation of boards that winning ranks are told across, for any hands with these gaps
+abbrev pub Opens : List PlayingCard → List PlayingCard → List PlayingCard → Type 0
+Opens gaps later cards = (l s t f : List PlayingCard) (strain : Strain) → IsGapped (led_by_north l s t f strain) gaps → AreOpened (led_by_north l s t f strain) later cards
+
+-- with no gap they are the same
+pub opens-none : (later : List PlayingCard) → Opens [] later later
+opens-none later l s t f strain gapped = opened-none l s t f [] later later strain refl refl gapped
+
+-- .. and with one gap more the next one joins
+pub opens-one : (gaps next later mid cards : List PlayingCard) (g : PlayingCard) → next ≡ map (raised g) gaps → AreTop mid → cards ≡ with_next g mid → Opens next later mid → Opens (g ∷ gaps) later cards
+opens-one gaps next later mid cards g moved top are inner l s t f strain gapped =
+    let closing = closed-one (led_by_north l s t f strain) (dealt l s t f) (moved_hands g (dealt l s t f)) gaps next strain g (closing-start (led_by_north l s t f strain) (g ∷ gaps) gapped) refl moved in
+    opened-step l s t f (g ∷ gaps) gaps mid later cards strain g refl top are (inner (moved_up g l) (moved_up g s) (moved_up g t) (moved_up g f) strain closing.gapped) gapped
+
+-- .. of four gaps
+pub opens-four : (a b c d b1 c1 d1 c2 d2 d3 : PlayingCard) (later w1 w2 w3 w4 : List PlayingCard) → b1 ≡ raised a b → c1 ≡ raised a c → d1 ≡ raised a d → c2 ≡ raised b1 c1 → d2 ≡ raised b1 d1 → d3 ≡ raised c2 d2
+    → AreTop later → AreTop w1 → AreTop w2 → AreTop w3 → w1 ≡ with_next d3 later → w2 ≡ with_next c2 w1 → w3 ≡ with_next b1 w2 → w4 ≡ with_next a w3 → Opens (a ∷ b ∷ c ∷ d ∷ []) later w4
+opens-four a b c d b1 c1 d1 c2 d2 d3 later w1 w2 w3 w4 eb1 ec1 ed1 ec2 ed2 ed3 t0 t1 t2 t3 e1 e2 e3 e4 =
+    opens-one (b ∷ c ∷ d ∷ []) (b1 ∷ c1 ∷ d1 ∷ []) later w3 w4 a (rw (eb1, ec1, ed1) refl) t3 e4
+    (opens-one (c1 ∷ d1 ∷ []) (c2 ∷ d2 ∷ []) later w2 w3 b1 (rw (ec2, ed2) refl) t2 e3
+    (opens-one (d2 ∷ []) (d3 ∷ []) later w1 w2 c2 (rw ed3 refl) t1 e2
+    (opens-one [] [] later later w1 d3 refl t0 e1 (opens-none later))))

@@ -10,7 +10,7 @@ use Rattle.dd_cards.specs.PlayingCard.{PlayingCard}
 use Rattle.dd_cards.specs.Ranks.{IsRank}
 use Rattle.dd_cards.specs.Cards.{deck, has_card}
 use Rattle.dd_cards.specs.HandMasks.{IsHandMask, cards_of}
-use Rattle.dd_cards.proofs.CallerLemmas.{IsSet-deck, IsSet-filter, and-left, and-right, has_card-deck, has_card-filter, not-true, or-left, or-right, or-split, real-set}
+use Rattle.dd_cards.proofs.CallerLemmas.{IsSet-deck, IsSet-filter, and-left, and-right, has_card-deck, has_card-filter, not-true, or-left, or-right, or-split, real-set, times-set}
 use Rattle.dd_play.specs.Board.{Board, IsBoard}
 use Rattle.dd_play.proofs.CallerLemmas.{card-real}
 use Rattle.dd_rank.specs.Depths.{all_cards}
@@ -60,7 +60,7 @@ pub pack-gaps : (p : Board) (left : List PlayingCard) → IsBoard p → p.trick 
 pack-gaps p left valid start same = record {
   board = valid;
   start = start;
-  set = IsSet-filter (λ c. not (has_card left c)) deck IsSet-deck;
+  once = λ c. times-set (filter (λ x. not (has_card left x)) deck) c (IsSet-filter (λ x. not (has_card left x)) deck IsSet-deck);
   real = gap-real;
   apart = λ c h. sym (same c (gap-real c h)) ∙ not-true _ (and-left _ _ (sym (has_card-filter (λ x. not (has_card left x)) deck c) ∙ h));
   closed = λ c d h suits less most. (

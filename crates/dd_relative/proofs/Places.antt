@@ -19,7 +19,7 @@ use Rattle.dd_relative.specs.Relative.{IsRelative}
 use Rattle.dd_relative.proofs.Boards.{holder-of}
 
 -- ---- counting
-flag-le : (b d : Bool) → (b ≡ true → d ≡ true) → flag_of b ≤ flag_of d
+pub flag-le : (b d : Bool) → (b ≡ true → d ≡ true) → flag_of b ≤ flag_of d
 flag-le false d more = omega arith
 flag-le true d more = (let e = ap flag_of (more refl) in omega (arith, e))
 
@@ -77,7 +77,7 @@ step-test true r m = elim (cases_lt (r + 1) m) [
 ]
 
 -- where all ranks above are there, as many as there are ranks
-above-count : (p : Board) → IsBoard p → (s : Suit) (n r : ℕ) → r + n ≡ 14
+pub above-count : (p : Board) → IsBoard p → (s : Suit) (n r : ℕ) → r + n ≡ 14
     → ((d : PlayingCard) → d.suit ≡ s → r < d.rank → d.rank ≤ 14 → has_card (all_cards p) d ≡ true)
     → count (is_above (card_of s r)) (all_cards p) ≡ n
 above-count p valid s zero r e all = none (count (is_above (card_of s r)) (all_cards p)) refl

@@ -37,7 +37,7 @@ to-north South = refl
 to-north West = refl
 
 -- each hand is where it was, turned
-turned-hand : (hands : FourHands) (f x : Seat) → hand_of (from_seat hands f) (seat_after x (places_to_north f)) ≡ hand_of hands x
+pub turned-hand : (hands : FourHands) (f x : Seat) → hand_of (from_seat hands f) (seat_after x (places_to_north f)) ≡ hand_of hands x
 unfolding places_to_north
 turned-hand hands North North = refl
 turned-hand hands North East = refl
@@ -57,7 +57,7 @@ turned-hand hands West South = refl
 turned-hand hands West West = refl
 
 -- the hand at a seat, by the seat that it was at
-from-at : (hands : FourHands) (f x : Seat) → hand_of (from_seat hands f) x ≡ hand_of hands (seat_after f (seat_code x))
+pub from-at : (hands : FourHands) (f x : Seat) → hand_of (from_seat hands f) x ≡ hand_of hands (seat_after f (seat_code x))
 from-at hands f North = refl
 from-at hands f East = refl
 from-at hands f South = refl
@@ -122,7 +122,7 @@ pub turned-gapped : (p : Board) (gaps : List PlayingCard) → IsGapped p gaps �
 turned-gapped p gaps gapped = record {
   board = turned-board p gapped.board gapped.start;
   start = refl;
-  set = gapped.set;
+  once = gapped.once;
   real = gapped.real;
   apart = λ c h. turned-all p c ∙ gapped.apart c h;
   closed = λ c d h suits less most. same d ∙ gapped.closed c d (sym (same c) ∙ h) suits less most;

@@ -10,20 +10,21 @@ use Rattle.dd_cards.specs.declared.strain.Strain.{Strain}
 use Rattle.dd_cards.specs.PlayingCard.{PlayingCard}
 use Rattle.dd_cards.specs.Ranks.{IsRank}
 use Rattle.dd_cards.specs.Cards.{has_card, is_of, same_card, with_card, without}
-use Rattle.dd_cards.specs.Hands.{FourHands, dealt, IsSet}
+use Rattle.dd_cards.specs.Hands.{FourHands, dealt, times, IsSet}
 use Rattle.dd_cards.specs.Seats.{seat_after}
-use Rattle.dd_cards.proofs.CallerLemmas.{IsSet-with_card, and-both, and-left, and-right, else-false, false-not, has_card-with_card, has_card-without, not-true, or-left, or-right, or-split, real-set, same_card-eq, same_card-self}
+use Rattle.dd_cards.proofs.CallerLemmas.{IsSet-with_card, and-both, and-left, and-right, else-false, false-not, has_card-with_card, has_card-without, not-true, or-left, or-right, or-split, real-set, both-ways, same_card-eq, same_card-self, times-cons, times-set}
 use Rattle.dd_play.specs.Board.{Board, board_of, cards_at, mover}
 use Rattle.dd_play.specs.Tricks.{winner_of, or_else}
 use Rattle.dd_play.specs.Play.{following, legal, after}
 use Rattle.dd_play.specs.Simulations.{IsLegal}
-use Rattle.dd_play.proofs.CallerLemmas.{legal-leads, own-card}
+use Rattle.dd_play.proofs.CallerLemmas.{flag_of, legal-leads, own-card, times-has}
 use Rattle.dd_rank.specs.Depths.{all_cards}
 use Rattle.dd_relative.specs.Relative.{IsRelative, led_by_north}
 use Rattle.dd_relative.specs.Turned.{from_seat, from_leader}
 use Rattle.dd_relative.proofs.Turned.{turned-gapped}
 use Rattle.dd_relative.specs.Gapped.{stands, IsGapped}
 use Rattle.dd_relative.specs.UnderWay.{under_way, IsUnderWay}
+use Rattle.dd_relative.proofs.Gapped.{gapped-as}
 use Rattle.dd_relative.proofs.Boards.{board-hands, holder-of, one-of-all}
 
 -- a start of a trick that North leads to, by its parts
@@ -198,7 +199,7 @@ module _ (s : Board) (x y z d : PlayingCard) (relative : IsRelative s) (under : 
   trick-gapped = record {
     board = (legal-leads (under_way s (x ∷ y ∷ z ∷ [])) d under.board has).valid;
     start = refl;
-    set = gaps-set;
+    once = λ c. times-set (with_card (with_card (with_card (with_card [] x) y) z) d) c gaps-set;
     real = λ c h. real-set (with_card (with_card (with_card (with_card [] x) y) z) d) c gaps-set h;
     apart = λ c h. else-false _ (λ k.
         let a = gap-of c h in
@@ -213,6 +214,62 @@ module _ (s : Board) (x y z d : PlayingCard) (relative : IsRelative s) (under : 
         let a = holder-of s e all in
         stands-now e a.0 (same_card e (played a.0)) refl a.1);
   }
+
+  -- .. one by one
+  gap-there : (a : Seat) → has_card (with_card (with_card (with_card (with_card [] x) y) z) d) (played a) ≡ true
+  gap-there a = of-gap (played a) a (real-set (cards_at s a) (played a) (relative.board.sets a) (played-own a)) (same_card-self (played a))
+
+  list-there : (a : Seat) → has_card (x ∷ y ∷ z ∷ d ∷ []) (played a) ≡ true
+  unfolding played
+  list-there North = or-left (same_card x x) (same_card y x || (same_card z x || (same_card d x || false))) (same_card-self x)
+  list-there East = or-right (same_card x y) _ (or-left (same_card y y) (same_card z y || (same_card d y || false)) (same_card-self y))
+  list-there South = or-right (same_card x z) _ (or-right (same_card y z) _ (or-left (same_card z z) (same_card d z || false) (same_card-self z)))
+  list-there West = or-right (same_card x d) _ (or-right (same_card y d) _ (or-right (same_card z d) _ (or-left (same_card d d) false (same_card-self d))))
+
+  list-of : (c : PlayingCard) → has_card (x ∷ y ∷ z ∷ d ∷ []) c ≡ true → (a : Seat) × (c ≡ played a)
+  unfolding played
+  list-of c h = elim (or-split (same_card x c) _ h) [
+    | inl e ↦ (North, sym (same_card-eq x c e))
+    | inr h ↦ elim (or-split (same_card y c) _ h) [
+      | inl e ↦ (East, sym (same_card-eq y c e))
+      | inr h ↦ elim (or-split (same_card z c) _ h) [
+        | inl e ↦ (South, sym (same_card-eq z c e))
+        | inr h ↦ elim (or-split (same_card d c) _ h) [ inl e ↦ (West, sym (same_card-eq d c e)) | inr none ↦ absurd (cc) ]
+      ]
+    ]
+  ]
+
+  pub list-same : (c : PlayingCard) → has_card (x ∷ y ∷ z ∷ d ∷ []) c ≡ has_card (with_card (with_card (with_card (with_card [] x) y) z) d) c
+  list-same c =
+      both-ways _ _
+      (λ h. let a = list-of c h in ap (has_card (with_card (with_card (with_card (with_card [] x) y) z) d)) a.1 ∙ gap-there a.0)
+      (λ h. let a = gap-of c h in ap (has_card (x ∷ y ∷ z ∷ d ∷ [])) a.1 ∙ list-there a.0)
+
+  -- each was in a hand, and in one alone
+  own-times : (a : Seat) (c : PlayingCard) → flag_of (same_card (played a) c) ≤ times (cards_at s a) c
+  own-times a c = go (same_card (played a) c) refl
+    where
+      go : (b : Bool) → same_card (played a) c ≡ b → flag_of b ≤ times (cards_at s a) c
+      go true e = times-has (cards_at s a) c (ap (has_card (cards_at s a)) (sym (same_card-eq (played a) c e)) ∙ played-own a)
+      go false e = omega arith
+
+  pub list-once : (c : PlayingCard) → times (x ∷ y ∷ z ∷ d ∷ []) c ≤ 1
+  unfolding played
+  list-once c =
+      let n : flag_of (same_card x c) ≤ times (cards_at s North) c = own-times North c in
+      let e : flag_of (same_card y c) ≤ times (cards_at s East) c = own-times East c in
+      let t : flag_of (same_card z c) ≤ times (cards_at s South) c = own-times South c in
+      let w : flag_of (same_card d c) ≤ times (cards_at s West) c = own-times West c in
+      let once : (times (cards_at s North) c + times (cards_at s East) c + times (cards_at s South) c + times (cards_at s West) c) + times s.trick c ≤ 1 = relative.board.once c in
+      let f1 : times (x ∷ y ∷ z ∷ d ∷ []) c ≡ flag_of (same_card x c) + times (y ∷ z ∷ d ∷ []) c = times-cons x (y ∷ z ∷ d ∷ []) c in
+      let f2 : times (y ∷ z ∷ d ∷ []) c ≡ flag_of (same_card y c) + times (z ∷ d ∷ []) c = times-cons y (z ∷ d ∷ []) c in
+      let f3 : times (z ∷ d ∷ []) c ≡ flag_of (same_card z c) + times (d ∷ []) c = times-cons z (d ∷ []) c in
+      let f4 : times (d ∷ []) c ≡ flag_of (same_card d c) + times [] c = times-cons d [] c in
+      let f5 : times [] c ≡ 0 = refl in
+      omega (arith, n, e, t, w, once, f1, f2, f3, f4, f5)
+
+  pub trick-open : IsGapped (after (under_way s (x ∷ y ∷ z ∷ [])) d) (x ∷ y ∷ z ∷ d ∷ [])
+  trick-open = gapped-as (after (under_way s (x ∷ y ∷ z ∷ [])) d) _ (x ∷ y ∷ z ∷ d ∷ []) list-same list-once trick-gapped
 
 -- three cards, as they are read one by one
 pub three-are : (cards : List PlayingCard) (n : ℕ) (a b c : PlayingCard) → length cards ≡ 3 → n ≡ 3 → take n cards ≡ slice_index_or cards 0 a ∷ slice_index_or cards 1 b ∷ slice_index_or cards 2 c ∷ []
@@ -232,9 +289,9 @@ pub record IsFinish (p : Board) (d : PlayingCard) (l s t f gaps : List PlayingCa
   pub start : (after p d).trick ≡ []
   pub winner : seat ≡ (after p d).first
 
-finish-from : (b : Board) (x y z d : PlayingCard) (l s t f gaps : List PlayingCard) (strain : Strain) (seat : Seat) → IsRelative b → IsUnderWay b (x ∷ y ∷ z ∷ []) → IsLegal (under_way b (x ∷ y ∷ z ∷ [])) d
+pub finish-from : (b : Board) (x y z d : PlayingCard) (l s t f gaps : List PlayingCard) (strain : Strain) (seat : Seat) → IsRelative b → IsUnderWay b (x ∷ y ∷ z ∷ []) → IsLegal (under_way b (x ∷ y ∷ z ∷ [])) d
     → dealt l s t f ≡ from_seat (dealt (without b.hands.north x) (without b.hands.east y) (without b.hands.south z) (without b.hands.west d)) seat → strain ≡ b.strain → seat ≡ winner_of (x ∷ y ∷ z ∷ d ∷ []) North strain
-    → gaps ≡ with_card (with_card (with_card (with_card [] x) y) z) d → IsFinish (under_way b (x ∷ y ∷ z ∷ [])) d l s t f gaps strain seat
+    → gaps ≡ x ∷ y ∷ z ∷ d ∷ [] → IsFinish (under_way b (x ∷ y ∷ z ∷ [])) d l s t f gaps strain seat
 finish-from b x y z d l s t f gaps strain seat relative under has hands same_strain won are =
     let first : seat ≡ winner_of (x ∷ y ∷ z ∷ d ∷ []) North b.strain = won ∙ ap (winner_of (x ∷ y ∷ z ∷ d ∷ []) North) same_strain in
     let same : led_by_north l s t f strain ≡ from_leader (after (under_way b (x ∷ y ∷ z ∷ [])) d) =
@@ -242,7 +299,7 @@ finish-from b x y z d l s t f gaps strain seat relative under has hands same_str
     (hands ∙ ap (from_seat (dealt (without b.hands.north x) (without b.hands.east y) (without b.hands.south z) (without b.hands.west d))) first) same_strain in
     record {
       gapped = subst (λ (g : List PlayingCard). IsGapped (led_by_north l s t f strain) g) (sym are)
-          (subst (λ (q : Board). IsGapped q (with_card (with_card (with_card (with_card [] x) y) z) d)) (sym same) (turned-gapped (after (under_way b (x ∷ y ∷ z ∷ [])) d) _ (trick-gapped b x y z d relative under has)));
+          (subst (λ (q : Board). IsGapped q (x ∷ y ∷ z ∷ d ∷ [])) (sym same) (turned-gapped (after (under_way b (x ∷ y ∷ z ∷ [])) d) _ (trick-open b x y z d relative under has)));
       same = same;
       start = refl;
       winner = first;
@@ -252,7 +309,7 @@ pub finish : (b p : Board) (cards : List PlayingCard) (n : ℕ) (x y z d : Playi
     → under_way b (take n cards) ≡ p → length p.trick ≡ 3 → IsLegal p d
     → dealt l s t f ≡ from_seat (dealt (without b.hands.north (slice_index_or cards 0 x)) (without b.hands.east (slice_index_or cards 1 y)) (without b.hands.south (slice_index_or cards 2 z)) (without b.hands.west d)) seat → strain ≡ b.strain
     → seat ≡ winner_of (slice_index_or cards 0 x ∷ slice_index_or cards 1 y ∷ slice_index_or cards 2 z ∷ d ∷ []) North strain
-    → gaps ≡ with_card (with_card (with_card (with_card [] (slice_index_or cards 0 x)) (slice_index_or cards 1 y)) (slice_index_or cards 2 z)) d → IsFinish p d l s t f gaps strain seat
+    → gaps ≡ slice_index_or cards 0 x ∷ slice_index_or cards 1 y ∷ slice_index_or cards 2 z ∷ d ∷ [] → IsFinish p d l s t f gaps strain seat
 finish b p cards n x y z d l s t f gaps strain seat relative three most under view full has hands same_strain won are =
     let number : n ≡ 3 = lie-number b cards n 3 relative three most (ap (λ (q : Board). length q.trick) view ∙ full) in
     let list : take n cards ≡ slice_index_or cards 0 x ∷ slice_index_or cards 1 y ∷ slice_index_or cards 2 z ∷ [] = three-are cards n x y z three number in

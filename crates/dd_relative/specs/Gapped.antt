@@ -3,7 +3,7 @@ use Rattle.std.specs.Prelude.{◌≡◌, ◌≤◌, ◌||◌, Bool, true, false,
 use Rattle.dd_cards.specs.PlayingCard.{PlayingCard}
 use Rattle.dd_cards.specs.Ranks.{IsRank}
 use Rattle.dd_cards.specs.Cards.{has_card}
-use Rattle.dd_cards.specs.Hands.{IsSet}
+use Rattle.dd_cards.specs.Hands.{times}
 use Rattle.dd_play.specs.Board.{Board, IsBoard}
 use Rattle.dd_rank.specs.Alike.{IsAlike}
 use Rattle.dd_rank.specs.Depths.{all_cards}
@@ -16,7 +16,7 @@ stands p gaps c = has_card (all_cards p) c || has_card gaps c
 pub record IsGapped (p : Board) (gaps : List PlayingCard) : Type 0 where
   pub board : IsBoard p
   pub start : p.trick ≡ []
-  pub set : IsSet gaps
+  pub once : (c : PlayingCard) → times gaps c ≤ 1
   pub real : (c : PlayingCard) → has_card gaps c ≡ true → IsRank c.rank
   pub apart : (c : PlayingCard) → has_card gaps c ≡ true → has_card (all_cards p) c ≡ false
   pub closed : (c d : PlayingCard) → stands p gaps c ≡ true → d.suit ≡ c.suit → c.rank ≤ d.rank → d.rank ≤ 14 → stands p gaps d ≡ true

@@ -1,36 +1,32 @@
 //! A start of a trick by relative ranks.
-ghost use Rattle.std.specs.Prelude.{◌≡◌};
+ghost use Rattle.std.specs.Prelude.{◌≡◌, ◌≤◌, ◌∷◌, []};
 ghost use Rattle.dd_cards.specs.declared.seat.Seat.TheVariants.{North, East, South, West};
 ghost use Rattle.dd_cards.specs.Cards.{deck};
-ghost use Rattle.dd_play.specs.Board.{cards_at};
+ghost use Rattle.dd_play.specs.Board.{cards_at, tricks_left};
 ghost use Rattle.dd_rank.specs.Alike.{AreAlike, IsAlike};
 ghost use Rattle.dd_relative.specs.Relative.{IsRelative, led_by_north};
 ghost use Rattle.dd_relative.specs.Gapped.{IsGapped};
 
-use crate::gap::moved_up;
-use dd_cards::{Hand, Strain};
+use crate::gap::{moved_up, one_closed, raised};
+use dd_cards::{Hand, Hands, Place, Seat, Strain};
 use dd_play::TrickStart;
 use std::marker::Model;
 
 /// A start of a trick by relative ranks: the leader is North, and the cards left of each suit are its highest ones.
 #[derive(Drop)]
 pub struct RelativeStart {
-    leader: Hand,
-    second: Hand,
-    third: Hand,
-    fourth: Hand,
-    strain: Strain,
+    start: TrickStart,
 }
 
 impl Model for RelativeStart {
     ghost use Rattle.dd_play.specs.Board.{Board};
-    ghost use Rattle.dd_relative.specs.Relative.{IsRelative, led_by_north};
+    ghost use Rattle.dd_relative.specs.Relative.{IsRelative};
 
     ghost Value = { Board };
 
-    ghost view = { λ s. led_by_north s.leader s.second s.third s.fourth s.strain };
+    ghost view = { λ s. s.start };
 
-    ghost invariant = { λ s. IsRelative (led_by_north s.leader s.second s.third s.fourth s.strain) };
+    ghost invariant = { λ s. IsRelative s.start };
 }
 
 impl RelativeStart {
@@ -60,11 +56,7 @@ impl RelativeStart {
         ensures relative { IsRelative self.now }
     {
         RelativeStart {
-            leader: self.leader,
-            second: self.second,
-            third: self.third,
-            fourth: self.fourth,
-            strain: self.strain,
+            start: self.start.copy(),
         }
     }
 
@@ -74,7 +66,7 @@ impl RelativeStart {
         ensures cards { result ≡ cards_at self.now North }
         ensures relative { IsRelative self.now }
     {
-        self.leader
+        self.hands().hand(Seat::North)
     }
 
     /// The cards of the second hand, which is East.
@@ -83,7 +75,7 @@ impl RelativeStart {
         ensures cards { result ≡ cards_at self.now East }
         ensures relative { IsRelative self.now }
     {
-        self.second
+        self.hands().hand(Seat::East)
     }
 
     /// The cards of the third hand, which is South.
@@ -92,7 +84,7 @@ impl RelativeStart {
         ensures cards { result ≡ cards_at self.now South }
         ensures relative { IsRelative self.now }
     {
-        self.third
+        self.hands().hand(Seat::South)
     }
 
     /// The cards of the fourth hand, which is West.
@@ -101,7 +93,7 @@ impl RelativeStart {
         ensures cards { result ≡ cards_at self.now West }
         ensures relative { IsRelative self.now }
     {
-        self.fourth
+        self.hands().hand(Seat::West)
     }
 
     /// The strain.
@@ -109,7 +101,34 @@ impl RelativeStart {
     pub fn strain(&self) -> Strain
         ensures { result ≡ self.now.strain }
     {
-        self.strain
+        self.start.position().strain()
+    }
+
+    /// The same as a start of a trick.
+    #[inline(always)]
+    pub fn as_trick_start(&self) -> &TrickStart
+        ensures same { result.now ≡ self.now }
+        ensures relative { IsRelative self.now }
+    {
+        &self.start
+    }
+
+    /// The tricks left: 0 to 13.
+    #[inline(always)]
+    pub fn tricks_left(&self) -> u8
+        ensures tricks { result ≡ tricks_left self.now }
+        ensures bound { result ≤ 13 }
+    {
+        self.leader().len()
+    }
+
+    // The four hands.
+    #[inline(always)]
+    fn hands(&self) -> &Hands
+        ensures hands { result.now ≡ self.now.hands }
+        ensures relative { IsRelative self.now }
+    {
+        self.start.position().hands()
     }
 }
 
@@ -132,7 +151,7 @@ pub(crate) fn closed_up(
     let mut third_now = third;
     let mut fourth_now = fourth;
     let mut gaps_now = gaps;
-    'gaps: while let Some(gap) = gaps_now.pop_first() {
+    'gaps: while let Some(gap) = gaps_now.take_first() {
         first_now = moved_up(first_now, gap);
         second_now = moved_up(second_now, gap);
         third_now = moved_up(third_now, gap);
@@ -140,11 +159,39 @@ pub(crate) fn closed_up(
         gaps_now = moved_up(gaps_now, gap);
     }
     RelativeStart {
-        leader: first_now,
-        second: second_now,
-        third: third_now,
-        fourth: fourth_now,
-        strain,
+        start: TrickStart::led_by_north(first_now, second_now, third_now, fourth_now, strain),
+    }
+}
+
+/// The same of the four gaps that a trick leaves, which may come in any order.
+// Where one is closed, those below it in its suit go up as the cards do. No hand of gaps is kept, and nothing has a branch.
+#[inline(always)]
+pub(crate) fn closed_over(
+    leader: Hand,
+    second: Hand,
+    third: Hand,
+    fourth: Hand,
+    strain: Strain,
+    a: Place,
+    b: Place,
+    c: Place,
+    d: Place,
+) -> RelativeStart
+    requires { IsGapped (led_by_north leader second third fourth strain) (a ∷ b ∷ c ∷ d ∷ []) }
+    ensures { IsAlike (led_by_north leader second third fourth strain) result }
+{
+    let (l, s, t, f) = one_closed(leader, second, third, fourth, a);
+    let b_now = raised(b, a);
+    let c_now = raised(c, a);
+    let d_now = raised(d, a);
+    let (l, s, t, f) = one_closed(l, s, t, f, b_now);
+    let c_next = raised(c_now, b_now);
+    let d_next = raised(d_now, b_now);
+    let (l, s, t, f) = one_closed(l, s, t, f, c_next);
+    let d_last = raised(d_next, c_next);
+    let (l, s, t, f) = one_closed(l, s, t, f, d_last);
+    RelativeStart {
+        start: TrickStart::led_by_north(l, s, t, f, strain),
     }
 }
 

@@ -13,10 +13,10 @@ ghost use Rattle.dd_rank.specs.Alike.{AreAlike};
 ghost use Rattle.dd_relative.specs.Turned.{from_seat};
 ghost use Rattle.dd_relative.specs.WinningRanks.{AreBefore};
 
-use crate::relative_start::{RelativeStart, closed_up, pack};
+use crate::relative_start::{RelativeStart, closed_over, pack};
 use crate::runs::run_heads;
-use crate::winning_ranks::{WinningRanks, before_gaps};
-use dd_cards::{Card, Hand, Seat, Suit};
+use crate::winning_ranks::{WinningRanks, before_trick};
+use dd_cards::{Card, Hand, Place, Seat, Suit};
 use dd_play::winner;
 use std::marker::Model;
 
@@ -118,14 +118,16 @@ impl RelativeTrick {
             self.start.fourth().without(card),
             seat,
         );
-        let gaps = Hand::new().with(first).with(second).with(third).with(card);
-        let next = closed_up(
+        let next = closed_over(
             leader_left,
             second_left,
             third_left,
             fourth_left,
             strain,
-            gaps,
+            Place::of(first),
+            Place::of(second),
+            Place::of(third),
+            Place::of(card),
         );
         (next, seat)
     }
@@ -140,8 +142,13 @@ impl RelativeTrick {
     {
         let _start = self.start.leader();
         let [first, second, third] = self.trick;
-        let gaps = Hand::new().with(first).with(second).with(third).with(card);
-        before_gaps(later, gaps)
+        before_trick(
+            later,
+            Place::of(first),
+            Place::of(second),
+            Place::of(third),
+            Place::of(card),
+        )
     }
 
     /// These winning ranks and the lower cards of each class that they reach in part: what an answer rests on where each class of the

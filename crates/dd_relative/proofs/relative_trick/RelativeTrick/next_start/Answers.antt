@@ -1,15 +1,16 @@
-use Rattle.std.proofs.Common.{◌≡◌, refl, ap, ◌∙◌, subst, [], get_or, List}
+use Rattle.std.proofs.Common.{◌≡◌, refl, ap, ◌∙◌, subst, [], ◌∷◌, get_or, List}
 use Rattle.dd_cards.specs.PlayingCard.{PlayingCard}
-use Rattle.dd_cards.specs.Cards.{with_card, without}
+use Rattle.dd_cards.specs.Cards.{without}
 use Rattle.dd_cards.specs.Hands.{dealt}
 use Rattle.dd_play.specs.Board.{Board}
 use Rattle.dd_play.specs.Play.{after}
 use Rattle.dd_rank.specs.Alike.{IsAlike}
 use Rattle.dd_relative.specs.Turned.{from_seat}
+use Rattle.dd_relative.proofs.TrickRanks.{four-same}
 use Rattle.dd_relative.proofs.Turned.{alike-turned}
 use Rattle.dd_relative.proofs.UnderWay.{IsFinish, finish}
 use Rattle.dd_relative.proofs.relative_trick.RelativeTrick.next_start.Goals as goal
-use Rattle.dd_relative.proofs.relative_trick.RelativeTrick.next_start.Goals.{After-with-gaps}
+use Rattle.dd_relative.proofs.relative_trick.RelativeTrick.next_start.Goals.{After-of-4}
 
 -- a hand without the card that was played from it
 hand : (cards taken left : List PlayingCard) (c : PlayingCard) → left ≡ without taken c → taken ≡ cards → left ≡ without cards c
@@ -19,19 +20,14 @@ hand cards taken left c e f = e ∙ ap (λ l. without l c) f
 turned : (a b c d l s t f : List PlayingCard) → a ≡ l → b ≡ s → c ≡ t → d ≡ f → dealt a b c d ≡ dealt l s t f
 turned a b c d l s t f ea eb ec ed = rw (ea, eb, ec, ed) refl
 
--- four cards put together
-four : (x y z d : PlayingCard) (n a b c g : List PlayingCard) → n ≡ [] → a ≡ with_card n x → b ≡ with_card a y → c ≡ with_card b z → g ≡ with_card c d → g ≡ with_card (with_card (with_card (with_card [] x) y) z) d
-four x y z d n a b c g en ea eb ec eg =
-    eg ∙ ap (λ l. with_card l d) (ec ∙ ap (λ l. with_card l z) (eb ∙ ap (λ l. with_card l y) (ea ∙ ap (λ l. with_card l x) en)))
-
-finished : (c : After-with-gaps) → IsFinish c.args.self.now c.args.card c.turned-leader_left.result.0 c.turned-leader_left.result.1 c.turned-leader_left.result.2 c.turned-leader_left.result.3 c.with-gaps.result c.strain-strain.result c.winner-seat.result
+finished : (c : After-of-4) → IsFinish c.args.self.now c.args.card c.turned-leader_left.result.0 c.turned-leader_left.result.1 c.turned-leader_left.result.2 c.turned-leader_left.result.3 (c.of.result ∷ c.of-2.result ∷ c.of-3.result ∷ c.of-4.result ∷ []) c.strain-strain.result c.winner-seat.result
 finished c =
     let s = c.self.inside.start in
     let x = get_or c.self.inside.trick 0 c.index-self-0.result in
     let y = get_or c.self.inside.trick 1 c.index-self-1.result in
     let z = get_or c.self.inside.trick 2 c.index-self-2.result in
     finish s c.args.self.now c.self.inside.trick c.self.inside.played c.index-self-0.result c.index-self-1.result c.index-self-2.result c.args.card
-    c.turned-leader_left.result.0 c.turned-leader_left.result.1 c.turned-leader_left.result.2 c.turned-leader_left.result.3 c.with-gaps.result c.strain-strain.result c.winner-seat.result
+    c.turned-leader_left.result.0 c.turned-leader_left.result.1 c.turned-leader_left.result.2 c.turned-leader_left.result.3 (c.of.result ∷ c.of-2.result ∷ c.of-3.result ∷ c.of-4.result ∷ []) c.strain-strain.result c.winner-seat.result
     c.leader.ensures.relative c.self.invariant.1 c.self.invariant.0 c.self.invariant.2 c.self.view_is c.requires.turn c.requires.card
     (c.turned-leader_left.ensures
     ∙ ap (λ h. from_seat h c.winner-seat.result) (turned c.without.result c.without-2.result c.without-3.result c.without-4.result _ _ _ _
@@ -40,15 +36,15 @@ finished c =
     (hand s.hands.south c.third.result c.without-3.result z c.without-3.ensures c.third.ensures.cards)
     (hand s.hands.west c.fourth.result c.without-4.result c.args.card c.without-4.ensures c.fourth.ensures.cards)))
     c.strain-strain.ensures c.winner-seat.ensures
-    (four x y z c.args.card c.new.result c.with.result c.with-2.result c.with-3.result c.with-gaps.result c.new.ensures c.with.ensures c.with-2.ensures c.with-3.ensures c.with-gaps.ensures)
+    (four-same c.of.result c.of-2.result c.of-3.result c.of-4.result x y z c.args.card c.of.ensures.card c.of-2.ensures.card c.of-3.ensures.card c.of-4.ensures.card)
 
-pub closed_up-next-requires : goal.closed_up-next-requires
-closed_up-next-requires c = (finished (goal.at.closed_up-next-requires c).After-with-gaps).gapped
+pub closed_over-next-requires : goal.closed_over-next-requires
+closed_over-next-requires c = (finished (goal.at.closed_over-next-requires c).After-of-4).gapped
 
 pub returns-clause-alike : goal.returns-clause-alike
 returns-clause-alike c =
-    let f = finished (goal.at.returns-clause-alike c).After-with-gaps in
-    alike-turned (after c.args.self.now c.args.card) c.closed_up-next.result f.start (subst (λ (b : Board). IsAlike b c.closed_up-next.result) f.same c.closed_up-next.ensures)
+    let f = finished (goal.at.returns-clause-alike c).After-of-4 in
+    alike-turned (after c.args.self.now c.args.card) c.closed_over-next.result f.start (subst (λ (b : Board). IsAlike b c.closed_over-next.result) f.same c.closed_over-next.ensures)
 
 pub returns-clause-winner : goal.returns-clause-winner
-returns-clause-winner c = (finished (goal.at.returns-clause-winner c).After-with-gaps).winner
+returns-clause-winner c = (finished (goal.at.returns-clause-winner c).After-of-4).winner
