@@ -332,20 +332,33 @@ impl<B: Bounds> Bounds for Cache<B> {
     }
 
     fn lead_history(&self, start: &Position, strings: &OwnerStrings) -> LeadHistory {
-        LeadHistory {
-            of_shape: self.lead_of_shape(strings.shape()),
-            of_outline: self.lead_of_outline(strings.outline_number()),
-            of_leader: self.of_leaders[leader_place(start)].in_deal(self.generation),
-        }
+        self.lead_history_of(start, start.first(), strings)
     }
 
     fn note_lead(&mut self, start: &Position, strings: &OwnerStrings, lead: Suit) {
+        self.note_lead_of(start, start.first(), strings, lead);
+    }
+
+    fn lead_history_of(
+        &self,
+        start: &Position,
+        leader: Seat,
+        strings: &OwnerStrings,
+    ) -> LeadHistory {
+        LeadHistory {
+            of_shape: self.lead_of_shape(strings.shape()),
+            of_outline: self.lead_of_outline(strings.outline_number()),
+            of_leader: self.of_leaders[leader_place(start, leader)].in_deal(self.generation),
+        }
+    }
+
+    fn note_lead_of(&mut self, start: &Position, leader: Seat, strings: &OwnerStrings, lead: Suit) {
         let new = SettlingLead::new(self.generation, lead);
         self.settled = new;
         if let Some(old) = self.of_outlines.get_mut(place(strings.outline_number())) {
             *old = new;
         }
-        self.of_leaders[leader_place(start)] = new;
+        self.of_leaders[leader_place(start, leader)] = new;
     }
 
     fn note_by(
@@ -362,12 +375,12 @@ impl<B: Bounds> Bounds for Cache<B> {
     }
 }
 
-// Where the lead of a leader with so many tricks left stands.
+// Where the lead of this leader in the deal stands, with so many tricks left.
 #[inline]
-fn leader_place(start: &Position) -> usize
+fn leader_place(start: &Position, leader: Seat) -> usize
     ensures { result < 56 }
 {
-    4 * start.tricks_left() as usize + start.first().code() as usize
+    4 * start.tricks_left() as usize + leader.code() as usize
 }
 
 // Is a value of this position kept?

@@ -1,8 +1,11 @@
 pub mod Orders
 pub mod Relied
+pub mod Carried
+pub mod LedByNorth
 pub mod Scores
 pub mod Turns
 pub mod Greatest
 pub mod Classes
 pub mod Known
 pub mod CallerLemmas
+pub mod Opens

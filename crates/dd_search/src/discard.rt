@@ -4,7 +4,7 @@ ghost use Rattle.std.specs.Prelude.{◌≡◌, true, IfSome};
 ghost use Rattle.dd_cards.specs.Cards.{has_card};
 
 use crate::holdings::{code_of_highest, lowest};
-use crate::suit_lanes::{LOWEST, at, greatest, lengths, nonempty, where_held};
+use crate::suit_lanes::{LOWEST, at, greatest, nonempty, where_held};
 use crate::trick_view::TrickView;
 use crate::turn::Turn;
 use dd_cards::{Card, Hand, Holding, Rank, Suit};
@@ -129,13 +129,13 @@ impl Discarding {
         }
     }
 
-    /// The best of the choices of this hand that were not tried yet.
+    /// The best of the choices of a hand with these lengths that were not tried yet.
     // Four suits are weighed side by side, without a branch: which of them has a card to try would hardly be foreseen.
     #[inline]
-    pub(crate) fn best(self, hand: Hand, choices: Hand, untried: Hand) -> Option<Card>
+    pub(crate) fn best(self, lengths: u64, choices: Hand, untried: Hand) -> Option<Card>
         ensures { IfSome result (λ card. has_card untried card ≡ true) }
     {
-        let weights = self.discards(hand, choices, untried);
+        let weights = self.discards(lengths, choices, untried);
         let (ruffs, weights) = match self.trump {
             Some(trump) => {
                 let (ruffs, worth) = self.ruffs(untried.holding(trump));
@@ -157,9 +157,9 @@ impl Discarding {
 
     // What a discard of each suit is worth.
     #[inline]
-    fn discards(self, hand: Hand, choices: Hand, untried: Hand) -> u64 {
+    fn discards(self, lengths: u64, choices: Hand, untried: Hand) -> u64 {
         let tried = nonempty(choices.mask() ^ untried.mask());
-        let spare = lengths(hand.mask()).wrapping_mul(self.four_to_spare as u64);
+        let spare = lengths.wrapping_mul(self.four_to_spare as u64);
         LOWEST
             .wrapping_mul(self.worth.discard as u64)
             .wrapping_add((LOWEST ^ tried).wrapping_mul(FIRST_OF_ITS_SUIT))

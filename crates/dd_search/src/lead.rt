@@ -3,13 +3,13 @@ ghost use Rattle.std.specs.Prelude.{◌≡◌, ◌≤◌, true, IfSome};
 ghost use Rattle.dd_cards.specs.Cards.{has_card};
 
 use crate::holdings::{code_of_highest, lowest};
+use crate::lead_view::LeadView;
 use crate::lead_weights::{
     AT_NOTRUMP, LEADER, LeadWeights, LeadWorth, NUMBERS, PARTNER, TOP_TWO, TopTwo, WITH_TRUMPS,
 };
 use crate::suit_lanes::{LOWEST, LOWEST_FOUR, at, has_lowest, nonzero, place, several};
 use crate::table::LeadHistory;
 use dd_cards::{Card, Hand, Holding, Rank, Strain, Suit};
-use dd_play::Position;
 use dd_rank::{OwnerStrings, TwoHighest};
 use std::marker::Model;
 
@@ -88,9 +88,9 @@ impl Leading {
     }
 
     /// Weighs these cards of the leader at the start with these strings.
-    pub(crate) fn weigh(
+    pub(crate) fn weigh<L: LeadView>(
         &mut self,
-        position: &Position,
+        position: &L,
         strings: &OwnerStrings,
         settling: LeadHistory,
         choices: Hand,
@@ -109,11 +109,11 @@ impl Leading {
     }
 
     #[inline(always)]
-    fn weigh_at(
+    fn weigh_at<L: LeadView>(
         &mut self,
         strain: Strain,
         weights: LeadWeights,
-        position: &Position,
+        position: &L,
         strings: &OwnerStrings,
         settling: LeadHistory,
         choices: Hand,
@@ -142,9 +142,9 @@ impl Leading {
     /// Takes note that a card of this suit failed, and weighs those of the suit that are still to be tried. It does nothing where no
     /// card is led.
     #[inline(always)]
-    pub(crate) fn go_on(
+    pub(crate) fn go_on<L: LeadView>(
         &mut self,
-        position: &Position,
+        position: &L,
         strings: Option<&OwnerStrings>,
         suit: Suit,
         untried: Hand,
@@ -154,9 +154,9 @@ impl Leading {
         }
     }
 
-    fn weigh_again(
+    fn weigh_again<L: LeadView>(
         &mut self,
-        position: &Position,
+        position: &L,
         strings: &OwnerStrings,
         suit: Suit,
         untried: Hand,
@@ -224,8 +224,8 @@ impl StartView {
     }
 
     #[inline]
-    fn of(
-        position: &Position,
+    fn of<L: LeadView>(
+        position: &L,
         strain: Strain,
         strings: &OwnerStrings,
         settling: LeadHistory,
@@ -339,8 +339,8 @@ fn settled(lead: Option<Suit>, weight: u64) -> u64 {
 // The card of this suit that looks best of these choices, of weight 0 where there is none; each weighs so much more.
 // Once for each suit: a call of its own for all costs 1.5 % instructions.
 #[inline(always)]
-fn best_of(
-    position: &Position,
+fn best_of<L: LeadView>(
+    position: &L,
     start: StartView,
     weights: LeadWeights,
     tops: TopsAt,
@@ -367,7 +367,7 @@ fn best_of(
         tops.cards.usual
     };
     let wins = !opponents && (partner || tops.first == PARTNER);
-    weighed(suit, low, weight, worth, wins)
+    weighed(position, suit, low, weight, worth, wins)
 }
 
 // Who could ruff a suit at once.
@@ -379,71 +379,89 @@ struct Ruffs {
 
 // A card of the suit, and how good it looks.
 #[inline]
-fn weighed(suit: Suit, rank: Rank, weight: u16, worth: LeadWorth, wins: bool) -> Move {
+fn weighed<L: LeadView>(
+    position: &L,
+    suit: Suit,
+    rank: Rank,
+    weight: u16,
+    worth: LeadWorth,
+    wins: bool,
+) -> Move {
     let worth = if wins { worth.wins } else { worth.loses };
-    let weight = weight.wrapping_add(worth).wrapping_sub(rank.code() as u16);
+    let weight = weight
+        .wrapping_add(worth)
+        .wrapping_sub(position.rank_in_deal(suit, rank));
     Move {
         card: Card { suit, rank },
         weight,
     }
 }
 
-// The best of these ranks where what a card is worth is not the same for all of them.
-fn best_by_rank(
-    position: &Position,
+// The best of these ranks where what a card is worth is not the same for all of them. They fall into four groups in which it is the
+// same: there the lowest looks best, and one of these does.
+fn best_by_rank<L: LeadView>(
+    position: &L,
     suit: Suit,
     ranks: Holding,
     weight: u16,
     ruffs: Ruffs,
     tops: TopTwo,
 ) -> Move {
-    let hands = position.hands();
-    let leader = position.first();
-    let own = hands.holding(leader, suit);
-    let ours = hands.holding(leader.partner(), suit);
-    let theirs = hands
-        .holding(leader.left(), suit)
-        .union(hands.holding(leader.right(), suit));
-    let others = theirs.union(ours);
+    let held = position.holdings(suit);
     let partner = if ruffs.partner {
         RUFF
     } else {
-        code_of_highest(ours)
+        code_of_highest(held.partner)
     };
     let against = if ruffs.opponents {
         RUFF
     } else {
-        code_of_highest(theirs)
+        code_of_highest(held.left.union(held.right))
     };
-    let own_top = code_of_highest(own);
-    let mut rest = ranks;
-    let mut best = Move::default();
-    'ranks: while let Some(rank) = rest.pop_lowest() {
-        let code = rank.code();
-        let special = if tops.first == LEADER {
-            code == own_top
-        } else {
-            has_equal(own, others, rank)
-        };
-        let worth = if special {
-            tops.cards.special
-        } else {
-            tops.cards.usual
-        };
-        let wins = code.max(partner) > against;
-        best = best.or(weighed(suit, rank, weight, worth, wins));
+    let winners = if partner > against {
+        u32::MAX
+    } else {
+        (u32::MAX << 1) << against
+    };
+    let specials = if tops.first == LEADER {
+        1 << code_of_highest(held.leader)
+    } else {
+        position.with_equals_below(held)
+    };
+    let all = ranks.mask() as u32;
+    let usual = all & !specials;
+    let special = all & specials;
+    let worth = tops.cards.usual;
+    let loses = weight.wrapping_add(worth.loses);
+    let wins = weight.wrapping_add(worth.wins);
+    let usual_loser = number_of_lowest(position, suit, usual & !winners, loses);
+    let usual_winner = number_of_lowest(position, suit, usual & winners, wins);
+    let worth = tops.cards.special;
+    let loses = weight.wrapping_add(worth.loses);
+    let wins = weight.wrapping_add(worth.wins);
+    let special_loser = number_of_lowest(position, suit, special & !winners, loses);
+    let special_winner = number_of_lowest(position, suit, special & winners, wins);
+    let best = usual_loser
+        .max(usual_winner)
+        .max(special_loser.max(special_winner));
+    match Rank::from_code((best & 15) as u8 ^ 15) {
+        Some(rank) => Move {
+            card: Card { suit, rank },
+            weight: ((best >> 4) & 0xFFFF) as u16,
+        },
+        None => Move::default(),
     }
-    best
 }
 
-// Has the card of the leader's own an equal below it?
-#[inline]
-fn has_equal(own: Holding, others: Holding, rank: Rank) -> bool {
-    match own.next_below(rank) {
-        Some(lower) => match others.next_below(rank) {
-            Some(other) => other.code() < lower.code(),
-            None => true,
-        },
-        None => false,
+// Of a group of ranks, by their bits, each of which has this weight but for its rank, the lowest as a number, and 0 where there is none: its
+// weight over four bits that are the greater the lower it is. So of two groups' cards that look as good the lower one has the greater number.
+#[inline(always)]
+fn number_of_lowest<L: LeadView>(position: &L, suit: Suit, ranks: u32, weight: u16) -> u32 {
+    match Rank::from_code(ranks.trailing_zeros() as u8) {
+        Some(rank) => {
+            let weight = weight.wrapping_sub(position.rank_in_deal(suit, rank));
+            (weight as u32) << 4 | (rank.code() ^ 15) as u32
+        }
+        None => 0,
     }
 }

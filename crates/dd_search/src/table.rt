@@ -8,7 +8,7 @@ ghost use Rattle.dd_play.specs.Intervals.{Holds};
 ghost use Rattle.dd_rank.specs.Depths.{FourDepths, depth_in, all_cards, Covers};
 ghost use Rattle.dd_rank.specs.Strings.{strings_of};
 
-use dd_cards::Suit;
+use dd_cards::{Seat, Suit};
 use dd_play::{Interval, Position, TrickStart};
 use dd_rank::{Depths, OwnerStrings, Shape};
 
@@ -104,6 +104,27 @@ pub trait Bounds {
 
     /// Hands over the suit of a lead that settled this start, which has these strings, and which may be kept or not.
     fn note_lead(&mut self, _start: &Position, _strings: &OwnerStrings, _lead: Suit) {}
+
+    /// The same as `lead_history`, where this seat leads in the deal: the leader of a start by relative ranks is always North.
+    fn lead_history_of(
+        &self,
+        start: &Position,
+        _leader: Seat,
+        strings: &OwnerStrings,
+    ) -> LeadHistory {
+        self.lead_history(start, strings)
+    }
+
+    /// The same as `note_lead`, where this seat leads in the deal.
+    fn note_lead_of(
+        &mut self,
+        start: &Position,
+        _leader: Seat,
+        strings: &OwnerStrings,
+        lead: Suit,
+    ) {
+        self.note_lead(start, strings, lead);
+    }
 
     /// what is told holds
     ghost holds: { (table : Self) (p : Board) (depths : FourDepths) (interval : Interval) (q :

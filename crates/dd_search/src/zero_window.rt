@@ -16,6 +16,7 @@ use crate::halt_word::{HaltWord, answer_or_halt, tick};
 use crate::lead::Leading;
 use crate::meter::{Halt, Meter, go_on};
 use crate::order::{MovePicker, Order};
+use crate::relative_root::by_relative_ranks;
 use crate::second_hands::SecondHands;
 use crate::table::{Bounds, LeadHistory};
 use crate::turn::Turn;
@@ -25,6 +26,9 @@ use dd_cards::{Card, Hand, Seat};
 use dd_equal::{tops_at, whole_at};
 use dd_play::{Position, TrickStart};
 use dd_rank::{OwnerStrings, Shape};
+
+// With no more tricks left than this a search takes less time as it stands than to make it one by relative ranks.
+const FEW: u8 = 6;
 
 /// Do North and South take at least `need` of the tricks left? It ticks first; at a start of a trick a look or the quick
 /// bounds may settle it, and a lead second hand's winners; else play does, and what that taught at a start is noted.
@@ -87,7 +91,11 @@ fn zero_window_at_first_hand<B: Bounds, M: Meter>(
     let Some(start) = TrickStart::of(position) else {
         unreachable!()
     };
-    zero_window_at_start(&start, need, table, meter)
+    if position.tricks_left() > FEW {
+        by_relative_ranks(&start, need, table, meter)
+    } else {
+        zero_window_at_start(&start, need, table, meter)
+    }
 }
 
 // The same at a start of a trick.
@@ -443,9 +451,9 @@ fn answer_after_trick<B: Bounds, M: Meter>(
     }
 }
 
-// How many tricks North and South still need when this seat has won one.
+/// How many tricks North and South still need when this seat has won one.
 #[inline]
-fn rest_after(need: u8, winner: Option<Seat>) -> u8
+pub(crate) fn rest_after(need: u8, winner: Option<Seat>) -> u8
     requires { 1 ≤ need }
     ensures { result + north_souths_trick winner ≡ need }
 {
