@@ -25,3 +25,5 @@ mod search;
 mod shard;
 #[cfg(test)]
 mod table;
+#[cfg(test)]
+mod ticks;
