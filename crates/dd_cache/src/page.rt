@@ -13,8 +13,7 @@ use std::marker::Model;
 const BOUNDS_OF_A_PAGE: usize = 8;
 
 /// Bounds of one shape.
-// What a look reads first are the forty-eight bytes before the bounds: one line of the processor's cache, since a list so long
-// begins sixteen bytes after the start of one, and a page takes six.
+// What a look reads first are the eighty bytes before the bounds.
 #[derive(Drop)]
 pub(crate) struct Page {
     lengths: u64,
@@ -28,7 +27,6 @@ pub(crate) struct Page {
     lead: SettlingLead,
     // those of its places that are free have copies of the first
     told: [StoredBounds; BOUNDS_OF_A_PAGE],
-    _rest_of_line: [u64; 2],
 }
 
 impl Model for Page {
@@ -73,7 +71,6 @@ impl Page {
             count: 1,
             lead,
             told,
-            _rest_of_line: [0; 2],
         }
     }
 

@@ -1,4 +1,4 @@
-//! What is seen at once of owners: those of the two highest cards of each suit. It tells soon that others differ, and no
+//! What is seen at once of owners: those of the four highest cards of each suit. It tells soon that others differ, and no
 //! more: no answer rests on it.
 ghost use Rattle.std.specs.Prelude.{◌≤◌};
 
@@ -9,11 +9,13 @@ use dd_cards::Suit;
 use std::simd::cmp::SimdPartialEq;
 use std::simd::u16x8;
 
-/// The owners of the two highest cards of each suit of a start of a trick.
-// Four bits a suit, the spades' on top, and in them the two bits of the second and fourth hand the lowest.
+/// The owners of the four highest cards of each suit of a start of a trick.
+// Of the two highest, and of the next two: four bits a suit, the spades' on top, and in them the two bits of the second and fourth
+// hand the lowest.
 #[derive(Clone, Copy, Debug)]
 pub struct Signature {
     owners: u16,
+    next: u16,
 }
 
 /// The same of first owners, as far as there are so many.
@@ -21,6 +23,8 @@ pub struct Signature {
 pub struct FirstSignature {
     owners: u16,
     mask: u16,
+    next: u16,
+    next_mask: u16,
 }
 
 // The two lowest bits of each suit's sixteen.
@@ -37,14 +41,18 @@ const TOGETHER: usize = 8;
 pub struct FirstSignatures {
     owners: [u16; TOGETHER],
     masks: [u16; TOGETHER],
+    next: [u16; TOGETHER],
+    next_masks: [u16; TOGETHER],
 }
 
 impl Default for FirstSignatures {
-    /// None: each place has owners that hardly a position has.
+    /// None: each place has owners of the two highest cards that hardly a position has.
     fn default() -> FirstSignatures {
         FirstSignatures {
             owners: [u16::MAX; TOGETHER],
             masks: [u16::MAX; TOGETHER],
+            next: [0; TOGETHER],
+            next_masks: [0; TOGETHER],
         }
     }
 }
@@ -83,26 +91,30 @@ impl OwnerStrings {
         }
     }
 
-    /// The owners of the two highest cards of each suit.
+    /// The owners of the four highest cards of each suit.
     #[inline]
     pub fn signature(&self) -> Signature {
         Signature {
             owners: top_two(self.places),
+            next: next_two(self.places),
         }
     }
 }
 
 impl FirstOwners {
-    /// The first two owners of each suit, as far as there are so many.
+    /// The first four owners of each suit, as far as there are so many.
     #[inline]
     pub fn signature(&self) -> FirstSignature {
         let (mask, places) = self.bits();
+        let masks = OwnerPlanes {
+            odd: mask,
+            far: mask,
+        };
         FirstSignature {
             owners: top_two(places),
-            mask: top_two(OwnerPlanes {
-                odd: mask,
-                far: mask,
-            }),
+            mask: top_two(masks),
+            next: next_two(places),
+            next_mask: next_two(masks),
         }
     }
 }
@@ -113,6 +125,8 @@ impl FirstSignatures {
     pub fn put(&mut self, place: usize, signature: FirstSignature) {
         self.owners[place % TOGETHER] = signature.owners;
         self.masks[place % TOGETHER] = signature.mask;
+        self.next[place % TOGETHER] = signature.next;
+        self.next_masks[place % TOGETHER] = signature.next_mask;
     }
 
     /// The places of those that may begin as this one does and go on: bit n for place n.
@@ -130,7 +144,9 @@ impl FirstSignatures {
     #[inline]
     pub fn may_be_in(&self, position: Signature) -> u64 {
         let differing = u16x8::from_array(self.owners) ^ u16x8::splat(position.owners);
-        let seen = differing & u16x8::from_array(self.masks);
+        let next_differing = u16x8::from_array(self.next) ^ u16x8::splat(position.next);
+        let seen = (differing & u16x8::from_array(self.masks))
+            | (next_differing & u16x8::from_array(self.next_masks));
         seen.simd_eq(u16x8::splat(0)).to_bitmask()
     }
 }
@@ -143,8 +159,22 @@ fn two_highest(places: OwnerPlanes) -> u64 {
     odd | far
 }
 
-// The same, four bits a suit: brought together by the product.
+// The same, four bits a suit.
 #[inline]
 fn top_two(places: OwnerPlanes) -> u16 {
-    (two_highest(places).wrapping_mul(GATHER) >> 48) as u16
+    gathered(two_highest(places))
+}
+
+// The owners of the two cards below the two highest of each suit, four bits a suit.
+#[inline]
+fn next_two(places: OwnerPlanes) -> u16 {
+    let odd = places.odd >> 11 & TWO_LOWEST;
+    let far = places.far >> 9 & TWO_LOWEST << 2;
+    gathered(odd | far)
+}
+
+// The four lowest bits of each suit's sixteen, side by side: brought together by the product.
+#[inline]
+fn gathered(owners: u64) -> u16 {
+    (owners.wrapping_mul(GATHER) >> 48) as u16
 }

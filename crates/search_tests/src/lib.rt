@@ -24,6 +24,8 @@ mod search;
 #[cfg(test)]
 mod shard;
 #[cfg(test)]
+mod signatures;
+#[cfg(test)]
 mod table;
 #[cfg(test)]
 mod ticks;

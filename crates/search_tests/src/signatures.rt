@@ -1,0 +1,129 @@
+//! What is seen at once of owners, beside the owners themselves: of many drawn starts of a trick.
+
+use dd_cards::{Card, Hand, Hands, Rank, Seat, Strain, Suit};
+use dd_play::{Position, TrickStart};
+use dd_rank::{Depths, FirstOwners, FirstSignatures, OwnerStrings, covered_positions};
+
+// The most depth of which all is seen at once.
+const SEEN: u8 = 4;
+
+const SUITS: [Suit; 4] = [Suit::Spades, Suit::Hearts, Suit::Diamonds, Suit::Clubs];
+
+// A number below the count, and the state after it.
+fn below(state: &mut u64, count: u64) -> u64 {
+    *state = state
+        .wrapping_mul(0x5851_F42D_4C95_7F2D)
+        .wrapping_add(0x1405_7B7E_F767_814F);
+    (*state >> 33) % count.max(1)
+}
+
+// The card of this number: the four suits' aces are the first four, then the kings, and so on.
+fn card_of(number: u64) -> Option<Card> {
+    let suit = Suit::from_code((number % 4) as u8)?;
+    let rank = Rank::from_code(14u8.saturating_sub((number / 4 % 13) as u8))?;
+    Some(Card { suit, rank })
+}
+
+// A start of a trick of so many cards a hand: of the highest cards, but for a few that are gone.
+fn drawn(state: &mut u64, cards: u64) -> Option<TrickStart> {
+    let mut hands = Hands::new();
+    let mut left = [cards; 4];
+    for number in 0..52u64 {
+        let seat = (below(state, 5) % 5) as u8;
+        let Some(own) = left.get_mut(seat as usize) else {
+            continue;
+        };
+        if *own > 0 {
+            *own = own.saturating_sub(1);
+            hands.insert(Seat::from_code(seat)?, card_of(number)?);
+        }
+    }
+    let first = Seat::from_code((below(state, 4) % 4) as u8)?;
+    let position = Position::new(hands, Strain::Notrump, first, &[]).ok()?;
+    TrickStart::of(&position)
+}
+
+// The first owners of a start down to some of its cards.
+fn firsts_of(state: &mut u64, start: &TrickStart) -> Option<FirstOwners> {
+    let mut cards = Hand::new();
+    for _ in 0..below(state, 5) {
+        cards = cards.with(card_of(below(state, 36))?);
+    }
+    // The proof reads here that a suit has thirteen cards at most.
+    let _ = start.position();
+    covered_positions();
+    Some(FirstOwners::of(&OwnerStrings::of(start), Depths::of_cards(start, cards)))
+}
+
+// Are the two highest cards of each suit, and not fewer, the fourth hand's?
+fn are_fourth_hands(strings: &OwnerStrings) -> bool {
+    let tops = strings.two_highest();
+    SUITS.iter().all(|suit| tops.of_suit(*suit) == 15)
+}
+
+fn is_all_seen(firsts: &FirstOwners) -> bool {
+    let depths = firsts.depths();
+    SUITS.iter().all(|suit| depths.of(*suit) <= SEEN)
+}
+
+// What was seen of first owners and of a start: how often they were the start's, and how often they were not.
+#[derive(Clone, Copy, Debug, PartialEq, Eq)]
+struct Seen {
+    owners: u64,
+    others: u64,
+}
+
+// Compares what is seen of eight first owners and one start, or tells the first case that is wrong.
+fn compared(state: &mut u64, seen: &mut Seen) -> Result<(), &'static str> {
+    let cards = below(state, 9) % 9 + 1;
+    let Some(start) = drawn(state, cards) else {
+        return Ok(());
+    };
+    let strings = OwnerStrings::of(&start);
+    let mut signatures = FirstSignatures::default();
+    let free = signatures.may_be_in(strings.signature());
+    if free != if are_fourth_hands(&strings) { 0xFF } else { 0 } {
+        return Err("a free place is seen");
+    }
+    for place in 0..8usize {
+        let cards = below(state, 9) % 9 + 1;
+        let Some(other) = drawn(state, cards) else {
+            continue;
+        };
+        let Some(firsts) = firsts_of(state, &other) else {
+            continue;
+        };
+        signatures.put(place, firsts.signature());
+        let may_be = (signatures.may_be_in(strings.signature()) >> place) & 1 == 1;
+        let are = firsts.are_in(&strings);
+        if are && !may_be {
+            return Err("owners of the start are not seen");
+        }
+        if may_be && !are && is_all_seen(&firsts) {
+            return Err("owners of four cards that are others are not told");
+        }
+        if (signatures.may_begin_as(firsts.signature()) >> place) & 1 == 0 {
+            return Err("the same owners are not seen");
+        }
+        if are {
+            seen.owners = seen.owners.saturating_add(1);
+        } else {
+            seen.others = seen.others.saturating_add(1);
+        }
+    }
+    Ok(())
+}
+
+#[test]
+fn owners_that_are_seen_at_once_are_those_of_four_cards(rt: HostRuntime) {
+    let mut state = 0x2026_1127;
+    let mut seen = Seen {
+        owners: 0,
+        others: 0,
+    };
+    for _ in 0..2_000 {
+        assert_eq!(rt; compared(&mut state, &mut seen), Ok(()));
+    }
+    // Both happened often.
+    assert!(rt; seen.owners > 1_000 && seen.others > 1_000, "{seen:?}");
+}
