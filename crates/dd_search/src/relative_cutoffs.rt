@@ -79,7 +79,7 @@ pub(crate) fn quick_ranks(
 
 /// What is answered where this card is led, by quick tricks of an opponent that has the highest card left of its suit. It leads
 /// nowhere else.
-#[inline]
+#[inline(always)]
 pub(crate) fn second_hands_ranks(
     trick: &PlacedTrick<'_>,
     turn: Turn,
@@ -96,14 +96,35 @@ pub(crate) fn second_hands_ranks(
 {
     match turn {
         Turn::First => {
-            let seat = seconds.to_ask(trick.at_lead().position(), card.card())?;
-            ranks_of_second_hand(trick, seat, card, need, seconds)
+            if seconds.may_ask(card) {
+                ranks_of_asked(trick, card, need, seconds)
+            } else {
+                None
+            }
         }
         Turn::Second | Turn::Third | Turn::Fourth => None,
     }
 }
 
-// The same where no card is on the trick, by the quick tricks of this opponent.
+// The same where no card is on the trick.
+fn ranks_of_asked(
+    trick: &PlacedTrick<'_>,
+    card: Place,
+    need: u8,
+    seconds: &mut SecondHands,
+) -> Option<RankVerdict>
+    requires legal { has_card (legal trick.now) card ≡ true }
+    requires start { length trick.now.trick ≡ 0 }
+    requires low { 1 ≤ need }
+    requires high { need ≤ tricks_left trick.now }
+    ensures found { IfSome result
+        (λ found. IsAnswerAfter trick.now need card found.cards found.yes) }
+{
+    let seat = seconds.to_ask(trick.at_lead().position(), card.card())?;
+    ranks_of_second_hand(trick, seat, card, need, seconds)
+}
+
+// The same by the quick tricks of this opponent.
 fn ranks_of_second_hand(
     trick: &PlacedTrick<'_>,
     seat: Seat,

@@ -4,13 +4,12 @@ ghost use Rattle.std.specs.Prelude.{IfSome};
 ghost use Rattle.dd_quick.specs.SecondHand.{Opposes};
 
 use crate::quick_limit::may_have_quick_tricks;
-use dd_cards::{Card, Hand, Seat, Strain, Suit};
+use crate::suit_lanes::LOWEST;
+use dd_cards::{Card, Hand, Place, Seat, Strain, Suit};
 use dd_play::Position;
 use dd_rank::{OwnerStrings, TwoHighest};
 
-// In what is told of a suit by its two highest cards: the highest card is an opponent's, and it is one of the last two hands'.
-const OPPONENTS: u8 = 2;
-
+// In what is told of a suit by its two highest cards: the highest card is one of the last two hands'.
 const LAST_TWO: u8 = 8;
 
 /// Whom it serves to ask at a start of a trick. Any answer is right: no contract rests on who was asked.
@@ -20,7 +19,7 @@ pub(crate) struct SecondHands {
     tops: Option<TwoHighest>,
     // the lengths of all hands at this start
     lengths: u64,
-    // the leads of suits of which nobody was asked yet
+    // the leads of suits that an opponent heads, and of which nobody was asked yet
     unasked: Hand,
     // which opponents were asked of a side suit in vain: they have too few winners for any
     left_fails: bool,
@@ -31,17 +30,31 @@ impl SecondHands {
     /// At the start with these strings, where these cards may be led.
     #[inline(always)]
     pub(crate) fn of(strings: Option<&OwnerStrings>, choices: Hand) -> SecondHands {
-        let (tops, lengths) = match strings {
-            Some(strings) => (Some(strings.two_highest()), strings.shape().lengths()),
-            None => (None, 0),
+        let (tops, lengths, headed) = match strings {
+            Some(strings) => {
+                let tops = strings.two_highest();
+                (
+                    Some(tops),
+                    strings.shape().lengths(),
+                    headed_by_opponents(tops),
+                )
+            }
+            None => (None, 0, 0),
         };
         SecondHands {
             tops,
             lengths,
-            unasked: choices,
+            unasked: choices.among(headed),
             left_fails: false,
             right_fails: false,
         }
+    }
+
+    /// May there be an opponent to ask before this card is led?
+    // Mostly there is none, which one bit tells.
+    #[inline(always)]
+    pub(crate) fn may_ask(&self, card: Place) -> bool {
+        self.unasked.has_place(card)
     }
 
     /// The opponent to ask before this card is led.
@@ -56,7 +69,7 @@ impl SecondHands {
         }
         self.unasked = self.unasked.without_suit(suit);
         let leader = position.first();
-        if tops & OPPONENTS == 0 || ruffs(position, leader.partner(), suit) {
+        if ruffs(position, leader.partner(), suit) {
             return None;
         }
         let right = tops & LAST_TWO != 0;
@@ -101,6 +114,12 @@ impl SecondHands {
             self.right_fails = true;
         }
     }
+}
+
+// The cards of the suits of which an opponent has the highest card: of two cards' owners the second bit is set.
+#[inline(always)]
+fn headed_by_opponents(tops: TwoHighest) -> u64 {
+    ((tops.of_suits() >> 1) & LOWEST).wrapping_mul(0xFFFF)
 }
 
 // Can the hand ruff a lead of the suit?
