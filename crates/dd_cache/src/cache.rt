@@ -125,15 +125,6 @@ impl<B> Cache<B> {
         }
     }
 
-    // Is the page of this number one of the shape?
-    #[inline]
-    fn has_shape(&self, number: u32, shape: Shape) -> bool {
-        match self.pages.get((number % PAGES) as usize) {
-            Some(page) => page.shape() == shape,
-            None => false,
-        }
-    }
-
     // The number of the newest page of the shape's place.
     #[inline]
     fn newest_of(&self, shape: Shape) -> u32 {
@@ -287,13 +278,13 @@ impl<B: Bounds> Bounds for Cache<B> {
         self.settle_at(start, strings, hint, need)
     }
 
-    /// Reads what of the newest page of the shape's place a look reads first.
+    /// Reads the number of the newest page of the shape's place. The page itself is left to the look: a branch on what stands there
+    /// would wait for memory.
     #[inline]
     fn probe_hint(&self, shape: Shape) -> ProbeHint {
-        let number = self.newest_of(shape);
         ProbeHint {
-            number,
-            has_shape: self.has_shape(number, shape),
+            number: self.newest_of(shape),
+            has_shape: true,
         }
     }
 

@@ -137,7 +137,7 @@ pub trait Bounds {
 pub struct ProbeHint {
     /// the number of what stands there
     pub number: u32,
-    /// whether what stands there is of the shape
+    /// whether what stands there may be of the shape
     pub has_shape: bool,
 }
 
