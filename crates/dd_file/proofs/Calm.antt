@@ -1,15 +1,17 @@
 -- The calm bytes that a text begins with.
-use Rattle.std.proofs.Common.{◌≡◌, ◌∙◌, ℕ, suc, ◌+◌, ◌-◌, ◌<◌, ◌≤◌, ◌==◌, Bool, true, false, List, [], ◌∷◌, ◌++◌, length, get_or, take, drop, refl, sym, ap, arith, length-append}
+use Rattle.std.proofs.Common.{◌≡◌, ◌∙◌, ℕ, suc, ◌+◌, ◌-◌, ◌<◌, ◌≤◌, ◌==◌, Bool, true, false, List, [], ◌∷◌, ◌++◌, length, map, get_or, take, drop, refl, sym, ap, arith, length-append}
 use Rattle.std.specs.Prelude.{◌&&◌, if◌then◌else◌}
 use Rattle.std.proofs.lemmas.Bool.{and_parts, not-true}
+use lib.Lanes.{mask_l}
 use mathlib.Core.Bool.{not}
 use Rattle.dd_file.specs.declared.mode.Mode.{Mode}
 use Rattle.dd_file.specs.declared.mode.Mode.TheVariants.{Head, Mark1, Mark2, Start, Plain, Escaped, Remark, Braced, Quoted, Backslash}
 use Rattle.dd_file.specs.Modes.{next_mode}
-use Rattle.dd_file.specs.Quiet.{after_calm, are_calm, is_calm, last_of}
+use Rattle.dd_file.specs.Quiet.{after_calm, are_calm, first_set, is_calm, is_stop, last_of}
 use Rattle.dd_file.specs.Tags.{after_string, string_at}
 use Rattle.dd_file.specs.Values.{unescaped}
 use Rattle.dd_file.proofs.Steps.{tail-is}
+use Rattle.dd_file.proofs.Stretches.{none-left, stop-left, stop-within}
 
 -- ---- the text after its calm bytes
 calm-step : (mode : Mode) (b : ℕ) (text : List ℕ) → is_calm mode b ≡ true → after_calm mode (b ∷ text) ≡ after_calm mode text
@@ -33,6 +35,19 @@ pub after_calm-other : (mode : Mode) (text : List ℕ) → 1 ≤ length text →
 after_calm-other mode [] some_left other = absurd (omega arith)
 after_calm-other mode (b ∷ text) some_left other = calm-stop mode b text other
 
+-- ---- the same sixteen bytes at once
+module _ (mode : Mode) where
+  pub calm-within : (text : List ℕ) (mask : ℕ) → 16 ≤ length text → mask ≡ mask_l (map (is_stop mode) (take 16 text)) → (mask ≡ 0 → ⊥) → first_set mask ≤ length text
+  calm-within = stop-within (is_calm mode) (after_calm mode) (calm-step mode) (calm-stop mode)
+
+  pub calm-stopped : (text rest : List ℕ) (mask : ℕ) → 16 ≤ length text → mask ≡ mask_l (map (is_stop mode) (take 16 text)) → (mask ≡ 0 → ⊥) → rest ≡ drop (first_set mask) text
+      → rest ≡ after_calm mode text
+  calm-stopped = stop-left (is_calm mode) (after_calm mode) (calm-step mode) (calm-stop mode)
+
+  pub calm-through : (text rest : List ℕ) (mask : ℕ) → mask ≡ mask_l (map (is_stop mode) (take 16 text)) → mask ≡ 0 → rest ≡ drop 16 text → after_calm mode rest ≡ after_calm mode text
+  calm-through = none-left (is_calm mode) (after_calm mode) (calm-step mode) (calm-stop mode)
+
+-- ---- the calm bytes themselves
 pub record CalmFront (mode : Mode) (text after : List ℕ) : Type 0 where
   pub bytes : List ℕ
   pub split : text ≡ bytes ++ after

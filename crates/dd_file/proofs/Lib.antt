@@ -18,5 +18,6 @@ pub mod ShortTags
 pub mod Spelled
 pub mod Staying
 pub mod Steps
+pub mod Stretches
 pub mod WovenLemmas
 pub mod Written

@@ -1,5 +1,6 @@
 -- Bytes that are passed on many at once, since they come out alone.
 use Rattle.std.specs.Prelude.{◌≡◌, ℕ, zero, suc, ◌+◌, ◌-◌, ◌^◌, min, ◌<◌, ◌≤◌, ◌==◌, ◌&&◌, ◌||◌, Bool, true, false, List, [], ◌∷◌, ◌++◌, length, take, drop, Option, if◌then◌else◌}
+use Rattle.std.specs.Int.{trailing_zeros, w64}
 use mathlib.Core.Bool.{not}
 use Rattle.dd_cards.specs.Hands.{FourHands}
 use Rattle.dd_file.specs.declared.fill_state.FillState.{FillState}
@@ -62,6 +63,14 @@ is_calm Remark byte = not (byte == 10)
 is_calm Braced byte = not (byte == 10) && not (byte == 125)
 is_calm Quoted byte = (not (byte == 10) && not (byte == 34)) && not (byte == 92)
 is_calm Backslash byte = false
+
+-- does it end a stretch of such bytes?
+abbrev pub is_stop : Mode → ℕ → Bool
+is_stop mode byte = not (is_calm mode byte)
+
+-- of bytes with a bit each, how many come before the first whose bit is set
+abbrev pub first_set : ℕ → ℕ
+first_set mask = trailing_zeros w64 mask
 
 -- are all of these so?
 abbrev pub are_calm : Mode → List ℕ → Bool
@@ -131,6 +140,10 @@ pub record PassesSome (gives : FourHands → Option (List (List ℕ)) → Type 0
 abbrev pub are_names : List ℕ → Bool
 are_names [] = true
 are_names (byte ∷ name) = (if is_name byte then are_names name else false)
+
+-- does a byte end a name?
+abbrev pub ends_name : ℕ → Bool
+ends_name byte = not (is_name byte)
 
 -- `[`, a name, a space, a string of bytes that are no backslash, no quote and no line feed, and `]`
 abbrev pub short_tag : List ℕ → List ℕ → List ℕ

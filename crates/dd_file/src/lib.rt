@@ -8,6 +8,7 @@ mod filler;
 mod foreseer;
 mod kept;
 mod known_tag;
+mod lanes;
 mod laws;
 mod line_text;
 mod mark;

@@ -3,7 +3,11 @@
 ghost use Rattle.std.specs.Prelude.{◌≡◌};
 ghost use Rattle.dd_file.specs.Quiet.{after_calm, is_alone, is_calm, is_idle, is_quiet, is_quiet_within};
 
+use crate::lanes::{
+    LANES, behind_lanes, braced_stops, from_stop, line_stops, plain_stops, quoted_stops,
+};
 use crate::mode::{LINE_FEED, Mode, is_blank};
+use std::simd::prelude::*;
 
 /// Does a byte that stands so come out alone, whatever follows? A game has begun, or not, and so many bytes with it belong to
 /// a tag.
@@ -58,8 +62,23 @@ pub(crate) fn after_calm(mode: Mode, text: &[u8]) -> &[u8]
     }
 }
 
-// Each kind of calm bytes has a loop of its own: so it runs without a choice of the mode at each byte.
+// Each kind of calm bytes has a loop of its own: so it runs without a choice of the mode at each step. The last bytes of a text are
+// too few to be looked at at once.
 fn after_plain(text: &[u8]) -> &[u8]
+    ensures { result.now ≡ after_calm Mode.Plain text.now }
+{
+    let mut rest = text;
+    while rest.len() >= LANES {
+        let stops = plain_stops(u8x16::from_slice(rest));
+        if stops != 0 {
+            return from_stop(rest, stops);
+        }
+        rest = behind_lanes(rest);
+    }
+    after_plain_one_by_one(rest)
+}
+
+fn after_plain_one_by_one(text: &[u8]) -> &[u8]
     ensures { result.now ≡ after_calm Mode.Plain text.now }
 {
     let mut rest = text;
@@ -83,6 +102,21 @@ fn after_line(text: &[u8]) -> &[u8]
     ensures remark { result.now ≡ after_calm Mode.Remark text.now }
 {
     let mut rest = text;
+    while rest.len() >= LANES {
+        let stops = line_stops(u8x16::from_slice(rest));
+        if stops != 0 {
+            return from_stop(rest, stops);
+        }
+        rest = behind_lanes(rest);
+    }
+    after_line_one_by_one(rest)
+}
+
+fn after_line_one_by_one(text: &[u8]) -> &[u8]
+    ensures escaped { result.now ≡ after_calm Mode.Escaped text.now }
+    ensures remark { result.now ≡ after_calm Mode.Remark text.now }
+{
+    let mut rest = text;
     while let [first, tail @ ..] = rest {
         if !is_calm_line(*first) {
             break;
@@ -99,6 +133,20 @@ fn is_calm_line(byte: u8) -> bool
 }
 
 fn after_braced(text: &[u8]) -> &[u8]
+    ensures { result.now ≡ after_calm Mode.Braced text.now }
+{
+    let mut rest = text;
+    while rest.len() >= LANES {
+        let stops = braced_stops(u8x16::from_slice(rest));
+        if stops != 0 {
+            return from_stop(rest, stops);
+        }
+        rest = behind_lanes(rest);
+    }
+    after_braced_one_by_one(rest)
+}
+
+fn after_braced_one_by_one(text: &[u8]) -> &[u8]
     ensures { result.now ≡ after_calm Mode.Braced text.now }
 {
     let mut rest = text;
@@ -119,6 +167,20 @@ fn is_calm_braced(byte: u8) -> bool
 
 /// The text of a string after its first bytes that are no backslash, no quote and no line feed.
 pub(crate) fn after_quoted(text: &[u8]) -> &[u8]
+    ensures { result.now ≡ after_calm Mode.Quoted text.now }
+{
+    let mut rest = text;
+    while rest.len() >= LANES {
+        let stops = quoted_stops(u8x16::from_slice(rest));
+        if stops != 0 {
+            return from_stop(rest, stops);
+        }
+        rest = behind_lanes(rest);
+    }
+    after_quoted_one_by_one(rest)
+}
+
+fn after_quoted_one_by_one(text: &[u8]) -> &[u8]
     ensures { result.now ≡ after_calm Mode.Quoted text.now }
 {
     let mut rest = text;

@@ -4,8 +4,10 @@ ghost use Rattle.dd_file.specs.Modes.{is_blank};
 ghost use Rattle.dd_file.specs.Quiet.{BeginsShort, after_calm};
 ghost use Rattle.dd_file.specs.Tags.{Reads, after_gap, after_name, after_string, byte_at, front_of, is_gap, is_name, name_at, parts_of, string_at, tag_at};
 
+use crate::lanes::{LANES, behind_lanes, from_stop, name_stops};
 use crate::mode::{LINE_FEED, Mode, is_blank};
 use crate::quiet::after_quoted;
+use std::simd::prelude::*;
 
 /// Why no tag was read.
 #[derive(Clone, Copy, Debug, PartialEq, Eq)]
@@ -147,6 +149,20 @@ fn after_name(text: &[u8]) -> Result<&[u8], Miss>
 }
 
 fn after_name_bytes(text: &[u8]) -> &[u8]
+    ensures { result.now ≡ after_name text.now }
+{
+    let mut rest = text;
+    while rest.len() >= LANES {
+        let stops = name_stops(u8x16::from_slice(rest));
+        if stops != 0 {
+            return from_stop(rest, stops);
+        }
+        rest = behind_lanes(rest);
+    }
+    after_name_one_by_one(rest)
+}
+
+fn after_name_one_by_one(text: &[u8]) -> &[u8]
     ensures { result.now ≡ after_name text.now }
 {
     let mut rest = text;

@@ -1,25 +1,22 @@
 use Rattle.std.proofs.Common.{◌∙◌, sym}
 use Rattle.dd_file.specs.declared.mode.Mode.TheVariants.{Escaped}
-use Rattle.dd_file.proofs.Calm.{after_calm-calm, after_calm-other, after_calm-end, lines-alike}
+use Rattle.dd_file.proofs.Calm.{calm-stopped, calm-through, calm-within, lines-alike}
 use Rattle.dd_file.proofs.quiet.after_line.Goals as goal
 
+pub from_stop-requires : goal.from_stop-requires
+from_stop-requires c = calm-within Escaped c.loop-rest.rest.now _ c.loop-rest-test.true c.line_stops-stops.ensures c.if-stops-ne0.true
+
 pub loop-rest-preserved : goal.loop-rest-preserved
-loop-rest-preserved c =
-    let calm = sym c.is_calm_line.ensures ∙ c.if-not-is_calm_line.false in
-    sym (after_calm-calm Escaped c.loop-rest.rest.now c.in-len1-up.len_at_least calm) ∙ c.loop-rest.invariant
+loop-rest-preserved c = calm-through Escaped c.loop-rest.rest.now _ _ c.line_stops-stops.ensures c.if-stops-ne0.false c.behind_lanes-rest.ensures ∙ c.loop-rest.invariant
 
-pub returns-in_default-clause-escaped : goal.returns-in_default-clause-escaped
-returns-in_default-clause-escaped c = sym (after_calm-end Escaped c.loop-rest.rest.now c.in_default.len_below) ∙ c.loop-rest.invariant
+pub returns-then-stops-ne0-clause-escaped : goal.returns-then-stops-ne0-clause-escaped
+returns-then-stops-ne0-clause-escaped c =
+    calm-stopped Escaped c.loop-rest.rest.now _ _ c.loop-rest-test.true c.line_stops-stops.ensures c.if-stops-ne0.true c.from_stop.ensures ∙ c.loop-rest.invariant
 
-pub returns-in_default-clause-remark : goal.returns-in_default-clause-remark
-returns-in_default-clause-remark c = sym (after_calm-end Escaped c.loop-rest.rest.now c.in_default.len_below) ∙ c.loop-rest.invariant ∙ sym (lines-alike c.args.text.now)
+pub returns-then-stops-ne0-clause-remark : goal.returns-then-stops-ne0-clause-remark
+returns-then-stops-ne0-clause-remark c =
+    calm-stopped Escaped c.loop-rest.rest.now _ _ c.loop-rest-test.true c.line_stops-stops.ensures c.if-stops-ne0.true c.from_stop.ensures ∙ c.loop-rest.invariant
+    ∙ sym (lines-alike c.args.text.now)
 
-pub returns-then-not-is_calm_line-clause-escaped : goal.returns-then-not-is_calm_line-clause-escaped
-returns-then-not-is_calm_line-clause-escaped c =
-    let other = sym c.is_calm_line.ensures ∙ c.if-not-is_calm_line.true in
-    sym (after_calm-other Escaped c.loop-rest.rest.now c.in-len1-up.len_at_least other) ∙ c.loop-rest.invariant
-
-pub returns-then-not-is_calm_line-clause-remark : goal.returns-then-not-is_calm_line-clause-remark
-returns-then-not-is_calm_line-clause-remark c =
-    let other = sym c.is_calm_line.ensures ∙ c.if-not-is_calm_line.true in
-    sym (after_calm-other Escaped c.loop-rest.rest.now c.in-len1-up.len_at_least other) ∙ c.loop-rest.invariant ∙ sym (lines-alike c.args.text.now)
+pub returns-clause-remark : goal.returns-clause-remark
+returns-clause-remark c = c.after_line_one_by_one.ensures.escaped ∙ c.loop-rest.invariant ∙ sym (lines-alike c.args.text.now)

@@ -1,17 +1,13 @@
-use Rattle.std.proofs.Common.{◌∙◌, sym}
+use Rattle.std.proofs.Common.{◌∙◌}
 use Rattle.dd_file.specs.declared.mode.Mode.TheVariants.{Quoted}
-use Rattle.dd_file.proofs.Calm.{after_calm-calm, after_calm-other, after_calm-end}
+use Rattle.dd_file.proofs.Calm.{calm-stopped, calm-through, calm-within}
 use Rattle.dd_file.proofs.quiet.after_quoted.Goals as goal
 
+pub from_stop-requires : goal.from_stop-requires
+from_stop-requires c = calm-within Quoted c.loop-rest.rest.now _ c.loop-rest-test.true c.quoted_stops-stops.ensures c.if-stops-ne0.true
+
 pub loop-rest-preserved : goal.loop-rest-preserved
-loop-rest-preserved c =
-    let calm = sym c.is_calm_quoted.ensures ∙ c.if-not-is_calm_quoted.false in
-    sym (after_calm-calm Quoted c.loop-rest.rest.now c.in-len1-up.len_at_least calm) ∙ c.loop-rest.invariant
+loop-rest-preserved c = calm-through Quoted c.loop-rest.rest.now _ _ c.quoted_stops-stops.ensures c.if-stops-ne0.false c.behind_lanes-rest.ensures ∙ c.loop-rest.invariant
 
-pub returns-in_default : goal.returns-in_default
-returns-in_default c = sym (after_calm-end Quoted c.loop-rest.rest.now c.in_default.len_below) ∙ c.loop-rest.invariant
-
-pub returns-then-not-is_calm_quoted : goal.returns-then-not-is_calm_quoted
-returns-then-not-is_calm_quoted c =
-    let other = sym c.is_calm_quoted.ensures ∙ c.if-not-is_calm_quoted.true in
-    sym (after_calm-other Quoted c.loop-rest.rest.now c.in-len1-up.len_at_least other) ∙ c.loop-rest.invariant
+pub returns-then-stops-ne0 : goal.returns-then-stops-ne0
+returns-then-stops-ne0 c = calm-stopped Quoted c.loop-rest.rest.now _ _ c.loop-rest-test.true c.quoted_stops-stops.ensures c.if-stops-ne0.true c.from_stop.ensures ∙ c.loop-rest.invariant
