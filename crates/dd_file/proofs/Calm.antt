@@ -1,5 +1,5 @@
 -- The calm bytes that a text begins with.
-use Rattle.std.proofs.Common.{◌≡◌, ◌∙◌, ℕ, suc, ◌+◌, ◌-◌, ◌<◌, ◌≤◌, ◌==◌, Bool, true, false, List, [], ◌∷◌, ◌++◌, length, map, get_or, take, drop, refl, sym, ap, arith, length-append}
+use Rattle.std.proofs.Common.{◌≡◌, ◌∙◌, ℕ, suc, ◌+◌, ◌-◌, ◌<◌, ◌≤◌, ◌==◌, Bool, true, false, List, [], ◌∷◌, ◌++◌, length, map, get_or, take, drop, refl, sym, ap, arith, append-nil, length-append}
 use Rattle.std.specs.Prelude.{◌&&◌, if◌then◌else◌}
 use Rattle.std.proofs.lemmas.Bool.{and_parts, not-true}
 use lib.Lanes.{mask_l}
@@ -139,6 +139,9 @@ unescaped-over [] after calm = refl
 unescaped-over (b ∷ bytes) after calm =
     let parts = and_parts (is_calm Quoted b) (are_calm Quoted bytes) calm in
     ap (λ l. b ∷ l) (unescaped-over bytes after parts.1) ∙ unescaped-step b (bytes ++ after) parts.0
+
+pub calm-unescaped : (bytes : List ℕ) → are_calm Quoted bytes ≡ true → bytes ≡ unescaped false bytes
+calm-unescaped bytes calm = sym (append-nil bytes) ∙ unescaped-over bytes [] calm ∙ ap (unescaped false) (append-nil bytes)
 
 unescaped-calm : (text : List ℕ) → take (length text - length (after_calm Quoted text)) text ++ unescaped false (after_calm Quoted text) ≡ unescaped false text
 unescaped-calm text =

@@ -14,6 +14,7 @@ pub mod Calm
 pub mod Going
 pub mod Joined
 pub mod Passed
+pub mod PlainLines
 pub mod ShortTags
 pub mod Spelled
 pub mod Staying

@@ -1,14 +1,21 @@
 -- What was answered of a game that ends, and its lines.
-use Rattle.std.proofs.Common.{◌≡◌, ◌∙◌, ℕ, Bool, true, List, [], ◌∷◌, ◌++◌, sym, ap, subst, Option, None, Some, Ok}
-use Rattle.std.specs.Prelude.{is_some, if◌then◌else◌}
+use Rattle.std.proofs.Common.{◌≡◌, ◌∙◌, ℕ, Bool, true, false, List, [], ◌∷◌, ◌++◌, refl, sym, ap, subst, append-nil, Option, None, Some, Result, Ok, Err}
+use Rattle.std.specs.Prelude.{◌&&◌, ◌||◌, is_some, if◌then◌else◌}
+use Rattle.std.proofs.lemmas.Bool.{not-true}
+use mathlib.Core.Bool.{not}
 use Rattle.dd_cards.specs.Hands.{FourHands}
 use Rattle.dd_file.specs.declared.fill_state.Conditions.{Conditions}
 use Rattle.dd_file.specs.declared.fill_state.FillState.{FillState}
+use Rattle.dd_file.specs.declared.filler.Filler.{Filler}
 use Rattle.dd_file.specs.declared.line_text.LineEnds.{LineEnds}
+use Rattle.dd_file.specs.declared.value.Unfit.{Unfit}
 use Rattle.dd_file.specs.declared.wanted.Wanted.{Wanted}
-use Rattle.dd_file.specs.Filled.{Ask, Found, AreAnswers, IsAnswer, IsParFound, added_text, ask_with, asked_here, needs, state_here, text_here, text_of}
-use Rattle.dd_file.specs.Games.{after_end, conditions_of, lacks, line_ends}
-use Rattle.dd_file.specs.Passing.{AddsAnswer, AddsFound}
+use Rattle.dd_file.specs.Filled.{Ask, Found, AreAnswers, IsAnswer, IsParFound, added_text, ask_of, ask_with, asked_here, has_place, needs, state_here, text_here, text_of}
+use Rattle.dd_file.specs.Games.{after_end, conditions_of, ends, lacks, line_ends}
+use Rattle.dd_file.specs.Kepts.{value_of}
+use Rattle.dd_file.specs.Marks.{Begins}
+use Rattle.dd_file.specs.Passing.{AddsAnswer, AddsFound, EndsBefore, EndsHere}
+use Rattle.dd_file.specs.Values.{thirteen_in}
 
 -- one answer, where a game ends
 pub answers-ended : (gives : FourHands → Option (List (List ℕ)) → Type 0) (here : Bool) (ask : Option Ask) (answer : Option Found) → here ≡ true → IsAnswer gives ask answer
@@ -37,3 +44,32 @@ AddsFound-answer gives wanted state deal ends lacking table conditions out_old o
       right = subst P (sym needed) (given, subst (λ k. IsParFound table k adds.par) e3 adds.right);
       text = adds.text ∙ ap (λ l. out_old ++ added_text l lacking found) e1 ∙ ap (λ k. out_old ++ added_text (line_ends state) k found) e2;
     }
+
+-- a game that ends before what begins here
+pub EndsHere-before : (gives : FourHands → Option (List (List ℕ)) → Type 0) (old new : Filler) (mark : Begins) (here place : Bool) (out_old out_new : List ℕ) → here ≡ ends old.state mark
+    → place ≡ has_place mark → EndsHere gives old new here place out_old out_new → EndsBefore gives old new mark out_old out_new
+EndsHere-before gives old new mark here place out_old out_new e1 e2 ended =
+    let is : EndsHere gives old new (ends old.state mark) (has_place mark) out_old out_new =
+    subst (λ (p : Bool). EndsHere gives old new (ends old.state mark) p out_old out_new) e2 (subst (λ (h : Bool). EndsHere gives old new h place out_old out_new) e1 ended) in
+    record { place = is.place; answers = is.answers; right = is.right; text = is.text; state = is.state }
+
+or-first : (x y : Bool) → (x || (true && y)) ≡ false → (x || (false && y)) ≡ false
+or-first true y e = e
+or-first false y e = refl
+
+-- nothing is asked of a game that lacks nothing
+pub AddsAnswer-none : (gives : FourHands → Option (List (List ℕ)) → Type 0) (wanted : Wanted) (state : FillState) (out : List ℕ) → not (needs (lacks wanted state) true) ≡ true
+    → AddsAnswer gives (ask_of wanted state) wanted state out out
+AddsAnswer-none gives wanted state out none =
+    record { answer = None; right = subst (λ (ask : Option Ask). IsAnswer gives ask None) (sym (unasked (thirteen_in (value_of state.deal)))) tt; text = sym (append-nil out) }
+  where
+    lacking : Wanted
+    lacking = lacks wanted state
+
+    needless : (has_par : Bool) → needs lacking has_par ≡ false
+    needless true = not-true (needs lacking true) none
+    needless false = or-first (lacking.tricks || lacking.table) (lacking.score || lacking.contract) (not-true (needs lacking true) none)
+
+    unasked : (deal : Result FourHands Unfit) → ask_with deal (conditions_of state) lacking ≡ None
+    unasked (Err unfit) = refl
+    unasked (Ok deal) = ap (λ (b : Bool). if b then Some (record { deal = deal; conditions = conditions_of state }) else None) (needless (is_some (conditions_of state)))

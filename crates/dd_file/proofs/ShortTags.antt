@@ -14,20 +14,22 @@ use Rattle.dd_file.specs.declared.tag_reader.Miss.{Miss}
 use Rattle.dd_file.specs.declared.tag_reader.Miss.TheVariants.{NoTag}
 use Rattle.dd_file.specs.declared.wanted.Wanted.{Wanted}
 use Rattle.dd_file.specs.Filled.{Found, AreAnswers, answers_after, ask_at, asked_here, asks_from, filled_from, state_here, text_here}
-use Rattle.dd_file.specs.Games.{ends, with_byte, with_mark}
+use Rattle.dd_file.specs.Games.{ends, has_name, is_required, told, with_byte, with_mark, with_tag}
+use Rattle.dd_file.specs.KnownTags.{known_number}
 use Rattle.dd_file.specs.Marked.{begins, marked}
 use Rattle.dd_file.specs.Marks.{tag, line_mark, mark_read}
 use Rattle.dd_file.specs.Modes.{next_mode, outside_mode}
-use Rattle.dd_file.specs.Passing.{EndsBefore}
-use Rattle.dd_file.specs.Quiet.{BeginsShort, IsPlace, PassesSome, PassesTag, Stays, after_calm, are_calm, are_names, is_calm, with_line_bytes}
+use Rattle.dd_file.specs.Passing.{EndsBefore, EndsHere}
+use Rattle.dd_file.specs.Quiet.{BeginsShort, IsPlace, PassesSome, PassesTag, Stays, after_calm, are_calm, are_names, is_calm, required_number, with_line_bytes}
 use Rattle.dd_file.specs.Tags.{◌>>=◌, after_gap, after_name, after_string, byte_at, front_of, is_gap, is_name, tag_at}
 use Rattle.dd_file.specs.Windows.{Passed, PassesFront, Point, marked_at, point_of}
 use Rattle.dd_file.proofs.AgainMarks.{blank-stop, is_all, line-begins, line-read, plain-begins, take-over}
 use Rattle.dd_file.proofs.AgainMiss.{gap-step, gap-stop, name-step, name-stop, read-first, read_end, read_name, read_string, read_value, tag-steps}
 use Rattle.dd_file.proofs.AgainOver.{is_quiet, modes, modes-append, quiet-append, quiet-first, quiet-rest}
 use Rattle.dd_file.proofs.AgainTags.{as_tag, byte-found, front-is}
-use Rattle.dd_file.proofs.Calm.{calm-front, front-count, front-taken, quoted-stays, quoted-step, take-front}
+use Rattle.dd_file.proofs.Calm.{calm-front, calm-unescaped, front-count, front-taken, quoted-stays, quoted-step, take-front}
 use Rattle.dd_file.proofs.Going.{Passed-more, Passed-none, PassesFront-then, asks-byte, filled-byte, takes}
+use Rattle.dd_file.proofs.Passed.{EndsHere-before}
 use Rattle.dd_file.proofs.Staying.{Stays-none, Stays-then, behind, byte-stays, same-point, take-of-take}
 
 -- ---- reading
@@ -264,7 +266,7 @@ tag-passed gives wanted state mode is_first p name quoted answers place reads fe
 pub PassesTag-none : (gives : FourHands → Option (List (List ℕ)) → Type 0) (old : Filler) (text out : List ℕ) → PassesTag gives old old text 0 out out
 PassesTag-none gives old text out = record { within = omega arith; wanted = refl; added = []; appended = sym (append-nil out); passed = Passed-none gives old.wanted false (point_of old) [] }
 
-pub PassesTag-short : (gives : FourHands → Option (List (List ℕ)) → Type 0) (old ended new : Filler) (is_first : Bool) (text name quoted rest : List ℕ) (count : ℕ) (o0 o1 o2 : List ℕ) → old.left ≡ 0
+PassesTag-short : (gives : FourHands → Option (List (List ℕ)) → Type 0) (old ended new : Filler) (is_first : Bool) (text name quoted rest : List ℕ) (count : ℕ) (o0 o1 o2 : List ℕ) → old.left ≡ 0
     → IsPlace old.mode is_first → BeginsShort text name quoted rest → count ≡ length text - length rest → count ≤ NEAR → EndsBefore gives old ended (tag is_first count name quoted) o0 o1
     → new.state ≡ with_line_bytes (take count text) (with_mark (tag is_first count name quoted) ended.state) → new.mode ≡ Plain → new.left ≡ ended.left → new.wanted ≡ ended.wanted
     → o2 ≡ o1 ++ take count text → PassesTag gives old new text count o0 o2
@@ -295,6 +297,27 @@ PassesTag-short gives old ended new is_first text name quoted rest count o0 o1 o
       passed = subst (λ (l : List ℕ). Passed gives false old.wanted (point_of old) (point_of new) l [] added) (sym bytes)
           (subst (λ (r : Point). Passed gives false old.wanted (point_of old) r (91 ∷ p) [] added) (sym arrived) begun);
     }
+
+-- ---- by its name's number, and with its string as it stands
+short-ends : (number : Option ℕ) (name : List ℕ) (state : FillState) → number ≡ known_number name
+    → (state.begun && has_name (required_number number) state.names) ≡ (state.begun && has_name (is_required name) state.names)
+short-ends number name state is = ap (λ (n : Option ℕ). state.begun && has_name (required_number n) state.names) is
+
+short-told : (number : Option ℕ) (name quoted : List ℕ) (state : FillState) → number ≡ known_number name → are_calm Quoted quoted ≡ true → told number quoted state ≡ with_tag name quoted state
+unfolding with_tag
+short-told number name quoted state is calm =
+    ap (λ (n : Option ℕ). told n quoted state) is ∙ ap (λ (l : List ℕ). told (known_number name) l state) (calm-unescaped quoted calm)
+
+pub PassesTag-told : (gives : FourHands → Option (List (List ℕ)) → Type 0) (old ended new : Filler) (is_first : Bool) (text name quoted rest : List ℕ) (count : ℕ) (number : Option ℕ) (here : Bool)
+    (o0 o1 o2 : List ℕ) → old.left ≡ 0 → IsPlace old.mode is_first → BeginsShort text name quoted rest → count ≡ length text - length rest → count ≤ NEAR → number ≡ known_number name
+    → here ≡ (old.state.begun && has_name (required_number number) old.state.names) → EndsHere gives old ended here is_first o0 o1
+    → new.state ≡ with_line_bytes (take count text) (told number quoted ended.state) → new.mode ≡ Plain → new.left ≡ ended.left → new.wanted ≡ ended.wanted → o2 ≡ o1 ++ take count text
+    → PassesTag gives old new text count o0 o2
+PassesTag-told gives old ended new is_first text name quoted rest count number here o0 o1 o2 outside place short counted few is ends_here ended_here states modes_new lefts wanted appended =
+    let mark = tag is_first count name quoted in
+    PassesTag-short gives old ended new is_first text name quoted rest count o0 o1 o2 outside place short counted few
+    (EndsHere-before gives old ended mark here is_first o0 o1 (ends_here ∙ short-ends number name old.state is) refl ended_here)
+    (states ∙ ap (λ (s : FillState). with_line_bytes (take count text) s) (short-told number name quoted ended.state is short.calm)) modes_new lefts wanted appended
 
 -- ---- where nothing has to follow, something may
 Passed-any : (gives : FourHands → Option (List (List ℕ)) → Type 0) (is_all : Bool) (wanted : Wanted) (p q : Point) (before after text : List ℕ) → Passed gives false wanted p q before after text

@@ -116,12 +116,12 @@ Stays-then p q r a b first second =
     }
 
 -- ---- calm bytes
-record IsStill (mode : Mode) (b : ℕ) : Type 0 where
-  quiet : is_quiet mode b ≡ true
-  same : next_mode mode b ≡ mode
-  feed : (b == 10) ≡ false
+pub record IsStill (mode : Mode) (b : ℕ) : Type 0 where
+  pub quiet : is_quiet mode b ≡ true
+  pub same : next_mode mode b ≡ mode
+  pub feed : (b == 10) ≡ false
 
-calm-still : (mode : Mode) (b : ℕ) → is_calm mode b ≡ true → IsStill mode b
+pub calm-still : (mode : Mode) (b : ℕ) → is_calm mode b ≡ true → IsStill mode b
 calm-still Head b calm = absurd (true≢false (sym calm))
 calm-still Mark1 b calm = absurd (true≢false (sym calm))
 calm-still Mark2 b calm = absurd (true≢false (sym calm))

@@ -50,6 +50,14 @@ pub record EndsBefore (gives : FourHands → Option (List (List ℕ)) → Type 0
   pub text : out_new ≡ out_old ++ text_here (ends old.state mark) old.wanted old.state answers
   pub state : new.state ≡ state_here (ends old.state mark) old.state
 
+-- a game has ended, at a place for lines or at none, or it goes on
+pub record EndsHere (gives : FourHands → Option (List (List ℕ)) → Type 0) (old new : Filler) (here at_place : Bool) (out_old out_new : List ℕ) : Type 0 where
+  pub place : KeepsPlace old new
+  pub answers : List (Option Found)
+  pub right : AreAnswers gives (asked_here here (ask_at at_place old.wanted old.state)) answers
+  pub text : out_new ≡ out_old ++ text_here here old.wanted old.state answers
+  pub state : new.state ≡ state_here here old.state
+
 -- the byte was passed on, with the lines of a game that ends before it
 pub record PassesByte (gives : FourHands → Option (List (List ℕ)) → Type 0) (old new : Filler) (mark : Begins) (b : ℕ) (out_old out_new : List ℕ) : Type 0 where
   pub mode : new.mode ≡ next_mode old.mode b

@@ -1,16 +1,17 @@
 -- Bytes that are passed on many at once, since they come out alone.
-use Rattle.std.specs.Prelude.{◌≡◌, ℕ, zero, suc, ◌+◌, ◌-◌, ◌^◌, min, ◌<◌, ◌≤◌, ◌==◌, ◌&&◌, ◌||◌, Bool, true, false, List, [], ◌∷◌, ◌++◌, length, take, drop, Option, if◌then◌else◌}
+use Rattle.std.specs.Prelude.{◌≡◌, ℕ, zero, suc, ◌+◌, ◌-◌, ◌^◌, min, ◌<◌, ◌≤◌, ◌==◌, ◌&&◌, ◌||◌, Bool, true, false, List, [], ◌∷◌, ◌++◌, length, take, drop, Option, Some, None, option_and_then, nat_lt, slice_index_or, if◌then◌else◌}
 use Rattle.std.specs.Int.{trailing_zeros, w64}
 use mathlib.Core.Bool.{not}
 use Rattle.dd_cards.specs.Hands.{FourHands}
 use Rattle.dd_file.specs.declared.fill_state.FillState.{FillState}
 use Rattle.dd_file.specs.declared.filler.Filler.{Filler}
+use Rattle.dd_file.specs.declared.known_tag.TheConstants.{REQUIRED}
 use Rattle.dd_file.specs.declared.mode.Mode.{Mode}
 use Rattle.dd_file.specs.declared.mode.Mode.TheVariants.{Head, Mark1, Mark2, Start, Plain, Escaped, Remark, Braced, Quoted, Backslash}
 use Rattle.dd_file.specs.declared.wanted.Wanted.{Wanted}
 use Rattle.dd_file.specs.Filled.{Found, asks_from, filled_from}
 use Rattle.dd_file.specs.Games.{marked_name}
-use Rattle.dd_file.specs.Modes.{is_blank}
+use Rattle.dd_file.specs.Modes.{is_blank, next_mode}
 use Rattle.dd_file.specs.Tags.{is_name}
 use Rattle.dd_file.specs.Windows.{Passed, PassesFront, Point, point_of, marked_at}
 
@@ -82,6 +83,38 @@ unfoldable pub after_calm : Mode → List ℕ → List ℕ
 after_calm mode [] = []
 after_calm mode (byte ∷ text) = (if is_calm mode byte then after_calm mode text else byte ∷ text)
 
+-- does nothing begin at any of these bytes, the first of which stands so?
+abbrev pub are_quiet : Mode → List ℕ → Bool
+are_quiet mode [] = true
+are_quiet mode (byte ∷ bytes) = is_quiet mode byte && are_quiet (next_mode mode byte) bytes
+
+-- how the byte behind them stands
+abbrev pub mode_behind : Mode → List ℕ → Mode
+mode_behind mode [] = mode
+mode_behind mode (byte ∷ bytes) = mode_behind (next_mode mode byte) bytes
+
+-- can a line of plain text begin with this byte: is it no blank, no line feed, no `[` and no `%`?
+abbrev pub begins_plain : ℕ → Bool
+begins_plain byte = is_quiet Start byte && not (byte == 37)
+
+-- the last of these bytes is a line feed behind another byte
+pub record EndsLine (bytes : List ℕ) : Type 0 where
+  pub front : List ℕ
+  pub byte : ℕ
+  pub split : bytes ≡ front ++ byte ∷ 10 ∷ []
+
+-- the text begins with lines at whose bytes nothing begins, and this is left of it behind them
+pub record BeginsLines (text rest : List ℕ) : Type 0 where
+  pub bytes : List ℕ
+  pub split : text ≡ bytes ++ rest
+  pub quiet : are_quiet Start bytes ≡ true
+  pub outside : mode_behind Start bytes ≡ Start
+  pub ended : 0 < length bytes → EndsLine bytes
+
+-- the game at hand behind such lines: what comes before the last byte, a line feed, tells how the line ends
+abbrev pub with_lines : List ℕ → FillState → FillState
+with_lines bytes state = (if nat_lt (length bytes) 2 then state else record state { last = 10; has_return = slice_index_or bytes (length bytes - 2) 0 == 13 })
+
 -- the last of these bytes, and this one where there is none
 abbrev pub last_of : List ℕ → ℕ → ℕ
 last_of [] last = last
@@ -94,6 +127,10 @@ with_line_bytes bytes state = record state { last = last_of bytes state.last }
 -- the game at hand with a tag of this number, whatever its value
 abbrev pub noted : ℕ → FillState → FillState
 noted number state = record state { begun = true; names = marked_name number state.names }
+
+-- the number of a name, where it is one of the fifteen that every game should have
+abbrev pub required_number : Option ℕ → Option ℕ
+required_number known = option_and_then (λ number. if nat_lt number REQUIRED then Some number else None) known
 
 -- From one place to another these bytes come out as they are, whatever is wanted, answered and follows, and no game ends.
 pub record Stays (p q : Point) (bytes : List ℕ) : Type 0 where

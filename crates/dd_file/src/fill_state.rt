@@ -1,9 +1,9 @@
 //! The game at hand, and what it has from those before.
-ghost use Rattle.std.specs.Prelude.{◌≡◌, ◌<◌, ◌==◌, ◌||◌, false, IfSome, OnOk};
+ghost use Rattle.std.specs.Prelude.{◌≡◌, ◌<◌, ◌==◌, ◌&&◌, ◌||◌, false, IfSome, OnOk};
 ghost use Rattle.dd_file.specs.Games.{after_end, conditions_of, ends, first_state, has_name, is_required, lacks, line_ends, marked_name, told, with_byte, with_value_of};
 ghost use Rattle.dd_file.specs.Kepts.{value_of};
 ghost use Rattle.dd_file.specs.Marks.{shown};
-ghost use Rattle.dd_file.specs.Quiet.{noted, with_line_bytes};
+ghost use Rattle.dd_file.specs.Quiet.{noted, required_number, with_line_bytes, with_lines};
 ghost use Rattle.dd_file.specs.Values.{unescaped};
 
 use crate::kept::Kept;
@@ -93,11 +93,25 @@ impl FillState {
         }
     }
 
+    /// Does the game end before a tag of this number, or of a name that doesn't matter?
+    pub(crate) fn ends_at_tag(&self, number: Option<u8>) -> bool
+        ensures { result ≡ (self.now.begun && has_name (required_number number) self.now.names) }
+    {
+        self.begun && self.has_required_number(number)
+    }
+
     // Does it have a tag of this name, which is one that every game should have?
     fn has_required(&self, name: &[u8]) -> bool
         ensures { result ≡ has_name (is_required name.now) self.now.names }
     {
-        match known_number(name) {
+        self.has_required_number(known_number(name))
+    }
+
+    // The same of the name's number.
+    fn has_required_number(&self, number: Option<u8>) -> bool
+        ensures { result ≡ has_name (required_number number) self.now.names }
+    {
+        match number {
             Some(number) if (number as usize) < REQUIRED => self.names[number as usize],
             _ => false,
         }
@@ -136,6 +150,20 @@ impl FillState {
         self.note(number);
         self.tell(number, text.as_slice());
         Ok(())
+    }
+
+    /// The same with the text of its string, which stands there as it is meant.
+    pub(crate) fn tell_text(&mut self, number: Option<u8>, text: &[u8])
+        requires { IfSome number (λ n. n < 19) }
+        ensures { self.new ≡ told number text.now self.old }
+    {
+        match number {
+            Some(number) => {
+                self.note(number);
+                self.tell(number, text);
+            }
+            None => self.begun = true,
+        }
     }
 
     // A tag of this number is there.
@@ -177,6 +205,16 @@ impl FillState {
     {
         if let [.., last] = bytes {
             self.last = *last;
+        }
+    }
+
+    /// Whole lines are passed on, each of at least two bytes.
+    pub(crate) fn pass_lines(&mut self, bytes: &[u8])
+        ensures { self.new ≡ with_lines bytes.now self.old }
+    {
+        if let [.., before, _] = bytes {
+            self.has_return = *before == CARRIAGE_RETURN;
+            self.last = LINE_FEED;
         }
     }
 

@@ -1,14 +1,14 @@
 //! A file passed on by stretches, tags and single bytes, with the lines that its games lack.
-ghost use Rattle.std.specs.Prelude.{◌≡◌, ◌<◌, ◌+◌, ◌-◌, ◌^◌, ◌++◌, length, min, slice_index, IfOk, IfSome, OnOk};
+ghost use Rattle.std.specs.Prelude.{◌≡◌, ◌<◌, ◌+◌, ◌-◌, ◌^◌, ◌++◌, length, min, not, slice_index, take, true, IfOk, IfSome, OnOk};
 ghost use Rattle.dd_cards.specs.Hands.{FourHands};
 ghost use Rattle.dd_file.specs.Deals.{IsThirteen};
 ghost use Rattle.dd_file.specs.Filled.{IsParFound, added_text, ask_at, ask_of, ask_with, asked_here, ends_last, has_place, needs, par_text, text_here, where_lacking};
-ghost use Rattle.dd_file.specs.Games.{after_end, conditions_of, first_state, lacks, line_ends, next_state, with_byte, with_mark};
+ghost use Rattle.dd_file.specs.Games.{after_end, conditions_of, first_state, lacks, line_ends, next_state, told, with_byte, with_mark};
 ghost use Rattle.dd_file.specs.Lines.{contract_line, line_with, score_line, table_text, tricks_line};
 ghost use Rattle.dd_file.specs.Marked.{is_closed, left_of, left_within};
 ghost use Rattle.dd_file.specs.Marks.{shown};
 ghost use Rattle.dd_file.specs.Modes.{next_mode};
-ghost use Rattle.dd_file.specs.Passing.{AddsAnswer, AddsFound, AddsLast, EndsBefore, KeepsPlace, PassesByte, begins_now, par_found};
+ghost use Rattle.dd_file.specs.Passing.{AddsAnswer, AddsFound, AddsLast, EndsBefore, EndsHere, KeepsPlace, PassesByte, begins_now, par_found};
 ghost use Rattle.dd_file.specs.Quiet.{Counts, IsPlace, KeepsCounts, PassesQuiet, PassesTag, Takes, is_alone, with_line_bytes};
 
 use crate::analyst::{Analyst, Reason};
@@ -17,7 +17,7 @@ use crate::known_tag::{BOARD, known_number};
 use crate::line_text::{LineEnds, push_contracts, push_score, push_table, push_tricks};
 use crate::mark::{Mark, NEAR, mark_at};
 use crate::mode::Mode;
-use crate::quiet::{after_calm, is_alone};
+use crate::quiet::{after_calm, after_plain_lines, is_alone};
 use crate::tag_reader::read_short_tag;
 use crate::value::{Unfit, thirteen_in, unescaped};
 use crate::wanted::Wanted;
@@ -132,25 +132,23 @@ impl Filler {
         if length > NEAR {
             return Ok(0);
         }
-        let mark = Mark::Tag {
-            is_first,
-            length,
-            name: tag.name,
-            quoted: tag.quoted,
-        };
-        self.end_before(&mark, analyst, out)?;
-        self.pass_whole(&mark, &text[..length], out)?;
+        let number = known_number(tag.name);
+        let ends = self.state.ends_at_tag(number);
+        self.end_here(ends, is_first, analyst, out)?;
+        self.pass_whole(number, tag.quoted, &text[..length], out)?;
         Ok(length)
     }
 
-    // Passes on all bytes of a tag on one line.
+    // Passes on all bytes of a tag on one line, which has a name of this number and a string that stands there as it is meant.
     fn pass_whole(
         &mut self,
-        mark: &Mark<'_>,
+        number: Option<u8>,
+        quoted: &[u8],
         bytes: &[u8],
         out: &mut Vec<u8>,
     ) -> Result<(), AllocError>
-        ensures state { OnOk result (self.new.state ≡ with_line_bytes bytes.now (with_mark (shown mark.now) self.old.state)) }
+        requires { IfSome number (λ n. n < 19) }
+        ensures state { OnOk result (self.new.state ≡ with_line_bytes bytes.now (told number quoted.now self.old.state)) }
         ensures mode { OnOk result (self.new.mode ≡ Mode.Plain) }
         ensures left { OnOk result (self.new.left ≡ self.old.left) }
         ensures wanted { OnOk result (self.new.wanted ≡ self.old.wanted) }
@@ -159,7 +157,8 @@ impl Filler {
         ensures number { OnOk result (self.new.number ≡ self.old.number) }
     {
         out.extend_from_slice(bytes)?;
-        self.tell(mark)?;
+        self.note_plain_board(number, quoted)?;
+        self.state.tell_text(number, quoted);
         self.state.pass_line_bytes(bytes);
         self.mode = Mode::Plain;
         self.passed = self.passed.saturating_add(bytes.len() as u64);
@@ -181,14 +180,15 @@ impl Filler {
         is_alone(self.state.begun, self.left, self.mode, byte)
     }
 
-    // Takes such bytes in, and gives those after them: calm bytes, and one behind them that comes out alone, by turns.
+    // Takes such bytes in, and gives those after them: lines of plain text, calm bytes, and one behind them that comes out alone, by
+    // turns.
     fn take_quiet<'a>(&mut self, text: &'a [u8]) -> &'a [u8]
         ensures takes { Takes self.old self.new text.now result.now }
         ensures counts { KeepsCounts self.old self.new }
     {
         let mut rest = text;
         'stretches: loop {
-            let after = self.take_calm(rest);
+            let after = self.take_stretch(rest);
             let [first, tail @ ..] = after else {
                 return after;
             };
@@ -198,6 +198,29 @@ impl Filler {
             self.take_byte(*first);
             rest = tail;
         }
+    }
+
+    // Takes lines of plain text in, and calm bytes behind them.
+    fn take_stretch<'a>(&mut self, text: &'a [u8]) -> &'a [u8]
+        ensures takes { Takes self.old self.new text.now result.now }
+        ensures counts { KeepsCounts self.old self.new }
+    {
+        let rest = self.take_lines(text);
+        self.take_calm(rest)
+    }
+
+    // Takes lines of plain text in.
+    fn take_lines<'a>(&mut self, text: &'a [u8]) -> &'a [u8]
+        ensures takes { Takes self.old self.new text.now result.now }
+        ensures counts { KeepsCounts self.old self.new }
+    {
+        let Some(true) = tag_place(self.left, self.mode) else {
+            return text;
+        };
+        let rest = after_plain_lines(text);
+        let lines = &text[..text.len().saturating_sub(rest.len())];
+        self.state.pass_lines(lines);
+        rest
     }
 
     // Takes calm bytes in.
@@ -248,10 +271,26 @@ impl Filler {
             out.old.items out.new.items) }
         ensures passed { OnOk result (self.new.passed ≡ self.old.passed) }
     {
-        if !self.state.ends(mark) {
+        let ends = self.state.ends(mark);
+        self.end_here(ends, has_place(mark), analyst, out)
+    }
+
+    // Ends the game at hand, at a place for lines or at none, if it ends.
+    #[inline(always)]
+    fn end_here<A: Analyst>(
+        &mut self,
+        ends: bool,
+        has_place: bool,
+        analyst: &mut A,
+        out: &mut Vec<u8>,
+    ) -> Result<(), AllocError>
+        ensures ends { OnOk result (EndsHere A.gives self.old self.new ends has_place out.old.items out.new.items) }
+        ensures passed { OnOk result (self.new.passed ≡ self.old.passed) }
+    {
+        if !ends {
             return Ok(());
         }
-        self.add_lines_at(has_place(mark), analyst, out)?;
+        self.add_lines_at(has_place, analyst, out)?;
         analyst.passed(self.number, self.passed);
         self.end_game();
         Ok(())
@@ -315,6 +354,21 @@ impl Filler {
         Ok(())
     }
 
+    // The same of a string that stands there as it is meant, as far as it is told.
+    fn note_plain_board(&mut self, number: Option<u8>, text: &[u8]) -> Result<(), AllocError>
+        ensures state { OnOk result (self.new.state ≡ self.old.state) }
+        ensures place { OnOk result (KeepsPlace self.old self.new) }
+        ensures passed { OnOk result (self.new.passed ≡ self.old.passed) }
+        ensures number { OnOk result (self.new.number ≡ self.old.number) }
+        ensures board { number ≡ Some 3 → OnOk result (self.new.board.items ≡ take BOARD_BYTES text.now) }
+    {
+        if number == Some(BOARD) {
+            self.board.clear();
+            self.board.extend_from_slice(board_front(text))?;
+        }
+        Ok(())
+    }
+
     // Adds the lines of a game that ends at a place for lines, or at none.
     fn add_lines_at<A: Analyst>(
         &self,
@@ -357,6 +411,9 @@ impl Filler {
         ensures { OnOk result (AddsAnswer A.gives (ask_of self.now.wanted self.now.state)
             self.now.wanted self.now.state out.old.items out.new.items) }
     {
+        if lacks_none(self.state.lacks(self.wanted)) {
+            return Ok(());
+        }
         match thirteen_in(self.state.deal.value()) {
             Ok(deal) => self.add_lines_of(&deal, analyst, out),
             Err(unfit) => {
@@ -434,6 +491,17 @@ fn tag_place(left: usize, mode: Mode) -> Option<bool>
     }
 }
 
+// What is told of this value of a tag Board.
+fn board_front(text: &[u8]) -> &[u8]
+    ensures { result.now ≡ take BOARD_BYTES text.now }
+{
+    if text.len() <= BOARD_BYTES {
+        text
+    } else {
+        &text[..BOARD_BYTES]
+    }
+}
+
 fn reason_of(unfit: Unfit) -> Reason {
     match unfit {
         Unfit::NoDeal => Reason::NoDeal,
@@ -481,6 +549,13 @@ fn is_closed(left: usize, mode: Mode) -> bool
         (0, _) => true,
         _ => false,
     }
+}
+
+// Is nothing lacking?
+fn lacks_none(lacking: Wanted) -> bool
+    ensures { result ≡ not (needs lacking true) }
+{
+    !needs(lacking, true)
 }
 
 // Does a game that lacks these get a line?

@@ -1,7 +1,7 @@
 //! Bytes that come out alone, whatever follows: nothing begins at them, or an empty line ends at which no game does. They are passed
 //! on many at once.
 ghost use Rattle.std.specs.Prelude.{◌≡◌};
-ghost use Rattle.dd_file.specs.Quiet.{after_calm, is_alone, is_calm, is_idle, is_quiet, is_quiet_within};
+ghost use Rattle.dd_file.specs.Quiet.{BeginsLines, after_calm, begins_plain, is_alone, is_calm, is_idle, is_quiet, is_quiet_within};
 
 use crate::lanes::{
     LANES, behind_lanes, braced_stops, from_stop, line_stops, plain_stops, quoted_stops,
@@ -60,6 +60,33 @@ pub(crate) fn after_calm(mode: Mode, text: &[u8]) -> &[u8]
         Mode::Quoted => after_quoted(text),
         _ => text,
     }
+}
+
+/// The text after its first lines of plain text: they begin with no blank, no `[` and no `%`, hold calm bytes alone, and have ended.
+pub(crate) fn after_plain_lines(text: &[u8]) -> &[u8]
+    ensures { BeginsLines text.now result.now }
+{
+    let mut rest = text;
+    while let [first, ..] = rest {
+        if !begins_plain(*first) {
+            break;
+        }
+        let after = after_plain(rest);
+        let [end, tail @ ..] = after else {
+            break;
+        };
+        if *end != LINE_FEED {
+            break;
+        }
+        rest = tail;
+    }
+    rest
+}
+
+fn begins_plain(byte: u8) -> bool
+    ensures { result ≡ begins_plain byte }
+{
+    is_quiet(Mode::Start, byte) && byte != b'%'
 }
 
 // Each kind of calm bytes has a loop of its own: so it runs without a choice of the mode at each step. The last bytes of a text are

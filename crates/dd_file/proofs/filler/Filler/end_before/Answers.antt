@@ -1,20 +1,7 @@
-use Rattle.std.proofs.Common.{◌≡◌, ◌∙◌, [], ◌∷◌, ◌++◌, true, ap, sym, subst}
-use Rattle.dd_file.specs.Games.{ends}
-use Rattle.dd_file.specs.Filled.{IsAnswer, ask_at}
-use Rattle.dd_file.specs.Marks.{shown}
-use Rattle.dd_file.proofs.Passed.{answers-ended, text-ended, state-ended}
+use Rattle.std.proofs.lemmas.Result.{on_ok_weaker}
+use Rattle.dd_file.proofs.Passed.{EndsHere-before}
 use Rattle.dd_file.proofs.filler.Filler.end_before.Goals as goal
 
 pub returns-clause-ends : goal.returns-clause-ends
-returns-clause-ends g c =
-    let state = c.args.self.now.state in
-    let wanted = c.args.self.now.wanted in
-    let is : ends state (shown c.args.mark.now) ≡ true = sym c.ends.ensures ∙ c.if-not-ends.false in
-    let adds = c.in_ok-add_lines_at.ensures in
-    record {
-      place = c.end_game.ensures.place;
-      answers = adds.answer ∷ [];
-      right = answers-ended g.A.Analyst.gives _ _ adds.answer is (subst (λ p. IsAnswer g.A.Analyst.gives (ask_at p wanted state) adds.answer) c.has_place.ensures adds.right);
-      text = adds.text ∙ ap (λ t. c.args.out.now.items ++ t) (sym (text-ended _ wanted state adds.answer is));
-      state = c.end_game.ensures.state ∙ sym (state-ended _ state is);
-    }
+returns-clause-ends g c = on_ok_weaker c.end_here.result
+    (λ ends. EndsHere-before g.A.Analyst.gives _ _ _ _ _ _ _ c.ends-ends.ensures c.has_place.ensures ends) c.end_here.ensures.ends
