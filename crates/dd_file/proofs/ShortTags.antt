@@ -20,7 +20,7 @@ use Rattle.dd_file.specs.Marked.{begins, marked}
 use Rattle.dd_file.specs.Marks.{tag, line_mark, mark_read}
 use Rattle.dd_file.specs.Modes.{next_mode, outside_mode}
 use Rattle.dd_file.specs.Passing.{EndsBefore, EndsHere}
-use Rattle.dd_file.specs.Quiet.{BeginsShort, IsPlace, PassesSome, PassesTag, Stays, after_calm, are_calm, are_names, is_calm, required_number, with_line_bytes}
+use Rattle.dd_file.specs.Quiet.{BeginsShort, IsPlace, PassesSome, PassesTag, Stays, Takes, after_calm, are_calm, are_names, is_calm, required_number, short_tag, with_line_bytes}
 use Rattle.dd_file.specs.Tags.{◌>>=◌, after_gap, after_name, after_string, byte_at, front_of, is_gap, is_name, tag_at}
 use Rattle.dd_file.specs.Windows.{Passed, PassesFront, Point, marked_at, point_of}
 use Rattle.dd_file.proofs.AgainMarks.{blank-stop, is_all, line-begins, line-read, plain-begins, take-over}
@@ -28,7 +28,7 @@ use Rattle.dd_file.proofs.AgainMiss.{gap-step, gap-stop, name-step, name-stop, r
 use Rattle.dd_file.proofs.AgainOver.{is_quiet, modes, modes-append, quiet-append, quiet-first, quiet-rest}
 use Rattle.dd_file.proofs.AgainTags.{as_tag, byte-found, front-is}
 use Rattle.dd_file.proofs.Calm.{calm-front, calm-unescaped, front-count, front-taken, quoted-stays, quoted-step, take-front}
-use Rattle.dd_file.proofs.Going.{Passed-more, Passed-none, PassesFront-then, asks-byte, filled-byte, takes}
+use Rattle.dd_file.proofs.Going.{Passed-more, Passed-none, Passed-then, PassesFront-then, asks-byte, filled-byte, takes}
 use Rattle.dd_file.proofs.Passed.{EndsHere-before}
 use Rattle.dd_file.proofs.Staying.{Stays-none, Stays-then, behind, byte-stays, same-point, take-of-take}
 
@@ -318,6 +318,36 @@ PassesTag-told gives old ended new is_first text name quoted rest count number h
     PassesTag-short gives old ended new is_first text name quoted rest count o0 o1 o2 outside place short counted few
     (EndsHere-before gives old ended mark here is_first o0 o1 (ends_here ∙ short-ends number name old.state is) refl ended_here)
     (states ∙ ap (λ (s : FillState). with_line_bytes (take count text) s) (short-told number name quoted ended.state is short.calm)) modes_new lefts wanted appended
+
+-- ---- and what comes out alone behind it
+Passed-stays : (gives : FourHands → Option (List (List ℕ)) → Type 0) (wanted : Wanted) (p q : Point) (bytes : List ℕ) → Stays p q bytes → Passed gives false wanted p q bytes [] bytes
+Passed-stays gives wanted p q bytes stays =
+    record { answers = []; asked = []; right = tt; fills = λ more rest follows. stays.fills wanted more rest; asks = λ rest follows. stays.asks wanted rest }
+
+pub PassesTag-more : (gives : FourHands → Option (List (List ℕ)) → Type 0) (old mid taken new : Filler) (text name quoted rest behind : List ℕ) (count more : ℕ) (o0 o1 o2 : List ℕ)
+    → PassesTag gives old mid text count o0 (o1 ++ take count text) → BeginsShort text name quoted rest → count ≡ length text - length rest → Takes mid taken rest behind
+    → more ≡ length text - length behind → new.wanted ≡ taken.wanted → point_of new ≡ point_of taken → o2 ≡ o1 ++ take more text → PassesTag gives old new text more o0 o2
+PassesTag-more gives old mid taken new text name quoted rest behind count more o0 o1 o2 passes short counted takes all wanted arrived appended =
+    let p : Point = point_of old in
+    let m : Point = point_of mid in
+    let q : Point = point_of new in
+    let whole : List ℕ = short_tag name quoted in
+    let first : take count text ≡ whole = ap (λ (n : ℕ). take n text) counted ∙ front-taken text whole rest short.spelled in
+    let split : text ≡ (whole ++ takes.bytes) ++ behind = short.spelled ∙ ap (λ l. whole ++ l) takes.split ∙ sym (append_assoc whole takes.bytes behind) in
+    let bytes : take more text ≡ whole ++ takes.bytes = ap (λ (n : ℕ). take n text) all ∙ front-taken text (whole ++ takes.bytes) behind split in
+    let stays : Stays m q takes.bytes = subst (λ (r : Point). Stays m r takes.bytes) (sym arrived) takes.stays in
+    let begun : Passed gives false old.wanted p m whole [] passes.added = subst (λ (l : List ℕ). Passed gives false old.wanted p m l [] passes.added) first passes.passed in
+    let passed : Passed gives false old.wanted p q (whole ++ takes.bytes) [] (passes.added ++ takes.bytes) =
+    Passed-then gives old.wanted false p m q (whole ++ takes.bytes) takes.bytes [] passes.added takes.bytes
+    (Passed-more gives old.wanted p m whole [] takes.bytes passes.added begun) (Passed-stays gives old.wanted m q takes.bytes stays) in
+    record {
+      within = omega (arith, all);
+      wanted = wanted ∙ takes.wanted ∙ passes.wanted;
+      added = passes.added ++ takes.bytes;
+      appended = appended ∙ ap (λ l. o1 ++ l) (bytes ∙ ap (λ l. l ++ takes.bytes) (sym first)) ∙ sym (append_assoc o1 (take count text) takes.bytes) ∙ ap (λ l. l ++ takes.bytes) passes.appended
+          ∙ append_assoc o0 passes.added takes.bytes;
+      passed = subst (λ (l : List ℕ). Passed gives false old.wanted p q l [] (passes.added ++ takes.bytes)) (sym bytes) passed;
+    }
 
 -- ---- where nothing has to follow, something may
 Passed-any : (gives : FourHands → Option (List (List ℕ)) → Type 0) (is_all : Bool) (wanted : Wanted) (p q : Point) (before after text : List ℕ) → Passed gives false wanted p q before after text

@@ -252,6 +252,17 @@ Takes-byte old new (b ∷ text) some_left quiet states modes lefts wanted =
       stays = subst (λ (p : Point). Stays (point_of old) p (b ∷ [])) (sym (same-point (behind (point_of old) b) new states (lefts ∙ sym (within-one old.left)) modes)) (alone-stays (point_of old) b quiet);
     }
 
+pub Takes-next : (old new : Filler) (b : ℕ) (text rest : List ℕ) → old.mode ≡ Plain → is_quiet Plain b ≡ true → text ≡ b ∷ rest → new.state ≡ with_byte b old.state → new.mode ≡ next_mode old.mode b
+    → new.left ≡ old.left - 1 → new.wanted ≡ old.wanted → Takes old new text rest
+Takes-next old new b text rest plain quiet split states modes lefts wanted =
+    record {
+      wanted = wanted;
+      bytes = b ∷ [];
+      split = split;
+      stays = subst (λ (p : Point). Stays (point_of old) p (b ∷ [])) (sym (same-point (behind (point_of old) b) new states (lefts ∙ sym (within-one old.left)) modes))
+          (byte-stays (point_of old) b (within-quiet old.left old.mode b (ap (λ (m : Mode). is_quiet m b) plain ∙ quiet)));
+    }
+
 -- ---- what was passed on
 pub PassesQuiet-taken : (old mid new : Filler) (text after : List ℕ) (count : ℕ) (out_old out_new : List ℕ) → Takes old mid text after → count ≡ length text - length after
     → new.wanted ≡ mid.wanted → point_of new ≡ point_of mid → out_new ≡ out_old ++ take count text → PassesQuiet old new text count out_old out_new

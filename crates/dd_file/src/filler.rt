@@ -9,16 +9,16 @@ ghost use Rattle.dd_file.specs.Marked.{is_closed, left_of, left_within};
 ghost use Rattle.dd_file.specs.Marks.{shown};
 ghost use Rattle.dd_file.specs.Modes.{next_mode};
 ghost use Rattle.dd_file.specs.Passing.{AddsAnswer, AddsFound, AddsLast, EndsBefore, EndsHere, KeepsPlace, PassesByte, begins_now, par_found};
-ghost use Rattle.dd_file.specs.Quiet.{Counts, IsPlace, KeepsCounts, PassesQuiet, PassesTag, Takes, is_alone, with_line_bytes};
+ghost use Rattle.dd_file.specs.Quiet.{Counts, IsPlace, KeepsCounts, PassesQuiet, PassesTag, Takes, is_alone, is_quiet, with_line_bytes};
 
 use crate::analyst::{Analyst, Reason};
 use crate::fill_state::{Conditions, FillState};
 use crate::known_tag::{BOARD, known_number};
 use crate::line_text::{LineEnds, push_contracts, push_score, push_table, push_tricks};
 use crate::mark::{Mark, NEAR, mark_at};
-use crate::mode::Mode;
+use crate::mode::{CARRIAGE_RETURN, LINE_FEED, Mode};
 use crate::quiet::{after_calm, after_plain_lines, is_alone};
-use crate::tag_reader::read_short_tag;
+use crate::tag_reader::{after_first, read_short_tag};
 use crate::value::{Unfit, thirteen_in, unescaped};
 use crate::wanted::Wanted;
 use dd_cards::Hands;
@@ -135,34 +135,63 @@ impl Filler {
         let number = known_number(tag.name);
         let ends = self.state.ends_at_tag(number);
         self.end_here(ends, is_first, analyst, out)?;
-        self.pass_whole(number, tag.quoted, &text[..length], out)?;
-        Ok(length)
+        self.take_whole(number, tag.quoted, &text[..length])?;
+        let behind = self.take_line_end(tag.rest);
+        let taken = text.len().saturating_sub(behind.len());
+        out.extend_from_slice(&text[..taken])?;
+        self.passed = self.passed.saturating_add(taken as u64);
+        Ok(taken)
     }
 
-    // Passes on all bytes of a tag on one line, which has a name of this number and a string that stands there as it is meant.
-    fn pass_whole(
+    // Takes all bytes of a tag on one line in, which has a name of this number and a string that stands there as it is meant.
+    fn take_whole(
         &mut self,
         number: Option<u8>,
         quoted: &[u8],
         bytes: &[u8],
-        out: &mut Vec<u8>,
     ) -> Result<(), AllocError>
         requires { IfSome number (λ n. n < 19) }
         ensures state { OnOk result (self.new.state ≡ with_line_bytes bytes.now (told number quoted.now self.old.state)) }
         ensures mode { OnOk result (self.new.mode ≡ Mode.Plain) }
         ensures left { OnOk result (self.new.left ≡ self.old.left) }
         ensures wanted { OnOk result (self.new.wanted ≡ self.old.wanted) }
-        ensures text { OnOk result (out.new.items ≡ out.old.items ++ bytes.now) }
-        ensures passed { OnOk result (self.new.passed ≡ min (self.old.passed + length bytes.now) (2 ^ 64 - 1)) }
+        ensures passed { OnOk result (self.new.passed ≡ self.old.passed) }
         ensures number { OnOk result (self.new.number ≡ self.old.number) }
     {
-        out.extend_from_slice(bytes)?;
         self.note_plain_board(number, quoted)?;
         self.state.tell_text(number, quoted);
         self.state.pass_line_bytes(bytes);
         self.mode = Mode::Plain;
-        self.passed = self.passed.saturating_add(bytes.len() as u64);
         Ok(())
+    }
+
+    // Takes the end of a line in where it comes next, and gives the bytes after it.
+    #[inline(always)]
+    fn take_line_end<'a>(&mut self, text: &'a [u8]) -> &'a [u8]
+        requires { self.old.mode ≡ Mode.Plain }
+        ensures takes { Takes self.old self.new text.now result.now }
+        ensures counts { KeepsCounts self.old self.new }
+    {
+        let rest = self.take_next(CARRIAGE_RETURN, text);
+        self.take_next(LINE_FEED, rest)
+    }
+
+    // Takes a byte in at which nothing begins outside, if it comes next.
+    #[inline(always)]
+    fn take_next<'a>(&mut self, byte: u8, text: &'a [u8]) -> &'a [u8]
+        requires plain { self.old.mode ≡ Mode.Plain }
+        requires quiet { is_quiet Mode.Plain byte ≡ true }
+        ensures takes { Takes self.old self.new text.now result.now }
+        ensures counts { KeepsCounts self.old self.new }
+        ensures mode { next_mode Mode.Plain byte ≡ Mode.Plain → self.new.mode ≡ Mode.Plain }
+    {
+        match after_first(byte, text) {
+            Some(rest) => {
+                self.take_byte(byte);
+                rest
+            }
+            None => text,
+        }
     }
 
     // Does the first of these bytes come out alone?

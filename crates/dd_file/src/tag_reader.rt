@@ -52,13 +52,13 @@ pub(crate) fn read_tag(text: &[u8]) -> Result<TagText<'_>, Miss>
 pub(crate) fn read_short_tag(text: &[u8]) -> Option<TagText<'_>>
     ensures { IfSome result (λ tag. BeginsShort text.now tag.name.now tag.quoted.now tag.rest.now) }
 {
-    let inner = behind(b'[', text)?;
+    let inner = after_first(b'[', text)?;
     let after = after_name_bytes(inner);
-    let opened = behind(b' ', after)?;
-    let string = behind(b'"', opened)?;
+    let opened = after_first(b' ', after)?;
+    let string = after_first(b'"', opened)?;
     let last = after_quoted(string);
-    let closed = behind(b'"', last)?;
-    let rest = behind(b']', closed)?;
+    let closed = after_first(b'"', last)?;
+    let rest = after_first(b']', closed)?;
     if after.len() >= inner.len() {
         return None;
     }
@@ -69,8 +69,8 @@ pub(crate) fn read_short_tag(text: &[u8]) -> Option<TagText<'_>>
     })
 }
 
-// What follows this byte, where the text begins with it.
-fn behind(byte: u8, text: &[u8]) -> Option<&[u8]>
+/// What follows this byte, where the text begins with it.
+pub(crate) fn after_first(byte: u8, text: &[u8]) -> Option<&[u8]>
     ensures { IfSome result (λ rest. text.now ≡ byte ∷ rest.now) }
 {
     match text {

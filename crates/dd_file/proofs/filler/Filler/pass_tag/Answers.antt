@@ -1,4 +1,5 @@
-use Rattle.dd_file.proofs.ShortTags.{PassesTag-none, PassesTag-told}
+use Rattle.std.proofs.Common.{refl}
+use Rattle.dd_file.proofs.ShortTags.{PassesTag-more, PassesTag-none, PassesTag-told}
 use Rattle.dd_file.proofs.filler.Filler.pass_tag.Goals as goal
 
 pub returns-in_default-clause-passes : goal.returns-in_default-clause-passes
@@ -12,6 +13,9 @@ returns-then-length-gt-NEAR-clause-passes g c = PassesTag-none g.A.Analyst.gives
 
 pub returns-clause-passes : goal.returns-clause-passes
 returns-clause-passes g c =
-    let whole = c.in_ok-pass_whole.ensures in
-    PassesTag-told g.A.Analyst.gives _ _ _ _ _ _ _ _ _ _ _ _ _ _ c.in-Some.ensures.left c.in-Some.ensures.mode c.in-Some-read_short_tag.ensures c.saturating_sub-length.ensures c.if-length-gt-NEAR.false
-    c.known_number-number.ensures.value c.ends_at_tag-ends.ensures c.in_ok-end_here.ensures.ends whole.state whole.mode whole.left whole.wanted whole.text
+    let whole = c.in_ok-take_whole.ensures in
+    let short = c.in-Some-read_short_tag.ensures in
+    PassesTag-more g.A.Analyst.gives _ _ _ _ _ _ _ _ _ _ _ _ _ _
+    (PassesTag-told g.A.Analyst.gives _ _ _ _ _ _ _ _ _ _ _ _ _ _ c.in-Some.ensures.left c.in-Some.ensures.mode short c.saturating_sub-length.ensures c.if-length-gt-NEAR.false
+    c.known_number-number.ensures.value c.ends_at_tag-ends.ensures c.in_ok-end_here.ensures.ends whole.state whole.mode whole.left whole.wanted refl)
+    short c.saturating_sub-length.ensures c.take_line_end-behind.ensures.takes c.saturating_sub-taken.ensures refl refl c.in_ok-extend_from_slice.ensures.items
