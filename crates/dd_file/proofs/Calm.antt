@@ -75,6 +75,21 @@ pub front-taken : (text bytes after : List ℕ) → text ≡ bytes ++ after → 
 front-taken text bytes after split =
     ap (λ (n : ℕ). take n text) (front-count text bytes after split) ∙ ap (λ l. take (length bytes) l) split ∙ take-front bytes after
 
+pub calm-shorter : (mode : Mode) (text after : List ℕ) → after ≡ after_calm mode text → length after ≤ length text
+calm-shorter mode text after is =
+    let front = calm-front mode text in
+    let whole : length text ≡ length front.bytes + length (after_calm mode text) = ap length front.split ∙ length-append front.bytes (after_calm mode text) in
+    let size : length after ≡ length (after_calm mode text) = ap length is in
+    omega (arith, whole, size)
+
+-- what is left of a text behind its first byte and calm bytes is less
+pub calm-behind : (mode : Mode) (text after : List ℕ) → 1 ≤ length text → after ≡ after_calm mode (take (length text - 1) (drop 1 text)) → length after < length text
+calm-behind mode [] after some is = absurd (omega arith)
+calm-behind mode (b ∷ text) after some is =
+    let less : length after ≤ length (take (length (b ∷ text) - 1) text) = calm-shorter mode (take (length (b ∷ text) - 1) text) after is in
+    let size : length (take (length (b ∷ text) - 1) text) ≡ length text = ap length (tail-is b text) in
+    omega (arith, less, size)
+
 -- the last byte is the one behind which none is left
 pub last-of : (bytes : List ℕ) (last : ℕ) → 1 ≤ length bytes → get_or bytes (length bytes - 1) 0 ≡ last_of bytes last
 last-of [] last some = absurd (omega arith)
@@ -127,6 +142,14 @@ quoted-calm text = (let front = calm-front Quoted text in over front.bytes (afte
     over [] after calm = refl
     over (b ∷ bytes) after calm =
         (let parts = and_parts (is_calm Quoted b) (are_calm Quoted bytes) calm in over bytes after parts.1 ∙ sym (quoted-step b (bytes ++ after) parts.0))
+
+-- a string goes on behind a byte
+pub string-quoted : (mode : Mode) (text after : List ℕ) → 1 ≤ length text → next_mode mode (get_or text 0 0) ≡ Quoted → after ≡ after_calm Quoted (take (length text - 1) (drop 1 text))
+    → after_string Quoted after ≡ after_string mode text
+unfolding after_string
+string-quoted mode [] after some is behind = absurd (omega arith)
+string-quoted mode (b ∷ text) after some is behind =
+    ap (λ l. after_string Quoted l) (behind ∙ ap (after_calm Quoted) (tail-is b text)) ∙ quoted-calm text ∙ ap (λ (m : Mode). string_at m text (after_string m text)) (sym is)
 
 unescaped-step : (b : ℕ) (text : List ℕ) → is_calm Quoted b ≡ true → b ∷ unescaped false text ≡ unescaped false (b ∷ text)
 unescaped-step b text calm =

@@ -97,6 +97,8 @@ impl Filler {
     }
 
     /// Passes on the first of these bytes, as far as they come out alone, and tells how many.
+    // Where a tag comes next there are none, and nothing is called.
+    #[inline(always)]
     pub(crate) fn pass_quiet(&mut self, text: &[u8], out: &mut Vec<u8>) -> Result<usize, AllocError>
         ensures passes { IfOk result (λ count. PassesQuiet self.old self.new text.now count out.old.items out.new.items) }
         ensures counts { IfOk result (λ count. Counts self.old self.new count) }
@@ -104,6 +106,15 @@ impl Filler {
         if !self.begins_quiet(text) {
             return Ok(0);
         }
+        self.pass_stretch(text, out)
+    }
+
+    // The same of bytes of which the first comes out alone.
+    #[inline(never)]
+    fn pass_stretch(&mut self, text: &[u8], out: &mut Vec<u8>) -> Result<usize, AllocError>
+        ensures passes { IfOk result (λ count. PassesQuiet self.old self.new text.now count out.old.items out.new.items) }
+        ensures counts { IfOk result (λ count. Counts self.old self.new count) }
+    {
         let count = text.len().saturating_sub(self.take_quiet(text).len());
         out.extend_from_slice(&text[..count])?;
         self.passed = self.passed.saturating_add(count as u64);
@@ -265,6 +276,7 @@ impl Filler {
     }
 
     // Takes a byte in that comes out alone.
+    #[inline(always)]
     fn take_byte(&mut self, byte: u8)
         ensures state { self.new.state ≡ with_byte byte self.old.state }
         ensures mode { self.new.mode ≡ next_mode self.old.mode byte }

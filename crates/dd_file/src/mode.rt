@@ -35,6 +35,7 @@ pub(crate) enum Mode {
 
 impl Mode {
     /// Where the byte after this one stands.
+    #[inline]
     pub(crate) fn next(self, byte: u8) -> Mode
         ensures { result ≡ next_mode self byte }
     {

@@ -49,6 +49,7 @@ pub(crate) fn read_tag(text: &[u8]) -> Result<TagText<'_>, Miss>
 
 /// The tag that the text begins with, where it stands on one line so: `[`, a name, a space, a string without a backslash,
 /// and `]`.
+#[inline(always)]
 pub(crate) fn read_short_tag(text: &[u8]) -> Option<TagText<'_>>
     ensures { IfSome result (λ tag. BeginsShort text.now tag.name.now tag.quoted.now tag.rest.now) }
 {
@@ -193,12 +194,12 @@ fn after_string(text: &[u8]) -> Result<&[u8], Miss>
     let mut rest = after_quoted(text);
     while let [first, tail @ ..] = rest {
         mode = mode.next(*first);
-        rest = tail;
-        match mode {
-            Mode::Plain => return Ok(rest),
+        rest = match mode {
+            Mode::Plain => return Ok(tail),
             Mode::Start => return Err(Miss::NoTag),
-            _ => {}
-        }
+            Mode::Quoted => after_quoted(tail),
+            _ => tail,
+        };
     }
     Err(Miss::Ends)
 }
