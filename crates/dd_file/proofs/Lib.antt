@@ -16,6 +16,7 @@ pub mod Joined
 pub mod Passed
 pub mod PlainLines
 pub mod ShortTags
+pub mod SmallWords
 pub mod Spelled
 pub mod Staying
 pub mod Steps

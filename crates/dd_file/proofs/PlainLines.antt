@@ -1,6 +1,6 @@
 -- Lines of plain text, taken in at once.
-use Rattle.std.proofs.Common.{◌≡◌, ◌∙◌, ℕ, zero, suc, ◌==◌, ◌+◌, ◌-◌, ◌<◌, ◌≤◌, Bool, true, false, List, [], ◌∷◌, ◌++◌, length, get_or, take, drop, refl, sym, ap, subst, arith, true≢false, append_assoc, length-append}
-use Rattle.std.specs.Prelude.{◌&&◌, ◌||◌, nat_lt, slice_index_or, if◌then◌else◌}
+use Rattle.std.proofs.Common.{◌≡◌, ◌∙◌, ℕ, suc, ◌==◌, ◌+◌, ◌-◌, ◌<◌, ◌≤◌, Bool, true, false, List, [], ◌∷◌, ◌++◌, length, get_or, take, drop, refl, sym, ap, subst, arith, true≢false, append_assoc, length-append}
+use Rattle.std.specs.Prelude.{◌&&◌, nat_lt, slice_index_or, if◌then◌else◌}
 use Rattle.std.proofs.lemmas.Bool.{and_parts, not-true}
 use mathlib.Core.Bool.{not}
 use Rattle.dd_file.specs.declared.fill_state.FillState.{FillState}
@@ -8,11 +8,11 @@ use Rattle.dd_file.specs.declared.filler.Filler.{Filler}
 use Rattle.dd_file.specs.declared.mode.Mode.{Mode}
 use Rattle.dd_file.specs.declared.mode.Mode.TheVariants.{Head, Mark1, Mark2, Start, Plain, Escaped, Remark, Braced, Quoted, Backslash}
 use Rattle.dd_file.specs.Games.{with_byte}
-use Rattle.dd_file.specs.Modes.{is_blank, next_mode}
+use Rattle.dd_file.specs.Modes.{next_mode}
 use Rattle.dd_file.specs.Quiet.{BeginsLines, EndsLine, IsPlace, Stays, Takes, after_calm, are_calm, are_quiet, begins_plain, is_calm, is_quiet, mode_behind, with_lines}
 use Rattle.dd_file.specs.Windows.{Point, point_of}
 use Rattle.dd_file.proofs.Calm.{calm-front, front-taken}
-use Rattle.dd_file.proofs.Staying.{Stays-none, Stays-then, behind, byte-stays, calm-still, same-point}
+use Rattle.dd_file.proofs.Staying.{Stays-none, Stays-then, byte-stays, calm-still, same-point}
 use Rattle.dd_file.proofs.Steps.{tail-is}
 
 -- ---- bytes at which nothing begins

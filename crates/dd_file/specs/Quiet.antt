@@ -213,3 +213,12 @@ pub record PassesTag (gives : FourHands → Option (List (List ℕ)) → Type 0)
   pub added : List ℕ
   pub appended : out_new ≡ out_old ++ added
   pub passed : Passed gives false old.wanted (point_of old) (point_of new) (take count text) [] added
+
+-- is it a small letter?
+abbrev pub is_small : ℕ → Bool
+is_small byte = not (nat_lt byte 97) && nat_lt byte 123
+
+-- are all of these?
+abbrev pub are_small : List ℕ → Bool
+are_small [] = true
+are_small (byte ∷ word) = is_small byte && are_small word

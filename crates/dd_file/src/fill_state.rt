@@ -157,12 +157,13 @@ impl FillState {
         requires { IfSome number (λ n. n < 19) }
         ensures { self.new ≡ told number text.now self.old }
     {
-        match number {
-            Some(number) => {
-                self.note(number);
-                self.tell(number, text);
-            }
-            None => self.begun = true,
+        let Some(number) = number else {
+            self.begun = true;
+            return;
+        };
+        self.note(number);
+        if has_value(number) {
+            self.tell(number, text);
         }
     }
 

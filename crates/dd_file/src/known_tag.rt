@@ -1,8 +1,8 @@
 //! The names of tags that matter.
-ghost use Rattle.std.specs.Prelude.{◌≡◌, ◌<◌, IfSome};
+ghost use Rattle.std.specs.Prelude.{◌≡◌, ◌<◌, IfSome, true};
 ghost use Rattle.dd_file.specs.KnownTags.{added_number, first_number, known_number, last_number};
-
-use crate::value::is_word;
+ghost use Rattle.dd_file.specs.Quiet.{are_small};
+ghost use Rattle.dd_file.specs.Values.{is_word};
 
 /// The names that are told apart. The first fifteen are those that every game should have.
 pub(crate) const NAMES: usize = 19;
@@ -47,21 +47,21 @@ fn first_number(name: &[u8]) -> Option<u8>
     ensures value { result ≡ first_number name.now }
     ensures below { IfSome result (λ number. number < 19) }
 {
-    if is_word(name, b"event") {
+    if is_small_word(name, b"event") {
         Some(0)
-    } else if is_word(name, b"site") {
+    } else if is_small_word(name, b"site") {
         Some(1)
-    } else if is_word(name, b"date") {
+    } else if is_small_word(name, b"date") {
         Some(2)
-    } else if is_word(name, b"board") {
+    } else if is_small_word(name, b"board") {
         Some(3)
-    } else if is_word(name, b"west") {
+    } else if is_small_word(name, b"west") {
         Some(4)
-    } else if is_word(name, b"north") {
+    } else if is_small_word(name, b"north") {
         Some(5)
-    } else if is_word(name, b"east") {
+    } else if is_small_word(name, b"east") {
         Some(6)
-    } else if is_word(name, b"south") {
+    } else if is_small_word(name, b"south") {
         Some(7)
     } else {
         None
@@ -73,19 +73,19 @@ fn last_number(name: &[u8]) -> Option<u8>
     ensures value { result ≡ last_number name.now }
     ensures below { IfSome result (λ number. number < 19) }
 {
-    if is_word(name, b"dealer") {
+    if is_small_word(name, b"dealer") {
         Some(8)
-    } else if is_word(name, b"vulnerable") {
+    } else if is_small_word(name, b"vulnerable") {
         Some(9)
-    } else if is_word(name, b"deal") {
+    } else if is_small_word(name, b"deal") {
         Some(10)
-    } else if is_word(name, b"scoring") {
+    } else if is_small_word(name, b"scoring") {
         Some(11)
-    } else if is_word(name, b"declarer") {
+    } else if is_small_word(name, b"declarer") {
         Some(12)
-    } else if is_word(name, b"contract") {
+    } else if is_small_word(name, b"contract") {
         Some(13)
-    } else if is_word(name, b"result") {
+    } else if is_small_word(name, b"result") {
         Some(14)
     } else {
         None
@@ -97,15 +97,35 @@ fn added_number(name: &[u8]) -> Option<u8>
     ensures value { result ≡ added_number name.now }
     ensures below { IfSome result (λ number. number < 19) }
 {
-    if is_word(name, b"doubledummytricks") {
+    if is_small_word(name, b"doubledummytricks") {
         Some(15)
-    } else if is_word(name, b"optimumscore") {
+    } else if is_small_word(name, b"optimumscore") {
         Some(16)
-    } else if is_word(name, b"parcontract") {
+    } else if is_small_word(name, b"parcontract") {
         Some(17)
-    } else if is_word(name, b"optimumresulttable") {
+    } else if is_small_word(name, b"optimumresulttable") {
         Some(18)
     } else {
         None
     }
+}
+
+/// The bit by which the two cases of a letter differ.
+const CASE: u8 = 0x20;
+
+// Is the name this word of small letters, in either case? No other byte has a small letter's other bits.
+#[inline(always)]
+fn is_small_word(name: &[u8], word: &[u8]) -> bool
+    requires { are_small word.now ≡ true }
+    ensures { result ≡ is_word name.now word.now }
+{
+    if name.len() != word.len() {
+        return false;
+    }
+    for at in 0..word.len() {
+        if name[at] | CASE != word[at] {
+            return false;
+        }
+    }
+    true
 }

@@ -271,8 +271,8 @@ pub(crate) fn vulnerable_value(text: &[u8]) -> Option<Vulnerable>
     }
 }
 
-/// Is the text this word, letters in either case?
-pub(crate) fn is_word(text: &[u8], word: &[u8]) -> bool
+// Is the text this word, letters in either case?
+fn is_word(text: &[u8], word: &[u8]) -> bool
     ensures { result ≡ is_word text.now word.now }
 {
     text.eq_ignore_ascii_case(word)

@@ -1,4 +1,3 @@
-use Rattle.std.proofs.Common.{refl}
 use Rattle.dd_file.proofs.Staying.{KeepsCounts-then, Takes-then}
 use Rattle.dd_file.proofs.filler.Filler.take_line_end.Goals as goal
 
