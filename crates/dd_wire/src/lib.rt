@@ -37,7 +37,7 @@ pub use laws::{
     one_explained_want, one_meaning, one_want, worked_explained_wants, worked_lines, worked_wants,
 };
 pub use line_asked::LineAsked;
-pub use line_reply::{LONGEST_ANSWER, reply_to_line};
+pub use line_reply::{LONGEST_ANSWER, put_reply_to_line, reply_to_line};
 pub use par_reply::write_par;
 pub use par_request::{Conditions, ParOfDeal, ParOfResults};
 pub use play_reply::{TRACE_ROOM, push_trace, write_trace};

@@ -7,10 +7,10 @@ ghost use Rattle.dd_wire.specs.Replies.{spent_text};
 ghost use Rattle.dd_solve.specs.Results.{results};
 
 use crate::line_asked::LineAsked;
-use crate::par_reply::{table_par_reply, write_par};
+use crate::par_reply::{put_par, put_table_par};
 use crate::par_request::ParOfDeal;
-use crate::play_reply::write_trace;
-use crate::reply::{write_answer, write_fault, write_spent, write_table};
+use crate::play_reply::put_trace;
+use crate::reply::{put_answer, put_fault, put_spent, put_table};
 use crate::request_reader::read_request;
 use dd_lines::{LONGEST_REPLY, ReplyText};
 use dd_search::{Bounds, Budget, Endless};
@@ -37,9 +37,25 @@ pub fn reply_to_line<B: Bounds>(
     ensures text { IsReply budget line.now result.bytes }
     ensures bound { array_string_len result ≤ LONGEST_REPLY }
 {
+    let mut reply = ReplyText::new();
+    put_reply_to_line(&mut reply, alloc, line, table, budget);
+    reply
+}
+
+/// The same reply in place of another text.
+pub fn put_reply_to_line<B: Bounds>(
+    reply: &mut ReplyText,
+    alloc: Global,
+    line: &[u8],
+    table: &mut B,
+    budget: Option<u64>,
+)
+    ensures text { IsReply budget line.now reply.new.bytes }
+    ensures bound { array_string_len reply.new ≤ LONGEST_REPLY }
+{
     match read_request(alloc, line) {
-        Ok(asked) => asked_reply(asked, table, budget),
-        Err(fault) => write_fault(fault),
+        Ok(asked) => put_asked(reply, asked, table, budget),
+        Err(fault) => put_fault(reply, fault),
     }
 }
 
@@ -53,104 +69,135 @@ pub(crate) fn asked_reply<B: Bounds>(
         (IsSearched asked × IsSome budget × (result.bytes ≡ spent_text)) }
     ensures bound { array_string_len result ≤ LONGEST_ANSWER }
 {
+    let mut reply = ReplyText::new();
+    put_asked(&mut reply, asked, table, budget);
+    reply
+}
+
+/// Puts the answer to what a line asks, or that the budget is spent.
+fn put_asked<B: Bounds>(reply: &mut ReplyText, asked: LineAsked, table: &mut B, budget: Option<u64>)
+    ensures text { IsAnswer asked reply.new.bytes ⊎
+        (IsSearched asked × IsSome budget × (reply.new.bytes ≡ spent_text)) }
+    ensures bound { array_string_len reply.new ≤ LONGEST_ANSWER }
+{
     match asked {
-        LineAsked::Cards(asked) => cards_reply(asked, table, budget),
-        LineAsked::Par(asked) => write_par(&asked),
-        LineAsked::ParOfDeal(asked) => deal_par_reply(&asked, table, budget),
+        LineAsked::Cards(asked) => put_cards(reply, asked, table, budget),
+        LineAsked::Par(asked) => put_par(reply, &asked),
+        LineAsked::ParOfDeal(asked) => put_deal_par(reply, &asked, table, budget),
     }
 }
 
-/// The answer to a question of cards, or that the budget is spent.
-fn cards_reply<B: Bounds>(asked: Asked, table: &mut B, budget: Option<u64>) -> ReplyText
-    ensures text { (result.bytes ≡ asked_text asked) ⊎ (IsSome budget × (result.bytes ≡ spent_text)) }
-    ensures bound { array_string_len result ≤ LONGEST_ANSWER }
+/// Puts the answer to a question of cards, or that the budget is spent.
+fn put_cards<B: Bounds>(reply: &mut ReplyText, asked: Asked, table: &mut B, budget: Option<u64>)
+    ensures text { (reply.new.bytes ≡ asked_text asked) ⊎ (IsSome budget × (reply.new.bytes ≡ spent_text)) }
+    ensures bound { array_string_len reply.new ≤ LONGEST_ANSWER }
 {
     match (asked, budget) {
-        (Asked::Solve(request), Some(limit)) => reply_within(request, table, limit),
-        (Asked::Solve(request), None) => reply_in_the_end(request, table),
-        (Asked::Table(request), _) => table_reply(&request, table, budget),
-        (Asked::Target(request), Some(limit)) => target_reply_within(request, table, limit),
-        (Asked::Target(request), None) => target_reply_in_the_end(request, table),
-        (Asked::Play(request), _) => play_reply(request, table, budget),
+        (Asked::Solve(request), Some(limit)) => put_within(reply, request, table, limit),
+        (Asked::Solve(request), None) => put_in_the_end(reply, request, table),
+        (Asked::Table(request), _) => put_results(reply, &request, table, budget),
+        (Asked::Target(request), Some(limit)) => put_target_within(reply, request, table, limit),
+        (Asked::Target(request), None) => put_target_in_the_end(reply, request, table),
+        (Asked::Play(request), _) => put_play(reply, request, table, budget),
     }
 }
 
-/// The answer to a request, or that the budget is spent.
-fn reply_within<B: Bounds>(request: Request, table: &mut B, limit: u64) -> ReplyText
-    ensures text { (result.bytes ≡ asked_text (Asked.Solve request)) ⊎ (result.bytes ≡ spent_text) }
-    ensures bound { array_string_len result ≤ LONGEST_ANSWER }
+/// Puts the answer to a request, or that the budget is spent.
+fn put_within<B: Bounds>(reply: &mut ReplyText, request: Request, table: &mut B, limit: u64)
+    ensures text { (reply.new.bytes ≡ asked_text (Asked.Solve request)) ⊎ (reply.new.bytes ≡ spent_text) }
+    ensures bound { array_string_len reply.new ≤ LONGEST_ANSWER }
 {
     match solve(request, table, &mut Budget::new(limit)) {
-        Ok(solved) => write_answer(solved.answer()),
-        Err(_) => write_spent(),
+        Ok(solved) => put_answer(reply, solved.answer()),
+        Err(_) => put_spent(reply),
     }
 }
 
-/// The answer to a request, however long it takes.
-fn reply_in_the_end<B: Bounds>(request: Request, table: &mut B) -> ReplyText
-    ensures text { result.bytes ≡ asked_text (Asked.Solve request) }
-    ensures bound { array_string_len result ≤ LONGEST_ANSWER }
+/// Puts the answer to a request, however long it takes.
+fn put_in_the_end<B: Bounds>(reply: &mut ReplyText, request: Request, table: &mut B)
+    ensures text { reply.new.bytes ≡ asked_text (Asked.Solve request) }
+    ensures bound { array_string_len reply.new ≤ LONGEST_ANSWER }
 {
     match solve(request, table, &mut Endless) {
-        Ok(solved) => write_answer(solved.answer()),
+        Ok(solved) => put_answer(reply, solved.answer()),
         Err(_) => unreachable!(),
     }
 }
 
-/// The results of a table, or that the search for one of them spent the budget.
-fn table_reply<B: Bounds>(request: &TableRequest, table: &mut B, budget: Option<u64>) -> ReplyText
-    ensures text { (result.bytes ≡ asked_text (Asked.Table request.now)) ⊎
-        (IsSome budget × (result.bytes ≡ spent_text)) }
-    ensures bound { array_string_len result ≤ LONGEST_ANSWER }
+/// Puts the results of a table, or that the search for one of them spent the budget.
+fn put_results<B: Bounds>(
+    reply: &mut ReplyText,
+    request: &TableRequest,
+    table: &mut B,
+    budget: Option<u64>,
+)
+    ensures text { (reply.new.bytes ≡ asked_text (Asked.Table request.now)) ⊎
+        (IsSome budget × (reply.new.bytes ≡ spent_text)) }
+    ensures bound { array_string_len reply.new ≤ LONGEST_ANSWER }
 {
     match solve_table(request, table, budget) {
-        Some(results) => write_table(&results),
-        None => write_spent(),
+        Some(results) => put_table(reply, &results),
+        None => put_spent(reply),
     }
 }
 
-/// Par of the results of a deal, or that the search for one of them spent the budget.
-fn deal_par_reply<B: Bounds>(asked: &ParOfDeal, table: &mut B, budget: Option<u64>) -> ReplyText
-    ensures text { TellsPar (rows_of (results asked.now.hands)) asked.now.conditions result.bytes ⊎
-        (IsSome budget × (result.bytes ≡ spent_text)) }
-    ensures bound { array_string_len result ≤ LONGEST_ANSWER }
+/// Puts par of the results of a deal, or that the search for one of them spent the budget.
+fn put_deal_par<B: Bounds>(
+    reply: &mut ReplyText,
+    asked: &ParOfDeal,
+    table: &mut B,
+    budget: Option<u64>,
+)
+    ensures text { TellsPar (rows_of (results asked.now.hands)) asked.now.conditions reply.new.bytes ⊎
+        (IsSome budget × (reply.new.bytes ≡ spent_text)) }
+    ensures bound { array_string_len reply.new ≤ LONGEST_ANSWER }
 {
     match solve_table(asked.request(), table, budget) {
-        Some(found) => table_par_reply(&found, asked.conditions()),
-        None => write_spent(),
+        Some(found) => put_table_par(reply, &found, asked.conditions()),
+        None => put_spent(reply),
     }
 }
 
-/// The tricks after each card of a play, or that the search for one of these numbers spent the budget.
-fn play_reply<B: Bounds>(request: PlayRequest, table: &mut B, budget: Option<u64>) -> ReplyText
-    ensures text { (result.bytes ≡ asked_text (Asked.Play request)) ⊎
-        (IsSome budget × (result.bytes ≡ spent_text)) }
-    ensures bound { array_string_len result ≤ LONGEST_ANSWER }
+/// Puts the tricks after each card of a play, or that the search for one of these numbers spent the budget.
+fn put_play<B: Bounds>(
+    reply: &mut ReplyText,
+    request: PlayRequest,
+    table: &mut B,
+    budget: Option<u64>,
+)
+    ensures text { (reply.new.bytes ≡ asked_text (Asked.Play request)) ⊎
+        (IsSome budget × (reply.new.bytes ≡ spent_text)) }
+    ensures bound { array_string_len reply.new ≤ LONGEST_ANSWER }
 {
     match solve_play(request, table, budget) {
-        Some(solved) => write_trace(solved.trace()),
-        None => write_spent(),
+        Some(solved) => put_trace(reply, solved.trace()),
+        None => put_spent(reply),
     }
 }
 
-/// The cards that reach a target, or that the budget is spent.
-fn target_reply_within<B: Bounds>(request: TargetRequest, table: &mut B, limit: u64) -> ReplyText
-    ensures text { (result.bytes ≡ asked_text (Asked.Target request)) ⊎ (result.bytes ≡ spent_text) }
-    ensures bound { array_string_len result ≤ LONGEST_ANSWER }
+/// Puts the cards that reach a target, or that the budget is spent.
+fn put_target_within<B: Bounds>(
+    reply: &mut ReplyText,
+    request: TargetRequest,
+    table: &mut B,
+    limit: u64,
+)
+    ensures text { (reply.new.bytes ≡ asked_text (Asked.Target request)) ⊎ (reply.new.bytes ≡ spent_text) }
+    ensures bound { array_string_len reply.new ≤ LONGEST_ANSWER }
 {
     match solve_target(request, table, &mut Budget::new(limit)) {
-        Ok(solved) => write_answer(solved.answer()),
-        Err(_) => write_spent(),
+        Ok(solved) => put_answer(reply, solved.answer()),
+        Err(_) => put_spent(reply),
     }
 }
 
-/// The cards that reach a target, however long it takes to find them.
-fn target_reply_in_the_end<B: Bounds>(request: TargetRequest, table: &mut B) -> ReplyText
-    ensures text { result.bytes ≡ asked_text (Asked.Target request) }
-    ensures bound { array_string_len result ≤ LONGEST_ANSWER }
+/// Puts the cards that reach a target, however long it takes to find them.
+fn put_target_in_the_end<B: Bounds>(reply: &mut ReplyText, request: TargetRequest, table: &mut B)
+    ensures text { reply.new.bytes ≡ asked_text (Asked.Target request) }
+    ensures bound { array_string_len reply.new ≤ LONGEST_ANSWER }
 {
     match solve_target(request, table, &mut Endless) {
-        Ok(solved) => write_answer(solved.answer()),
+        Ok(solved) => put_answer(reply, solved.answer()),
         Err(_) => unreachable!(),
     }
 }

@@ -21,31 +21,40 @@ pub fn write_par(asked: &ParOfResults) -> ReplyText
     ensures text { TellsPar asked.now.results asked.now.conditions result.bytes }
     ensures bound { array_string_len result ≤ LONGEST_ANSWER }
 {
-    par_reply(&asked.results, asked.conditions)
+    let mut text = ReplyText::new();
+    put_par(&mut text, asked);
+    text
 }
 
-// The text of par of these results.
-fn par_reply(results: &Results, conditions: Conditions) -> ReplyText
-    ensures text { TellsPar results.now conditions result.bytes }
-    ensures bound { array_string_len result ≤ LONGEST_ANSWER }
+/// The same reply in place of another text.
+pub(crate) fn put_par(text: &mut ReplyText, asked: &ParOfResults)
+    ensures text { TellsPar asked.now.results asked.now.conditions text.new.bytes }
+    ensures bound { array_string_len text.new ≤ LONGEST_ANSWER }
+{
+    par_reply(text, &asked.results, asked.conditions);
+}
+
+// Puts the text of par of these results.
+fn par_reply(text: &mut ReplyText, results: &Results, conditions: Conditions)
+    ensures text { TellsPar results.now conditions text.new.bytes }
+    ensures bound { array_string_len text.new ≤ LONGEST_ANSWER }
 {
     let found = par(results, conditions.vulnerable, conditions.order);
-    write_found(&found)
+    put_found(text, &found);
 }
 
-// The text of par that was found.
-fn write_found(found: &ParResult) -> ReplyText
-    ensures text { result.bytes ≡ par_text found.now.contracts.items found.now.score }
-    ensures bound { array_string_len result ≤ LONGEST_ANSWER }
+// Puts the text of par that was found.
+fn put_found(text: &mut ReplyText, found: &ParResult)
+    ensures text { text.new.bytes ≡ par_text found.now.contracts.items found.now.score }
+    ensures bound { array_string_len text.new ≤ LONGEST_ANSWER }
 {
-    let mut text = ReplyText::new();
+    text.clear();
     text.push_str("{\"contracts\":[");
-    push_contracts(&mut text, found.contracts.as_slice());
+    push_contracts(text, found.contracts.as_slice());
     text.push_str("],\"score\":");
     let mut buffer = Buffer::new();
     text.push_str(buffer.format(found.score));
     text.push_str("}");
-    text
 }
 
 // Appends the contracts, at most ten, with a comma between each two.
@@ -105,13 +114,13 @@ fn push_seat(text: &mut ReplyText, seat: Seat)
     text.push_str("]");
 }
 
-// The text of par of twenty results that were found.
-pub(crate) fn table_par_reply(found: &dd_solve::Results, conditions: Conditions) -> ReplyText
+// Puts the text of par of twenty results that were found.
+pub(crate) fn put_table_par(text: &mut ReplyText, found: &dd_solve::Results, conditions: Conditions)
     requires { IsTable (rows_of found.now) }
-    ensures text { TellsPar (rows_of found.now) conditions result.bytes }
-    ensures bound { array_string_len result ≤ LONGEST_ANSWER }
+    ensures text { TellsPar (rows_of found.now) conditions text.new.bytes }
+    ensures bound { array_string_len text.new ≤ LONGEST_ANSWER }
 {
-    par_reply(&scored(found), conditions)
+    par_reply(text, &scored(found), conditions);
 }
 
 // Twenty results as they are scored.

@@ -17,10 +17,19 @@ pub fn write_trace(trace: &Trace) -> ReplyText
     ensures bound { array_string_len result ≤ LONGEST_ANSWER }
 {
     let mut text = ReplyText::new();
-    text.push_str("{");
-    push_trace(&mut text, trace);
-    text.push_str("}");
+    put_trace(&mut text, trace);
     text
+}
+
+/// The same reply in place of another text.
+pub(crate) fn put_trace(text: &mut ReplyText, trace: &Trace)
+    ensures text { text.new.bytes ≡ trace_text trace.now }
+    ensures bound { array_string_len text.new ≤ LONGEST_ANSWER }
+{
+    text.clear();
+    text.push_str("{");
+    push_trace(text, trace);
+    text.push_str("}");
 }
 
 /// Appends the member `"tricks":[a,b,..]`: the tricks of declarer's side before the first card and after each one.

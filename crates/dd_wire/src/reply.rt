@@ -31,16 +31,33 @@ pub fn write_fault(fault: Fault) -> ReplyText
     write_numbered_fault(fault.number())
 }
 
+/// The same reply in place of another text.
+pub(crate) fn put_fault(text: &mut ReplyText, fault: Fault)
+    ensures text { text.new.bytes ≡ fault_text fault }
+    ensures bound { array_string_len text.new ≤ LONGEST_REPLY }
+{
+    put_numbered_fault(text, fault.number());
+}
+
 /// The reply that tells the fault of this number: `{"fault":n}`.
 pub fn write_numbered_fault(number: u8) -> ReplyText
     ensures text { result.bytes ≡ numbered_fault_text number }
     ensures bound { array_string_len result ≤ LONGEST_ANSWER }
 {
     let mut text = ReplyText::new();
-    text.push_str("{\"fault\":");
-    push_number(&mut text, number as u16);
-    text.push_str("}");
+    put_numbered_fault(&mut text, number);
     text
+}
+
+// The same reply in place of another text.
+fn put_numbered_fault(text: &mut ReplyText, number: u8)
+    ensures text { text.new.bytes ≡ numbered_fault_text number }
+    ensures bound { array_string_len text.new ≤ LONGEST_ANSWER }
+{
+    text.clear();
+    text.push_str("{\"fault\":");
+    push_number(text, number as u16);
+    text.push_str("}");
 }
 
 /// The reply to a request whose budget was spent before there was an answer: `{"state":"spent"}`.
@@ -49,8 +66,17 @@ pub fn write_spent() -> ReplyText
     ensures bound { array_string_len result ≤ LONGEST_ANSWER }
 {
     let mut text = ReplyText::new();
-    text.push_str("{\"state\":\"spent\"}");
+    put_spent(&mut text);
     text
+}
+
+/// The same reply in place of another text.
+pub(crate) fn put_spent(text: &mut ReplyText)
+    ensures text { text.new.bytes ≡ spent_text }
+    ensures bound { array_string_len text.new ≤ LONGEST_ANSWER }
+{
+    text.clear();
+    text.push_str("{\"state\":\"spent\"}");
 }
 
 /// The reply to a request that has an answer: `{"cards":[C,C,..]}`, as `push_cards` has the cards.
@@ -59,10 +85,19 @@ pub fn write_answer(answer: &Answer) -> ReplyText
     ensures bound { array_string_len result ≤ LONGEST_ANSWER }
 {
     let mut text = ReplyText::new();
-    text.push_str("{");
-    push_cards(&mut text, answer);
-    text.push_str("}");
+    put_answer(&mut text, answer);
     text
+}
+
+/// The same reply in place of another text.
+pub(crate) fn put_answer(text: &mut ReplyText, answer: &Answer)
+    ensures text { text.new.bytes ≡ answer_text answer.now }
+    ensures bound { array_string_len text.new ≤ LONGEST_ANSWER }
+{
+    text.clear();
+    text.push_str("{");
+    push_cards(text, answer);
+    text.push_str("}");
 }
 
 /// The reply to a request for a table that has its results: `{"table":[[a,b,c,d],..]}`, as `push_table` has the table.
@@ -71,10 +106,19 @@ pub fn write_table(results: &Results) -> ReplyText
     ensures bound { array_string_len result ≤ LONGEST_ANSWER }
 {
     let mut text = ReplyText::new();
-    text.push_str("{");
-    push_table(&mut text, results);
-    text.push_str("}");
+    put_table(&mut text, results);
     text
+}
+
+/// The same reply in place of another text.
+pub(crate) fn put_table(text: &mut ReplyText, results: &Results)
+    ensures text { text.new.bytes ≡ table_text results.now }
+    ensures bound { array_string_len text.new ≤ LONGEST_ANSWER }
+{
+    text.clear();
+    text.push_str("{");
+    push_table(text, results);
+    text.push_str("}");
 }
 
 /// Appends the member `"cards":[C,C,..]`, each class C as `{"equals":mask,"rank":rank,"score":tricks,"suit":suit}`, in
