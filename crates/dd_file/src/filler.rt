@@ -404,8 +404,7 @@ impl Filler {
         ensures board { number ≡ Some 3 → OnOk result (self.new.board.items ≡ take BOARD_BYTES text.now) }
     {
         if number == Some(BOARD) {
-            self.board.clear();
-            self.board.extend_from_slice(board_front(text))?;
+            self.board = Vec::from_slice(self.alloc, board_front(text))?;
         }
         Ok(())
     }

@@ -4,6 +4,8 @@ ghost use Rattle.dd_file.specs.KnownTags.{added_number, first_number, known_numb
 ghost use Rattle.dd_file.specs.Quiet.{are_small};
 ghost use Rattle.dd_file.specs.Values.{is_word};
 
+use crate::lanes::CASE;
+
 /// The names that are told apart. The first fifteen are those that every game should have.
 pub(crate) const NAMES: usize = 19;
 
@@ -109,9 +111,6 @@ fn added_number(name: &[u8]) -> Option<u8>
         None
     }
 }
-
-/// The bit by which the two cases of a letter differ.
-const CASE: u8 = 0x20;
 
 // Is the name this word of small letters, in either case? No other byte has a small letter's other bits.
 #[inline(always)]

@@ -9,8 +9,8 @@ use std::simd::prelude::*;
 /// How many bytes are looked at at once.
 pub(crate) const LANES: usize = 16;
 
-// `[` and `{` differ in this bit alone, and so do the letters of the two cases.
-const CASE: u8 = 0x20;
+/// The bit by which the two cases of a letter differ, and `[` from `{`.
+pub(crate) const CASE: u8 = 0x20;
 
 /// The bytes that are not calm outside of comments, strings and tags.
 #[inline(always)]

@@ -9,7 +9,7 @@ const SEEN: u8 = 4;
 
 const SUITS: [Suit; 4] = [Suit::Spades, Suit::Hearts, Suit::Diamonds, Suit::Clubs];
 
-// A number below the count, and the state after it.
+// A number below the count, and the state after it. Who adds to it or narrows it takes the remainder again, which the proof reads.
 fn below(state: &mut u64, count: u64) -> u64 {
     *state = state
         .wrapping_mul(0x5851_F42D_4C95_7F2D)
@@ -55,10 +55,48 @@ fn firsts_of(state: &mut u64, start: &TrickStart) -> Option<FirstOwners> {
     Some(FirstOwners::of(&OwnerStrings::of(start), Depths::of_cards(start, cards)))
 }
 
+// A start that North leads to: West has ace and king of each suit, North queen and jack, and so on. Or the aces of clubs and queens
+// of clubs are exchanged.
+fn headed_by_west(are_exchanged: bool) -> Option<TrickStart> {
+    let mut hands = Hands::new();
+    for number in 0..32u64 {
+        let owner = match number {
+            3 if are_exchanged => 8,
+            11 if are_exchanged => 0,
+            _ => number,
+        };
+        let seat = Seat::from_code((owner / 8 % 4 + 3) as u8 % 4)?;
+        hands.insert(seat, card_of(number)?);
+    }
+    let position = Position::new(hands, Strain::Notrump, Seat::North, &[]).ok()?;
+    TrickStart::of(&position)
+}
+
 // Are the two highest cards of each suit, and not fewer, the fourth hand's?
 fn are_fourth_hands(strings: &OwnerStrings) -> bool {
     let tops = strings.two_highest();
     SUITS.iter().all(|suit| tops.of_suit(*suit) == 15)
+}
+
+// Whether first owners of a start with these strings, at these depths, may be those of another start, as far as the two highest cards
+// of each suit tell: what was seen before the next two were.
+fn may_be_by_two(own: &OwnerStrings, depths: Depths, others: &OwnerStrings) -> bool {
+    let (own, others) = (own.two_highest(), others.two_highest());
+    SUITS.iter().all(|suit| {
+        let seen = match depths.of(*suit) {
+            0 => 0,
+            1 => 0b1010,
+            _ => 0b1111,
+        };
+        (own.of_suit(*suit) ^ others.of_suit(*suit)) & seen == 0
+    })
+}
+
+// Does one word tell of all suits what is told of each?
+fn is_told_in_one_word(strings: &OwnerStrings) -> bool {
+    let tops = strings.two_highest();
+    let [spades, hearts, diamonds, clubs] = SUITS.map(|suit| tops.of_suit(suit) as u64);
+    tops.of_suits() == spades << 48 | hearts << 32 | diamonds << 16 | clubs
 }
 
 fn is_all_seen(firsts: &FirstOwners) -> bool {
@@ -85,6 +123,9 @@ fn compared(state: &mut u64, seen: &mut Seen) -> Result<(), &'static str> {
     if free != if are_fourth_hands(&strings) { 0xFF } else { 0 } {
         return Err("a free place is seen");
     }
+    if !is_told_in_one_word(&strings) {
+        return Err("the suits in one word are others");
+    }
     for place in 0..8usize {
         let cards = below(state, 9) % 9 + 1;
         let Some(other) = drawn(state, cards) else {
@@ -98,6 +139,9 @@ fn compared(state: &mut u64, seen: &mut Seen) -> Result<(), &'static str> {
         let are = firsts.are_in(&strings);
         if are && !may_be {
             return Err("owners of the start are not seen");
+        }
+        if may_be && !may_be_by_two(&OwnerStrings::of(&other), firsts.depths(), &strings) {
+            return Err("what was not seen before is seen");
         }
         if may_be && !are && is_all_seen(&firsts) {
             return Err("owners of four cards that are others are not told");
@@ -126,4 +170,14 @@ fn owners_that_are_seen_at_once_are_those_of_four_cards(rt: HostRuntime) {
     }
     // Both happened often.
     assert!(rt; seen.owners > 1_000 && seen.others > 1_000, "{seen:?}");
+}
+
+#[test]
+fn free_places_are_seen_where_west_has_the_two_highest_of_each_suit(rt: HostRuntime) {
+    let free = FirstSignatures::default();
+    let found = [false, true].map(|are_exchanged| match headed_by_west(are_exchanged) {
+        Some(start) => free.may_be_in(OwnerStrings::of(&start).signature()),
+        None => 1,
+    });
+    assert_eq!(rt; found, [0xFF, 0]);
 }
