@@ -4,6 +4,8 @@
 #[cfg(test)]
 mod ahead;
 #[cfg(test)]
+mod boards;
+#[cfg(test)]
 mod deals;
 #[cfg(test)]
 mod devices;
