@@ -1,7 +1,8 @@
 -- Values of a usual form, as the tokens of their text.
-use Rattle.std.proofs.Common.{◌≡◌, ℕ, zero, suc, ◌+◌, ◌-◌, ◌<◌, ◌≤◌, Bool, true, false, cond, ◌&&◌, ◌||◌, ◌==◌, List, [], ◌∷◌, ◌++◌, length, Option, Some, None, option_map, option_and_then, inl, inr, refl, sym, ap, ap₂, ◌∙◌, subst, arith, ◌*◌}
+use Rattle.std.proofs.Common.{◌≡◌, ℕ, zero, suc, ◌+◌, ◌-◌, ◌/◌, ◌%◌, ◌^◌, ◌<◌, ◌≤◌, Bool, true, false, cond, ◌&&◌, ◌||◌, ◌==◌, List, [], ◌∷◌, ◌++◌, length, Option, Some, None, option_map, option_and_then, inl, inr, refl, sym, ap, ap₂, ◌∙◌, subst, arith, ◌*◌, append_assoc, decimal}
 use Rattle.std.proofs.lemmas.Bool.{true≢false, false≢true, and_parts, or_parts, not-true, eqb-true}
 use Rattle.std.proofs.lemmas.Bool.Decides.{eqb_tells}
+use Rattle.std.proofs.lemmas.Fmt.{decimal_digit, decimal_step}
 use Rattle.std.specs.List.{list_all}
 use Rattle.std.specs.Prelude.{◌⊎◌, nat_lt, slice_get, IfSome, is_some}
 use Rattle.json.specs.Token.{Token}
@@ -12,9 +13,11 @@ use Rattle.json.specs.Lex.{Lexeme, token, colon, Mode, operator, space, other, P
 use Rattle.json.specs.Json as json
 use Rattle.json.specs.Json.{Parse, parse_map, after_end_array, read_key}
 use Rattle.json.proofs.Grammar.{left as rest_of, skip_value-shorter, value_is, value-begin_array, value-begin_object, items_end, items_more, members_end, members_more, read_key-shorter}
+use Rattle.json.proofs.Printed.Decimals.{IsNumber-decimal}
 use Rattle.json.proofs.Printed.Numbers.{lex-number}
 use Rattle.serde_json.specs.Data.{Num, negative, float, Data, number, unsigned, string, array, object, Items, no_items, item, Members, no_members, put}
 use Rattle.serde_json.specs.Read.{number_of, of_json, of_items, of_members, converted, read}
+use Rattle.serde_json.proofs.Numbers.{number_of-decimal}
 use Rattle.serde_json.proofs.OnLiterals.{serde_json_on_literals}
 use Rattle.dd_wire.specs.declared.usual_reader.Fields.{Fields}
 use Rattle.dd_wire.specs.UsualLines.{Adds, members_of, left, IsValue, AreItems, Opens, Closes, GoesOn, IsMember, AreMembers}
@@ -295,6 +298,31 @@ two-digits text mid rest t n some high low stands then ends =
     let value : t - 1 + 1 ≡ t = omega arith in
     let read : is_numeral ((48 + t) ∷ (48 + n) ∷ []) (t * 10 + n) ≡ true = rw (first, value) at is in
     rw (stands, then) (numeral-is ((48 + t) ∷ (48 + n) ∷ []) rest (t * 10 + n) read ends)
+
+-- ---- longer numerals
+
+decimal-more : (n d : ℕ) → 0 < n → d < 10 → n * 10 + d < 2 ^ 64 → decimal (n * 10 + d) ≡ decimal n ++ (48 + d) ∷ []
+decimal-more n d some below small =
+    let front : (n * 10 + d) / 10 ≡ n = omega arith in
+    let last : (n * 10 + d) % 10 ≡ d = omega arith in
+    decimal_step (n * 10 + d) (omega arith) small ∙ rw (front, last) refl
+
+-- a digit that follows is the number's last
+pub one-more : (n d : ℕ) (rest behind : List ℕ) → 0 < n → n < 1000000000000000000 → d < 10 → rest ≡ (48 + d) ∷ behind → decimal n ++ rest ≡ decimal (n * 10 + d) ++ behind
+one-more n d rest behind some small below is =
+    rw (is, decimal-more n d some below (omega arith)) (sym (append_assoc (decimal n) ((48 + d) ∷ []) behind))
+
+-- a number in decimal
+decimal-is : (n : ℕ) (rest : List ℕ) → n < 2 ^ 64 → ends_word rest ≡ true → IsValue 0 (decimal n ++ rest) (number (unsigned n)) rest
+decimal-is n rest small ends = number-is (decimal n ++ rest) (decimal n) rest n (lex-number (decimal n) rest (IsNumber-decimal n small) ends) (number_of-decimal n small)
+
+-- two digits, and more behind them
+pub more-digits : (text mid behind rest : List ℕ) (t d n : ℕ) → (t ≡ 0 → ⊥) → t < 10 → d < 10 → text ≡ (48 + t) ∷ mid → mid ≡ (48 + d) ∷ behind → n < 2 ^ 64
+    → decimal (t * 10 + d) ++ behind ≡ decimal n ++ rest → ends_word rest ≡ true → IsValue 0 text (number (unsigned n)) rest
+more-digits text mid behind rest t d n some high low stands then small is ends =
+    let two : (48 + t) ∷ (48 + d) ∷ behind ≡ decimal (t * 10 + d) ++ behind = rw (decimal-more t d (omega arith) low (omega arith), decimal_digit t high) refl in
+    let all : text ≡ decimal n ++ rest = stands ∙ ap (λ r. (48 + t) ∷ r) then ∙ two ∙ is in
+    rw all (decimal-is n rest small ends)
 
 -- ---- texts and keys
 

@@ -1,6 +1,6 @@
 -- Reading a line of a usual form, step by step.
 use denote.Bor.{Bor}
-use Rattle.std.specs.Prelude.{◌≡◌, ℕ, ◌≤◌, List, [], ◌∷◌, map, length, codes, true, Option, None, Some, option_map}
+use Rattle.std.specs.Prelude.{◌≡◌, ℕ, ◌≤◌, min, List, [], ◌∷◌, map, length, codes, Bool, true, false, Option, None, Some, option_map, Result}
 use Rattle.json.specs.Token.{Token}
 use Rattle.json.specs.Lex.{Place, lex, between, punctuate, may_begin, may_close, fresh, after_value, after_comma}
 use Rattle.json.specs.Json as json
@@ -18,10 +18,18 @@ use Rattle.dd_cards.specs.PlayingCard.{PlayingCard}
 use Rattle.dd_wire.specs.declared.par_reader.FirstCode.{FirstCode}
 use Rattle.dd_wire.specs.declared.par_reader.FirstCode.TheVariants as firsts
 use Rattle.dd_wire.specs.declared.request_reader.SolveFields as kept
+use Rattle.dd_solve.specs.declared.asked.Asked.{Asked}
+use Rattle.dd_wire.specs.declared.fault.Fault.{Fault}
+use Rattle.dd_wire.specs.declared.par_reader.ParFields as kept_par
+use Rattle.dd_wire.specs.declared.session_asked.SessionAsked.{SessionAsked}
+use Rattle.dd_wire.specs.declared.want.Want.TheVariants.{Fetch}
+use Rattle.dd_wire.specs.declared.wish.TheConstants.{LONGEST_WAIT}
 use Rattle.dd_wire.specs.ParLines.{par_fields}
-use Rattle.dd_wire.specs.PlayLines.{play_fields}
-use Rattle.dd_wire.specs.Reading.{ReadsFields}
-use Rattle.dd_wire.specs.Requests.{pair_of_card, solve_fields, target_fields, table_deal, wait_at}
+use Rattle.dd_wire.specs.PlayLines.{MeansAsked, play_fields}
+use Rattle.dd_wire.specs.Reading.{ArePlayed, fields_of, played_in}
+use Rattle.dd_wire.specs.ReadingPar as par
+use Rattle.dd_wire.specs.Requests.{SolveFields, pair_of_card, solve_fields, target_fields, table_deal, wait_at}
+use Rattle.dd_wire.specs.Wants.{MeansWanted, asks_health, session_call}
 
 -- ---- a text and its tokens
 
@@ -64,6 +72,7 @@ key_text keys.Deal = codes "deal"
 key_text keys.Dealer = codes "dealer"
 key_text keys.Do = codes "do"
 key_text keys.First = codes "first"
+key_text keys.Job = codes "job"
 key_text keys.Played = codes "played"
 key_text keys.Side = codes "side"
 key_text keys.Solutions = codes "solutions"
@@ -71,10 +80,12 @@ key_text keys.Table = codes "table"
 key_text keys.Target = codes "target"
 key_text keys.Trump = codes "trump"
 key_text keys.Vulnerable = codes "vulnerable"
+key_text keys.Wait = codes "wait"
 
 abbrev pub task_text : Task → List ℕ
 task_text tasks.Solve = codes "solve"
 task_text tasks.Par = codes "par"
+task_text tasks.Fetch = codes "fetch"
 
 abbrev pub items_of_row : Row → Items
 items_of_row row = item (number (unsigned row.north)) (item (number (unsigned row.east)) (item (number (unsigned row.south)) (item (number (unsigned row.west)) no_items)))
@@ -116,6 +127,7 @@ slots fields =
     ∷ (codes "dealer", number_in fields.dealer)
     ∷ (codes "do", task_in fields.task)
     ∷ (codes "first", number_in fields.first)
+    ∷ (codes "job", number_in fields.job)
     ∷ (codes "played", trick_in fields.played)
     ∷ (codes "side", number_in fields.side)
     ∷ (codes "solutions", number_in fields.solutions)
@@ -123,6 +135,7 @@ slots fields =
     ∷ (codes "target", number_in fields.target)
     ∷ (codes "trump", number_in fields.trump)
     ∷ (codes "vulnerable", number_in fields.vulnerable)
+    ∷ (codes "wait", number_in fields.wait)
     ∷ []
 
 abbrev pub slotted : List ℕ → Option Data → Members → Members
@@ -169,11 +182,50 @@ abbrev pub cards_or_none : Option OnTrick → List PlayingCard
 cards_or_none None = []
 cards_or_none (Some trick) = trick.cards.items
 
--- the members are those of a request to solve, kept so, and of no other request
-pub record IsSolve (members : Members) (fields : kept.SolveFields) : Type 0 where
+-- how long a reply may wait where this stands there
+abbrev pub wait_of : Option ℕ → ℕ
+wait_of None = 0
+wait_of (Some count) = min count LONGEST_WAIT
+
+-- the fields of a request to solve are these, with this target or none
+abbrev pub ReadsPosition : Members → Option ℕ → SolveFields → Type 0
+ReadsPosition members None fields = (target_fields members ≡ None) × (solve_fields members ≡ Some fields)
+ReadsPosition members (Some target) fields = target_fields members ≡ Some (record { solve = fields; target = target })
+
+-- the members are no call that sessions alone know
+pub record IsUncalled (members : Members) : Type 0 where
+  pub call : (leave : Bool) → session_call leave members ≡ None
+  pub health : asks_health members ≡ false
+
+-- the members are those of a request to solve with this target or none, kept so, and of no other request
+pub record IsSolve (members : Members) (target : Option ℕ) (wait : ℕ) (fields : kept.SolveFields) : Type 0 where
   pub par : par_fields members ≡ None
   pub play : play_fields members ≡ None
   pub table : table_deal members ≡ None
-  pub target : target_fields members ≡ None
-  pub read : ReadsFields (solve_fields members) fields
+  pub pairs : List (ℕ × ℕ)
+  pub played : ArePlayed (played_in fields) pairs
+  pub read : ReadsPosition members target (fields_of fields pairs)
+  pub waits : wait_at members ≡ Some wait
+  pub uncalled : IsUncalled members
+
+-- the members ask this of the cards of a position, and may wait so long
+pub record AsksCards (members : Members) (wait : ℕ) (asked : Result Asked Fault) : Type 0 where
+  pub par : par_fields members ≡ None
+  pub means : MeansAsked members asked
+  pub waits : wait_at members ≡ Some wait
+  pub uncalled : IsUncalled members
+
+-- the members ask for par, kept so
+pub record AsksPar (members : Members) (fields : kept_par.ParFields) : Type 0 where
+  pub read : par_fields members ≡ Some (par.fields_of fields)
   pub waits : wait_at members ≡ Some 0
+  pub uncalled : IsUncalled members
+
+-- the members ask for the state of this job, and may wait so long
+pub record AsksFetch (members : Members) (wait job : ℕ) : Type 0 where
+  pub call : (leave : Bool) → session_call leave members ≡ Some (Fetch job)
+  pub waits : wait_at members ≡ Some wait
+
+-- in a session the members mean this, with leave to stop and without
+abbrev pub IsWanted : Members → Result SessionAsked Fault → Type 0
+IsWanted members meaning = (wait : ℕ) × (wait_at members ≡ Some wait) × ((leave : Bool) → MeansWanted leave wait members meaning)

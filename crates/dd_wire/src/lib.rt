@@ -23,6 +23,7 @@ mod session_asked;
 mod target_reader;
 mod usual_asked;
 mod usual_reader;
+mod usual_want;
 mod want;
 mod want_reader;
 mod wish;

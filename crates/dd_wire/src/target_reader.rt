@@ -20,8 +20,8 @@ use serde_json::{Map, Value};
 // The fields of a request to solve, with a target.
 #[derive(Drop)]
 pub(crate) struct TargetFields<'a> {
-    solve: SolveFields<'a>,
-    target: u64,
+    pub(crate) solve: SolveFields<'a>,
+    pub(crate) target: u64,
 }
 
 // The fields, where all of them and a target are there, each of its kind, and no other is.

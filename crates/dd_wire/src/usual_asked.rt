@@ -1,20 +1,20 @@
 //! What lines of the usual forms ask.
-ghost use Rattle.std.specs.Prelude.{◌≡◌, ◌<◌, ◌≤◌, ℕ, List, Result, length, map, true, Some, None, IfSome};
+ghost use Rattle.std.specs.Prelude.{◌≡◌, ◌<◌, ◌≤◌, ℕ, List, Result, length, map, true, Some, None, IfSome, IsSome};
 ghost use Rattle.dd_lines.specs.Line.{longest_line};
 ghost use Rattle.dd_solve.specs.Questions.{Question};
 ghost use Rattle.dd_wire.specs.Lines.{Means, MeansMembers};
 ghost use Rattle.dd_wire.specs.Reading.{ArePlayed, fields_of as solve_of, played_in};
-ghost use Rattle.dd_wire.specs.ReadingPar.{fields_of};
-ghost use Rattle.dd_wire.specs.ParLines.{par_fields};
 ghost use Rattle.dd_wire.specs.Requests.{MeansFields, are_cards, asked_as, pair_of_card, wait_at};
-ghost use Rattle.dd_wire.specs.UsualLines.{IsSolve, first_of, members_of, rows_list, row_list, cards_or_none};
+ghost use Rattle.dd_wire.specs.UsualLines.{AsksCards, AsksPar, IsSolve, first_of, members_of, rows_list, row_list, cards_or_none, wait_of};
 
 use crate::fault::Fault;
 use crate::line_asked::LineAsked;
 use crate::on_trick::OnTrick;
 use crate::par_reader::{FirstCode, Given, ParFields, par_asked};
 use crate::request_reader::{SolveFields, request_of};
+use crate::target_reader::{TargetFields, target_asked};
 use crate::usual_reader::{Fields, Row, Rows, Task, absent, usual_fields};
+use crate::wish::LONGEST_WAIT;
 use dd_solve::Asked;
 use std::str::from_utf8;
 
@@ -30,27 +30,37 @@ pub(crate) fn usual_asked(line: &[u8]) -> Option<Result<LineAsked, Fault>>
 
 // What they ask where they are those of one form, and no others.
 fn asked_of(fields: Fields<'_>) -> Option<Result<LineAsked, Fault>>
-    ensures { IfSome result (λ meaning. (wait_at (members_of fields.entry) ≡ Some 0) × MeansMembers (members_of fields.entry) meaning) }
+    ensures { IfSome result (λ meaning. IsSome (wait_at (members_of fields.entry)) × MeansMembers (members_of fields.entry) meaning) }
 {
     match fields.task? {
         Task::Par => Some(par_asked(fields_of_par(&fields)?)),
-        Task::Solve => Some(cards_asked(&fields_of_solve(fields)?)),
+        Task::Solve => Some(cards_asked(position_asked(fields)?)),
+        Task::Fetch => None,
     }
+}
+
+// The question of cards, as the line tool has it.
+fn cards_asked(asked: Result<Asked, Fault>) -> Result<LineAsked, Fault>
+    ensures { result ≡ asked_as LineAsked.Cards asked }
+{
+    Ok(LineAsked::Cards(asked?))
 }
 
 // ---- Par of given results.
 
-fn fields_of_par<'a>(fields: &Fields<'a>) -> Option<ParFields<'a>>
+/// The fields of a request for par of given results, where they are there and no others are.
+pub(crate) fn fields_of_par<'a>(fields: &Fields<'a>) -> Option<ParFields<'a>>
     requires { fields.now.task ≡ Some Task.Par }
-    ensures { IfSome result (λ found. (par_fields (members_of fields.now) ≡ Some (fields_of found))
-        × (wait_at (members_of fields.now) ≡ Some 0)) }
+    ensures { IfSome result (AsksPar (members_of fields.now)) }
 {
     absent(&fields.deal)?;
     absent(&fields.first)?;
+    absent(&fields.job)?;
     absent(&fields.played)?;
     absent(&fields.solutions)?;
     absent(&fields.target)?;
     absent(&fields.trump)?;
+    absent(&fields.wait)?;
     let first = first_code(fields.dealer, fields.side)?;
     let rows = fields.table?;
     let vulnerable = fields.vulnerable?;
@@ -92,14 +102,27 @@ fn list_of(row: &Row) -> [u64; 4]
 
 // ---- Cards of a position.
 
+/// What is asked of the cards of a position, with a target or without, or the first fault; None where other fields are there.
+pub(crate) fn position_asked(fields: Fields<'_>) -> Option<Result<Asked, Fault>>
+    requires { fields.task ≡ Some Task.Solve }
+    ensures { IfSome result (AsksCards (members_of fields.entry) (wait_of fields.entry.wait)) }
+{
+    let target = fields.target;
+    let solve = fields_of_solve(fields)?;
+    match target {
+        None => Some(solve_asked(&solve)),
+        Some(target) => Some(target_asked(&TargetFields { solve, target })),
+    }
+}
+
 fn fields_of_solve(fields: Fields<'_>) -> Option<SolveFields<'_>>
     requires { fields.task ≡ Some Task.Solve }
-    ensures { IfSome result (IsSolve (members_of fields.entry)) }
+    ensures { IfSome result (IsSolve (members_of fields.entry) fields.entry.target (wait_of fields.entry.wait)) }
 {
     absent(&fields.dealer)?;
+    absent(&fields.job)?;
     absent(&fields.side)?;
     absent(&fields.table)?;
-    absent(&fields.target)?;
     absent(&fields.vulnerable)?;
     let deal = fields.deal?;
     let trump = fields.trump?;
@@ -127,11 +150,21 @@ fn trick_of(found: Option<OnTrick>) -> OnTrick
 }
 
 // What the fields ask, or their first fault.
-fn cards_asked(fields: &SolveFields<'_>) -> Result<LineAsked, Fault>
+fn solve_asked(fields: &SolveFields<'_>) -> Result<Asked, Fault>
     ensures { (pairs : List (ℕ × ℕ)) → ArePlayed (played_in fields.now) pairs →
         (asked : Result Question Fault) × MeansFields (solve_of fields.now pairs) asked
-        × (result ≡ asked_as LineAsked.Cards (asked_as Asked.Solve asked)) }
+        × (result ≡ asked_as Asked.Solve asked) }
 {
     let request = request_of(fields)?;
-    Ok(LineAsked::Cards(Asked::Solve(request)))
+    Ok(Asked::Solve(request))
+}
+
+/// How long the reply may wait, which may be left out.
+pub(crate) fn wait_of(wait: Option<u64>) -> u64
+    ensures { result ≡ wait_of wait }
+{
+    match wait {
+        None => 0,
+        Some(count) => count.min(LONGEST_WAIT),
+    }
 }

@@ -1,7 +1,7 @@
-//! Lines of the usual forms, read in one pass with no tree of their values: par of given results, and cards of a position. The keys
-//! stand in any order, a space may follow a comma, a colon or an opening bracket, and numbers have one digit or two. What
-//! else stands in a line isn't read here.
-ghost use Rattle.std.specs.Prelude.{◌≡◌, ◌≤◌, ◌<◌, length, take, ◌+◌, ◌∷◌, ◌++◌, map, true, false, None, Some, IfSome};
+//! Lines of the usual forms, read in one pass with no tree of their values: par of given results, cards of a position, and a fetch. The
+//! keys stand in any order, a space may follow a comma, a colon or an opening bracket, and numbers have up to nineteen
+//! digits. What else stands in a line isn't read here.
+ghost use Rattle.std.specs.Prelude.{◌≡◌, ◌≤◌, ◌<◌, length, take, ◌+◌, ◌^◌, ◌∷◌, ◌++◌, decimal, map, true, false, None, Some, IfSome};
 ghost use Rattle.std.specs.List.{list_all};
 ghost use Rattle.std.specs.Str.{bytes_eq};
 ghost use Rattle.json.specs.Lex.{lex, between, fresh, begins_colon};
@@ -18,13 +18,19 @@ use arrayvec::ArrayVec;
 use std::str::from_utf8;
 
 /// The most members of a line: one for each field.
-const MOST_MEMBERS: u32 = 11;
+const MOST_MEMBERS: u32 = 13;
+
+/// The most digits of a number after the first two, and what a number of nineteen digits or fewer is below before its last one.
+const MOST_DIGITS: u32 = 17;
+
+const BEFORE_LAST: u64 = 1_000_000_000_000_000_000;
 
 /// What is to be done.
 #[derive(Clone, Copy)]
 pub(crate) enum Task {
     Solve,
     Par,
+    Fetch,
 }
 
 /// The name of a field.
@@ -34,6 +40,7 @@ pub(crate) enum KeyName {
     Dealer,
     Do,
     First,
+    Job,
     Played,
     Side,
     Solutions,
@@ -41,6 +48,7 @@ pub(crate) enum KeyName {
     Target,
     Trump,
     Vulnerable,
+    Wait,
 }
 
 /// The results of a strain.
@@ -69,6 +77,7 @@ pub(crate) struct Fields<'a> {
     pub(crate) dealer: Option<u64>,
     pub(crate) task: Option<Task>,
     pub(crate) first: Option<u64>,
+    pub(crate) job: Option<u64>,
     pub(crate) played: Option<OnTrick>,
     pub(crate) side: Option<u64>,
     pub(crate) solutions: Option<u64>,
@@ -76,6 +85,7 @@ pub(crate) struct Fields<'a> {
     pub(crate) target: Option<u64>,
     pub(crate) trump: Option<u64>,
     pub(crate) vulnerable: Option<u64>,
+    pub(crate) wait: Option<u64>,
 }
 
 /// The members of a line that is an object of them alone, each once.
@@ -101,6 +111,7 @@ fn no_fields<'a>() -> Fields<'a>
       dealer = None;
       task = None;
       first = None;
+      job = None;
       played = None;
       side = None;
       solutions = None;
@@ -108,6 +119,7 @@ fn no_fields<'a>() -> Fields<'a>
       target = None;
       trump = None;
       vulnerable = None;
+      wait = None;
     } }
 {
     Fields {
@@ -115,6 +127,7 @@ fn no_fields<'a>() -> Fields<'a>
         dealer: None,
         task: None,
         first: None,
+        job: None,
         played: None,
         side: None,
         solutions: None,
@@ -122,6 +135,7 @@ fn no_fields<'a>() -> Fields<'a>
         target: None,
         trump: None,
         vulnerable: None,
+        wait: None,
     }
 }
 
@@ -137,6 +151,7 @@ fn read_member<'a>(text: &'a [u8], fields: &mut Fields<'a>) -> Option<&'a [u8]>
         KeyName::Dealer => put_number(rest, &mut fields.dealer),
         KeyName::Do => put_task(rest, &mut fields.task),
         KeyName::First => put_number(rest, &mut fields.first),
+        KeyName::Job => put_number(rest, &mut fields.job),
         KeyName::Played => put_played(rest, &mut fields.played),
         KeyName::Side => put_number(rest, &mut fields.side),
         KeyName::Solutions => put_number(rest, &mut fields.solutions),
@@ -144,6 +159,7 @@ fn read_member<'a>(text: &'a [u8], fields: &mut Fields<'a>) -> Option<&'a [u8]>
         KeyName::Target => put_number(rest, &mut fields.target),
         KeyName::Trump => put_number(rest, &mut fields.trump),
         KeyName::Vulnerable => put_number(rest, &mut fields.vulnerable),
+        KeyName::Wait => put_number(rest, &mut fields.wait),
     }
 }
 
@@ -154,10 +170,12 @@ fn read_key(text: &[u8]) -> Option<(KeyName, &[u8])>
     match *text.get(1)? {
         b'd' => key_in_d(text),
         b'f' => Some((KeyName::First, after(text, b"\"first\":")?)),
+        b'j' => Some((KeyName::Job, after(text, b"\"job\":")?)),
         b'p' => Some((KeyName::Played, after(text, b"\"played\":")?)),
         b's' => key_in_s(text),
         b't' => key_in_t(text),
         b'v' => Some((KeyName::Vulnerable, after(text, b"\"vulnerable\":")?)),
+        b'w' => Some((KeyName::Wait, after(text, b"\"wait\":")?)),
         _ => None,
     }
 }
@@ -252,7 +270,7 @@ pub(crate) fn absent<T>(field: &Option<T>) -> Option<()>
 
 // ---- Values.
 
-// A whole number of one digit or two, before what may follow a value.
+// A whole number of up to nineteen digits, before what may follow a value.
 fn read_number(text: &[u8]) -> Option<(u64, &[u8])>
     ensures { IfSome result (λ found. IsValue 0 text.now (number (unsigned found.0)) found.1.now) }
 {
@@ -267,8 +285,30 @@ fn read_number(text: &[u8]) -> Option<(u64, &[u8])>
     if ends_number(rest) {
         Some((first * 10 + second, rest))
     } else {
-        None
+        read_longer(first * 10 + second, rest)
     }
+}
+
+// The same number with the digits that follow, up to nineteen in all, before what may follow a value.
+fn read_longer<'a>(front: u64, text: &'a [u8]) -> Option<(u64, &'a [u8])>
+    requires { (0 < front) × (front < 100) }
+    ensures { IfSome result (λ found. (found.0 < 2 ^ 64) × (decimal front ++ text.now ≡ decimal found.0 ++ found.1.now)
+        × (ends_word found.1.now ≡ true)) }
+{
+    let mut number = front;
+    let mut rest = text;
+    'digits: for _turn in 0..MOST_DIGITS {
+        if number >= BEFORE_LAST {
+            return None;
+        }
+        let (next, behind) = digit(rest)?;
+        number = number * 10 + next;
+        rest = behind;
+        if ends_number(rest) {
+            return Some((number, rest));
+        }
+    }
+    None
 }
 
 fn digit(text: &[u8]) -> Option<(u64, &[u8])>
@@ -297,6 +337,9 @@ fn read_task(text: &[u8]) -> Option<(Task, &[u8])>
 {
     if let Some(rest) = after(text, b"\"solve\"") {
         return Some((Task::Solve, ended(rest)?));
+    }
+    if let Some(rest) = after(text, b"\"fetch\"") {
+        return Some((Task::Fetch, ended(rest)?));
     }
     let rest = after(text, b"\"par\"")?;
     Some((Task::Par, ended(rest)?))

@@ -11,6 +11,7 @@ use crate::fault::Fault;
 use crate::par_reader::{par_fields, table_par_asked};
 use crate::request_reader::{asked_by, read_object, text_at, wait_at, whole_number_at};
 use crate::session_asked::SessionAsked;
+use crate::usual_want::usual_want;
 use crate::want::Want;
 use crate::wish::Wish;
 use dd_lines::LONGEST_LINE;
@@ -29,6 +30,9 @@ pub fn read_want(alloc: Global, line: &[u8], allow_stop: bool) -> Result<Session
 {
     if line.len() > LONGEST_LINE {
         return Err(Fault::LineTooLong);
+    }
+    if let Some(meaning) = usual_want(line) {
+        return meaning;
     }
     let object = read_object(alloc, line)?;
     let wait = wait_at(&object).ok_or(Fault::WrongField)?;

@@ -1,7 +1,7 @@
 //! Lines of the usual forms, which are read in one pass, and lines that just aren't of one: each has the same reply with a space
 //! before its last brace, and is then read as JSON.
 use super::{par, worked};
-use crate::rows::{after_bar, before_bar};
+use crate::rows::{after_bar, before_bar, spaced};
 use dd_search::NoTable;
 use dd_wire::reply_to_line;
 use std::alloc::{AllocError, Global};
@@ -98,6 +98,53 @@ const PAR: &[u8] =
 {"do":"par","table":[[6,6,6,6],[6,6,6,6],[6,6,6,6],[6,6,6,6],[7,7,7,7]],"dealer":0,"vulnerable":0,"dealer":4}|{"fault":20}
 {"do":"par","table":[[6,6,6,6],[6,6,6,6],[6,6,6,6],[6,6,6,6],[7,7,7,7]],"dealer":0,"vulnerable":0,"x":null}|{"fault":3}"#;
 
+/// The same with waits, targets and jobs, and with numbers of many digits.
+const WAITS: &[u8] =
+    br#"{"do":"solve","deal":"N:A... K... Q... J...","trump":4,"first":0,"solutions":3,"wait":9}|{"cards":[{"equals":0,"rank":14,"score":1,"suit":0}]}
+{"do":"solve","deal":"N:A... K... Q... J...","trump":4,"first":0,"solutions":3,"wait":10}|{"cards":[{"equals":0,"rank":14,"score":1,"suit":0}]}
+{"do":"solve","deal":"N:A... K... Q... J...","trump":4,"first":0,"solutions":3,"wait":99}|{"cards":[{"equals":0,"rank":14,"score":1,"suit":0}]}
+{"do":"solve","deal":"N:A... K... Q... J...","trump":4,"first":0,"solutions":3,"wait":100}|{"cards":[{"equals":0,"rank":14,"score":1,"suit":0}]}
+{"do":"solve","deal":"N:A... K... Q... J...","trump":4,"first":0,"solutions":3,"wait":60000}|{"cards":[{"equals":0,"rank":14,"score":1,"suit":0}]}
+{"do":"solve","deal":"N:A... K... Q... J...","trump":4,"first":0,"solutions":3,"wait":60001}|{"cards":[{"equals":0,"rank":14,"score":1,"suit":0}]}
+{"do":"solve","deal":"N:A... K... Q... J...","trump":4,"first":0,"solutions":3,"wait":9999999999999999999}|{"cards":[{"equals":0,"rank":14,"score":1,"suit":0}]}
+{"do":"solve","deal":"N:A... K... Q... J...","trump":4,"first":0,"solutions":3,"wait":10000000000000000000}|{"cards":[{"equals":0,"rank":14,"score":1,"suit":0}]}
+{"do":"solve","deal":"N:A... K... Q... J...","trump":4,"first":0,"solutions":3,"wait":18446744073709551615}|{"cards":[{"equals":0,"rank":14,"score":1,"suit":0}]}
+{"do":"solve","deal":"N:A... K... Q... J...","trump":4,"first":0,"solutions":3,"wait":18446744073709551616}|{"fault":3}
+{"do":"solve","deal":"N:A... K... Q... J...","trump":4,"first":0,"solutions":3,"wait":100000000000000000000}|{"fault":3}
+{"do":"solve","deal":"N:A... K... Q... J...","trump":4,"first":0,"solutions":3,"wait":00}|{"fault":1}
+{"do":"solve","deal":"N:A... K... Q... J...","trump":4,"first":0,"solutions":3,"wait":010}|{"fault":1}
+{"do":"solve","deal":"N:A... K... Q... J...","trump":4,"first":0,"solutions":3,"wait":0100}|{"fault":1}
+{"do":"solve","deal":"N:A... K... Q... J...","trump":4,"first":0,"solutions":3,"wait":100.0}|{"fault":3}
+{"do":"solve","deal":"N:A... K... Q... J...","trump":4,"first":0,"solutions":3,"wait":1000e1}|{"fault":3}
+{"do":"solve","deal":"N:A... K... Q... J...","trump":4,"first":0,"solutions":3,"wait":-100}|{"fault":3}
+{"do":"solve","deal":"N:A... K... Q... J...","trump":4,"first":0,"solutions":3,"wait":"100"}|{"fault":3}
+{"do":"solve","deal":"N:A... K... Q... J...","trump":4,"first":0,"solutions":3,"wait":null}|{"fault":3}
+{"do":"solve","deal":"N:A... K... Q... J...","trump":4,"first":0,"solutions":3,"wait":}|{"fault":1}
+{"do":"solve","deal":"N:A... K... Q... J...","trump":4,"first":0,"solutions":3,"wait":100x}|{"fault":1}
+{"do":"solve","deal":"N:A... K... Q... J...","trump":4,"first":0,"solutions":3,"wait":100,"wait":5}|{"cards":[{"equals":0,"rank":14,"score":1,"suit":0}]}
+{"do":"solve","deal":"N:A... K... Q... J...","trump":4,"first":0,"solutions":3,"wait":5,"wait":"5"}|{"fault":3}
+{"do":"solve","deal":"N:A... K... Q... J...","trump":4,"first":0,"solutions":3,"job":1}|{"fault":3}
+{"do":"solve","deal":"N:A... K... Q... J...","trump":4,"first":0,"solutions":3,"id":1}|{"fault":3}
+{"do":"solve","deal":"N:A... K... Q... J...","trump":4,"first":0,"solutions":1,"target":0}|{"cards":[{"equals":0,"rank":14,"score":0,"suit":0}]}
+{"do":"solve","deal":"N:A... K... Q... J...","trump":4,"first":0,"solutions":2,"target":13}|{"cards":[]}
+{"do":"solve","deal":"N:A... K... Q... J...","trump":4,"first":0,"solutions":2,"target":1,"wait":100}|{"cards":[{"equals":0,"rank":14,"score":1,"suit":0}]}
+{"do":"solve","deal":"N:A... K... Q... J...","trump":4,"first":0,"solutions":3,"target":1}|{"fault":12}
+{"do":"solve","deal":"N:A... K... Q... J...","trump":4,"first":0,"solutions":0,"target":1}|{"fault":12}
+{"do":"solve","deal":"N:A... K... Q... J...","trump":4,"first":0,"solutions":2,"target":14}|{"fault":27}
+{"do":"solve","deal":"N:A... K... Q... J...","trump":4,"first":0,"solutions":2,"target":100}|{"fault":27}
+{"do":"solve","deal":"N:A... K... Q... J...","trump":4,"first":0,"solutions":2,"target":-1}|{"fault":3}
+{"do":"solve","deal":"N:A... K... Q... J...","trump":4,"first":0,"solutions":2,"target":"1"}|{"fault":3}
+{"do":"solve","deal":"N:A... K... Q... J...","trump":4,"first":0,"solutions":2,"target":1,"dealer":0}|{"fault":3}
+{"do":"solve","deal":"N:A... K... Q... J...","trump":4,"first":0,"solutions":2,"target":1,"job":1}|{"fault":3}
+{"do":"solve","deal":"N:A... K... Q... J...","trump":4,"first":0,"solutions":2,"target":14,"target":1}|{"cards":[{"equals":0,"rank":14,"score":1,"suit":0}]}
+{"do":"solve","deal":"N:... ... Q... J...","trump":4,"first":0,"played":[[0,14],[0,13]],"solutions":1,"target":1,"wait":60000}|{"cards":[{"equals":0,"rank":12,"score":1,"suit":0}]}
+{"wait":100,"target":1,"solutions":1,"played":[[0,2],[0,3]],"first":0,"trump":4,"deal":"N:... ... Q... J...","do":"solve"}|{"cards":[{"equals":0,"rank":12,"score":1,"suit":0}]}
+{"do":"fetch","job":1}|{"fault":3}
+{"do":"fetch","job":1,"wait":100}|{"fault":3}
+{"do":"par","table":[[6,6,6,6],[6,6,6,6],[6,6,6,6],[6,6,6,6],[7,7,7,7]],"dealer":0,"vulnerable":0,"wait":1}|{"fault":3}
+{"do":"par","table":[[6,6,6,6],[6,6,6,6],[6,6,6,6],[6,6,6,6],[7,7,7,7]],"dealer":0,"vulnerable":0,"job":1}|{"fault":3}
+{"do":"par","table":[[6,6,6,6],[6,6,6,6],[6,6,6,6],[6,6,6,6],[7,7,7,1000000000000000000]],"dealer":0,"vulnerable":0}|{"fault":22}"#;
+
 /// The same with spaces and escapes.
 const SPACES: &[u8] =
     br#"{ "do":"solve","deal":"N:... K... Q... J...","trump":4,"played":[[0,14]],"first":0,"solutions":3}|{"cards":[{"equals":0,"rank":13,"score":0,"suit":0}]}
@@ -150,16 +197,6 @@ const BYTES: &[u8] =
      {\"do\":\"solve\",\"deal\":\"N:A... K... Q... J...\xff\",\"trump\":4,\"first\":0,\"solutions\":3}|{\"fault\":1}\n\
      {\"do\":\"solve\",\"deal\":\"N:A... K... Q... J...\xed\xa0\x80\",\"trump\":4,\"first\":0,\"solutions\":3}|{\"fault\":1}";
 
-// A line with a space before its last byte.
-fn spaced(alloc: Global, line: &[u8]) -> Result<Vec<u8>, AllocError> {
-    let mut spaced = Vec::new(alloc);
-    let (front, last) = line.split_at(line.len().saturating_sub(1));
-    spaced.extend_from_slice(front)?;
-    spaced.push(b' ')?;
-    spaced.extend_from_slice(last)?;
-    Ok(spaced)
-}
-
 // Has a line this reply?
 fn has_reply(alloc: Global, line: &[u8], reply: &[u8]) -> bool {
     reply_to_line(alloc, line, &mut NoTable, None)
@@ -185,7 +222,7 @@ fn first_told_apart(
 
 #[test]
 fn a_line_has_the_same_reply_with_a_space_before_its_brace(rt: HostRuntime) -> Result<(), Fail> {
-    for table in [CARDS, PAR, SPACES, BYTES] {
+    for table in [CARDS, PAR, WAITS, SPACES, BYTES] {
         assert_eq!(rt; first_told_apart(rt.alloc(), table)?, None);
     }
     for table in [worked::REPLIES, par::REPLIES, par::FAULTS] {

@@ -2,7 +2,7 @@
 use crate::session::words::{plain, plainly};
 use dd_session::{Session, Step};
 use dd_wire::Want;
-use request_tests::rows::{after_bar, before_bar};
+use request_tests::rows::{after_bar, before_bar, spaced};
 use std::alloc::{AllocError, Global};
 use std::test::Fail;
 
@@ -65,6 +65,62 @@ fn each_line_asks_or_has_its_fault(rt: HostRuntime) -> Result<(), Fail> {
     for row in LINES.split(|byte| *byte == b'\n') {
         let step = plain(rt.alloc(), &session.on_line(after_bar(row)))?;
         assert_eq!(rt; step.as_bytes(), before_bar(row), "at {row:?}");
+    }
+    Ok(())
+}
+
+// The same of lines of the usual forms, and of lines that just aren't of one.
+const USUAL: &[u8] =
+    br#"solve|{"do":"solve","deal":"N:A... K... Q... J...","trump":4,"first":0,"solutions":3,"wait":0}
+solve within 99|{"wait":99,"do":"solve","deal":"N:A... K... Q... J...","trump":4,"first":0,"played":[],"solutions":3}
+solve within 100|{"do":"solve","deal":"N:A... K... Q... J...","trump":4,"first":0,"solutions":3,"wait":100}
+solve within 60000|{"do":"solve","deal":"N:A... K... Q... J...","trump":4,"first":0,"solutions":3,"wait":60000}
+solve within 60000|{"do":"solve","deal":"N:A... K... Q... J...","trump":4,"first":0,"solutions":3,"wait":9999999999999999999}
+solve within 60000|{"do":"solve","deal":"N:A... K... Q... J...","trump":4,"first":0,"solutions":3,"wait":10000000000000000000}
+{"fault":3}|{"do":"solve","deal":"N:A... K... Q... J...","trump":4,"first":0,"solutions":3,"wait":1e3}
+{"fault":1}|{"do":"solve","deal":"N:A... K... Q... J...","trump":4,"first":0,"solutions":3,"wait":0100}
+target within 7|{"do":"solve","deal":"N:A... K... Q... J...","trump":4,"first":0,"solutions":2,"target":1,"wait":7}
+target|{"do":"solve","deal":"N:A... K... Q... J...","trump":4,"first":0,"solutions":1,"target":13}
+{"fault":27}|{"do":"solve","deal":"N:A... K... Q... J...","trump":4,"first":0,"solutions":1,"target":14,"wait":7}
+{"fault":12}|{"do":"solve","deal":"N:A... K... Q... J...","trump":4,"first":0,"solutions":3,"target":1}
+{"fault":3}|{"do":"solve","deal":"N:A... K... Q... J...","trump":4,"first":0,"solutions":3,"job":1}
+{"fault":3}|{"do":"solve","deal":"N:A... K... Q... J...","trump":4,"first":0,"solutions":3,"id":1}
+fetch 99 within 5|{"do":"fetch","job":99,"wait":5}
+fetch 100 within 5|{"wait":5,"job":100,"do":"fetch"}
+fetch 1234567890123456789 within 60000|{"do":"fetch","job":1234567890123456789,"wait":123456}
+fetch 9999999999999999999|{"do":"fetch","job":9999999999999999999}
+fetch 10000000000000000000|{"do":"fetch","job":10000000000000000000}
+fetch 5|{"do":"fetch","job":7,"job":5}
+cancel 5|{"do":"fetch","job":5,"do":"cancel"}
+{"fault":3}|{"do":"fetch","job":1,"wait":1,"trump":4}
+{"fault":3}|{"do":"fetch","job":1,"played":[]}
+{"fault":3}|{"do":"fetch","job":1,"solutions":3}
+{"fault":3}|{"do":"fetch","job":1,"table":[[1,2,3,4],[1,2,3,4],[1,2,3,4],[1,2,3,4],[1,2,3,4]]}
+{"fault":3}|{"do":"fetch","job":1,"dealer":0}
+{"fault":3}|{"do":"fetch","job":1,"side":0}
+{"fault":3}|{"do":"fetch","job":1,"target":0}
+{"fault":3}|{"do":"fetch","job":1,"first":0}
+{"fault":3}|{"do":"fetch","job":1,"vulnerable":0}
+{"fault":1}|{"do":"fetch","job":01}
+{"fault":1}|{"do":"fetch","job":001}
+{"fault":1}|{"do":"fetch","job":1x}
+{"fault":1}|{"do":"fetch","job":123x}
+{"fault":3}|{"do":"fetch","wait":5}
+{"fault":3}|{"do":"par","table":[[5,8,5,8],[6,6,6,6],[5,7,5,7],[7,5,7,5],[6,6,6,6]],"dealer":0,"vulnerable":0,"wait":0}
+{"contracts":[{"declarers":[1,3],"level":2,"tricks":8,"trump":0}],"score":-110}|{"do":"par","table":[[5,8,5,8],[6,6,6,6],[5,7,5,7],[7,5,7,5],[6,6,6,6]],"side":0,"vulnerable":0}"#;
+
+#[test]
+fn a_line_asks_the_same_with_a_space_before_its_brace(rt: HostRuntime) -> Result<(), Fail> {
+    let session = Session::new(rt.alloc(), plainly(false));
+    for row in USUAL.split(|byte| *byte == b'\n') {
+        let line = after_bar(row);
+        let step = plain(rt.alloc(), &session.on_line(line))?;
+        let other = plain(rt.alloc(), &session.on_line(&spaced(rt.alloc(), line)?))?;
+        assert_eq!(rt;
+            (step.as_bytes(), other.as_bytes()),
+            (before_bar(row), before_bar(row)),
+            "at {row:?}"
+        );
     }
     Ok(())
 }
@@ -155,4 +211,18 @@ fn a_line_that_finds_no_memory_asks_when_it_comes_again(rt: HostRuntime) {
     let (asks, refused) = asks_or_is_refused(&session, SERVED);
     let (asks_again, refused_again) = asks_or_is_refused(&session, SERVED);
     assert!(rt; asks && (asks_again || refused_again) || refused && asks_again);
+}
+
+// The same of a line that is read as JSON: one of a usual form needs no memory.
+#[test]
+fn a_line_read_as_json_that_finds_no_memory_asks_when_it_comes_again(
+    rt: HostRuntime,
+) -> Result<(), Fail> {
+    let session = Session::new(rt.alloc(), plainly(false));
+    let mut line = [b' '; SERVED.len() + 1];
+    line[..SERVED.len()].copy_from_slice(SERVED);
+    let (asks, refused) = asks_or_is_refused(&session, &line);
+    let (asks_again, refused_again) = asks_or_is_refused(&session, &line);
+    assert!(rt; asks && (asks_again || refused_again) || refused && asks_again);
+    Ok(())
 }

@@ -1,5 +1,4 @@
-use Rattle.std.proofs.Common.{◌≡◌, ◌∙◌, ap, subst}
-use Rattle.std.specs.Prelude.{Ok, Err}
+use Rattle.std.proofs.Common.{◌∙◌, ap, subst}
 use Rattle.serde_json.specs.View.{members_view}
 use Rattle.dd_wire.specs.Explained.{MeansBare}
 use Rattle.dd_wire.specs.FaultWords.{fault_told}
