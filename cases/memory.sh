@@ -15,20 +15,20 @@ trap 'rm -rf "$work"' EXIT
 program=${DDSERVE:-$here/../crates/ddserve/out/ddserve}
 [ -n "${DDSERVE:-}" ] || "$here/../ddserve" --version > /dev/null
 cc -O2 -shared -fPIC -o "$work/refuse.so" "$here/tools/refuse.c"
-# Those of a usual form, then the same in another form, with a space before the brace, then other kinds.
-for name in written par; do
-    head -n 4 "$data/$name.jsonl" >> "$work/lines"
-    head -n 4 "$data/$name.expected" >> "$work/expected"
-done
+# The first lines of a file of requests, changed by sed, and their replies.
+put() {
+    head -n "$1" "$data/$2.jsonl" | sed "$3" >> "$work/lines"
+    head -n "$1" "$data/$2.expected" >> "$work/expected"
+}
+# Those of a usual form, then the same in another form, with a space before the brace, then another kind.
+put 4 written ''
+put 4 par ''
+put 3 target_faults ''
 usual=$(wc -l < "$work/lines")
-for name in written par; do
-    head -n 4 "$data/$name.jsonl" | sed 's/}$/ }/' >> "$work/lines"
-    head -n 4 "$data/$name.expected" >> "$work/expected"
-done
-for name in target_faults play_faults; do
-    head -n 4 "$data/$name.jsonl" >> "$work/lines"
-    head -n 4 "$data/$name.expected" >> "$work/expected"
-done
+put 4 written 's/}$/ }/'
+put 4 par 's/}$/ }/'
+put 4 target_faults 's/}$/ }/'
+put 4 play_faults ''
 python3 - "$program" "$work" "$usual" <<'END'
 import os, subprocess, sys
 program, work, usual = sys.argv[1:]

@@ -192,7 +192,7 @@ abbrev pub ReadsPosition : Members → Option ℕ → SolveFields → Type 0
 ReadsPosition members None fields = (target_fields members ≡ None) × (solve_fields members ≡ Some fields)
 ReadsPosition members (Some target) fields = target_fields members ≡ Some (record { solve = fields; target = target })
 
--- the members are no call that sessions alone know
+-- the members are no call that sessions alone know, and don't ask how the run is
 pub record IsUncalled (members : Members) : Type 0 where
   pub call : (leave : Bool) → session_call leave members ≡ None
   pub health : asks_health members ≡ false

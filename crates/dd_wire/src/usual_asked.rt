@@ -102,7 +102,8 @@ fn list_of(row: &Row) -> [u64; 4]
 
 // ---- Cards of a position.
 
-/// What is asked of the cards of a position, with a target or without, or the first fault; None where other fields are there.
+/// What is asked of the cards of a position, with a target or without, or the first fault; None where a field is missing or
+/// another one is there.
 pub(crate) fn position_asked(fields: Fields<'_>) -> Option<Result<Asked, Fault>>
     requires { fields.task ≡ Some Task.Solve }
     ensures { IfSome result (AsksCards (members_of fields.entry) (wait_of fields.entry.wait)) }

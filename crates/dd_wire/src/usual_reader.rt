@@ -20,10 +20,8 @@ use std::str::from_utf8;
 /// The most members of a line: one for each field.
 const MOST_MEMBERS: u32 = 13;
 
-/// The most digits of a number after the first two, and what a number of nineteen digits or fewer is below before its last one.
-const MOST_DIGITS: u32 = 17;
-
-const BEFORE_LAST: u64 = 1_000_000_000_000_000_000;
+/// The least number of nineteen digits. One below it and a digit more stay below 2^64.
+const NINETEEN_DIGITS: u64 = 1_000_000_000_000_000_000;
 
 /// What is to be done.
 #[derive(Clone, Copy)]
@@ -291,16 +289,13 @@ fn read_number(text: &[u8]) -> Option<(u64, &[u8])>
 
 // The same number with the digits that follow, up to nineteen in all, before what may follow a value.
 fn read_longer<'a>(front: u64, text: &'a [u8]) -> Option<(u64, &'a [u8])>
-    requires { (0 < front) × (front < 100) }
+    requires { 0 < front }
     ensures { IfSome result (λ found. (found.0 < 2 ^ 64) × (decimal front ++ text.now ≡ decimal found.0 ++ found.1.now)
         × (ends_word found.1.now ≡ true)) }
 {
     let mut number = front;
     let mut rest = text;
-    'digits: for _turn in 0..MOST_DIGITS {
-        if number >= BEFORE_LAST {
-            return None;
-        }
+    'digits: while number < NINETEEN_DIGITS {
         let (next, behind) = digit(rest)?;
         number = number * 10 + next;
         rest = behind;

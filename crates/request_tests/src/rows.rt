@@ -1,5 +1,5 @@
 //! Rows of two parts, as tables of bytes: the proof of a test then meets one literal and one loop, and not each row, nor
-//! that a text is UTF-8.
+//! that a text is UTF-8; and a line of such a row in another form.
 
 use std::alloc::{AllocError, Global};
 
