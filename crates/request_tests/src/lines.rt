@@ -1,4 +1,5 @@
-//! Lines through `solve_lines`, over devices of memory that give and take little and fail in time.
+//! Lines through `solve_lines`, over devices of memory that give and take little and fail in time, and with threads beside it.
+mod ahead;
 mod budgets;
 mod counted_device;
 mod cut;

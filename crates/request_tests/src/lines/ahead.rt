@@ -1,0 +1,177 @@
+//! Lines that threads answer ahead are told as one thread tells them, however the threads take turns.
+use super::runs::{Outcome, run};
+use super::served::good;
+use crate::book::drawn::draw;
+use crate::devices::{Pieces, Taker};
+use dd_lines::CountedDevice;
+use dd_search::NoTable;
+use dd_tool::{Pool, solve_lines_ahead, solve_lines_on};
+use std::alloc::{AllocError, Global};
+use std::sync::Wait;
+use std::test::Fail;
+use std::thread::Threads;
+
+const STREAMS: u64 = 100;
+
+/// The lines of a stream.
+const LINES: u64 = 40;
+
+/// Lines of one piece, more than are answered ahead.
+const MANY: usize = 3_000;
+
+// Eight cards a hand: 2,404 positions over no table.
+fn searched() -> &'static [u8] {
+    br#"{"do":"solve","deal":"N:T65.J.54.T9 Q9.K52.93.6 K.Q76.AJ2.8 A.4.T8.7532","trump":2,"first":2,"solutions":3}"#
+}
+
+// Short lines, empty ones and a few that are too long, in an order that the seed draws, with one long search among them. In every
+// second stream the last line has no end.
+fn drawn(alloc: Global, seed: u64) -> Result<Vec<u8>, AllocError> {
+    let mut seed = seed;
+    let mut lines = Vec::new(alloc);
+    let place = draw(&mut seed) % LINES;
+    for number in 0..LINES {
+        if number == place {
+            lines.extend_from_slice(searched())?;
+        } else {
+            push_drawn(&mut lines, draw(&mut seed) % 32)?;
+        }
+        lines.push(b'\n')?;
+    }
+    if seed % 2 == 0 {
+        lines.extend_from_slice(good())?;
+    }
+    Ok(lines)
+}
+
+fn push_drawn(lines: &mut Vec<u8>, kind: u64) -> Result<(), AllocError> {
+    match kind {
+        0..8 => Ok(()),
+        8..12 => lines.extend_from_slice(b"{}"),
+        12 => push_times(lines, b'{', 4_096),
+        13 => push_times(lines, b'{', 9_000),
+        _ => lines.extend_from_slice(good()),
+    }
+}
+
+fn push_times(lines: &mut Vec<u8>, byte: u8, times: usize) -> Result<(), AllocError> {
+    for _ in 0..times {
+        lines.push(byte)?;
+    }
+    Ok(())
+}
+
+// Is this told of these lines with the help of so many threads, where a read gives so many bytes at most?
+fn is_told_by<W: Threads + Wait + Sync>(
+    rt: &W,
+    alloc: Global,
+    lines: &[u8],
+    most: usize,
+    others: &mut [NoTable],
+    wanted: &[u8],
+) -> bool {
+    let mut reader = CountedDevice::new(Pieces {
+        bytes: lines,
+        most,
+        calls: usize::MAX,
+    });
+    let mut writer = CountedDevice::new(Taker {
+        taken: Vec::new(alloc),
+        most: usize::MAX,
+        room: usize::MAX,
+    });
+    let mut buffer = [0; 4_096];
+    let result = solve_lines_on(
+        rt,
+        alloc,
+        &mut reader,
+        &mut writer,
+        &mut NoTable,
+        others,
+        None,
+        &mut buffer,
+    );
+    result.is_ok() && writer.into_inner().taken.as_slice() == wanted
+}
+
+// Are these lines told as by one thread, with the help of one, two and three others?
+fn is_told_alike<W: Threads + Wait + Sync>(
+    rt: &W,
+    alloc: Global,
+    lines: &[u8],
+    most: usize,
+) -> bool {
+    let alone = run(alloc, Pieces::of(lines), usize::MAX, usize::MAX);
+    let wanted = alone.written.as_slice();
+    let mut others = [NoTable; 3];
+    alone.result.is_ok()
+        && is_told_by(rt, alloc, lines, most, &mut others[..1], wanted)
+        && is_told_by(rt, alloc, lines, most, &mut others[..2], wanted)
+        && is_told_by(rt, alloc, lines, most, &mut others, wanted)
+}
+
+#[test]
+fn many_streams_are_told_as_by_one_thread(rt: HostRuntime) -> Result<(), Fail> {
+    for number in 0..STREAMS {
+        let lines = drawn(rt.alloc(), number)?;
+        let mut seed = number;
+        let most = if number % 4 == 0 {
+            usize::MAX
+        } else {
+            1 + draw(&mut seed) as usize % 500
+        };
+        assert!(rt;
+            is_told_alike(&rt, rt.alloc(), &lines, most),
+            "stream {number}"
+        );
+    }
+    Ok(())
+}
+
+#[test]
+fn more_lines_of_a_piece_than_are_answered_ahead_are_told_too(rt: HostRuntime) -> Result<(), Fail> {
+    let mut lines = Vec::new(rt.alloc());
+    push_times(&mut lines, b'\n', MANY)?;
+    lines.extend_from_slice(good())?;
+    for _ in 0..10 {
+        assert!(rt; is_told_alike(&rt, rt.alloc(), &lines, usize::MAX));
+    }
+    Ok(())
+}
+
+// What a stream over this pool writes, where the output takes so many bytes.
+fn told_over<W: Wait>(rt: &W, alloc: Global, pool: &Pool, lines: &[u8], room: usize) -> Vec<u8> {
+    let mut reader = CountedDevice::new(Pieces::of(lines));
+    let mut writer = CountedDevice::new(Taker {
+        taken: Vec::new(alloc),
+        most: usize::MAX,
+        room,
+    });
+    let mut buffer = [0; 4_096];
+    let _result = solve_lines_ahead(
+        rt,
+        alloc,
+        &mut reader,
+        &mut writer,
+        pool,
+        &mut NoTable,
+        None,
+        &mut buffer,
+    );
+    writer.into_inner().taken
+}
+
+// Lines of a stream whose output failed are still in the pool when the next stream comes.
+#[test]
+fn a_pool_that_a_failed_stream_left_serves_the_next(rt: HostRuntime) -> Result<(), Fail> {
+    let pool = Pool::new(rt.alloc(), None);
+    for number in 0..8 {
+        let lines = drawn(rt.alloc(), number)?;
+        let alone: Outcome = run(rt.alloc(), Pieces::of(&lines), usize::MAX, usize::MAX);
+        let cut = told_over(&rt, rt.alloc(), &pool, &lines, 100);
+        assert!(rt; alone.written.as_slice().starts_with(&cut) && cut.len() == 100);
+        let whole = told_over(&rt, rt.alloc(), &pool, &lines, usize::MAX);
+        assert!(rt; whole.as_slice() == alone.written.as_slice());
+    }
+    Ok(())
+}
