@@ -16,8 +16,13 @@ const STREAMS: u64 = 100;
 /// The lines of a stream.
 const LINES: u64 = 40;
 
+const LONG_STREAMS: u64 = 3;
+
+/// The lines of a long stream.
+const LONG: u64 = 1_000;
+
 /// Lines of one piece, more than are answered ahead.
-const MANY: usize = 3_000;
+const MANY: u64 = 3_000;
 
 // Eight cards a hand: 2,404 positions over no table.
 fn searched() -> &'static [u8] {
@@ -54,6 +59,54 @@ fn push_drawn(lines: &mut Vec<u8>, kind: u64) -> Result<(), AllocError> {
     }
 }
 
+// Lines with replies of many kinds, and a search as each 250th, the first one too.
+fn drawn_long(alloc: Global, seed: u64) -> Result<Vec<u8>, AllocError> {
+    let mut seed = seed;
+    let mut lines = Vec::new(alloc);
+    for number in 0..LONG {
+        if number % 250 == 0 {
+            lines.extend_from_slice(searched())?;
+        } else {
+            push_told_apart(&mut lines, draw(&mut seed))?;
+        }
+        lines.push(b'\n')?;
+    }
+    Ok(lines)
+}
+
+// Three in four ask for par of drawn results.
+fn push_told_apart(lines: &mut Vec<u8>, drawn: u64) -> Result<(), AllocError> {
+    if drawn % 4 == 0 {
+        return push_drawn(lines, drawn / 4 % 12);
+    }
+    lines.extend_from_slice(
+        br#"{"do":"par","table":[[5,8,5,8],[6,6,6,6],[5,7,5,7],[7,5,7,5],[6,6,6,"#,
+    )?;
+    lines.push(digit(drawn / 4))?;
+    lines.extend_from_slice(br#"]],"dealer":0,"vulnerable":"#)?;
+    lines.push(digit(drawn / 64))?;
+    lines.push(b'}')?;
+    Ok(())
+}
+
+// The last digit of a number.
+fn digit(number: u64) -> u8 {
+    b'0'.wrapping_add((number % 10) as u8)
+}
+
+// A third of these lines are `{}`, the others empty.
+fn many_short(alloc: Global) -> Result<Vec<u8>, AllocError> {
+    let mut lines = Vec::new(alloc);
+    for number in 0..MANY {
+        if number % 3 == 0 {
+            lines.extend_from_slice(b"{}")?;
+        }
+        lines.push(b'\n')?;
+    }
+    lines.extend_from_slice(good())?;
+    Ok(lines)
+}
+
 fn push_times(lines: &mut Vec<u8>, byte: u8, times: usize) -> Result<(), AllocError> {
     for _ in 0..times {
         lines.push(byte)?;
@@ -80,7 +133,7 @@ fn is_told_by<W: Threads + Wait + Sync>(
         most: usize::MAX,
         room: usize::MAX,
     });
-    let mut buffer = [0; 4_096];
+    let mut buffer = [0; 65_536];
     let result = solve_lines_on(
         rt,
         alloc,
@@ -129,10 +182,20 @@ fn many_streams_are_told_as_by_one_thread(rt: HostRuntime) -> Result<(), Fail> {
 }
 
 #[test]
+fn long_streams_are_told_as_by_one_thread(rt: HostRuntime) -> Result<(), Fail> {
+    for number in 0..LONG_STREAMS {
+        let lines = drawn_long(rt.alloc(), number)?;
+        assert!(rt;
+            is_told_alike(&rt, rt.alloc(), &lines, usize::MAX),
+            "stream {number}"
+        );
+    }
+    Ok(())
+}
+
+#[test]
 fn more_lines_of_a_piece_than_are_answered_ahead_are_told_too(rt: HostRuntime) -> Result<(), Fail> {
-    let mut lines = Vec::new(rt.alloc());
-    push_times(&mut lines, b'\n', MANY)?;
-    lines.extend_from_slice(good())?;
+    let lines = many_short(rt.alloc())?;
     for _ in 0..10 {
         assert!(rt; is_told_alike(&rt, rt.alloc(), &lines, usize::MAX));
     }
@@ -161,7 +224,7 @@ fn told_over<W: Wait>(rt: &W, alloc: Global, pool: &Pool, lines: &[u8], room: us
     writer.into_inner().taken
 }
 
-// Lines of a stream whose output failed are still in the pool when the next stream comes.
+// Lines of a stream whose output failed are still in the pool when the next stream comes. No thread answers ahead here.
 #[test]
 fn a_pool_that_a_failed_stream_left_serves_the_next(rt: HostRuntime) -> Result<(), Fail> {
     let pool = Pool::new(rt.alloc(), None);
