@@ -162,13 +162,13 @@ impl<B> Cache<B> {
         // The proof reads here what it means that shapes are compared.
         alike_strings();
         let shape = strings.shape();
-        let signature = strings.signature();
+        let highest = strings.four_highest();
         let mut place = first;
         for _ in 0..MOST_PAGES {
             let at = self.ring_place(place.number)?;
             let page = self.pages.get(at)?;
             if place.has_shape && page.shape() == shape {
-                if let Some(told) = page.settle(signature, strings, need) {
+                if let Some(told) = page.settle(highest, strings, need) {
                     return Some((told.interval, told.firsts.depths()));
                 }
             }

@@ -6,7 +6,7 @@ ghost use Rattle.dd_cache.specs.StoredBounds.{StoredBoundsOf, IsSound};
 use crate::settling_lead::SettlingLead;
 use crate::stored_bounds::StoredBounds;
 use dd_cards::Strain;
-use dd_rank::{FirstSignature, FirstSignatures, OwnerStrings, Shape, Signature};
+use dd_rank::{FirstFour, FirstFours, FourHighest, OwnerStrings, Shape};
 use std::marker::Model;
 
 // The bounds that stand together.
@@ -18,7 +18,7 @@ const BOUNDS_OF_A_PAGE: usize = 8;
 pub(crate) struct Page {
     lengths: u64,
     // what is seen at once of its bounds, by their places
-    signatures: FirstSignatures,
+    seen: FirstFours,
     // the number of the page that was the newest of its place before
     before: u32,
     strain: Strain,
@@ -51,8 +51,8 @@ impl Page {
     pub(crate) fn new(shape: Shape, before: u32, lead: SettlingLead, first: StoredBounds) -> Page
         requires { IsSound shape first }
     {
-        let mut signatures = FirstSignatures::default();
-        signatures.put(0, first.firsts.signature());
+        let mut seen = FirstFours::default();
+        seen.put(0, first.firsts.first_four());
         let told = [
             first.copy(),
             first.copy(),
@@ -65,7 +65,7 @@ impl Page {
         ];
         Page {
             lengths: shape.lengths(),
-            signatures,
+            seen,
             before,
             strain: shape.strain(),
             count: 1,
@@ -104,12 +104,12 @@ impl Page {
         }
     }
 
-    /// The first of its bounds that hold of the position with this signature and these strings, which is of the shape, and settle
-    /// the question.
+    /// The first of its bounds that hold of the position with these strings, whose highest owners are these, which is of the shape,
+    /// and settle the question.
     #[inline]
     pub(crate) fn settle(
         &self,
-        signature: Signature,
+        highest: FourHighest,
         strings: &OwnerStrings,
         need: u8,
     ) -> Option<&StoredBounds>
@@ -118,7 +118,7 @@ impl Page {
         ensures settles { IfSome result (λ told. (need ≤ told.now.interval.lo)
             ⊎ (told.now.interval.hi < need)) }
     {
-        let mut places = self.signatures.may_be_in(signature);
+        let mut places = self.seen.may_be_in(highest);
         for _ in 0..BOUNDS_OF_A_PAGE {
             if places == 0 {
                 return None;
@@ -139,10 +139,10 @@ impl Page {
         ensures shape { self.new.shape ≡ self.old.shape }
         ensures back { IfErr result (λ told. told ≡ new) }
     {
-        let signature = new.firsts.signature();
-        if let Some(place) = self.needless(&new, signature) {
+        let first = new.firsts.first_four();
+        if let Some(place) = self.needless(&new, first) {
             self.told[place] = new;
-            self.signatures.put(place, signature);
+            self.seen.put(place, first);
             return Ok(());
         }
         let place = self.count as usize;
@@ -150,16 +150,16 @@ impl Page {
             return Err(new);
         }
         self.told[place] = new;
-        self.signatures.put(place, signature);
+        self.seen.put(place, first);
         self.count += 1;
         Ok(())
     }
 
     // The place of the first of its bounds that these make needless.
-    fn needless(&self, new: &StoredBounds, signature: FirstSignature) -> Option<usize>
+    fn needless(&self, new: &StoredBounds, first: FirstFour) -> Option<usize>
         ensures { IfSome result (λ place. place < 8) }
     {
-        let mut places = self.signatures.may_begin_as(signature);
+        let mut places = self.seen.may_begin_as(first);
         for _ in 0..BOUNDS_OF_A_PAGE {
             if places == 0 {
                 return None;

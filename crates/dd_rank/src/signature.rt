@@ -1,4 +1,4 @@
-//! What is seen at once of owners: those of the four highest cards of each suit. It tells soon that others differ, and no
+//! What is seen at once of owners: those of the two highest cards of each suit. It tells soon that others differ, and no
 //! more: no answer rests on it.
 ghost use Rattle.std.specs.Prelude.{◌≤◌};
 
@@ -9,13 +9,11 @@ use dd_cards::Suit;
 use std::simd::cmp::SimdPartialEq;
 use std::simd::u16x8;
 
-/// The owners of the four highest cards of each suit of a start of a trick.
-// Of the two highest, and of the next two: four bits a suit, the spades' on top, and in them the two bits of the second and fourth
-// hand the lowest.
+/// The owners of the two highest cards of each suit of a start of a trick.
+// Four bits a suit, the spades' on top, and in them the two bits of the second and fourth hand the lowest.
 #[derive(Clone, Copy, Debug)]
 pub struct Signature {
     owners: u16,
-    next: u16,
 }
 
 /// The same of first owners, as far as there are so many.
@@ -23,36 +21,30 @@ pub struct Signature {
 pub struct FirstSignature {
     owners: u16,
     mask: u16,
-    next: u16,
-    next_mask: u16,
 }
 
-// The two lowest bits of each suit's sixteen.
-const TWO_LOWEST: u64 = 0x0003_0003_0003_0003;
+/// The two lowest bits of each suit's sixteen.
+pub(crate) const TWO_LOWEST: u64 = 0x0003_0003_0003_0003;
 
 // The product with it has the four lowest bits of each suit's sixteen in its upper sixteen, side by side.
 const GATHER: u64 = 0x0001_0010_0100_1000;
 
 /// How many signatures stand together.
-const TOGETHER: usize = 8;
+pub(crate) const TOGETHER: usize = 8;
 
 /// Eight signatures of first owners, which are compared at once.
 #[derive(Clone, Copy, Debug)]
 pub struct FirstSignatures {
     owners: [u16; TOGETHER],
     masks: [u16; TOGETHER],
-    next: [u16; TOGETHER],
-    next_masks: [u16; TOGETHER],
 }
 
 impl Default for FirstSignatures {
-    /// None: each place has owners of the two highest cards that hardly a position has.
+    /// None: each place has owners that hardly a position has.
     fn default() -> FirstSignatures {
         FirstSignatures {
             owners: [u16::MAX; TOGETHER],
             masks: [u16::MAX; TOGETHER],
-            next: [0; TOGETHER],
-            next_masks: [0; TOGETHER],
         }
     }
 }
@@ -91,30 +83,26 @@ impl OwnerStrings {
         }
     }
 
-    /// The owners of the four highest cards of each suit.
+    /// The owners of the two highest cards of each suit.
     #[inline]
     pub fn signature(&self) -> Signature {
         Signature {
             owners: top_two(self.places),
-            next: next_two(self.places),
         }
     }
 }
 
 impl FirstOwners {
-    /// The first four owners of each suit, as far as there are so many.
+    /// The first two owners of each suit, as far as there are so many.
     #[inline]
     pub fn signature(&self) -> FirstSignature {
         let (mask, places) = self.bits();
-        let masks = OwnerPlanes {
-            odd: mask,
-            far: mask,
-        };
         FirstSignature {
             owners: top_two(places),
-            mask: top_two(masks),
-            next: next_two(places),
-            next_mask: next_two(masks),
+            mask: top_two(OwnerPlanes {
+                odd: mask,
+                far: mask,
+            }),
         }
     }
 }
@@ -125,8 +113,6 @@ impl FirstSignatures {
     pub fn put(&mut self, place: usize, signature: FirstSignature) {
         self.owners[place % TOGETHER] = signature.owners;
         self.masks[place % TOGETHER] = signature.mask;
-        self.next[place % TOGETHER] = signature.next;
-        self.next_masks[place % TOGETHER] = signature.next_mask;
     }
 
     /// The places of those that may begin as this one does and go on: bit n for place n.
@@ -144,9 +130,7 @@ impl FirstSignatures {
     #[inline]
     pub fn may_be_in(&self, position: Signature) -> u64 {
         let differing = u16x8::from_array(self.owners) ^ u16x8::splat(position.owners);
-        let next_differing = u16x8::from_array(self.next) ^ u16x8::splat(position.next);
-        let seen = (differing & u16x8::from_array(self.masks))
-            | (next_differing & u16x8::from_array(self.next_masks));
+        let seen = differing & u16x8::from_array(self.masks);
         seen.simd_eq(u16x8::splat(0)).to_bitmask()
     }
 }
@@ -159,22 +143,14 @@ fn two_highest(places: OwnerPlanes) -> u64 {
     odd | far
 }
 
-// The same, four bits a suit.
+/// The same, four bits a suit.
 #[inline]
-fn top_two(places: OwnerPlanes) -> u16 {
+pub(crate) fn top_two(places: OwnerPlanes) -> u16 {
     gathered(two_highest(places))
 }
 
-// The owners of the two cards below the two highest of each suit, four bits a suit.
+/// The four lowest bits of each suit's sixteen, side by side: brought together by the product.
 #[inline]
-fn next_two(places: OwnerPlanes) -> u16 {
-    let odd = places.odd >> 11 & TWO_LOWEST;
-    let far = places.far >> 9 & TWO_LOWEST << 2;
-    gathered(odd | far)
-}
-
-// The four lowest bits of each suit's sixteen, side by side: brought together by the product.
-#[inline]
-fn gathered(owners: u64) -> u16 {
+pub(crate) fn gathered(owners: u64) -> u16 {
     (owners.wrapping_mul(GATHER) >> 48) as u16
 }

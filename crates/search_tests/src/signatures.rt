@@ -2,7 +2,7 @@
 
 use dd_cards::{Card, Hand, Hands, Rank, Seat, Strain, Suit};
 use dd_play::{Position, TrickStart};
-use dd_rank::{Depths, FirstOwners, FirstSignatures, OwnerStrings, covered_positions};
+use dd_rank::{Depths, FirstFours, FirstOwners, FirstSignatures, OwnerStrings, covered_positions};
 
 // The most depth of which all is seen at once.
 const SEEN: u8 = 4;
@@ -79,7 +79,7 @@ fn are_fourth_hands(strings: &OwnerStrings) -> bool {
 }
 
 // Whether first owners of a start with these strings, at these depths, may be those of another start, as far as the two highest cards
-// of each suit tell: what was seen before the next two were.
+// of each suit tell: what a signature tells.
 fn may_be_by_two(own: &OwnerStrings, depths: Depths, others: &OwnerStrings) -> bool {
     let (own, others) = (own.two_highest(), others.two_highest());
     SUITS.iter().all(|suit| {
@@ -104,11 +104,43 @@ fn is_all_seen(firsts: &FirstOwners) -> bool {
     SUITS.iter().all(|suit| depths.of(*suit) <= SEEN)
 }
 
-// What was seen of first owners and of a start: how often they were the start's, and how often they were not.
+// What was seen of first owners and of a start: how often they were the start's, how often they were not, and how often that was
+// seen of four cards and not of two.
 #[derive(Clone, Copy, Debug, PartialEq, Eq)]
 struct Seen {
     owners: u64,
     others: u64,
+    told_by_next: u64,
+}
+
+// What is seen of one place, by two cards and by four.
+#[derive(Clone, Copy, Debug, PartialEq, Eq)]
+struct MayBe {
+    by_two: bool,
+    by_four: bool,
+}
+
+// Is what is seen of the first owners of another start what these strings tell? Else what is wrong.
+fn judged(
+    firsts: &FirstOwners,
+    other: &OwnerStrings,
+    strings: &OwnerStrings,
+    may_be: MayBe,
+) -> Result<(), &'static str> {
+    let are = firsts.are_in(strings);
+    if may_be.by_two != may_be_by_two(other, firsts.depths(), strings) {
+        return Err("a signature tells of other cards");
+    }
+    if are && !may_be.by_four {
+        return Err("owners of the start are not seen");
+    }
+    if may_be.by_four && !may_be.by_two {
+        return Err("what two cards tell, four do not");
+    }
+    if may_be.by_four && !are && is_all_seen(firsts) {
+        return Err("owners of four cards that are others are not told");
+    }
+    Ok(())
 }
 
 // Compares what is seen of eight first owners and one start, or tells the first case that is wrong.
@@ -119,8 +151,12 @@ fn compared(state: &mut u64, seen: &mut Seen) -> Result<(), &'static str> {
     };
     let strings = OwnerStrings::of(&start);
     let mut signatures = FirstSignatures::default();
-    let free = signatures.may_be_in(strings.signature());
-    if free != if are_fourth_hands(&strings) { 0xFF } else { 0 } {
+    let mut fours = FirstFours::default();
+    let free = [
+        signatures.may_be_in(strings.signature()),
+        fours.may_be_in(strings.four_highest()),
+    ];
+    if free != [if are_fourth_hands(&strings) { 0xFF } else { 0 }; 2] {
         return Err("a free place is seen");
     }
     if !is_told_in_one_word(&strings) {
@@ -135,24 +171,26 @@ fn compared(state: &mut u64, seen: &mut Seen) -> Result<(), &'static str> {
             continue;
         };
         signatures.put(place, firsts.signature());
-        let may_be = (signatures.may_be_in(strings.signature()) >> place) & 1 == 1;
-        let are = firsts.are_in(&strings);
-        if are && !may_be {
-            return Err("owners of the start are not seen");
+        fours.put(place, firsts.first_four());
+        let may_be = MayBe {
+            by_two: (signatures.may_be_in(strings.signature()) >> place) & 1 == 1,
+            by_four: (fours.may_be_in(strings.four_highest()) >> place) & 1 == 1,
+        };
+        judged(&firsts, &OwnerStrings::of(&other), &strings, may_be)?;
+        let begin = signatures.may_begin_as(firsts.signature());
+        if fours.may_begin_as(firsts.first_four()) != begin {
+            return Err("others begin so by four cards");
         }
-        if may_be && !may_be_by_two(&OwnerStrings::of(&other), firsts.depths(), &strings) {
-            return Err("what was not seen before is seen");
-        }
-        if may_be && !are && is_all_seen(&firsts) {
-            return Err("owners of four cards that are others are not told");
-        }
-        if (signatures.may_begin_as(firsts.signature()) >> place) & 1 == 0 {
+        if (begin >> place) & 1 == 0 {
             return Err("the same owners are not seen");
         }
-        if are {
+        if firsts.are_in(&strings) {
             seen.owners = seen.owners.saturating_add(1);
         } else {
             seen.others = seen.others.saturating_add(1);
+        }
+        if may_be.by_two && !may_be.by_four {
+            seen.told_by_next = seen.told_by_next.saturating_add(1);
         }
     }
     Ok(())
@@ -164,20 +202,29 @@ fn owners_that_are_seen_at_once_are_those_of_four_cards(rt: HostRuntime) {
     let mut seen = Seen {
         owners: 0,
         others: 0,
+        told_by_next: 0,
     };
     for _ in 0..2_000 {
         assert_eq!(rt; compared(&mut state, &mut seen), Ok(()));
     }
-    // Both happened often.
+    // Each happened often.
     assert!(rt; seen.owners > 1_000 && seen.others > 1_000, "{seen:?}");
+    assert!(rt; seen.told_by_next > 50, "{seen:?}");
 }
 
 #[test]
 fn free_places_are_seen_where_west_has_the_two_highest_of_each_suit(rt: HostRuntime) {
     let free = FirstSignatures::default();
+    let free_fours = FirstFours::default();
     let found = [false, true].map(|are_exchanged| match headed_by_west(are_exchanged) {
-        Some(start) => free.may_be_in(OwnerStrings::of(&start).signature()),
-        None => 1,
+        Some(start) => {
+            let strings = OwnerStrings::of(&start);
+            [
+                free.may_be_in(strings.signature()),
+                free_fours.may_be_in(strings.four_highest()),
+            ]
+        }
+        None => [1, 1],
     });
-    assert_eq!(rt; found, [0xFF, 0]);
+    assert_eq!(rt; found, [[0xFF, 0xFF], [0, 0]]);
 }
