@@ -125,6 +125,15 @@ impl<B> Cache<B> {
         }
     }
 
+    // Is the page of this number one of the shape?
+    #[inline]
+    fn has_shape(&self, number: u32, shape: Shape) -> bool {
+        match self.pages.get((number % PAGES) as usize) {
+            Some(page) => page.shape() == shape,
+            None => false,
+        }
+    }
+
     // The number of the newest page of the shape's place.
     #[inline]
     fn newest_of(&self, shape: Shape) -> u32 {
@@ -274,14 +283,24 @@ impl<B: Bounds> Bounds for Cache<B> {
         strings: &OwnerStrings,
         need: u8,
     ) -> Option<(Interval, Depths)> {
-        let hint = self.probe_hint(strings.shape());
+        let hint = self.probe_ahead(strings.shape());
         self.settle_at(start, strings, hint, need)
+    }
+
+    /// Reads what of the newest page of the shape's place a look reads first.
+    #[inline]
+    fn probe_hint(&self, shape: Shape) -> ProbeHint {
+        let number = self.newest_of(shape);
+        ProbeHint {
+            number,
+            has_shape: self.has_shape(number, shape),
+        }
     }
 
     /// Reads the number of the newest page of the shape's place. The page itself is left to the look: a branch on what stands there
     /// would wait for memory.
     #[inline]
-    fn probe_hint(&self, shape: Shape) -> ProbeHint {
+    fn probe_ahead(&self, shape: Shape) -> ProbeHint {
         ProbeHint {
             number: self.newest_of(shape),
             has_shape: true,

@@ -37,7 +37,7 @@ pub(crate) fn by_relative_ranks<B: Bounds, M: Meter>(
     let asked = if leads { need } else { left + 1 - need };
     let coming = ComingStart::new(RelativeStart::of(start), Hand::new(), Seat::North);
     let there = coming.start().as_trick_start();
-    let hint = table.probe_hint(coming.shape());
+    let hint = table.probe_ahead(coming.shape());
     let ranks = AbsoluteRanks::of(start);
     let found = relative_at_start(&coming, hint, &ranks, asked, table, meter)?;
     let depths = Depths::of_cards(there, found.ranks().cards());

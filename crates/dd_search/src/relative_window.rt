@@ -368,7 +368,7 @@ fn relative_after_trick<B: Bounds, M: Meter>(
     let leads = winner.is_north_south();
     let asked = asked_of(need, left, leads);
     let next = trick.next_start(card, winner);
-    let hint = table.probe_hint(next.shape());
+    let hint = table.probe_ahead(next.shape());
     let above = trick.start().ranks();
     let found = relative_at_start(&next, hint, above, asked, table, meter)?;
     let ranks = ranks_here(trick, card, &next, &found.ranks());

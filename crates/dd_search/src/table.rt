@@ -57,7 +57,12 @@ pub trait Bounds {
         ProbeHint::default()
     }
 
-    /// The same as `settle`, where what `probe_hint` told of the start's shape is handed in.
+    /// The same, and nothing is read for which a search would have to wait: this is what a search asks.
+    fn probe_ahead(&self, shape: Shape) -> ProbeHint {
+        self.probe_hint(shape)
+    }
+
+    /// The same as `settle`, where what `probe_hint` or `probe_ahead` told of the start's shape is handed in.
     fn settle_at(
         &mut self,
         start: &TrickStart,

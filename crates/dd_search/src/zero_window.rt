@@ -196,7 +196,7 @@ fn answer_at_start<B: Bounds, M: Meter>(
 {
     // The table reads while the strings are found.
     let shape = Shape::of(start);
-    let hint = table.probe_hint(shape);
+    let hint = table.probe_ahead(shape);
     let strings = OwnerStrings::with_shape(start, shape);
     if let Some(answer) = told_answer(start, &strings, hint, need, table) {
         return Ok(answer);

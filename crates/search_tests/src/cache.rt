@@ -162,10 +162,16 @@ fn what_was_noted_settles_the_positions_that_it_covers(rt: HostRuntime) -> Resul
 fn what_was_read_ahead_settles_as_a_look_does(rt: HostRuntime) -> Result<(), AllocError> {
     let mut cache = Cache::new(rt.alloc(), NoTable)?;
     let caught = start(b"N:32... K4... AQ... 65...").expect(&rt, "two cards a hand");
+    let shape = Shape::of(&caught);
+    // Nothing stands there: a hint says so, and what is read ahead doesn't look.
+    let empty = [cache.probe_hint(shape), cache.probe_ahead(shape)];
+    assert_eq!(rt; empty.map(|hint| hint.has_shape), [false, true]);
+    assert_eq!(rt; empty[0].number, empty[1].number);
     assert!(rt; noted(&mut cache, &caught) == Some(2));
     let strings = OwnerStrings::of(&caught);
-    let shape = Shape::of(&caught);
-    let place = cache.probe_hint(shape);
+    let place = cache.probe_ahead(shape);
+    let hint = cache.probe_hint(shape);
+    assert_eq!(rt; (hint.number, hint.has_shape), (place.number, true));
     let found = [
         cache.settle_at(&caught, &strings, place, 2).is_some(),
         // Any place is right: where nothing stands nothing is told.
