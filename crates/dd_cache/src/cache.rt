@@ -257,6 +257,12 @@ impl<B: Bounds> Bounds for Cache<B> {
 
     ghost holds = { λ cache p depths interval q told. told q };
 
+    /// Its own bounds are of all alike starts, so it may where the table behind may.
+    #[inline]
+    fn takes_relative_starts(&self) -> bool {
+        self.behind.takes_relative_starts()
+    }
+
     /// Forgets leads and pages where the position is of another deal than the last one: neither later nor earlier in its play, from
     /// whose end a trace goes back.
     fn begin(&mut self, position: &Position) {

@@ -20,6 +20,13 @@ pub trait Bounds {
     /// the bounds that are told of a position, with their depths
     ghost tells: { Self → Board → FourDepths → Interval → Type 0 };
 
+    /// May a search ask it and tell it of a start by relative ranks in place of the deal's own? That one is alike to it: the leader is
+    /// North, and no rank is missing. A search takes less time so. What is told of leads is told by `lead_history_of` and
+    /// `note_lead_of` then.
+    fn takes_relative_starts(&self) -> bool {
+        false
+    }
+
     /// Takes note that a search of this position begins. It serves the time alone: what was learned of another deal may be forgotten.
     fn begin(&mut self, _position: &Position) {}
 
@@ -165,6 +172,10 @@ impl Bounds for NoTable {
     ghost tells = { λ table p depths interval. ⊥ };
 
     ghost holds = { λ table p depths interval q told. absurd told };
+
+    fn takes_relative_starts(&self) -> bool {
+        true
+    }
 
     fn look(&mut self, _start: &TrickStart) -> Option<(Interval, Depths)> {
         None

@@ -91,7 +91,7 @@ fn zero_window_at_first_hand<B: Bounds, M: Meter>(
     let Some(start) = TrickStart::of(position) else {
         unreachable!()
     };
-    if position.tricks_left() > FEW {
+    if position.tricks_left() > FEW && table.takes_relative_starts() {
         by_relative_ranks(&start, need, table, meter)
     } else {
         zero_window_at_start(&start, need, table, meter)

@@ -73,6 +73,11 @@ impl<'a, R: Wait> Bounds for View<'a, R> {
 
     ghost holds = { λ view p depths interval q told. told q };
 
+    /// Entries are of all alike starts.
+    fn takes_relative_starts(&self) -> bool {
+        true
+    }
+
     /// What the shard of the position tells, and where that is nothing, its value if the front has it.
     fn look(&mut self, start: &TrickStart) -> Option<(Interval, Depths)> {
         let strings = OwnerStrings::of(start);
