@@ -169,11 +169,12 @@ fn what_was_read_ahead_settles_as_a_look_does(rt: HostRuntime) -> Result<(), All
     assert_eq!(rt; empty[0].number, empty[1].number);
     assert!(rt; noted(&mut cache, &caught) == Some(2));
     let strings = OwnerStrings::of(&caught);
-    let place = cache.probe_ahead(shape);
-    let hint = cache.probe_hint(shape);
-    assert_eq!(rt; (hint.number, hint.has_shape), (place.number, true));
+    let ahead = cache.probe_ahead(shape);
+    let place = cache.probe_hint(shape);
+    assert_eq!(rt; (place.number, place.has_shape), (ahead.number, true));
     let found = [
         cache.settle_at(&caught, &strings, place, 2).is_some(),
+        cache.settle_at(&caught, &strings, ahead, 2).is_some(),
         // Any place is right: where nothing stands nothing is told.
         cache
             .settle_at(&caught, &strings, ProbeHint::default(), 2)
@@ -182,7 +183,7 @@ fn what_was_read_ahead_settles_as_a_look_does(rt: HostRuntime) -> Result<(), All
             .settle_at(&caught, &strings, NoTable.probe_hint(shape), 2)
             .is_some(),
     ];
-    assert_eq!(rt; found, [true, false, false]);
+    assert_eq!(rt; found, [true, true, false, false]);
     Ok(())
 }
 

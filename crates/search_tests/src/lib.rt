@@ -8,6 +8,8 @@ mod cards;
 #[cfg(test)]
 mod equal;
 #[cfg(test)]
+mod forms;
+#[cfg(test)]
 mod pbn;
 #[cfg(test)]
 mod play;
