@@ -10,6 +10,8 @@ mod deals;
 #[cfg(test)]
 mod devices;
 #[cfg(test)]
+mod drawn;
+#[cfg(test)]
 mod files;
 #[cfg(test)]
 mod score;

@@ -1,0 +1,283 @@
+//! Files of drawn pieces of PBN, and what came out for them and was told of them before lines were passed on by stretches.
+use super::devices::{Pieces, Taker};
+use dd_cards::{Hands, Seat};
+use dd_file::{Analyst, FileFault, Reason, Wanted, fill_file};
+use dd_lines::CountedDevice;
+use dd_score::Results;
+use std::alloc::{AllocError, Global};
+use std::process::Abort;
+use std::test::Fail;
+
+const SEATS: [Seat; 4] = [Seat::North, Seat::East, Seat::South, Seat::West];
+
+const RESULTS: [[u8; 4]; 5] = [
+    [7, 6, 7, 6],
+    [6, 7, 6, 7],
+    [10, 3, 10, 3],
+    [7, 6, 7, 6],
+    [9, 3, 9, 3],
+];
+
+// What a file is made of.
+const PARTS: [&[u8]; 64] = [
+    b"\n",
+    b"\r\n",
+    b"\n\n",
+    b"\n\n",
+    b"\n\n[Event \"\"]\n",
+    b"[Board \"1\"]\n",
+    b"[Board \"12\"]",
+    b"[Board \"7777777777777777777777777777777\"]\n",
+    b"[Board \"77777777777777777777777777777777\"]\n",
+    b"[Board \"777777777777777777777777777777777777777777777777\"]{ }\n",
+    b"[Board \"1\\\"2\\\\3\"]\n",
+    b"[Board\n\"5\"]\n",
+    b"[Deal \"N:J6.72.AQ7643.AJ7 Q9842.Q854.T.K42 AT75.AT9.KJ8.T83 K3.KJ63.952.Q965\"]\n",
+    b"[Deal \"E:J6.72.AQ7643.AJ7 Q9842.Q854.T.K42 AT75.AT9.KJ8.T83 K3.KJ63.952.Q965\"]\r\n",
+    b"[Deal \"N:J6.72.AQ7643.AJ7 Q9842.Q854.T.K42 AT75.AT9.KJ8.T83 K3.KJ63.952.Q965\"]",
+    b"[Deal  \"N:J6.72.AQ7643.AJ7 Q9842.Q854.T.K42 AT75.AT9.KJ8.T83 K3.KJ63.952.Q965\"]\n",
+    b"[Deal \"N:J6.72.AQ7643.AJ7 Q9842.Q854.T.K42 - K3.KJ63.952.Q965\"]\n",
+    b"[Deal \"N:A\"]\n",
+    b"[Deal \"\"]\n",
+    b"[Dealer \"N\"]\n",
+    b"[Dealer \"W\"]\n",
+    b"[Dealer \"X\"]\n",
+    b"[Vulnerable \"None\"]\n",
+    b"[Vulnerable \"NS\"]\n",
+    b"[Vulnerable \"Both\"]",
+    b"[Vulnerable \"?\"]\n",
+    b"[DoubleDummyTricks \"976a7976a73673636736\"]\n",
+    b"[DoubleDummyTricks \"*\"]\n",
+    b"[OptimumScore \"NS 400\"]\n",
+    b"[ParContract \"NS 3NT=\"]\n",
+    b"[OptimumResultTable \"Declarer;Denomination\\2R;Result\\2R\"]\nN NT  9\nN  S  7\n",
+    b"[Event \"x\"]\n",
+    b"[event \"x\"]\n",
+    b"[Event\t\"x\"] \n",
+    b"[Event \"x\" ]\n",
+    b"[Event \"a\\\"b\"]\n",
+    b"[Event \"a\\\\\"]\n",
+    b"[Event \"a\\",
+    b"[Event \"x",
+    b"[Event x]\n",
+    b"[E\n",
+    b"[Auction \"N\"]\n1NT Pass 3NT Pass\nPass Pass\n",
+    b"[Play \"W\"]\nS4 S2 SK S3\n*\n",
+    b"[Result \"9\"]",
+    b"{ a comment }",
+    b"{ a comment\nover two lines }\n",
+    b"{",
+    b"}",
+    b"; to the end of the line [Board \"9\"]\n",
+    b"% an escape [Board \"8\"]\n",
+    b"\n% an escape { \"\n",
+    b"\"a string\"",
+    b"\"a string with a \\\" in it\" ",
+    b"\"",
+    b"\\",
+    b" ",
+    b"\t",
+    b"    \n",
+    b"Pass 1NT Pass\n",
+    b"[",
+    b"]",
+    b"\xEF\xBB\xBF",
+    b"\x00\xFF\x80\n",
+    b"a text of some more than sixteen bytes, and of more than thirty-two ",
+];
+
+// A number below the count, and the state after it. Who narrows it takes the remainder again, which the proof reads.
+fn below(state: &mut u64, count: u64) -> u64 {
+    *state = state
+        .wrapping_mul(0x5851_F42D_4C95_7F2D)
+        .wrapping_add(0x1405_7B7E_F767_814F);
+    (*state >> 33) % count.max(1)
+}
+
+// A file of so many drawn pieces, one of which is repeated so often.
+fn drawn(alloc: Global, state: &mut u64, pieces: u64, times: u64) -> Result<Vec<u8>, AllocError> {
+    let mut file = Vec::new(alloc);
+    let place = below(state, pieces);
+    for number in 0..pieces {
+        let part = PARTS[(below(state, 64) % 64) as usize];
+        file.extend_from_slice(part)?;
+        if number == place {
+            for _ in 0..times {
+                file.extend_from_slice(part)?;
+            }
+        }
+    }
+    Ok(file)
+}
+
+fn mixed(digest: u64, number: u64) -> u64 {
+    (digest ^ number).wrapping_mul(0x0000_0100_0000_01B3)
+}
+
+fn mixed_bytes(digest: u64, bytes: &[u8]) -> u64 {
+    let mut digest = mixed(digest, bytes.len() as u64);
+    for byte in bytes {
+        digest = mixed(digest, *byte as u64);
+    }
+    digest
+}
+
+// Tells the same results of most deals and none of the others, and mixes all that it is asked and told into one number.
+#[derive(Drop)]
+struct Mixes {
+    alloc: Global,
+    foresees: bool,
+    asked: u64,
+    left: u64,
+    digest: u64,
+}
+
+impl Mixes {
+    fn add(&mut self, number: u64) {
+        self.digest = mixed(self.digest, number);
+    }
+
+    fn add_deal(&mut self, deal: &Hands) {
+        for seat in SEATS {
+            self.add(deal.hand(seat).mask());
+        }
+    }
+}
+
+impl Analyst for Mixes {
+    ghost gives = { λ _ _. Unit {0} };
+
+    fn results(&mut self, deal: &Hands) -> Option<Results> {
+        self.add(1);
+        self.add_deal(deal);
+        self.asked = self.asked.wrapping_add(1);
+        if self.asked % 4 == 0 {
+            None
+        } else {
+            Results::new(RESULTS)
+        }
+    }
+
+    fn foresees(&self) -> bool {
+        self.foresees
+    }
+
+    fn foresee(&mut self, deal: &Hands) {
+        self.add(2);
+        self.add_deal(deal);
+    }
+
+    fn passed(&mut self, games: u64, bytes: u64) {
+        self.add(3);
+        self.add(games);
+        self.add(bytes);
+    }
+
+    fn left(&mut self, game: u64, board: &[u8], reason: Reason) {
+        self.left = self.left.wrapping_add(1);
+        self.add(4);
+        self.add(game);
+        self.digest = mixed_bytes(self.digest, board);
+        if let Ok(text) = format!(in self.alloc; "{reason:?}") {
+            self.digest = mixed_bytes(self.digest, text.as_bytes());
+        }
+    }
+}
+
+// What comes out for the file and is told of it, mixed into the number, where it is read in pieces of so many bytes at most.
+fn filled(
+    alloc: Global,
+    file: &[u8],
+    most: usize,
+    wanted: Wanted,
+    mixes: &mut Mixes,
+) -> Result<(), FileFault> {
+    let mut reader = CountedDevice::new(Pieces { bytes: file, most });
+    let mut writer = CountedDevice::new(Taker::new(alloc));
+    let mut buffer = [0; 4_096];
+    fill_file(alloc, wanted, &mut reader, &mut writer, mixes, &mut buffer)?;
+    mixes.digest = mixed_bytes(mixes.digest, &writer.into_inner().taken);
+    Ok(())
+}
+
+fn wanted_by(number: u64) -> Wanted {
+    Wanted {
+        tricks: number % 2 == 0,
+        score: number % 4 < 3,
+        contract: number % 8 < 6,
+        table: number % 3 < 2,
+    }
+}
+
+// What so many files of up to so many pieces, one of which is repeated up to so often, come to. Each is read whole, in small pieces and
+// byte by byte.
+fn mixed_files(
+    alloc: Global,
+    seed: u64,
+    files: u64,
+    pieces: u64,
+    times: u64,
+) -> Result<Mixes, Fail> {
+    let mut state = seed;
+    let mut mixes = Mixes {
+        alloc,
+        foresees: false,
+        asked: 0,
+        left: 0,
+        digest: 0xCBF2_9CE4_8422_2325,
+    };
+    for number in 0..files {
+        let count = below(&mut state, pieces).wrapping_add(1);
+        let repeated = below(&mut state, times);
+        let file = drawn(alloc, &mut state, count, repeated)?;
+        let small = (below(&mut state, 300) % 300) as usize + 1;
+        mixes.foresees = number % 2 == 1;
+        let wanted = if number % 3 == 0 {
+            wanted_by(number / 3)
+        } else {
+            Wanted::ALL
+        };
+        for most in [usize::MAX, small, 1] {
+            if filled(alloc, &file, most, wanted, &mut mixes).is_err() {
+                mixes.add(5);
+            }
+        }
+    }
+    Ok(mixes)
+}
+
+// The number is the one that the program gave before. Results were asked for often, and games were left often.
+fn compare<R: AllocGlobal + Abort>(
+    rt: &R,
+    seed: u64,
+    files: u64,
+    pieces: u64,
+    times: u64,
+    wanted: u64,
+) -> Result<(), Fail> {
+    let mixes = mixed_files(rt.alloc(), seed, files, pieces, times)?;
+    assert_eq!(rt; mixes.digest, wanted);
+    assert!(rt;
+        mixes.asked > files && mixes.left > files,
+        "{} deals, {} games",
+        mixes.asked,
+        mixes.left
+    );
+    Ok(())
+}
+
+#[test]
+fn short_drawn_files_come_out_as_before(rt: HostRuntime) -> Result<(), Fail> {
+    compare(&rt, 1, 400, 30, 3, 8_283_183_591_809_235_975)
+}
+
+#[test]
+fn drawn_files_of_many_pieces_come_out_as_before(rt: HostRuntime) -> Result<(), Fail> {
+    compare(&rt, 2, 40, 400, 30, 3_574_139_286_528_128_542)
+}
+
+// Longer than what is read ahead of a front.
+#[test]
+fn long_drawn_files_come_out_as_before(rt: HostRuntime) -> Result<(), Fail> {
+    compare(&rt, 3, 12, 8, 9_000, 12_756_514_680_348_021_889)
+}
