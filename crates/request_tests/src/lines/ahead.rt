@@ -114,24 +114,19 @@ fn push_times(lines: &mut Vec<u8>, byte: u8, times: usize) -> Result<(), AllocEr
     Ok(())
 }
 
-// Is this told of these lines with the help of so many threads, where a read gives so many bytes at most?
-fn is_told_by<W: Threads + Wait + Sync>(
+// Whether a stream ends well that is told with the help of these threads, and what it wrote.
+fn told_by<W: Threads + Wait + Sync>(
     rt: &W,
     alloc: Global,
-    lines: &[u8],
-    most: usize,
+    pieces: Pieces<'_>,
+    room: usize,
     others: &mut [NoTable],
-    wanted: &[u8],
-) -> bool {
-    let mut reader = CountedDevice::new(Pieces {
-        bytes: lines,
-        most,
-        calls: usize::MAX,
-    });
+) -> (bool, Vec<u8>) {
+    let mut reader = CountedDevice::new(pieces);
     let mut writer = CountedDevice::new(Taker {
         taken: Vec::new(alloc),
         most: usize::MAX,
-        room: usize::MAX,
+        room,
     });
     let mut buffer = [0; 65_536];
     let result = solve_lines_on(
@@ -144,7 +139,25 @@ fn is_told_by<W: Threads + Wait + Sync>(
         None,
         &mut buffer,
     );
-    result.is_ok() && writer.into_inner().taken.as_slice() == wanted
+    (result.is_ok(), writer.into_inner().taken)
+}
+
+// Is this told of these lines with the help of so many threads, where a read gives so many bytes at most?
+fn is_told_by<W: Threads + Wait + Sync>(
+    rt: &W,
+    alloc: Global,
+    lines: &[u8],
+    most: usize,
+    others: &mut [NoTable],
+    wanted: &[u8],
+) -> bool {
+    let pieces = Pieces {
+        bytes: lines,
+        most,
+        calls: usize::MAX,
+    };
+    let (is_whole, written) = told_by(rt, alloc, pieces, usize::MAX, others);
+    is_whole && written.as_slice() == wanted
 }
 
 // Are these lines told as by one thread, with the help of one, two and three others?
@@ -198,6 +211,60 @@ fn more_lines_of_a_piece_than_are_answered_ahead_are_told_too(rt: HostRuntime) -
     let lines = many_short(rt.alloc())?;
     for _ in 0..10 {
         assert!(rt; is_told_alike(&rt, rt.alloc(), &lines, usize::MAX));
+    }
+    Ok(())
+}
+
+// Does a stream end where its output has taken so many bytes, and where its input has given so many pieces? What it wrote before is the
+// beginning of what is wanted.
+fn ends_early<W: Threads + Wait + Sync>(
+    rt: &W,
+    alloc: Global,
+    lines: &[u8],
+    room: usize,
+    calls: usize,
+    others: &mut [NoTable],
+    wanted: &[u8],
+) -> bool {
+    let (is_whole, cut) = told_by(rt, alloc, Pieces::of(lines), room, others);
+    let pieces = Pieces {
+        bytes: lines,
+        most: 200,
+        calls,
+    };
+    let (is_read, begun) = told_by(rt, alloc, pieces, usize::MAX, others);
+    !is_whole
+        && cut.len() == room
+        && wanted.starts_with(&cut)
+        && !is_read
+        && wanted.starts_with(&begun)
+}
+
+// A stream ends by its output or its input while threads still answer lines of it, a search among them, and have others to take.
+#[test]
+fn many_streams_end_early_while_threads_answer(rt: HostRuntime) -> Result<(), Fail> {
+    for number in 0..STREAMS {
+        let lines = drawn(rt.alloc(), number)?;
+        let alone = run(rt.alloc(), Pieces::of(&lines), usize::MAX, usize::MAX);
+        let wanted = alone.written.as_slice();
+        let mut seed = number;
+        let room = draw(&mut seed) as usize % wanted.len().max(1);
+        let calls = draw(&mut seed) as usize % (lines.len() / 200).max(1);
+        let mut others = [NoTable; 3];
+        for count in 1..4usize {
+            assert!(rt;
+                ends_early(
+                    &rt,
+                    rt.alloc(),
+                    &lines,
+                    room,
+                    calls,
+                    &mut others[..count],
+                    wanted
+                ),
+                "stream {number}, {count} threads"
+            );
+        }
     }
     Ok(())
 }
