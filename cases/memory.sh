@@ -20,11 +20,14 @@ put() {
     head -n "$1" "$data/$2.jsonl" | sed "$3" >> "$work/lines"
     head -n "$1" "$data/$2.expected" >> "$work/expected"
 }
-# Those of a usual form, then the same in another form, with a space before the brace, then another kind.
+# Those of a usual form, then one that has a text where a number belongs and is read as JSON, then the same in another form, with a
+# space before the brace, then another kind.
 put 4 written ''
 put 4 par ''
 put 3 target_faults ''
 usual=$(wc -l < "$work/lines")
+sed -n 4p "$data/target_faults.jsonl" >> "$work/lines"
+sed -n 4p "$data/target_faults.expected" >> "$work/expected"
 put 4 written 's/}$/ }/'
 put 4 par 's/}$/ }/'
 put 4 target_faults 's/}$/ }/'
