@@ -20,9 +20,9 @@ pub trait Bounds {
     /// the bounds that are told of a position, with their depths
     ghost tells: { Self → Board → FourDepths → Interval → Type 0 };
 
-    /// May a search ask it and tell it of a start by relative ranks in place of the deal's own? That one is alike to it: the leader is
-    /// North, and no rank is missing. A search takes less time so. What is told of leads is told by `lead_history_of` and
-    /// `note_lead_of` then.
+    /// May a search ask it and tell it of starts by relative ranks in place of the deal's own? These are alike to them: North leads, and
+    /// of each suit the cards left are the highest ones. A search takes less time so. Of such a start leads are told by
+    /// `lead_history_of` and `note_lead_of`. A search that begins with few tricks left has the deal's own starts all the same.
     fn takes_relative_starts(&self) -> bool {
         false
     }
