@@ -209,16 +209,20 @@ fn wanted_by(number: u64) -> Wanted {
     }
 }
 
-// What so many files of up to so many pieces, one of which is repeated up to so often, come to. Each is read whole, in small pieces and
-// byte by byte.
-fn mixed_files(
-    alloc: Global,
+// Which files are made: how many, of how many pieces at least and how many more at most, one of which is repeated up to so often.
+#[derive(Clone, Copy)]
+struct Making {
     seed: u64,
     files: u64,
-    pieces: u64,
+    least: u64,
+    more: u64,
     times: u64,
-) -> Result<Mixes, Fail> {
-    let mut state = seed;
+}
+
+// What the files come to, and the bytes of the longest one. Each is read in pieces as large as the buffer, in small ones and byte by byte.
+fn mixed_files(alloc: Global, making: Making) -> Result<(Mixes, usize), Fail> {
+    let mut state = making.seed;
+    let mut longest = 0usize;
     let mut mixes = Mixes {
         alloc,
         foresees: false,
@@ -226,10 +230,11 @@ fn mixed_files(
         left: 0,
         digest: 0xCBF2_9CE4_8422_2325,
     };
-    for number in 0..files {
-        let count = below(&mut state, pieces).wrapping_add(1);
-        let repeated = below(&mut state, times);
+    for number in 0..making.files {
+        let count = below(&mut state, making.more).wrapping_add(making.least);
+        let repeated = below(&mut state, making.times);
         let file = drawn(alloc, &mut state, count, repeated)?;
+        longest = longest.max(file.len());
         let small = (below(&mut state, 300) % 300) as usize + 1;
         mixes.foresees = number % 2 == 1;
         let wanted = if number % 3 == 0 {
@@ -243,41 +248,75 @@ fn mixed_files(
             }
         }
     }
-    Ok(mixes)
+    Ok((mixes, longest))
 }
 
-// The number is the one that the program gave before. Results were asked for often, and games were left often.
+// The number is the one that the program gave before. Results were asked for often, games were left often, and the longest file has more
+// than so many bytes.
 fn compare<R: AllocGlobal + Abort>(
     rt: &R,
-    seed: u64,
-    files: u64,
-    pieces: u64,
-    times: u64,
+    making: Making,
+    above: usize,
     wanted: u64,
 ) -> Result<(), Fail> {
-    let mixes = mixed_files(rt.alloc(), seed, files, pieces, times)?;
+    let (mixes, longest) = mixed_files(rt.alloc(), making)?;
     assert_eq!(rt; mixes.digest, wanted);
     assert!(rt;
-        mixes.asked > files && mixes.left > files,
-        "{} deals, {} games",
+        mixes.asked > making.files && mixes.left > making.files && longest > above,
+        "{} deals, {} games, {} bytes",
         mixes.asked,
-        mixes.left
+        mixes.left,
+        longest
     );
     Ok(())
 }
 
 #[test]
 fn short_drawn_files_come_out_as_before(rt: HostRuntime) -> Result<(), Fail> {
-    compare(&rt, 1, 400, 30, 3, 8_283_183_591_809_235_975)
+    let making = Making {
+        seed: 1,
+        files: 400,
+        least: 1,
+        more: 30,
+        times: 3,
+    };
+    compare(&rt, making, 500, 8_283_183_591_809_235_975)
 }
 
 #[test]
 fn drawn_files_of_many_pieces_come_out_as_before(rt: HostRuntime) -> Result<(), Fail> {
-    compare(&rt, 2, 40, 400, 30, 3_574_139_286_528_128_542)
+    let making = Making {
+        seed: 2,
+        files: 40,
+        least: 1,
+        more: 400,
+        times: 30,
+    };
+    compare(&rt, making, 8_000, 3_574_139_286_528_128_542)
 }
 
-// Longer than what is read ahead of a front.
+// One piece is repeated over more than what is read at once.
 #[test]
-fn long_drawn_files_come_out_as_before(rt: HostRuntime) -> Result<(), Fail> {
-    compare(&rt, 3, 12, 8, 9_000, 12_756_514_680_348_021_889)
+fn drawn_files_with_a_long_run_come_out_as_before(rt: HostRuntime) -> Result<(), Fail> {
+    let making = Making {
+        seed: 3,
+        files: 12,
+        least: 1,
+        more: 8,
+        times: 9_000,
+    };
+    compare(&rt, making, 65_536, 12_756_514_680_348_021_889)
+}
+
+// A file is passed on in fronts once 262,144 bytes of it wait.
+#[test]
+fn drawn_files_of_several_fronts_come_out_as_before(rt: HostRuntime) -> Result<(), Fail> {
+    let making = Making {
+        seed: 4,
+        files: 4,
+        least: 20_000,
+        more: 20_000,
+        times: 30,
+    };
+    compare(&rt, making, 400_000, 475_837_719_620_738_507)
 }

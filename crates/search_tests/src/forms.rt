@@ -1,12 +1,13 @@
 //! A search by relative ranks beside one by the ranks of the deal: on drawn starts of a trick, with more than six tricks left and
 //! with fewer. And both beside what searches found before there was the first.
-use arrayvec::ArrayVec;
 use dd_cache::Cache;
 use dd_cards::{Card, Hands, Rank, Seat, Strain, Suit};
 use dd_equal::classes;
 use dd_play::{Interval, Position, TrickStart};
 use dd_rank::{Depths, OwnerStrings};
-use dd_search::{Bounds, Budget, NoTable, start_scores, start_value, start_value_for_first};
+use dd_search::{
+    Bounds, Budget, LeadHistory, NoTable, start_scores, start_value, start_value_for_first,
+};
 use std::alloc::AllocError;
 use std::process::Abort;
 
@@ -94,10 +95,10 @@ fn depths_as_number(depths: Depths) -> u64 {
     number
 }
 
-// One search in eight asks for the scores of all cards, two for the value as it is found for one best card.
+// The value, the value as it is found for one best card, or the scores of all cards.
 fn searched<T: Bounds>(kind: u64, start: &TrickStart, table: &mut T) -> Option<Found> {
     let mut budget = Budget::new(ENOUGH);
-    let (tricks, depths) = match kind % 8 {
+    let (tricks, depths) = match kind % 3 {
         0 => {
             let classes = classes(start.position());
             let found = start_scores(start, classes.as_slice(), table, &mut budget).ok()?;
@@ -107,7 +108,7 @@ fn searched<T: Bounds>(kind: u64, start: &TrickStart, table: &mut T) -> Option<F
             }
             (number, found.1)
         }
-        1 | 2 => {
+        1 => {
             let found = start_value_for_first(start, table, &mut budget).ok()?;
             (found.0 as u64, found.1)
         }
@@ -127,27 +128,29 @@ fn mixed(digest: u64, number: u64) -> u64 {
     (digest ^ number).wrapping_mul(0x0000_0100_0000_01B3)
 }
 
-// What was found of so many starts with so many tricks left, as one number; none where the two forms differ. Each has a cache, so what
-// a search learned serves those after it.
+// What three searches find at each of so many starts with so many tricks left, as one number; none where the two forms differ. Each form
+// has a cache, so what the first of the three learned serves the next ones.
 fn digest_of<R: AllocGlobal>(rt: &R, tricks: u64, starts: u64) -> Result<Option<u64>, AllocError> {
     let mut relative = Cache::new(rt.alloc(), NoTable)?;
     let mut own = Cache::new(rt.alloc(), OwnStarts)?;
     let mut state = tricks;
     let mut digest = 0xCBF2_9CE4_8422_2325u64;
     for number in 0..starts {
-        let kind = tricks.wrapping_add(number);
         let Some(start) = drawn(&mut state, tricks) else {
             return Ok(None);
         };
-        let Some(found) = searched(kind, &start, &mut relative) else {
-            return Ok(None);
-        };
-        if searched(kind, &start, &mut own) != Some(found) {
-            return Ok(None);
+        for turn in 0..3u64 {
+            let kind = number.wrapping_add(turn);
+            let Some(found) = searched(kind, &start, &mut relative) else {
+                return Ok(None);
+            };
+            if searched(kind, &start, &mut own) != Some(found) {
+                return Ok(None);
+            }
+            digest = mixed(digest, found.tricks);
+            digest = mixed(digest, found.depths);
+            digest = mixed(digest, found.ticks);
         }
-        digest = mixed(digest, found.tricks);
-        digest = mixed(digest, found.depths);
-        digest = mixed(digest, found.ticks);
     }
     Ok(Some(digest))
 }
@@ -171,11 +174,11 @@ fn compare_each<R: AllocGlobal + Abort>(
 #[test]
 fn both_forms_find_what_was_found_with_few_tricks(rt: HostRuntime) -> Result<(), AllocError> {
     let rows = [
-        (4, 24, 4900986710725001530),
-        (5, 24, 13248334839917270237),
-        (6, 24, 12627158977652914921),
-        (7, 24, 8690291639989694976),
-        (8, 24, 13605383523503259288),
+        (4, 16, 7_827_678_740_649_999_591),
+        (5, 16, 12_022_159_229_626_017_245),
+        (6, 16, 5_182_297_200_451_684_248),
+        (7, 16, 9_010_320_938_488_648_818),
+        (8, 10, 1_278_173_200_395_194_316),
     ];
     compare_each(&rt, &rows)
 }
@@ -186,7 +189,10 @@ fn both_forms_find_what_was_found_with_nine_and_ten_tricks(
 ) -> Result<(), AllocError> {
     compare_each(
         &rt,
-        &[(9, 16, 183139935425263372), (10, 8, 8661545267701465259)],
+        &[
+            (9, 5, 11_918_665_426_276_320_022),
+            (10, 3, 10_026_224_494_389_981_037),
+        ],
     )
 }
 
@@ -196,39 +202,41 @@ fn both_forms_find_what_was_found_with_eleven_and_twelve_tricks(
 ) -> Result<(), AllocError> {
     compare_each(
         &rt,
-        &[(11, 6, 4357747171422058553), (12, 5, 12476002282529558816)],
+        &[
+            (11, 2, 14_225_381_500_660_137_266),
+            (12, 1, 15_980_976_126_790_756_228),
+        ],
     )
 }
 
 #[test]
 fn both_forms_find_what_was_found_in_full_deals(rt: HostRuntime) -> Result<(), AllocError> {
-    compare_each(&rt, &[(13, 4, 11760388828198774505)])
+    compare_each(&rt, &[(13, 1, 3_883_674_405_665_591_731)])
 }
 
-// Keeps nothing, and writes down what it is asked and told: a look as `L` and the tricks left, a note as `N`, the tricks left and the
-// bounds. It counts the starts in which a hand has a card that it hasn't in the deal.
+// A table of a caller, which may look at the cards and says nothing of starts by relative ranks. It keeps nothing, and mixes into one
+// number what it is asked and told: the start by its owners and its leader in the deal, the tricks that are asked for, bounds with their
+// depths, and leads. It counts the questions, and the starts in which a hand has a card that it hasn't in the deal.
 #[derive(Drop)]
 struct Watch {
     deal: Hands,
-    takes_relative: bool,
-    events: ArrayVec<u8, 256>,
+    digest: u64,
+    asked: u64,
     others: u64,
 }
 
 impl Watch {
-    fn of(start: &TrickStart, takes_relative: bool) -> Watch {
+    fn of(start: &TrickStart) -> Watch {
         Watch {
             deal: start.position().hands().copy(),
-            takes_relative,
-            events: ArrayVec::new(),
+            digest: 0xCBF2_9CE4_8422_2325,
+            asked: 0,
             others: 0,
         }
     }
 
-    fn write(&mut self, bytes: &[u8]) {
-        for byte in bytes {
-            let _fits = self.events.try_push(*byte);
-        }
+    fn add(&mut self, number: u64) {
+        self.digest = mixed(self.digest, number);
     }
 
     fn see(&mut self, position: &Position) {
@@ -240,10 +248,38 @@ impl Watch {
             self.others = self.others.saturating_add(1);
         }
     }
+
+    fn ask(&mut self, start: &TrickStart, strings: &OwnerStrings, need: u8) {
+        self.see(start.position());
+        self.asked = self.asked.saturating_add(1);
+        self.add(strings.hash_code());
+        self.add(need as u64);
+    }
+
+    fn tell(&mut self, start: &TrickStart, strings: &OwnerStrings, depths: Depths, told: Interval) {
+        self.see(start.position());
+        self.add(strings.hash_code());
+        self.add(depths_as_number(depths));
+        self.add(told.lo as u64);
+        self.add(told.hi as u64);
+    }
+
+    fn tell_lead(&mut self, start: &Position, leader: Seat, strings: &OwnerStrings, lead: Suit) {
+        self.see(start);
+        self.add(strings.hash_code());
+        self.add(leader.code() as u64);
+        self.add(lead.code() as u64);
+    }
 }
 
-fn digit(number: u8) -> u8 {
-    number.wrapping_add(b'0')
+// Suits by the owners and by the leader in the deal: so the order of leads shows whether both are told.
+fn history_of(leader: Seat, strings: &OwnerStrings) -> LeadHistory {
+    let number = strings.hash_code();
+    LeadHistory {
+        of_shape: Suit::from_code((number % 5) as u8),
+        of_outline: Suit::from_code((number / 5 % 5) as u8),
+        of_leader: Suit::from_code(leader.code()),
+    }
 }
 
 impl Bounds for Watch {
@@ -251,83 +287,139 @@ impl Bounds for Watch {
 
     ghost holds = { λ table p depths interval q told. absurd told };
 
-    fn takes_relative_starts(&self) -> bool {
-        self.takes_relative
-    }
-
     fn look(&mut self, start: &TrickStart) -> Option<(Interval, Depths)> {
-        self.see(start.position());
-        self.write(&[b'L', digit(start.position().tricks_left())]);
+        self.ask(start, &OwnerStrings::of(start), 0);
         None
     }
 
-    fn note(&mut self, start: &TrickStart, _depths: Depths, interval: Interval) {
-        self.see(start.position());
-        let left = start.position().tricks_left();
-        self.write(&[b'N', digit(left), digit(interval.lo), digit(interval.hi)]);
+    fn settle(
+        &mut self,
+        start: &TrickStart,
+        strings: &OwnerStrings,
+        need: u8,
+    ) -> Option<(Interval, Depths)> {
+        self.ask(start, strings, need);
+        None
     }
 
-    fn note_lead(&mut self, start: &Position, _strings: &OwnerStrings, _lead: Suit) {
-        self.see(start);
+    fn note(&mut self, start: &TrickStart, depths: Depths, interval: Interval) {
+        self.tell(start, &OwnerStrings::of(start), depths, interval);
+    }
+
+    fn lead_history(&self, start: &Position, strings: &OwnerStrings) -> LeadHistory {
+        history_of(start.first(), strings)
+    }
+
+    fn note_lead(&mut self, start: &Position, strings: &OwnerStrings, lead: Suit) {
+        self.tell_lead(start, start.first(), strings, lead);
     }
 }
 
-// Whether a search within this budget is ended by it, its ticks and what its table was asked and told.
-fn watched(start: &TrickStart, most: u64, takes_relative: bool) -> (bool, u64, Watch) {
-    let mut watch = Watch::of(start, takes_relative);
+// The same, and it takes starts by relative ranks.
+#[derive(Drop)]
+struct TakesRelative {
+    watch: Watch,
+}
+
+impl Bounds for TakesRelative {
+    ghost tells = { λ table p depths interval. ⊥ };
+
+    ghost holds = { λ table p depths interval q told. absurd told };
+
+    fn takes_relative_starts(&self) -> bool {
+        true
+    }
+
+    fn look(&mut self, start: &TrickStart) -> Option<(Interval, Depths)> {
+        self.watch.ask(start, &OwnerStrings::of(start), 0);
+        None
+    }
+
+    fn settle(
+        &mut self,
+        start: &TrickStart,
+        strings: &OwnerStrings,
+        need: u8,
+    ) -> Option<(Interval, Depths)> {
+        self.watch.ask(start, strings, need);
+        None
+    }
+
+    fn note(&mut self, start: &TrickStart, depths: Depths, interval: Interval) {
+        self.watch
+            .tell(start, &OwnerStrings::of(start), depths, interval);
+    }
+
+    fn lead_history(&self, start: &Position, strings: &OwnerStrings) -> LeadHistory {
+        history_of(start.first(), strings)
+    }
+
+    fn note_lead(&mut self, start: &Position, strings: &OwnerStrings, lead: Suit) {
+        self.watch.tell_lead(start, start.first(), strings, lead);
+    }
+
+    fn lead_history_of(
+        &self,
+        _start: &Position,
+        leader: Seat,
+        strings: &OwnerStrings,
+    ) -> LeadHistory {
+        history_of(leader, strings)
+    }
+
+    fn note_lead_of(&mut self, start: &Position, leader: Seat, strings: &OwnerStrings, lead: Suit) {
+        self.watch.tell_lead(start, leader, strings, lead);
+    }
+}
+
+// Whether a search within this budget is ended by it, and its ticks.
+fn ended<T: Bounds>(start: &TrickStart, most: u64, table: &mut T) -> (bool, u64) {
     let mut budget = Budget::new(most);
-    let is_spent = start_value(start, &mut watch, &mut budget).is_err();
-    (is_spent, budget.ticks(), watch)
+    let is_spent = start_value(start, table, &mut budget).is_err();
+    (is_spent, budget.ticks())
 }
 
-// Is a table asked and told the same in both forms of a search within this budget?
-fn is_asked_alike(start: &TrickStart, most: u64) -> bool {
-    let (is_spent, ticks, relative) = watched(start, most, true);
-    let (own_is_spent, own_ticks, own) = watched(start, most, false);
-    is_spent == own_is_spent
-        && ticks == own_ticks
-        && relative.events.as_slice() == own.events.as_slice()
+// Is a table asked and told the same in both forms of a search within this budget? How many starts that are not the deal's each form
+// showed: first the own form.
+fn others_of(start: &TrickStart, most: u64) -> Option<[u64; 2]> {
+    let mut own = Watch::of(start);
+    let mut relative = TakesRelative {
+        watch: Watch::of(start),
+    };
+    let own_end = ended(start, most, &mut own);
+    let relative_end = ended(start, most, &mut relative);
+    let is_alike = own_end == relative_end
+        && own.asked == relative.watch.asked
+        && own.digest == relative.watch.digest;
+    // Each question had its own tick before.
+    if is_alike && own.asked <= own_end.1 {
+        Some([own.others, relative.watch.others])
+    } else {
+        None
+    }
 }
 
-// Budgets that end in the first two tricks, and some that end later: so each form ticks before it looks.
+// Budgets that end in the first three tricks, and some that end later. A table is asked of starts of the deal alone, unless it says that
+// it takes others: there are such in most searches of more than six tricks, and none in others.
 #[test]
 fn both_forms_of_a_search_ask_their_table_alike(rt: HostRuntime) {
     let mut state = 7;
+    let mut shown = [0u64; 2];
     for number in 0..40u64 {
-        let start = drawn(&mut state, 5 + number % 5).expect(&rt, "a start");
-        for most in 0..12u64 {
-            assert!(rt;
-                is_asked_alike(&start, most),
-                "start {number}, budget {most}"
-            );
-        }
-        for most in [50, 200, 1_000] {
-            assert!(rt;
-                is_asked_alike(&start, most),
-                "start {number}, budget {most}"
-            );
-        }
-    }
-}
-
-// A table is asked of starts of the deal alone, unless it says that it takes others: there are such in most searches of more than six
-// tricks, and none in others.
-#[test]
-fn a_table_is_asked_of_starts_of_the_deal_unless_it_takes_others(rt: HostRuntime) {
-    let mut state = 11;
-    let mut others = [0u64; 2];
-    for number in 0..40u64 {
-        let tricks = 5 + number % 4;
+        let tricks = 5 + number % 5;
         let start = drawn(&mut state, tricks).expect(&rt, "a start");
-        let (_, _, own) = watched(&start, 2_000, false);
-        assert!(rt; own.others == 0, "start {number}");
-        assert!(rt; own.events.as_slice().starts_with(b"L"), "start {number}");
-        let (_, _, relative) = watched(&start, 2_000, true);
-        if relative.others > 0 {
-            others[(tricks > 6) as usize] += 1;
+        for most in [0, 1, 2, 3, 4, 5, 6, 7, 8, 9, 10, 11, 50, 200, 2_000] {
+            let others = others_of(&start, most);
+            assert!(rt;
+                others.is_some_and(|others| others[0] == 0),
+                "start {number}, budget {most}"
+            );
+            if others.is_some_and(|others| others[1] > 0) {
+                shown[(tricks > 6) as usize] += 1;
+            }
         }
     }
-    assert!(rt; others[0] == 0 && others[1] > 10, "{others:?}");
+    assert!(rt; shown[0] == 0 && shown[1] > 100, "{shown:?}");
 }
 
 // Behind a cache too, which asks it from ten tricks on.
@@ -336,17 +428,27 @@ fn a_table_behind_a_cache_is_asked_of_starts_of_the_deal(
     rt: HostRuntime,
 ) -> Result<(), AllocError> {
     let mut state = 13;
-    let mut others = [0u64; 2];
+    let mut shown = 0u64;
     for number in 0..4u64 {
         let start = drawn(&mut state, 10 + number % 3).expect(&rt, "a start");
-        for takes_relative in [false, true] {
-            let mut cache = Cache::new(rt.alloc(), Watch::of(&start, takes_relative))?;
-            let mut budget = Budget::new(5_000);
-            let _halted = start_value(&start, &mut cache, &mut budget).is_err();
-            assert!(rt; !cache.behind().events.is_empty(), "start {number}");
-            others[takes_relative as usize] += cache.behind().others;
-        }
+        let mut own = Cache::new(rt.alloc(), Watch::of(&start))?;
+        let watch = Watch::of(&start);
+        let mut relative = Cache::new(rt.alloc(), TakesRelative { watch })?;
+        let ends = [
+            ended(&start, 5_000, &mut own),
+            ended(&start, 5_000, &mut relative),
+        ];
+        assert_eq!(rt; ends[0], ends[1], "start {number}");
+        assert!(rt;
+            own.behind().asked > 0 && own.behind().others == 0,
+            "start {number}"
+        );
+        assert!(rt;
+            own.behind().digest == relative.behind().watch.digest,
+            "start {number}"
+        );
+        shown += relative.behind().watch.others;
     }
-    assert!(rt; others[0] == 0 && others[1] > 0, "{others:?}");
+    assert!(rt; shown > 0);
     Ok(())
 }
