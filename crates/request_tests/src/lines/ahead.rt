@@ -16,6 +16,9 @@ const STREAMS: u64 = 100;
 /// The lines of a stream.
 const LINES: u64 = 40;
 
+/// Streams that end early.
+const CUT_STREAMS: u64 = 30;
+
 const LONG_STREAMS: u64 = 3;
 
 /// The lines of a long stream.
@@ -215,53 +218,104 @@ fn more_lines_of_a_piece_than_are_answered_ahead_are_told_too(rt: HostRuntime) -
     Ok(())
 }
 
-// Does a stream end where its output has taken so many bytes, and where its input has given so many pieces? What it wrote before is the
-// beginning of what is wanted.
-fn ends_early<W: Threads + Wait + Sync>(
+// Short lines, then three searches, then short lines again; and how many bytes stand before the searches.
+fn with_searches(alloc: Global, seed: &mut u64) -> Result<(Vec<u8>, usize), AllocError> {
+    let mut lines = Vec::new(alloc);
+    for _ in 0..=draw(seed) % 20 {
+        push_drawn(&mut lines, draw(seed) % 32)?;
+        lines.push(b'\n')?;
+    }
+    let before = lines.len();
+    for _ in 0..3 {
+        lines.extend_from_slice(searched())?;
+        lines.push(b'\n')?;
+    }
+    for _ in 0..10 {
+        push_drawn(&mut lines, draw(seed) % 32)?;
+        lines.push(b'\n')?;
+    }
+    Ok((lines, before))
+}
+
+// What one thread tells of the lines that end in the first so many bytes.
+fn told_before(alloc: Global, lines: &[u8], count: usize) -> Vec<u8> {
+    let head = lines.get(..count.min(lines.len())).unwrap_or_default();
+    let mut end = 0usize;
+    for (place, byte) in head.iter().enumerate() {
+        if *byte == b'\n' {
+            end = place.saturating_add(1);
+        }
+    }
+    let ended = head.get(..end).unwrap_or_default();
+    run(alloc, Pieces::of(ended), usize::MAX, usize::MAX).written
+}
+
+// Does a stream end where its output has taken so many bytes? Threads may still answer lines then, and have others to take.
+fn ends_by_output<W: Threads + Wait + Sync>(
     rt: &W,
     alloc: Global,
     lines: &[u8],
     room: usize,
+    others: &mut [NoTable],
+    wanted: &[u8],
+) -> bool {
+    let (is_whole, written) = told_by(rt, alloc, Pieces::of(lines), room, others);
+    !is_whole && written.len() == room && wanted.starts_with(&written)
+}
+
+// Does a stream end where its input has given so many pieces of 200 bytes? All lines that ended in them are told, and threads wait for
+// others.
+fn ends_by_input<W: Threads + Wait + Sync>(
+    rt: &W,
+    alloc: Global,
+    lines: &[u8],
     calls: usize,
     others: &mut [NoTable],
     wanted: &[u8],
 ) -> bool {
-    let (is_whole, cut) = told_by(rt, alloc, Pieces::of(lines), room, others);
     let pieces = Pieces {
         bytes: lines,
         most: 200,
         calls,
     };
-    let (is_read, begun) = told_by(rt, alloc, pieces, usize::MAX, others);
-    !is_whole
-        && cut.len() == room
-        && wanted.starts_with(&cut)
-        && !is_read
-        && wanted.starts_with(&begun)
+    let (is_whole, written) = told_by(rt, alloc, pieces, usize::MAX, others);
+    let least = told_before(alloc, lines, calls.saturating_mul(200));
+    !is_whole && written.starts_with(&least) && wanted.starts_with(&written)
 }
 
-// A stream ends by its output or its input while threads still answer lines of it, a search among them, and have others to take.
+// The output ends before the reply of the first of three searches.
 #[test]
-fn many_streams_end_early_while_threads_answer(rt: HostRuntime) -> Result<(), Fail> {
-    for number in 0..STREAMS {
-        let lines = drawn(rt.alloc(), number)?;
+fn many_streams_end_by_their_output_while_threads_search(rt: HostRuntime) -> Result<(), Fail> {
+    for number in 0..CUT_STREAMS {
+        let mut seed = number;
+        let (lines, before) = with_searches(rt.alloc(), &mut seed)?;
         let alone = run(rt.alloc(), Pieces::of(&lines), usize::MAX, usize::MAX);
         let wanted = alone.written.as_slice();
-        let mut seed = number;
-        let room = draw(&mut seed) as usize % wanted.len().max(1);
-        let calls = draw(&mut seed) as usize % (lines.len() / 200).max(1);
+        let told = told_before(rt.alloc(), &lines, before).len();
+        let room = draw(&mut seed) as usize % told.max(1);
         let mut others = [NoTable; 3];
         for count in 1..4usize {
             assert!(rt;
-                ends_early(
-                    &rt,
-                    rt.alloc(),
-                    &lines,
-                    room,
-                    calls,
-                    &mut others[..count],
-                    wanted
-                ),
+                ends_by_output(&rt, rt.alloc(), &lines, room, &mut others[..count], wanted),
+                "stream {number}, {count} threads"
+            );
+        }
+    }
+    Ok(())
+}
+
+#[test]
+fn many_streams_end_by_their_input(rt: HostRuntime) -> Result<(), Fail> {
+    for number in 0..CUT_STREAMS {
+        let mut seed = number;
+        let lines = drawn(rt.alloc(), number)?;
+        let alone = run(rt.alloc(), Pieces::of(&lines), usize::MAX, usize::MAX);
+        let wanted = alone.written.as_slice();
+        let calls = draw(&mut seed) as usize % (lines.len() / 200).saturating_add(1);
+        let mut others = [NoTable; 3];
+        for count in 1..4usize {
+            assert!(rt;
+                ends_by_input(&rt, rt.alloc(), &lines, calls, &mut others[..count], wanted),
                 "stream {number}, {count} threads"
             );
         }
