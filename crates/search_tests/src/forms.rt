@@ -51,7 +51,7 @@ fn drawn(state: &mut u64, cards: u64) -> Option<TrickStart> {
     let mut wanted = cards.saturating_mul(4);
     for number in 0..52u64 {
         if below(state, 52u64.saturating_sub(number)) < wanted {
-            let seat = seat_with_room(state, &left)?;
+            let seat = seat_with_room(state, &left)? % 4;
             wanted = wanted.saturating_sub(1);
             left[seat] = left[seat].saturating_sub(1);
             hands.insert(Seat::from_code(seat as u8)?, card_of(number)?);
