@@ -10,9 +10,9 @@ for tool in python3 rustc; do
 done
 work=$(mktemp -d)
 trap 'rm -rf "$work"' EXIT
-"$here/../ddserve" --version > /dev/null
+"${DDSERVE:-$here/../ddserve}" --version > /dev/null
 rustc --cfg pages --check-cfg "cfg(pages)" -C opt-level=3 --edition 2021 -o "$work/peer" "$here/../bench/peer/search.rs"
-python3 - "$here/../crates/ddserve/out/ddserve" "$work/peer" "$here/data" <<'PY'
+python3 - "${DDSERVE:-$here/../crates/ddserve/out/ddserve}" "$work/peer" "$here/data" <<'PY'
 import json
 import math
 import subprocess

@@ -7,7 +7,7 @@
 set -eu
 here=$(cd -- "$(dirname -- "$0")" && pwd)
 data=$here/data
-ddserve=$here/../ddserve
+ddserve=${DDSERVE:-$here/../ddserve}
 seed=${1:-20261124}
 for tool in cmp sed rustc; do
     command -v "$tool" > /dev/null || { echo "cases: the command $tool is missing" >&2; exit 1; }

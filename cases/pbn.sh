@@ -7,7 +7,7 @@
 set -eu
 here=$(cd -- "$(dirname -- "$0")" && pwd)
 data=$here/data/pbn
-ddserve=$here/../ddserve
+ddserve=${DDSERVE:-$here/../ddserve}
 for tool in cmp python3; do
     command -v "$tool" > /dev/null || { echo "cases: the command $tool is missing" >&2; exit 1; }
 done

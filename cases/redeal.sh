@@ -17,8 +17,8 @@ rustc -C opt-level=3 --edition 2021 -o "$work/redeal" "$here/tools/redeal.rs"
 
 "$work/redeal" full "$deals" > "$work/pairs.jsonl"
 # The deals in one run, those dealt anew in another: else what the one left in the table could answer the other.
-sed -n 'p;n' "$work/pairs.jsonl" | "$here/../ddserve" solve --entries 65536 > "$work/first"
-sed -n 'n;p' "$work/pairs.jsonl" | "$here/../ddserve" solve --entries 65536 > "$work/anew"
+sed -n 'p;n' "$work/pairs.jsonl" | "${DDSERVE:-$here/../ddserve}" solve --entries 65536 > "$work/first"
+sed -n 'n;p' "$work/pairs.jsonl" | "${DDSERVE:-$here/../ddserve}" solve --entries 65536 > "$work/anew"
 # Each reply is the one card of a best score that was asked for.
 paste -d '\n' "$work/first" "$work/anew" | sed -n 's/.*"score":\([0-9]*\),.*/\1/p' > "$work/scores"
 if [ "$(wc -l < "$work/scores")" -ne $((2 * deals)) ]; then

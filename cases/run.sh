@@ -7,26 +7,27 @@
 set -eu
 here=$(cd -- "$(dirname -- "$0")" && pwd)
 data=$here/data
+ddserve=${DDSERVE:-$here/../ddserve}
 for tool in cmp python3 rustc; do
     command -v "$tool" > /dev/null || { echo "cases: the command $tool is missing" >&2; exit 1; }
 done
 work=$(mktemp -d)
 trap 'rm -rf "$work"' EXIT
 for name in written small full tables targets target_faults plays play_faults; do
-    "$here/../ddserve" solve < "$data/$name.jsonl" > "$work/replies"
+    "$ddserve" solve < "$data/$name.jsonl" > "$work/replies"
     cmp "$work/replies" "$data/$name.expected"
     echo "$name: $(wc -l < "$data/$name.jsonl") replies agree with DDS"
 done
 for workers in 2 4; do
     for name in written small full tables; do
-        "$here/../ddserve" solve --workers "$workers" < "$data/$name.jsonl" > "$work/replies"
+        "$ddserve" solve --workers "$workers" < "$data/$name.jsonl" > "$work/replies"
         cmp "$work/replies" "$data/$name.expected"
     done
     echo "with $workers workers the same replies"
 done
 # The same with ids and words: each line gets the number of its place as its id, its reply has that id first, and is the recorded
 # one behind it but for faults, which keep their number.
-python3 - "$here/../ddserve" "$data" <<'END'
+python3 - "$ddserve" "$data" <<'END'
 import json, subprocess, sys
 program, data = sys.argv[1:]
 checked = 0
@@ -56,7 +57,6 @@ ends() { # STATUS TEXT COMMAND..
     "$@" > "$work/said" 2>&1 || got=$?
     [ "$got" = "$status" ] && { [ -z "$said" ] || grep -q -- "$said" "$work/said"; } || { echo "cases: $* ended with $got: $(cat "$work/said")" >&2; exit 1; }
 }
-ddserve=$here/../ddserve
 version=$(sed -n 's/^## \([0-9.]*\)$/\1/p' "$here/../CHANGELOG.md" | head -1)
 ends 0 "^ddserve $version\$" "$ddserve" --version
 ends 0 'Usage: ddserve solve' "$ddserve" solve --help

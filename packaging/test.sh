@@ -1,8 +1,9 @@
 #!/usr/bin/env bash
 # Tests the packages of the programs given (as for build.sh): the same bytes of two builds, lintian without errors, each option of the
 # program's help in the page of the manual and in the completions, and in a bare Debian made by debootstrap: installed, it answers, the unit
-# verifies, its command serves, systemd runs it in a container, and nothing stays when it is purged. Ends with 77 where a tool is missing, and says which. It has to be
-# root, for debootstrap. BARE names a folder in which a bare Debian is kept for the next time.
+# verifies, its command serves, also with the user, the limits and the filters of the unit (`confined.py`), and nothing stays when it is
+# purged. No service manager is started. Ends with 77 where a tool is missing, and says which. It has to be root, for debootstrap. BARE
+# names a folder in which a bare Debian is kept for the next time.
 set -eu
 here=$(cd -- "$(dirname -- "$0")" && pwd)
 missing() {
@@ -13,9 +14,10 @@ fail() {
     echo "packaging/test.sh: $1" >&2
     exit 1
 }
-for tool in lintian debootstrap systemd-analyze systemd-nspawn zsh python3 man; do
+for tool in lintian debootstrap systemd-analyze zsh python3 man; do
     command -v "$tool" > /dev/null || missing "the command $tool"
 done
+/usr/bin/python3 -c 'import seccomp' 2> /dev/null || missing 'the package python3-seccomp'
 [ "$(id -u)" = 0 ] || missing 'root'
 work=$(mktemp -d)
 server=''
@@ -142,31 +144,28 @@ kill "$server"
 wait "$server" 2> /dev/null || true
 server=''
 
-# Under systemd, which is started in a container of this Debian. Its network is that of the machine.
-rm -rf "$bare/proc/cpuinfo"
-cp /etc/resolv.conf "$bare/etc/resolv.conf"
-systemd-nspawn -q --register=no --keep-unit -D "$bare" sh -c 'apt-get update && DEBIAN_FRONTEND=noninteractive apt-get install -y --no-install-recommends systemd systemd-sysv' \
-    > "$work/log" 2>&1 || { tail -5 "$work/log" >&2; fail 'systemd could not be installed in the bare Debian'; }
+# As the unit has it run, by `confined.py`: with its user, its limits and what its filters leave. Its network is that of the machine.
 port=$(python3 -c 'import socket; it = socket.create_server(("127.0.0.1", 0)); print(it.getsockname()[1])')
 sed -i "s/^DDSERVE_LISTEN=.*/DDSERVE_LISTEN=127.0.0.1:$port/; s/^DDSERVE_OPTIONS=.*/DDSERVE_OPTIONS=\"--workers 1 --events 2048\"/" "$bare/etc/default/ddserve"
-chroot "$bare" systemctl enable ddserve.service > "$work/log" 2>&1
-systemd-nspawn -q --register=no --keep-unit -D "$bare" --boot < /dev/null > "$work/log" 2>&1 &
+unit=$bare/lib/systemd/system/ddserve.service
+command=$(sed -n 's/^ExecStart=//p' "$unit")
+confined=("$here/confined.py" "$bare" "$unit")
+# (The shell takes the options apart as systemd does.)
+"${confined[@]}" sh -c ". /etc/default/ddserve; exec $command" > "$work/said" 2>&1 &
 server=$!
-running() { # the number of the process that serves
-    grep -lsz -- "^127.0.0.1:$port\$" /proc/[0-9]*/cmdline | sed -n 's|/proc/\([0-9]*\)/.*|\1|p' | head -1
-}
-[ "$(asked "$port")" = "$served" ] || { tail -5 "$work/log" >&2; fail 'systemd does not run the unit'; }
-first=$(running)
-tr '\0' ' ' < "/proc/$first/cmdline" | grep -q -- '--workers 1 --events 2048' || fail 'the unit does not take its options from /etc/default/ddserve'
-for line_of in 'Uid:.[1-9]' 'CapEff:.0000000000000000' 'NoNewPrivs:.1' 'Seccomp:.2'; do
-    grep -q "^$line_of" "/proc/$first/status" || fail "the service runs without $line_of"
+[ "$(asked "$port")" = "$served" ] || { tail -5 "$work/said" >&2; fail "as the unit has it run it doesn't serve"; }
+tr '\0' ' ' < "/proc/$server/cmdline" | grep -q -- '--workers 1 --events 2048' || fail 'it does not take its options from /etc/default/ddserve'
+for line_of in 'Uid:.[1-9]' 'CapEff:.0000000000000000' 'CapBnd:.0000000000000000' 'NoNewPrivs:.1' 'Seccomp:.2' 'Umask:.0077'; do
+    grep -q "^$line_of" "/proc/$server/status" || fail "the service runs without $line_of"
 done
-kill -KILL "$first"
-[ "$(asked "$port")" = "$served" ] && [ "$(running)" != "$first" ] || fail 'the unit is not started again'
+grep -q '^Max open files *8192 *8192 ' "/proc/$server/limits" || fail 'the service runs without its limit of open files'
 kill "$server"
 wait "$server" 2> /dev/null || true
 server=''
-echo 'packages: systemd runs the unit with a user and filters of its own, and starts it again'
+# That the filters are there: another family of addresses is refused, and the one that serves isn't.
+"${confined[@]}" perl -MSocket -e 'socket(my $it, PF_INET, SOCK_STREAM, 0) or exit 1; exit(socket(my $other, PF_UNIX, SOCK_STREAM, 0) ? 2 : 0)' \
+    || fail 'the filters of the unit are not in force'
+echo 'packages: it serves with the user, the limits and the filters of the unit'
 chroot "$bare" dpkg --purge ddserve > "$work/log" 2>&1 || { cat "$work/log" >&2; fail 'dpkg --purge failed'; }
 left=$(find "$bare" -xdev -path "$bare/proc" -prune -o -name '*ddserve*' -print | grep -v -e '/ddserve.deb$' -e '/var/log/' || true)
 [ -z "$left" ] || fail "a purge leaves $left"

@@ -10,11 +10,6 @@ for tool in git rt; do
     command -v "$tool" > /dev/null || { echo "bench/workers: the command $tool is missing" >&2; exit 1; }
 done
 git -C "$top" archive HEAD crates crates.txt HANDLES | tar -x -C "$work"
-# What was checked before needs no second check.
-for out in "$top"/crates/*/out; do
-    crate=$work/crates/$(basename "$(dirname "$out")")
-    if [ -d "$out" ] && [ -d "$crate" ]; then cp -a "$out" "$crate/"; fi
-done
 mkdir -p "$work/crates/workers/src" "$work/crates/workers/proofs/worked"
 cp "$here/workers.txt" "$work/crates/workers/src/main.rt"
 cp "$here/journal.txt" "$work/crates/workers/src/journal.rt"

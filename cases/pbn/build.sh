@@ -10,16 +10,6 @@ for tool in git rt; do
     command -v "$tool" > /dev/null || { echo "cases: the command $tool is missing" >&2; exit 1; }
 done
 git -C "$top" archive HEAD crates crates.txt HANDLES | tar -x -C "$work"
-# What was checked before of these needs no second check.
-for out in "$top"/crates/{dd_cards,dd_file,dd_lines,dd_pbn,dd_score}/out; do
-    crate=$work/crates/$(basename "$(dirname "$out")")
-    if [ -d "$out" ] && [ -d "$crate" ]; then
-        mkdir -p "$crate/out"
-        for part in incremental rlib; do
-            if [ -d "$out/$part" ]; then cp -a "$out/$part" "$crate/out/"; fi
-        done
-    fi
-done
 mkdir -p "$work/crates/cuts/src"
 cp "$here/cuts.txt" "$work/crates/cuts/src/main.rt"
 echo 'cuts: dd_cards dd_file dd_lines dd_score itoa' >> "$work/crates.txt"
