@@ -8,6 +8,13 @@ use std::alloc::{AllocError, Global};
 /// The points of a strong side.
 const STRONG: usize = 26;
 
+/// The tables of results that there are: by the fewest tricks, the strain that has them, what the others have more, and in which hands the
+/// strain after it has one fewer.
+const TABLES: usize = 9 * 5 * 625 * 4;
+
+/// How far apart two are that come one after the other: it has no factor of their number, so all come before one comes again.
+const TABLES_APART: usize = 7919;
+
 /// The cards a hand of endings, in turn.
 const ENDINGS: [usize; 10] = [1, 2, 3, 4, 5, 6, 1, 2, 3, 4];
 
@@ -75,10 +82,12 @@ fn push_play(lines: &mut Vec<u8>, number: usize, draws: &mut Draws) -> Result<()
 /// Short lines: par of given results, and endings of a few cards with up to three on the trick, in turn.
 pub(crate) fn short(alloc: Global, count: u32, draws: &mut Draws) -> Result<Vec<u8>, AllocError> {
     let mut lines = Vec::new(alloc);
+    let first = draws.below(TABLES);
     for number in 0..count {
         let number = number as usize;
         if number % 2 == 0 {
-            push_par(&mut lines, draws)?;
+            let table = first.wrapping_add((number / 2).wrapping_mul(TABLES_APART)) % TABLES;
+            push_par(&mut lines, table, draws)?;
         } else {
             push_ending(&mut lines, number / 2, draws)?;
         }
@@ -122,14 +131,28 @@ fn push_solve(
     push_field(lines, b",\"solutions\":", solutions)
 }
 
-fn push_par(lines: &mut Vec<u8>, draws: &mut Draws) -> Result<(), AllocError> {
+// A line for par. The number of its table gives the tricks in the strain in which North and South take the fewest, which one that is, in
+// the others up to five more, and what the next strain has fewer: no two numbers give the same results.
+fn push_par(lines: &mut Vec<u8>, table: usize, draws: &mut Draws) -> Result<(), AllocError> {
     lines.extend_from_slice(b"{\"do\":\"par\",\"table\":[")?;
-    let strength = draws.below(9);
+    let fewest = table % 9;
+    let lowest = table / 9 % 5;
+    let mut more = table / 45 % 625;
     for strain in 0..5 {
         if strain > 0 {
             lines.push(b',')?;
         }
-        push_row(lines, strength, draws)?;
+        if strain == lowest {
+            push_row(lines, fewest, draws.below(8) / 7, draws.below(8) / 7)?;
+        } else {
+            let tricks = fewest + 1 + more % 5;
+            more /= 5;
+            if strain == (lowest + 1) % 5 {
+                push_row(lines, tricks, table / 28_125 % 2, table / 56_250 % 2)?;
+            } else {
+                push_row(lines, tricks, draws.below(8) / 7, draws.below(8) / 7)?;
+            }
+        }
     }
     push_field(lines, b"],\"dealer\":", draws.below(4))?;
     push_field(lines, b",\"vulnerable\":", draws.below(4))?;
@@ -137,14 +160,20 @@ fn push_par(lines: &mut Vec<u8>, draws: &mut Draws) -> Result<(), AllocError> {
 }
 
 // The results of a strain: those of a side are mostly the same by both of its hands, and the other side has what is left.
-fn push_row(lines: &mut Vec<u8>, strength: usize, draws: &mut Draws) -> Result<(), AllocError> {
-    let tricks = (strength % 9 + draws.below(6)).min(13);
-    let north = tricks.saturating_sub(draws.below(8) / 7);
-    let west = tricks.saturating_sub(draws.below(8) / 7);
-    push_field(lines, b"[", north)?;
+fn push_row(
+    lines: &mut Vec<u8>,
+    tricks: usize,
+    north_fewer: usize,
+    west_fewer: usize,
+) -> Result<(), AllocError> {
+    push_field(lines, b"[", tricks.saturating_sub(north_fewer))?;
     push_field(lines, b",", 13usize.saturating_sub(tricks))?;
     push_field(lines, b",", tricks)?;
-    push_field(lines, b",", 13usize.saturating_sub(west))?;
+    push_field(
+        lines,
+        b",",
+        13usize.saturating_sub(tricks.saturating_sub(west_fewer)),
+    )?;
     lines.push(b']').map_err(AllocError::from)
 }
 
