@@ -340,7 +340,7 @@ fn read_task(text: &[u8]) -> Option<(Task, &[u8])>
     Some((Task::Par, ended(rest)?))
 }
 
-// A text with no escape.
+// A text of ASCII with no escape.
 fn read_quoted(text: &[u8]) -> Option<(&str, &[u8])>
     ensures { IfSome result (λ found. IsValue 0 text.now (string found.0.now) found.1.now) }
 {
@@ -350,13 +350,14 @@ fn read_quoted(text: &[u8]) -> Option<(&str, &[u8])>
     Some((from_utf8(plain).ok()?, ended(rest)?))
 }
 
-// How many bytes stand before one that ends a text, or has a meaning of its own in one.
+// How many bytes stand before one that ends a text, or has a meaning of its own in one, or is none of ASCII: no good line has such a
+// one in a text that is read here, so what follows it isn't looked at.
 fn plain_len(text: &[u8]) -> usize
     ensures within { result ≤ length text.now }
     ensures plain { list_all is_plain (take result text.now) ≡ true }
 {
     let mut len = 0;
-    while len < text.len() && is_plain(text[len]) {
+    while len < text.len() && text[len].is_ascii() && is_plain(text[len]) {
         len += 1;
     }
     len

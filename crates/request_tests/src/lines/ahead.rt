@@ -1,15 +1,19 @@
 //! Lines that threads answer ahead are told as one thread tells them, however the threads take turns.
+use super::held::{EndsWhileSearching, HoldsSearch, Signs, held};
+use super::pools::told_over;
 use super::runs::{Outcome, run};
 use super::served::good;
 use crate::book::drawn::draw;
 use crate::devices::{Pieces, Taker};
 use dd_lines::CountedDevice;
-use dd_search::NoTable;
-use dd_tool::{Pool, solve_lines_ahead, solve_lines_on};
+use dd_search::{Bounds, NoTable};
+use dd_tool::{Pool, solve_lines_on};
 use std::alloc::{AllocError, Global};
+use std::io::Write;
 use std::sync::Wait;
 use std::test::Fail;
 use std::thread::Threads;
+use std::time::Clock;
 
 const STREAMS: u64 = 100;
 
@@ -27,14 +31,14 @@ const LONG: u64 = 1_000;
 /// Lines of one piece, more than are answered ahead.
 const MANY: u64 = 3_000;
 
-// Eight cards a hand: 2,404 positions over no table.
-fn searched() -> &'static [u8] {
+/// Eight cards a hand, with diamonds as trumps: 2,404 positions over no table.
+pub fn searched() -> &'static [u8] {
     br#"{"do":"solve","deal":"N:T65.J.54.T9 Q9.K52.93.6 K.Q76.AJ2.8 A.4.T8.7532","trump":2,"first":2,"solutions":3}"#
 }
 
-// Short lines, empty ones and a few that are too long, in an order that the seed draws, with one long search among them. In every
-// second stream the last line has no end.
-fn drawn(alloc: Global, seed: u64) -> Result<Vec<u8>, AllocError> {
+/// Short lines, empty ones and a few that are too long, in an order that the seed draws, with one long search among them. In every
+/// second stream the last line has no end.
+pub fn drawn(alloc: Global, seed: u64) -> Result<Vec<u8>, AllocError> {
     let mut seed = seed;
     let mut lines = Vec::new(alloc);
     let place = draw(&mut seed) % LINES;
@@ -117,20 +121,25 @@ fn push_times(lines: &mut Vec<u8>, byte: u8, times: usize) -> Result<(), AllocEr
     Ok(())
 }
 
-// Whether a stream ends well that is told with the help of these threads, and what it wrote.
-fn told_by<W: Threads + Wait + Sync>(
-    rt: &W,
-    alloc: Global,
-    pieces: Pieces<'_>,
-    room: usize,
-    others: &mut [NoTable],
-) -> (bool, Vec<u8>) {
-    let mut reader = CountedDevice::new(pieces);
-    let mut writer = CountedDevice::new(Taker {
+// An output with room for so many bytes.
+fn taker(alloc: Global, room: usize) -> Taker {
+    Taker {
         taken: Vec::new(alloc),
         most: usize::MAX,
         room,
-    });
+    }
+}
+
+// Whether a stream ends well that is told with the help of these threads, and its output.
+fn told_by<W: Threads + Wait + Sync, O: Write + Drop, H: Bounds + Send>(
+    rt: &W,
+    alloc: Global,
+    pieces: Pieces<'_>,
+    output: O,
+    others: &mut [H],
+) -> (bool, O) {
+    let mut reader = CountedDevice::new(pieces);
+    let mut writer = CountedDevice::new(output);
     let mut buffer = [0; 65_536];
     let result = solve_lines_on(
         rt,
@@ -142,7 +151,7 @@ fn told_by<W: Threads + Wait + Sync>(
         None,
         &mut buffer,
     );
-    (result.is_ok(), writer.into_inner().taken)
+    (result.is_ok(), writer.into_inner())
 }
 
 // Is this told of these lines with the help of so many threads, where a read gives so many bytes at most?
@@ -159,8 +168,8 @@ fn is_told_by<W: Threads + Wait + Sync>(
         most,
         calls: usize::MAX,
     };
-    let (is_whole, written) = told_by(rt, alloc, pieces, usize::MAX, others);
-    is_whole && written.as_slice() == wanted
+    let (is_whole, output) = told_by(rt, alloc, pieces, taker(alloc, usize::MAX), others);
+    is_whole && output.taken.as_slice() == wanted
 }
 
 // Are these lines told as by one thread, with the help of one, two and three others?
@@ -227,7 +236,7 @@ fn with_searches(alloc: Global, seed: &mut u64) -> Result<(Vec<u8>, usize), Allo
     }
     let before = lines.len();
     for _ in 0..3 {
-        lines.extend_from_slice(searched())?;
+        lines.extend_from_slice(held())?;
         lines.push(b'\n')?;
     }
     for _ in 0..10 {
@@ -250,17 +259,29 @@ fn told_before(alloc: Global, lines: &[u8], count: usize) -> Vec<u8> {
     run(alloc, Pieces::of(ended), usize::MAX, usize::MAX).written
 }
 
-// Does a stream end where its output has taken so many bytes? Threads may still answer lines then, and have others to take.
-fn ends_by_output<W: Threads + Wait + Sync>(
+// Does a stream end where its output has taken so many bytes, while each of so many threads is at a search?
+fn ends_by_output<W: Threads + Wait + Clock + Sync>(
     rt: &W,
     alloc: Global,
     lines: &[u8],
     room: usize,
-    others: &mut [NoTable],
+    threads: u64,
     wanted: &[u8],
-) -> bool {
-    let (is_whole, written) = told_by(rt, alloc, Pieces::of(lines), room, others);
-    !is_whole && written.len() == room && wanted.starts_with(&written)
+) -> Result<bool, AllocError> {
+    let signs = Signs::new(threads);
+    let mut others = Vec::new(alloc);
+    for _ in 0..threads {
+        others.push(HoldsSearch::new(rt, &signs))?;
+    }
+    let output = EndsWhileSearching {
+        rt,
+        signs: &signs,
+        taker: taker(alloc, room),
+    };
+    let (is_whole, output) = told_by(rt, alloc, Pieces::of(lines), output, &mut others);
+    let written = output.taker.taken;
+    let searching = !signs.is_late();
+    Ok(searching && !is_whole && written.len() == room && wanted.starts_with(&written))
 }
 
 // Does a stream end where its input has given so many pieces of 200 bytes? All lines that ended in them are told, and threads wait for
@@ -278,12 +299,13 @@ fn ends_by_input<W: Threads + Wait + Sync>(
         most: 200,
         calls,
     };
-    let (is_whole, written) = told_by(rt, alloc, pieces, usize::MAX, others);
+    let (is_whole, output) = told_by(rt, alloc, pieces, taker(alloc, usize::MAX), others);
+    let written = output.taken;
     let least = told_before(alloc, lines, calls.saturating_mul(200));
     !is_whole && written.starts_with(&least) && wanted.starts_with(&written)
 }
 
-// The output ends before the reply of the first of three searches.
+// The output ends before the reply of the first of three searches, once each thread is held in one of them.
 #[test]
 fn many_streams_end_by_their_output_while_threads_search(rt: HostRuntime) -> Result<(), Fail> {
     for number in 0..CUT_STREAMS {
@@ -293,11 +315,10 @@ fn many_streams_end_by_their_output_while_threads_search(rt: HostRuntime) -> Res
         let wanted = alone.written.as_slice();
         let told = told_before(rt.alloc(), &lines, before).len();
         let room = draw(&mut seed) as usize % told.max(1);
-        let mut others = [NoTable; 3];
-        for count in 1..4usize {
+        for threads in 1..4 {
             assert!(rt;
-                ends_by_output(&rt, rt.alloc(), &lines, room, &mut others[..count], wanted),
-                "stream {number}, {count} threads"
+                ends_by_output(&rt, rt.alloc(), &lines, room, threads, wanted)?,
+                "stream {number}, {threads} threads"
             );
         }
     }
@@ -323,28 +344,6 @@ fn many_streams_end_by_their_input(rt: HostRuntime) -> Result<(), Fail> {
     Ok(())
 }
 
-// What a stream over this pool writes, where the output takes so many bytes.
-fn told_over<W: Wait>(rt: &W, alloc: Global, pool: &Pool, lines: &[u8], room: usize) -> Vec<u8> {
-    let mut reader = CountedDevice::new(Pieces::of(lines));
-    let mut writer = CountedDevice::new(Taker {
-        taken: Vec::new(alloc),
-        most: usize::MAX,
-        room,
-    });
-    let mut buffer = [0; 4_096];
-    let _result = solve_lines_ahead(
-        rt,
-        alloc,
-        &mut reader,
-        &mut writer,
-        pool,
-        &mut NoTable,
-        None,
-        &mut buffer,
-    );
-    writer.into_inner().taken
-}
-
 // Lines of a stream whose output failed are still in the pool when the next stream comes. No thread answers ahead here.
 #[test]
 fn a_pool_that_a_failed_stream_left_serves_the_next(rt: HostRuntime) -> Result<(), Fail> {
@@ -352,9 +351,11 @@ fn a_pool_that_a_failed_stream_left_serves_the_next(rt: HostRuntime) -> Result<(
     for number in 0..8 {
         let lines = drawn(rt.alloc(), number)?;
         let alone: Outcome = run(rt.alloc(), Pieces::of(&lines), usize::MAX, usize::MAX);
-        let cut = told_over(&rt, rt.alloc(), &pool, &lines, 100);
+        let failing = taker(rt.alloc(), 100);
+        let cut = told_over(&rt, rt.alloc(), &pool, &mut NoTable, &lines, failing).taken;
         assert!(rt; alone.written.as_slice().starts_with(&cut) && cut.len() == 100);
-        let whole = told_over(&rt, rt.alloc(), &pool, &lines, usize::MAX);
+        let taking = taker(rt.alloc(), usize::MAX);
+        let whole = told_over(&rt, rt.alloc(), &pool, &mut NoTable, &lines, taking).taken;
         assert!(rt; whole.as_slice() == alone.written.as_slice());
     }
     Ok(())

@@ -192,6 +192,14 @@ const BYTES: &[u8] =
     b"{\"do\":\"solve\",\t\"deal\":\"N:A... K... Q... J...\",\"trump\":4,\"first\":0,\"solutions\":3}|{\"cards\":[{\"equals\":0,\"rank\":14,\"score\":1,\"suit\":0}]}\n\
      {\"do\":\"solve\",\"deal\":\"N:A...\tK... Q... J...\",\"trump\":4,\"first\":0,\"solutions\":3}|{\"fault\":1}\n\
      {\"do\":\"solve\",\"deal\":\"N:A... K... Q... J...\x7f\",\"trump\":4,\"first\":0,\"solutions\":3}|{\"fault\":4}\n\
+     {\"do\":\"solve\",\"deal\":\"\x7f\",\"trump\":4,\"first\":0,\"solutions\":3}|{\"fault\":4}\n\
+     {\"do\":\"solve\",\"deal\":\"\xc2\x80\",\"trump\":4,\"first\":0,\"solutions\":3}|{\"fault\":4}\n\
+     {\"do\":\"solve\",\"deal\":\"\x80\",\"trump\":4,\"first\":0,\"solutions\":3}|{\"fault\":1}\n\
+     {\"do\":\"solve\",\"deal\":\"N:A... K...\x7fQ... J...\",\"trump\":4,\"first\":0,\"solutions\":3}|{\"fault\":4}\n\
+     {\"do\":\"solve\",\"deal\":\"N:A... K...\xc2\x80Q... J...\",\"trump\":4,\"first\":0,\"solutions\":3}|{\"fault\":4}\n\
+     {\"do\":\"solve\",\"deal\":\"N:A... K...\x80Q... J...\",\"trump\":4,\"first\":0,\"solutions\":3}|{\"fault\":1}\n\
+     {\"do\":\"solve\",\"deal\":\"N:A... K... Q... J...\",\"deal\":\"\xc3\x84\",\"trump\":4,\"first\":0,\"solutions\":3}|{\"fault\":4}\n\
+     {\"do\":\"solve\",\"deal\":\"\xc3\x84\",\"deal\":\"N:A... K... Q... J...\",\"trump\":4,\"first\":0,\"solutions\":3}|{\"cards\":[{\"equals\":0,\"rank\":14,\"score\":1,\"suit\":0}]}\n\
      {\"do\":\"solve\",\"deal\":\"N:A... K... Q... J...\x1f\",\"trump\":4,\"first\":0,\"solutions\":3}|{\"fault\":1}\n\
      {\"do\":\"solve\",\"deal\":\"N:A... K... Q... J...\xc3\x84\",\"trump\":4,\"first\":0,\"solutions\":3}|{\"fault\":4}\n\
      {\"do\":\"solve\",\"deal\":\"N:A... K... Q... J...\xff\",\"trump\":4,\"first\":0,\"solutions\":3}|{\"fault\":1}\n\

@@ -111,18 +111,30 @@ cancel 5|{"do":"fetch","job":5,"do":"cancel"}
 {"fault":3}|{"do":"par","table":[[5,8,5,8],[6,6,6,6],[5,7,5,7],[7,5,7,5],[6,6,6,6]],"dealer":0,"vulnerable":0,"wait":0}
 {"contracts":[{"declarers":[1,3],"level":2,"tricks":8,"trump":0}],"score":-110}|{"do":"par","table":[[5,8,5,8],[6,6,6,6],[5,7,5,7],[7,5,7,5],[6,6,6,6]],"side":0,"vulnerable":0}"#;
 
+// The same with the last byte of ASCII in a deal, and with bytes after it.
+const BYTES: &[u8] =
+    b"{\"fault\":4}|{\"do\":\"solve\",\"deal\":\"N:A... K... Q... J...\x7f\",\"trump\":4,\"first\":0,\"solutions\":3}\n\
+     {\"fault\":4}|{\"do\":\"solve\",\"deal\":\"N:A... K... Q... J...\xc2\x80\",\"trump\":4,\"first\":0,\"solutions\":3}\n\
+     {\"fault\":1}|{\"do\":\"solve\",\"deal\":\"N:A... K... Q... J...\x80\",\"trump\":4,\"first\":0,\"solutions\":3}\n\
+     {\"fault\":4}|{\"do\":\"solve\",\"deal\":\"\x7f\",\"trump\":4,\"first\":0,\"solutions\":3,\"wait\":5}\n\
+     {\"fault\":4}|{\"do\":\"solve\",\"deal\":\"\xc3\x84\",\"trump\":4,\"first\":0,\"solutions\":3,\"wait\":5}\n\
+     {\"fault\":1}|{\"do\":\"solve\",\"deal\":\"\xff\",\"trump\":4,\"first\":0,\"solutions\":3,\"wait\":5}\n\
+     solve|{\"do\":\"solve\",\"deal\":\"\xc3\x84\",\"deal\":\"N:A... K... Q... J...\",\"trump\":4,\"first\":0,\"solutions\":3}";
+
 #[test]
 fn a_line_asks_the_same_with_a_space_before_its_brace(rt: HostRuntime) -> Result<(), Fail> {
     let session = Session::new(rt.alloc(), plainly(false));
-    for row in USUAL.split(|byte| *byte == b'\n') {
-        let line = after_bar(row);
-        let step = plain(rt.alloc(), &session.on_line(line))?;
-        let other = plain(rt.alloc(), &session.on_line(&spaced(rt.alloc(), line)?))?;
-        assert_eq!(rt;
-            (step.as_bytes(), other.as_bytes()),
-            (before_bar(row), before_bar(row)),
-            "at {row:?}"
-        );
+    for table in [USUAL, BYTES] {
+        for row in table.split(|byte| *byte == b'\n') {
+            let line = after_bar(row);
+            let step = plain(rt.alloc(), &session.on_line(line))?;
+            let other = plain(rt.alloc(), &session.on_line(&spaced(rt.alloc(), line)?))?;
+            assert_eq!(rt;
+                (step.as_bytes(), other.as_bytes()),
+                (before_bar(row), before_bar(row)),
+                "at {row:?}"
+            );
+        }
     }
     Ok(())
 }
