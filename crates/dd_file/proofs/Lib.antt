@@ -13,6 +13,7 @@ pub mod AgainTags
 pub mod Calm
 pub mod Going
 pub mod Joined
+pub mod Noted
 pub mod Passed
 pub mod PlainLines
 pub mod ShortTags

@@ -16,7 +16,7 @@ use Rattle.dd_file.specs.declared.wanted.Wanted.{Wanted}
 use Rattle.dd_file.specs.Filled.{Found, AreAnswers, answers_after, ask_at, asked_here, asks_from, filled_from, state_here, text_here}
 use Rattle.dd_file.specs.Games.{ends, has_name, is_required, told, with_byte, with_mark, with_tag}
 use Rattle.dd_file.specs.KnownTags.{known_number}
-use Rattle.dd_file.specs.Marked.{begins, marked}
+use Rattle.dd_file.specs.Marked.{begins, begins_within, marked}
 use Rattle.dd_file.specs.Marks.{tag, line_mark, mark_read}
 use Rattle.dd_file.specs.Modes.{next_mode, outside_mode}
 use Rattle.dd_file.specs.Passing.{EndsBefore, EndsHere}
@@ -263,6 +263,19 @@ tag-passed gives wanted state mode is_first p name quoted answers place reads fe
           ∙ ap (λ l. asked_here here (ask_at is_first wanted state) ++ l) (inner.asks wanted rest);
     }
 
+-- what begins at such a tag, whatever follows
+pub short-begins : (left : ℕ) (mode : Mode) (is_first : Bool) (text name quoted rest : List ℕ) (count : ℕ) → left ≡ 0 → IsPlace mode is_first → BeginsShort text name quoted rest
+    → count ≡ length text - length rest → count ≤ NEAR → (more : List ℕ) → begins_within left mode (text ++ more) ≡ tag is_first count name quoted
+short-begins left mode is_first text name quoted rest count outside place short counted few more =
+    let p : List ℕ = inside name quoted in
+    let size : count ≡ length (91 ∷ p) = counted ∙ front-count text (91 ∷ p) rest short.spelled in
+    let long : length (91 ∷ p) ≡ suc (length p) = omega arith in
+    let fits : length p ≤ 65535 = omega (arith, size, few, long) in
+    ap (λ (n : ℕ). begins_within n mode (text ++ more)) outside
+    ∙ ap (begins mode) (ap (λ (l : List ℕ). l ++ more) short.spelled ∙ append_assoc (91 ∷ p) rest more)
+    ∙ place-begins mode is_first p name quoted place (λ r. inside-read name quoted r short.some short.names short.calm) fits (rest ++ more)
+    ∙ ap (λ (n : ℕ). tag is_first n name quoted) (sym (size ∙ long))
+
 pub PassesTag-none : (gives : FourHands → Option (List (List ℕ)) → Type 0) (old : Filler) (text out : List ℕ) → PassesTag gives old old text 0 out out
 PassesTag-none gives old text out = record { within = omega arith; wanted = refl; added = []; appended = sym (append-nil out); passed = Passed-none gives old.wanted false (point_of old) [] }
 
@@ -299,7 +312,7 @@ PassesTag-short gives old ended new is_first text name quoted rest count o0 o1 o
     }
 
 -- ---- by its name's number, and with its string as it stands
-short-ends : (number : Option ℕ) (name : List ℕ) (state : FillState) → number ≡ known_number name
+pub short-ends : (number : Option ℕ) (name : List ℕ) (state : FillState) → number ≡ known_number name
     → (state.begun && has_name (required_number number) state.names) ≡ (state.begun && has_name (is_required name) state.names)
 short-ends number name state is = ap (λ (n : Option ℕ). state.begun && has_name (required_number n) state.names) is
 

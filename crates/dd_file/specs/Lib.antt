@@ -8,6 +8,7 @@ pub mod Lines
 pub mod Marked
 pub mod Marks
 pub mod Modes
+pub mod Notes
 pub mod Passing
 pub mod Quiet
 pub mod Served

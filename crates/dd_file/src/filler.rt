@@ -1,15 +1,17 @@
 //! A file passed on by stretches, tags and single bytes, with the lines that its games lack.
-ghost use Rattle.std.specs.Prelude.{◌≡◌, ◌<◌, ◌+◌, ◌-◌, ◌^◌, ◌++◌, length, min, not, slice_index, take, true, IfOk, IfSome, OnOk};
+ghost use Rattle.std.specs.Prelude.{◌≡◌, ◌<◌, ◌+◌, ◌-◌, ◌^◌, ◌++◌, [], false, length, min, not, slice_index, take, true, IfOk, IfSome, OnOk};
 ghost use Rattle.dd_cards.specs.Hands.{FourHands};
 ghost use Rattle.dd_file.specs.Deals.{IsThirteen};
 ghost use Rattle.dd_file.specs.Filled.{IsParFound, added_text, ask_at, ask_of, ask_with, asked_here, ends_last, has_place, needs, par_text, text_here, where_lacking};
-ghost use Rattle.dd_file.specs.Games.{after_end, conditions_of, first_state, lacks, line_ends, next_state, told, with_byte, with_mark};
+ghost use Rattle.dd_file.specs.Games.{after_end, conditions_of, ends, first_state, lacks, line_ends, next_state, told, with_byte, with_mark};
 ghost use Rattle.dd_file.specs.Lines.{contract_line, line_with, score_line, table_text, tricks_line};
 ghost use Rattle.dd_file.specs.Marked.{is_closed, left_of, left_within};
 ghost use Rattle.dd_file.specs.Marks.{shown};
 ghost use Rattle.dd_file.specs.Modes.{next_mode};
+ghost use Rattle.dd_file.specs.Notes.{AsksAtEnd, Notes, NotesFirst, board_here, board_of, board_told, board_with, is_board, number_here};
 ghost use Rattle.dd_file.specs.Passing.{AddsAnswer, AddsFound, AddsLast, EndsBefore, EndsHere, KeepsPlace, PassesByte, begins_now, par_found};
 ghost use Rattle.dd_file.specs.Quiet.{Counts, IsPlace, KeepsCounts, PassesQuiet, PassesTag, Takes, is_alone, is_quiet, with_line_bytes};
+ghost use Rattle.dd_file.specs.Values.{unescaped};
 
 use crate::analyst::{Analyst, Reason};
 use crate::fill_state::{Conditions, FillState};
@@ -85,9 +87,13 @@ impl Filler {
         out: &mut Vec<u8>,
     ) -> Result<(), AllocError>
         requires { 0 < length near.now }
-        ensures { OnOk result (PassesByte A.gives self.old self.new
+        ensures passes { OnOk result (PassesByte A.gives self.old self.new
             (begins_now self.old.left self.old.mode is_all near.now) (slice_index near.now 0)
             out.old.items out.new.items) }
+        ensures notes { OnOk result (Notes self.old self.new (begins_now self.old.left self.old.mode is_all near.now)) }
+        ensures passed { OnOk result (self.new.passed ≡ min (self.old.passed + 1) (2 ^ 64 - 1)) }
+        ensures asks { ends self.old.state (begins_now self.old.left self.old.mode is_all near.now) ≡ false
+            → analyst.new ≡ analyst.old }
     {
         let byte = near[0];
         let mark = self.mark(near, is_all);
@@ -132,6 +138,8 @@ impl Filler {
         ensures passes { IfOk result (λ count. PassesTag A.gives self.old self.new text.now count out.old.items out.new.items) }
         ensures counts { IfOk result (λ count. (0 < count → self.new.passed ≡ min (self.old.passed + count) (2 ^ 64 - 1))
             × (count ≡ 0 → KeepsCounts self.old self.new)) }
+        ensures notes { IfOk result (λ count. NotesFirst self.old self.new text.now count) }
+        ensures asks { IfOk result (λ count. AsksAtEnd self.old text.now analyst.old analyst.new) }
     {
         let Some(is_first) = tag_place(self.left, self.mode) else {
             return Ok(0);
@@ -168,6 +176,7 @@ impl Filler {
         ensures wanted { OnOk result (self.new.wanted ≡ self.old.wanted) }
         ensures passed { OnOk result (self.new.passed ≡ self.old.passed) }
         ensures number { OnOk result (self.new.number ≡ self.old.number) }
+        ensures board { OnOk result (board_of self.new ≡ board_told number quoted.now (board_of self.old)) }
     {
         self.note_plain_board(number, quoted)?;
         self.state.tell_text(number, quoted);
@@ -311,6 +320,9 @@ impl Filler {
         ensures ends { OnOk result (EndsBefore A.gives self.old self.new (shown mark.now)
             out.old.items out.new.items) }
         ensures passed { OnOk result (self.new.passed ≡ self.old.passed) }
+        ensures number { OnOk result (self.new.number ≡ number_here (ends self.old.state (shown mark.now)) self.old.number) }
+        ensures board { OnOk result (board_of self.new ≡ board_here (ends self.old.state (shown mark.now)) (board_of self.old)) }
+        ensures asks { ends self.old.state (shown mark.now) ≡ false → analyst.new ≡ analyst.old }
     {
         let ends = self.state.ends(mark);
         self.end_here(ends, has_place(mark), analyst, out)
@@ -327,6 +339,9 @@ impl Filler {
     ) -> Result<(), AllocError>
         ensures ends { OnOk result (EndsHere A.gives self.old self.new ends has_place out.old.items out.new.items) }
         ensures passed { OnOk result (self.new.passed ≡ self.old.passed) }
+        ensures number { OnOk result (self.new.number ≡ number_here ends self.old.number) }
+        ensures board { OnOk result (board_of self.new ≡ board_here ends (board_of self.old)) }
+        ensures asks { ends ≡ false → analyst.new ≡ analyst.old }
     {
         if !ends {
             return Ok(());
@@ -342,6 +357,8 @@ impl Filler {
         ensures state { self.new.state ≡ after_end self.old.state }
         ensures place { KeepsPlace self.old self.new }
         ensures passed { self.new.passed ≡ self.old.passed }
+        ensures number { self.new.number ≡ min (self.old.number + 1) (2 ^ 64 - 1) }
+        ensures board { self.new.board.items ≡ [] }
     {
         self.state.end_game();
         self.number = self.number.saturating_add(1);
@@ -354,6 +371,9 @@ impl Filler {
         ensures mode { OnOk result (self.new.mode ≡ next_mode self.old.mode byte) }
         ensures left { OnOk result (self.new.left ≡ left_within self.old.left (shown mark.now)) }
         ensures wanted { OnOk result (self.new.wanted ≡ self.old.wanted) }
+        ensures passed { OnOk result (self.new.passed ≡ min (self.old.passed + 1) (2 ^ 64 - 1)) }
+        ensures number { OnOk result (self.new.number ≡ self.old.number) }
+        ensures board { OnOk result (board_of self.new ≡ board_with (shown mark.now) (board_of self.old)) }
     {
         self.tell(mark)?;
         self.state.pass(byte);
@@ -371,6 +391,7 @@ impl Filler {
         ensures place { OnOk result (KeepsPlace self.old self.new) }
         ensures passed { OnOk result (self.new.passed ≡ self.old.passed) }
         ensures number { OnOk result (self.new.number ≡ self.old.number) }
+        ensures board { OnOk result (board_of self.new ≡ board_with (shown mark.now) (board_of self.old)) }
     {
         match *mark {
             Mark::Tag { name, quoted, .. } => {
@@ -388,8 +409,9 @@ impl Filler {
         ensures place { OnOk result (KeepsPlace self.old self.new) }
         ensures passed { OnOk result (self.new.passed ≡ self.old.passed) }
         ensures number { OnOk result (self.new.number ≡ self.old.number) }
+        ensures board { OnOk result (board_of self.new ≡ board_told number (unescaped false quoted.now) (board_of self.old)) }
     {
-        if number == Some(BOARD) {
+        if is_board(number) {
             self.board = unescaped(self.alloc, quoted)?;
         }
         Ok(())
@@ -402,8 +424,9 @@ impl Filler {
         ensures passed { OnOk result (self.new.passed ≡ self.old.passed) }
         ensures number { OnOk result (self.new.number ≡ self.old.number) }
         ensures board { number ≡ Some 3 → OnOk result (self.new.board.items ≡ take BOARD_BYTES text.now) }
+        ensures told { OnOk result (board_of self.new ≡ board_told number text.now (board_of self.old)) }
     {
-        if number == Some(BOARD) {
+        if is_board(number) {
             self.board = Vec::from_slice(self.alloc, board_front(text))?;
         }
         Ok(())
@@ -528,6 +551,16 @@ fn tag_place(left: usize, mode: Mode) -> Option<bool>
         (0, Mode::Start) => Some(true),
         (0, Mode::Plain) => Some(false),
         _ => None,
+    }
+}
+
+// Is it the number of the tag Board?
+fn is_board(number: Option<u8>) -> bool
+    ensures { result ≡ is_board number }
+{
+    match number {
+        Some(number) => number == BOARD,
+        None => false,
     }
 }
 

@@ -20,5 +20,5 @@ mod wanted;
 
 pub use analyst::{Analyst, DealFault, Reason};
 pub use engine::{FileFault, fill_file};
-pub use laws::filling_keeps_the_file;
+pub use laws::{filling_again_adds_nothing, filling_keeps_the_file};
 pub use wanted::Wanted;

@@ -86,6 +86,17 @@ const PARTS: [&[u8]; 64] = [
     b"a text of some more than sixteen bytes, and of more than thirty-two ",
 ];
 
+// What a long tag stands behind, so that it is outside of strings and comments, and how it begins.
+const BEFORE: [&[u8]; 2] = [b"\n}\n", b"\n}"];
+
+const OPENINGS: [&[u8]; 4] = [b"[Board \"", b"[Event \"", b"[Board  \"", b"[Board \"\\\""];
+
+/// The bytes of a file that are held before any is passed on.
+const HELD: usize = 262_144;
+
+/// The fewest bytes of a long tag.
+const LONG: usize = 65_530;
+
 // A number below the count, and the state after it. Who narrows it takes the remainder again, which the proof reads.
 fn below(state: &mut u64, count: u64) -> u64 {
     *state = state
@@ -94,11 +105,36 @@ fn below(state: &mut u64, count: u64) -> u64 {
     (*state >> 33) % count.max(1)
 }
 
-// A file of so many drawn pieces, one of which is repeated so often.
-fn drawn(alloc: Global, state: &mut u64, pieces: u64, times: u64) -> Result<Vec<u8>, AllocError> {
+// Adds a tag of so many bytes.
+fn push_long_tag(file: &mut Vec<u8>, state: &mut u64, length: usize) -> Result<(), AllocError> {
+    let opening = OPENINGS[(below(state, 4) % 4) as usize];
+    file.extend_from_slice(BEFORE[(below(state, 2) % 2) as usize])?;
+    file.extend_from_slice(opening)?;
+    for _ in 0..length.saturating_sub(opening.len()).saturating_sub(2) {
+        file.push(b'7')?;
+    }
+    file.extend_from_slice(b"\"]\n")
+}
+
+// A file of so many drawn pieces, one of which is repeated so often, and with a tag of so many bytes, if any.
+fn drawn(
+    alloc: Global,
+    state: &mut u64,
+    pieces: u64,
+    times: u64,
+    long: usize,
+) -> Result<Vec<u8>, AllocError> {
     let mut file = Vec::new(alloc);
     let place = below(state, pieces);
+    let place_of_tag = if long > 0 {
+        below(state, pieces)
+    } else {
+        pieces
+    };
     for number in 0..pieces {
+        if number == place_of_tag {
+            push_long_tag(&mut file, state, long)?;
+        }
         let part = PARTS[(below(state, 64) % 64) as usize];
         file.extend_from_slice(part)?;
         if number == place {
@@ -209,7 +245,8 @@ fn wanted_by(number: u64) -> Wanted {
     }
 }
 
-// Which files are made: how many, of how many pieces at least and how many more at most, one of which is repeated up to so often.
+// Which files are made: how many, of how many pieces at least and how many more at most, one of which is repeated up to so often; and of
+// how many lengths their long tags are, if they have one. Each is read in each of three ways, or in one by turns.
 #[derive(Clone, Copy)]
 struct Making {
     seed: u64,
@@ -217,12 +254,25 @@ struct Making {
     least: u64,
     more: u64,
     times: u64,
+    lengths: usize,
+    each_way: bool,
 }
 
-// What the files come to, and the bytes of the longest one. Each is read in pieces as large as the buffer, in small ones and byte by byte.
-fn mixed_files(alloc: Global, making: Making) -> Result<(Mixes, usize), Fail> {
+// The bytes of a file's long tag.
+fn length_of_tag(number: u64, lengths: usize) -> usize {
+    if lengths > 0 {
+        LONG + number as usize % lengths.min(21)
+    } else {
+        0
+    }
+}
+
+// What the files come to, the bytes of the longest one, and how many are passed on in several fronts. Each is read in pieces as large as
+// the buffer, in small ones and byte by byte.
+fn mixed_files(alloc: Global, making: Making) -> Result<(Mixes, usize, u64), Fail> {
     let mut state = making.seed;
     let mut longest = 0usize;
+    let mut several = 0u64;
     let mut mixes = Mixes {
         alloc,
         foresees: false,
@@ -233,8 +283,12 @@ fn mixed_files(alloc: Global, making: Making) -> Result<(Mixes, usize), Fail> {
     for number in 0..making.files {
         let count = below(&mut state, making.more).wrapping_add(making.least);
         let repeated = below(&mut state, making.times);
-        let file = drawn(alloc, &mut state, count, repeated)?;
+        let long = length_of_tag(number, making.lengths);
+        let file = drawn(alloc, &mut state, count, repeated, long)?;
         longest = longest.max(file.len());
+        if file.len() > HELD {
+            several = several.wrapping_add(1);
+        }
         let small = (below(&mut state, 300) % 300) as usize + 1;
         mixes.foresees = number % 2 == 1;
         let wanted = if number % 3 == 0 {
@@ -242,31 +296,39 @@ fn mixed_files(alloc: Global, making: Making) -> Result<(Mixes, usize), Fail> {
         } else {
             Wanted::ALL
         };
-        for most in [usize::MAX, small, 1] {
+        for (turn, most) in [(0, usize::MAX), (1, small), (2, 1)] {
+            if !making.each_way && number % 3 != turn {
+                continue;
+            }
             if filled(alloc, &file, most, wanted, &mut mixes).is_err() {
                 mixes.add(5);
             }
         }
     }
-    Ok((mixes, longest))
+    Ok((mixes, longest, several))
 }
 
-// The number is the one that the program gave before. Results were asked for often, games were left often, and the longest file has more
-// than so many bytes.
+// The number is the one that the program gave before. Results were asked for often, games were left often, the longest file has more
+// than so many bytes, and so many are passed on in several fronts.
 fn compare<R: AllocGlobal + Abort>(
     rt: &R,
     making: Making,
     above: usize,
+    fronts: u64,
     wanted: u64,
 ) -> Result<(), Fail> {
-    let (mixes, longest) = mixed_files(rt.alloc(), making)?;
+    let (mixes, longest, several) = mixed_files(rt.alloc(), making)?;
     assert_eq!(rt; mixes.digest, wanted);
     assert!(rt;
-        mixes.asked > making.files && mixes.left > making.files && longest > above,
-        "{} deals, {} games, {} bytes",
+        mixes.asked > making.files
+            && mixes.left > making.files
+            && longest > above
+            && several == fronts,
+        "{} deals, {} games, {} bytes, {} files",
         mixes.asked,
         mixes.left,
-        longest
+        longest,
+        several
     );
     Ok(())
 }
@@ -279,8 +341,10 @@ fn short_drawn_files_come_out_as_before(rt: HostRuntime) -> Result<(), Fail> {
         least: 1,
         more: 30,
         times: 3,
+        lengths: 0,
+        each_way: true,
     };
-    compare(&rt, making, 500, 8_283_183_591_809_235_975)
+    compare(&rt, making, 500, 0, 8_283_183_591_809_235_975)
 }
 
 #[test]
@@ -291,8 +355,10 @@ fn drawn_files_of_many_pieces_come_out_as_before(rt: HostRuntime) -> Result<(), 
         least: 1,
         more: 400,
         times: 30,
+        lengths: 0,
+        each_way: true,
     };
-    compare(&rt, making, 8_000, 3_574_139_286_528_128_542)
+    compare(&rt, making, 8_000, 0, 3_574_139_286_528_128_542)
 }
 
 // One piece is repeated over more than what is read at once.
@@ -304,8 +370,10 @@ fn drawn_files_with_a_long_run_come_out_as_before(rt: HostRuntime) -> Result<(),
         least: 1,
         more: 8,
         times: 9_000,
+        lengths: 0,
+        each_way: true,
     };
-    compare(&rt, making, 65_536, 12_756_514_680_348_021_889)
+    compare(&rt, making, 65_536, 0, 12_756_514_680_348_021_889)
 }
 
 // A file is passed on in fronts once 262,144 bytes of it wait.
@@ -317,6 +385,42 @@ fn drawn_files_of_several_fronts_come_out_as_before(rt: HostRuntime) -> Result<(
         least: 20_000,
         more: 20_000,
         times: 30,
+        lengths: 0,
+        each_way: true,
     };
-    compare(&rt, making, 400_000, 475_837_719_620_738_507)
+    compare(&rt, making, 400_000, 4, 475_837_719_620_738_507)
+}
+
+// What begins at a byte is judged by the next 65,536: a tag of so many is one, and a longer one is none.
+#[test]
+fn drawn_files_with_a_tag_as_long_as_is_judged_come_out_as_before(
+    rt: HostRuntime,
+) -> Result<(), Fail> {
+    let making = Making {
+        seed: 5,
+        files: 42,
+        least: 40,
+        more: 200,
+        times: 3,
+        lengths: 21,
+        each_way: true,
+    };
+    compare(&rt, making, 65_536, 0, 0)
+}
+
+// The end of a front comes before, within and behind a long tag.
+#[test]
+fn drawn_files_of_several_fronts_with_a_long_tag_come_out_as_before(
+    rt: HostRuntime,
+) -> Result<(), Fail> {
+    let making = Making {
+        seed: 6,
+        files: 42,
+        least: 9_500,
+        more: 300,
+        times: 30,
+        lengths: 21,
+        each_way: false,
+    };
+    compare(&rt, making, HELD, 42, 0)
 }

@@ -1,4 +1,6 @@
-use Rattle.std.proofs.Common.{refl}
+use Rattle.std.proofs.Common.{◌∙◌, ap, refl, take}
+use Rattle.dd_file.specs.declared.filler.TheConstants.{BOARD_BYTES}
+use Rattle.dd_file.proofs.Noted.{AsksAtEnd-tag, NotesFirst-tag}
 use Rattle.dd_file.proofs.ShortTags.{PassesTag-more, PassesTag-none, PassesTag-told}
 use Rattle.dd_file.proofs.filler.Filler.pass_tag.Goals as goal
 
@@ -19,3 +21,16 @@ returns-clause-passes g c =
     (PassesTag-told g.A.Analyst.gives _ _ _ _ _ _ _ _ _ _ _ _ _ _ c.in-Some.ensures.left c.in-Some.ensures.mode short c.saturating_sub-length.ensures c.if-length-gt-NEAR.false
     c.known_number-number.ensures.value c.ends_at_tag-ends.ensures c.in_ok-end_here.ensures.ends whole.state whole.mode whole.left whole.wanted refl)
     short c.saturating_sub-length.ensures c.take_line_end-behind.ensures.takes c.saturating_sub-taken.ensures refl refl c.in_ok-extend_from_slice.ensures.items
+
+pub returns-clause-notes : goal.returns-clause-notes
+returns-clause-notes g c =
+    let ended = c.in_ok-end_here.ensures in
+    let whole = c.in_ok-take_whole.ensures in
+    let keeps = c.take_line_end-behind.ensures.counts in
+    NotesFirst-tag c.args.self.now _ _ _ _ _ _ _ _ c.in-Some.ensures.left c.in-Some.ensures.mode c.in-Some-read_short_tag.ensures c.saturating_sub-length.ensures c.if-length-gt-NEAR.false
+    c.known_number-number.ensures.value c.ends_at_tag-ends.ensures _ _ _ _ (keeps.number ∙ whole.number ∙ ended.number) ended.board whole.board (ap (λ b. take BOARD_BYTES b.items) keeps.board)
+
+pub returns-clause-asks : goal.returns-clause-asks
+returns-clause-asks g c =
+    AsksAtEnd-tag c.args.self.now _ _ _ _ _ _ _ _ c.in-Some.ensures.left c.in-Some.ensures.mode c.in-Some-read_short_tag.ensures c.saturating_sub-length.ensures c.if-length-gt-NEAR.false
+    c.known_number-number.ensures.value c.ends_at_tag-ends.ensures _ _ c.in_ok-end_here.ensures.asks
