@@ -54,6 +54,10 @@ pub(crate) fn read_short_tag(text: &[u8]) -> Option<TagText<'_>>
     ensures { IfSome result (λ tag. BeginsShort text.now tag.name.now tag.quoted.now tag.rest.now) }
 {
     let inner = after_first(b'[', text)?;
+    // Looked at by itself: a `[` that begins no tag is mostly told by it.
+    if !begins_name(inner) {
+        return None;
+    }
     let after = after_name_bytes(inner);
     let opened = after_first(b' ', after)?;
     let string = after_first(b'"', opened)?;
@@ -146,6 +150,14 @@ fn after_name(text: &[u8]) -> Result<&[u8], Miss>
         [first, rest @ ..] if is_name(*first) => Ok(after_name_bytes(rest)),
         [] => Err(Miss::Ends),
         _ => Err(Miss::NoTag),
+    }
+}
+
+// Can a name begin there?
+fn begins_name(text: &[u8]) -> bool {
+    match text {
+        [first, ..] => is_name(*first),
+        [] => false,
     }
 }
 
