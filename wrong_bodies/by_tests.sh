@@ -1,7 +1,7 @@
 #!/usr/bin/env bash
 # Tries the wrong bodies that no contract refuses, since no clause says what they change (`by_tests/`). In a copy of the last
 # commit each is made by itself, and a test of the crate that its line `tests:` names has to fail; as the code stands, all of them
-# pass. It proves nothing, and takes some three minutes for each. Words: crates (all that have a folder in `by_tests/`).
+# pass. A test that doesn't end in time refuses nothing. It proves nothing, and takes some three minutes for each. Words: crates (all that have a folder in `by_tests/`).
 set -eu
 here=$(cd -- "$(dirname -- "$0")" && pwd)
 top=$(cd -- "$here/.." && pwd)
@@ -17,13 +17,21 @@ python3 - "$work" "$@" <<'END'
 import glob, os, re, subprocess, sys
 work, *crates = sys.argv[1:]
 os.chdir(work)
+# What a test may take: a test that is stopped refuses nothing.
+SECONDS = 300
 
 
 def outcome(tests):
-    """How the tests end, and those that fail."""
-    ran = subprocess.run(["rt", "try", "--test"], cwd=f"crates/{tests}", capture_output=True, text=True).stdout
+    """How the tests end: "ok", "FAILED", "stopped" where some were and none failed, or "no end"; and those that failed."""
+    ran = subprocess.run(["rt", "try", "--test", "--seconds", str(SECONDS)], cwd=f"crates/{tests}", capture_output=True, text=True).stdout
     ended = re.search(r"^test result: (\w+)\.", ran, re.M)
-    return ended[1] if ended else "no end", re.findall(r"^test (\S+) \.\.\. FAILED", ran, re.M)
+    if not ended:
+        return "no end", []
+    # What a test said stands behind its line.
+    told = re.split(r"^test (\S+) \.\.\. ", ran, flags=re.M)
+    unlike = [(name, "no-answer" in said) for name, said in zip(told[1::2], told[2::2]) if said.startswith("FAILED")]
+    failed = [name for name, is_stopped in unlike if not is_stopped]
+    return ("stopped" if unlike and not failed else ended[1]), failed
 
 
 passed, missed = set(), 0
@@ -36,8 +44,9 @@ for crate in crates:
         said = dict(pairs)
         tests, path = said["tests"], f"crates/{crate}/{said['file']}"
         if tests not in passed:
-            if outcome(tests)[0] != "ok":
-                sys.exit(f"wrong_bodies: {tests} fails as the code stands")
+            ended, failed = outcome(tests)
+            if ended != "ok":
+                sys.exit(f"wrong_bodies: {tests} as the code stands: {ended} {' '.join(failed)}")
             passed.add(tests)
         right = open(path, encoding="utf-8").read()
         wrong = right

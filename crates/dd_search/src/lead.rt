@@ -10,7 +10,9 @@ use crate::lead_weights::{
 use crate::suit_lanes::{LOWEST, LOWEST_FOUR, at, has_lowest, nonzero, place, several};
 use crate::table::LeadHistory;
 use dd_cards::{Card, Hand, Holding, Rank, Strain, Suit};
+use dd_play::Position;
 use dd_rank::{OwnerStrings, TwoHighest};
+use dd_relative::KnownStart;
 use std::marker::Model;
 
 /// A card to try, and how good it looks.
@@ -359,7 +361,7 @@ fn best_of<L: LeadView>(
     let lone = start.is_lone(suit, tops.first);
     if !lone && !tops.cards.alike {
         let ruffs = Ruffs { opponents, partner };
-        return best_by_rank(position, suit, ranks, weight, ruffs, tops);
+        return position.best_by_rank(suit, ranks, weight, ruffs, tops);
     }
     let worth = if lone {
         weights.lone_top_card
@@ -367,66 +369,114 @@ fn best_of<L: LeadView>(
         tops.cards.usual
     };
     let wins = !opponents && (partner || tops.first == PARTNER);
-    weighed(position, suit, low, weight, worth, wins)
+    let card = Card { suit, rank: low };
+    let rank_in_deal = position.rank_in_deal(suit, low);
+    weighed(card, rank_in_deal, weight, worth, wins)
 }
 
-// Who could ruff a suit at once.
+/// Who could ruff a suit at once.
 #[derive(Clone, Copy, Debug)]
-struct Ruffs {
+pub(crate) struct Ruffs {
     opponents: bool,
     partner: bool,
 }
 
 // A card of the suit, and how good it looks.
 #[inline]
-fn weighed<L: LeadView>(
-    position: &L,
-    suit: Suit,
-    rank: Rank,
-    weight: u16,
-    worth: LeadWorth,
-    wins: bool,
-) -> Move {
+fn weighed(card: Card, rank_in_deal: u16, weight: u16, worth: LeadWorth, wins: bool) -> Move {
     let worth = if wins { worth.wins } else { worth.loses };
-    let weight = weight
-        .wrapping_add(worth)
-        .wrapping_sub(position.rank_in_deal(suit, rank));
-    Move {
-        card: Card { suit, rank },
-        weight,
-    }
+    let weight = weight.wrapping_add(worth).wrapping_sub(rank_in_deal);
+    Move { card, weight }
 }
 
-// The best of these ranks where what a card is worth is not the same for all of them. They fall into four groups in which it is the
-// same: there the lowest looks best, and one of these does.
-fn best_by_rank<L: LeadView>(
-    position: &L,
+// The code of the best card that hands with these ranks of a suit could play to it, where a ruff is more than any rank.
+#[inline(always)]
+fn best_answer(ranks: Holding, ruffs: bool) -> u8
+    ensures { result ≤ 15 }
+{
+    if ruffs { RUFF } else { code_of_highest(ranks) }
+}
+
+/// The best of these ranks in the deal where what a card is worth is not the same for all of them.
+pub(crate) fn best_by_rank_in_deal(
+    position: &Position,
     suit: Suit,
     ranks: Holding,
     weight: u16,
     ruffs: Ruffs,
     tops: TopTwo,
 ) -> Move {
-    let held = position.holdings(suit);
-    let partner = if ruffs.partner {
-        RUFF
-    } else {
-        code_of_highest(held.partner)
-    };
-    let against = if ruffs.opponents {
-        RUFF
-    } else {
-        code_of_highest(held.left.union(held.right))
-    };
+    let hands = position.hands();
+    let leader = position.first();
+    let own = hands.holding(leader, suit);
+    let ours = hands.holding(leader.partner(), suit);
+    let theirs = hands
+        .holding(leader.left(), suit)
+        .union(hands.holding(leader.right(), suit));
+    let others = theirs.union(ours);
+    let partner = best_answer(ours, ruffs.partner);
+    let against = best_answer(theirs, ruffs.opponents);
+    let own_top = code_of_highest(own);
+    let mut rest = ranks;
+    let mut best = Move::default();
+    'ranks: while let Some(rank) = rest.pop_lowest() {
+        let code = rank.code();
+        let special = if tops.first == LEADER {
+            code == own_top
+        } else {
+            has_equal(own, others, rank)
+        };
+        let worth = if special {
+            tops.cards.special
+        } else {
+            tops.cards.usual
+        };
+        let wins = code.max(partner) > against;
+        let card = Card { suit, rank };
+        best = best.or(weighed(card, code as u16, weight, worth, wins));
+    }
+    best
+}
+
+// Has the card of the leader's own an equal below it?
+#[inline]
+fn has_equal(own: Holding, others: Holding, rank: Rank) -> bool {
+    match own.next_below(rank) {
+        Some(lower) => match others.next_below(rank) {
+            Some(other) => other.code() < lower.code(),
+            None => true,
+        },
+        None => false,
+    }
+}
+
+/// The same by relative ranks, of which none is missing: a card has an equal below it where the leader has the next rank. The ranks fall
+/// into four groups in which a card is worth the same: there the lowest looks best, and one of these does.
+pub(crate) fn best_by_relative_rank(
+    start: &KnownStart,
+    suit: Suit,
+    ranks: Holding,
+    weight: u16,
+    ruffs: Ruffs,
+    tops: TopTwo,
+) -> Move {
+    let hands = start.start();
+    let own = hands.leader().holding(suit);
+    let theirs = hands
+        .second()
+        .holding(suit)
+        .union(hands.fourth().holding(suit));
+    let partner = best_answer(hands.third().holding(suit), ruffs.partner);
+    let against = best_answer(theirs, ruffs.opponents);
     let winners = if partner > against {
         u32::MAX
     } else {
         (u32::MAX << 1) << against
     };
     let specials = if tops.first == LEADER {
-        1 << code_of_highest(held.leader)
+        1 << code_of_highest(own)
     } else {
-        position.with_equals_below(held)
+        (own.mask() as u32) << 1
     };
     let all = ranks.mask() as u32;
     let usual = all & !specials;
@@ -434,13 +484,13 @@ fn best_by_rank<L: LeadView>(
     let worth = tops.cards.usual;
     let loses = weight.wrapping_add(worth.loses);
     let wins = weight.wrapping_add(worth.wins);
-    let usual_loser = number_of_lowest(position, suit, usual & !winners, loses);
-    let usual_winner = number_of_lowest(position, suit, usual & winners, wins);
+    let usual_loser = number_of_lowest(start, suit, usual & !winners, loses);
+    let usual_winner = number_of_lowest(start, suit, usual & winners, wins);
     let worth = tops.cards.special;
     let loses = weight.wrapping_add(worth.loses);
     let wins = weight.wrapping_add(worth.wins);
-    let special_loser = number_of_lowest(position, suit, special & !winners, loses);
-    let special_winner = number_of_lowest(position, suit, special & winners, wins);
+    let special_loser = number_of_lowest(start, suit, special & !winners, loses);
+    let special_winner = number_of_lowest(start, suit, special & winners, wins);
     let best = usual_loser
         .max(usual_winner)
         .max(special_loser.max(special_winner));
@@ -456,10 +506,10 @@ fn best_by_rank<L: LeadView>(
 // Of a group of ranks, by their bits, each of which has this weight but for its rank, the lowest as a number, and 0 where there is none: its
 // weight over four bits that are the greater the lower it is. So of two groups' cards that look as good the lower one has the greater number.
 #[inline(always)]
-fn number_of_lowest<L: LeadView>(position: &L, suit: Suit, ranks: u32, weight: u16) -> u32 {
+fn number_of_lowest(start: &KnownStart, suit: Suit, ranks: u32, weight: u16) -> u32 {
     match Rank::from_code(ranks.trailing_zeros() as u8) {
         Some(rank) => {
-            let weight = weight.wrapping_sub(position.rank_in_deal(suit, rank));
+            let weight = weight.wrapping_sub(start.ranks().rank(suit, rank));
             (weight as u32) << 4 | (rank.code() ^ 15) as u32
         }
         None => 0,

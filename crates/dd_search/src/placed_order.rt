@@ -160,8 +160,8 @@ pub(crate) fn note_lead<B: Bounds>(trick: &PlacedTrick<'_>, turn: Turn, card: Pl
 #[inline]
 pub(crate) fn seconds(trick: &PlacedTrick<'_>, turn: Turn, tops: Hand) -> SecondHands {
     match turn {
-        Turn::First => SecondHands::of(Some(trick.start().strings()), tops),
-        Turn::Second | Turn::Third | Turn::Fourth => SecondHands::of(None, tops),
+        Turn::First => SecondHands::of_headed(Some(trick.start().strings()), tops),
+        Turn::Second | Turn::Third | Turn::Fourth => SecondHands::of_headed(None, tops),
     }
 }
 

@@ -9,7 +9,9 @@ use dd_cards::{Card, Hand, Place, Seat, Strain, Suit};
 use dd_play::Position;
 use dd_rank::{OwnerStrings, TwoHighest};
 
-// In what is told of a suit by its two highest cards: the highest card is one of the last two hands'.
+// In what is told of a suit by its two highest cards: the highest card is an opponent's, and it is one of the last two hands'.
+const OPPONENTS: u8 = 2;
+
 const LAST_TWO: u8 = 8;
 
 /// Whom it serves to ask at a start of a trick. Any answer is right: no contract rests on who was asked.
@@ -19,7 +21,7 @@ pub(crate) struct SecondHands {
     tops: Option<TwoHighest>,
     // the lengths of all hands at this start
     lengths: u64,
-    // the leads of suits that an opponent heads, and of which nobody was asked yet
+    // the leads of suits of which nobody was asked yet; by relative ranks of those alone that an opponent heads
     unasked: Hand,
     // which opponents were asked of a side suit in vain: they have too few winners for any
     left_fails: bool,
@@ -30,28 +32,33 @@ impl SecondHands {
     /// At the start with these strings, where these cards may be led.
     #[inline(always)]
     pub(crate) fn of(strings: Option<&OwnerStrings>, choices: Hand) -> SecondHands {
-        let (tops, lengths, headed) = match strings {
-            Some(strings) => {
-                let tops = strings.two_highest();
-                (
-                    Some(tops),
-                    strings.shape().lengths(),
-                    headed_by_opponents(tops),
-                )
-            }
-            None => (None, 0, 0),
+        let (tops, lengths) = match strings {
+            Some(strings) => (Some(strings.two_highest()), strings.shape().lengths()),
+            None => (None, 0),
         };
         SecondHands {
             tops,
             lengths,
-            unasked: choices.among(headed),
+            unasked: choices,
             left_fails: false,
             right_fails: false,
         }
     }
 
+    /// The same, and the leads of suits that the leader's side heads are known to have nobody to ask.
+    #[inline(always)]
+    pub(crate) fn of_headed(strings: Option<&OwnerStrings>, choices: Hand) -> SecondHands {
+        let mut seconds = SecondHands::of(strings, choices);
+        let headed = match seconds.tops {
+            Some(tops) => headed_by_opponents(tops),
+            None => 0,
+        };
+        seconds.unasked = choices.among(headed);
+        seconds
+    }
+
     /// May there be an opponent to ask before this card is led?
-    // Mostly there is none, which one bit tells.
+    // By relative ranks there is mostly none, which one bit tells.
     #[inline(always)]
     pub(crate) fn may_ask(&self, card: Place) -> bool {
         self.unasked.has_place(card)
@@ -69,7 +76,7 @@ impl SecondHands {
         }
         self.unasked = self.unasked.without_suit(suit);
         let leader = position.first();
-        if ruffs(position, leader.partner(), suit) {
+        if tops & OPPONENTS == 0 || ruffs(position, leader.partner(), suit) {
             return None;
         }
         let right = tops & LAST_TWO != 0;

@@ -427,6 +427,69 @@ fn both_forms_of_a_search_ask_their_table_alike(rt: HostRuntime) {
     assert!(rt; with_few == 0 && with_more > 100, "{with_few}, {with_more}");
 }
 
+// A start of so many cards a hand where the leader has the king of a suit, another card of it so far below, at least the four, and the
+// two: an opponent has the ace, a drawn hand the three, and what is between the first two is played. The rest is drawn.
+fn with_equals_apart(state: &mut u64, cards: u64, apart: u64) -> Option<TrickStart> {
+    let suit = Suit::from_code((below(state, 4) % 4) as u8)?;
+    let first = below(state, 4) % 4;
+    let opponent = (first + 1 + 2 * (below(state, 2) % 2)) % 4;
+    let third = (first + 1 + below(state, 3) % 3) % 4;
+    let low = 13u64.saturating_sub(apart);
+    let mut hands = Hands::new();
+    let mut left = [cards; 4];
+    for (code, number) in [
+        (13, first),
+        (low, first),
+        (2, first),
+        (3, third),
+        (14, opponent),
+    ] {
+        let rank = Rank::from_code((code % 15) as u8)?;
+        let seat = number as usize % 4;
+        left[seat] = left[seat].saturating_sub(1);
+        hands.insert(Seat::from_code(seat as u8)?, Card { suit, rank });
+    }
+    let mut wanted = cards.saturating_mul(4).saturating_sub(5);
+    // The ace, from the lower one to the king, the three and the two are no choice.
+    let mut others = 48u64.saturating_sub(apart);
+    for number in 0..52u64 {
+        let card = card_of(number)?;
+        let code = card.rank.code() as u64;
+        if card.suit != suit || code > 3 && code < low {
+            if below(state, others) < wanted {
+                let seat = seat_with_room(state, &left)? % 4;
+                wanted = wanted.saturating_sub(1);
+                left[seat] = left[seat].saturating_sub(1);
+                hands.insert(Seat::from_code(seat as u8)?, card);
+            }
+            others = others.saturating_sub(1);
+        }
+    }
+    let strain = Strain::from_code((below(state, 5) % 5) as u8)?;
+    let leader = Seat::from_code(first as u8)?;
+    let position = Position::new(hands, strain, leader, &[]).ok()?;
+    TrickStart::of(&position)
+}
+
+// The order in which leads are tried, by the starts that are asked of: rank by rank as the deal has them, and by groups of relative
+// ranks. A card with an equal below it looks better where the leader has the next card after an opponent's highest. The equal lies one to
+// nine ranks below the king.
+#[test]
+fn both_forms_lead_the_same_where_equal_ranks_lie_apart(rt: HostRuntime) {
+    let mut state = 58;
+    for apart in 1..10u64 {
+        for number in 0..12u64 {
+            let start = with_equals_apart(&mut state, 7 + number % 2, apart).expect(&rt, "a start");
+            for most in [3, 6, 12, 40, 400] {
+                assert!(rt;
+                    others_of(&start, most).is_some(),
+                    "{apart} apart, start {number}, budget {most}"
+                );
+            }
+        }
+    }
+}
+
 // Behind a cache too, which asks it from ten tricks on.
 #[test]
 fn a_table_behind_a_cache_is_asked_of_starts_of_the_deal(
