@@ -1,45 +1,49 @@
-//! The question of the search at a start of a trick by the ranks and seats of the deal, asked of the start by relative ranks.
+//! The leads of a start of a trick by the ranks and seats of the deal, tried at the start by relative ranks.
 ghost use Rattle.std.specs.Prelude.{◌≡◌, ◌≤◌, IfOk, OnOk};
 ghost use Rattle.dd_play.specs.Board.{tricks_left};
+ghost use Rattle.dd_rank.specs.Strings.{strings_of};
 ghost use Rattle.dd_search.specs.Budgets.{EndsAs};
 ghost use Rattle.dd_search.specs.ClaimsBy.{IsAnswer, IsAnswerBy};
 
 use crate::halt_word::HaltWord;
 use crate::meter::Meter;
-use crate::relative_window::relative_at_start;
+use crate::relative_window::relative_by_lead;
 use crate::table::Bounds;
 use crate::verdict::Verdict;
-use dd_cards::{Hand, Seat};
 use dd_play::TrickStart;
-use dd_rank::{Depths, alike_claims, covered_positions};
-use dd_relative::{AbsoluteRanks, ComingStart, RelativeStart};
+use dd_rank::{Depths, OwnerStrings, alike_claims, alike_strings, covered_positions};
+use dd_relative::{AbsoluteRanks, KnownStart, PlacedTrick, RelativeStart};
 
-/// Do North and South take at least `need` of the tricks left? It is asked of the start that is alike by relative ranks, where
-/// the leader is North, and what is told there is turned back.
+/// Do North and South take at least `need` of the tricks left, by the leads of a start with these strings? They are tried at the start
+/// that is alike by relative ranks, where the leader is North, and what is told there is turned back.
 pub(crate) fn by_relative_ranks<B: Bounds, M: Meter>(
     start: &TrickStart,
+    strings: &OwnerStrings,
     need: u8,
     table: &mut B,
     meter: &mut M,
 ) -> Result<Verdict, HaltWord>
+    requires strings { strings.now ≡ strings_of start.now }
     requires low { 1 ≤ need }
     requires high { need ≤ tricks_left start.now }
     ensures answer { IfOk result (λ answer. IsAnswer start.now need answer.yes) }
     ensures winning_ranks { IfOk result (λ answer. IsAnswerBy start.now need answer.cards answer.yes) }
-    ensures ticked { OnOk result (M.ticked meter.old meter.new) }
+    ensures ticked { (m : M) → M.ticked m meter.old → OnOk result (M.ticked m meter.new) }
     ensures ends { EndsAs (M.says meter.new) result }
 {
     alike_claims();
+    alike_strings();
     covered_positions();
     let position = start.position();
     let leads = position.first().is_north_south();
     let left = position.tricks_left();
     let asked = if leads { need } else { left + 1 - need };
-    let coming = ComingStart::new(RelativeStart::of(start), Hand::new(), Seat::North);
-    let there = coming.start().as_trick_start();
-    let hint = table.probe_ahead(coming.shape());
-    let ranks = AbsoluteRanks::of(start);
-    let found = relative_at_start(&coming, hint, &ranks, asked, table, meter)?;
+    let relative = RelativeStart::of(start);
+    let there = relative.as_trick_start();
+    // Alike starts have the same strings.
+    let known = KnownStart::new(&relative, strings, AbsoluteRanks::of(start));
+    let trick = PlacedTrick::led(&known);
+    let found = relative_by_lead(&trick, asked, table, meter)?;
     let depths = Depths::of_cards(there, found.ranks().cards());
     Ok(Verdict::new(found.is_yes() == leads, depths.cards(start)))
 }

@@ -31,10 +31,10 @@ use dd_relative::{
     AbsoluteRanks, ComingStart, KnownStart, PlacedTrick, WinningRanks, claims_before,
 };
 
-/// Does the leader's side take at least `need` of the tricks left? It ticks first; a look or the quick tricks may settle it, and a lead
-/// second hand's winners; else play does, and what that taught is noted. The ranks of the start before this one serve the order.
+// Does the leader's side take at least `need` of the tricks left? It ticks first; a look or the quick tricks may settle it, and a lead
+// second hand's winners; else play does, and what that taught is noted. The ranks of the start before this one serve the order.
 #[cycle(relative_window)]
-pub(crate) fn relative_at_start<B: Bounds, M: Meter>(
+fn relative_at_start<B: Bounds, M: Meter>(
     coming: &ComingStart,
     hint: ProbeHint,
     above: &AbsoluteRanks,
@@ -141,11 +141,11 @@ fn relative_at_fourth_hand<B: Bounds, M: Meter>(
     relative_by_play(trick, Turn::Fourth, need, table, meter)
 }
 
-// The answer by the leads: one of each class is tried until one settles it, but for those that a failure tells of too.
+/// The answer by the leads: one of each class is tried until one settles it, but for those that a failure tells of too.
 // Apart from the other hands' cards: a function with all of them in it would grow too large to be copied into its callers.
 #[cycle(relative_window)]
 #[inline(always)]
-fn relative_by_lead<B: Bounds, M: Meter>(
+pub(crate) fn relative_by_lead<B: Bounds, M: Meter>(
     trick: &PlacedTrick<'_>,
     need: u8,
     table: &mut B,

@@ -22,7 +22,8 @@ pub trait Bounds {
 
     /// May a search ask it and tell it of starts by relative ranks in place of the deal's own? These are alike to them: North leads, and
     /// of each suit the cards left are the highest ones. A search takes less time so. Of such a start leads are told by
-    /// `lead_history_of` and `note_lead_of`. A search that begins with few tricks left has the deal's own starts all the same.
+    /// `lead_history_of` and `note_lead_of`. The first start of each line of play is the deal's own all the same, and so is each one
+    /// where a search begins with few tricks left.
     fn takes_relative_starts(&self) -> bool {
         false
     }

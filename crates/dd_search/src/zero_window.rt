@@ -6,6 +6,7 @@ ghost use Rattle.dd_play.specs.Board.{tricks_left};
 ghost use Rattle.dd_play.specs.Play.{legal, after};
 ghost use Rattle.dd_play.specs.Value.{north_souths_trick};
 ghost use Rattle.dd_play.specs.Won.{trick_for};
+ghost use Rattle.dd_rank.specs.Strings.{strings_of};
 ghost use Rattle.dd_search.specs.Budgets.{EndsAs};
 ghost use Rattle.dd_search.specs.ClaimsBy.{IsAnswer, IsAnswerBy, IsAnswerAfter};
 ghost use Rattle.dd_search.specs.Turns.{cards_before};
@@ -91,11 +92,7 @@ fn zero_window_at_first_hand<B: Bounds, M: Meter>(
     let Some(start) = TrickStart::of(position) else {
         unreachable!()
     };
-    if position.tricks_left() > FEW && table.takes_relative_starts() {
-        by_relative_ranks(&start, need, table, meter)
-    } else {
-        zero_window_at_start(&start, need, table, meter)
-    }
+    zero_window_at_start(&start, need, table, meter)
 }
 
 // The same at a start of a trick.
@@ -204,16 +201,36 @@ fn answer_at_start<B: Bounds, M: Meter>(
     if let Some(answer) = quick_answer(start, &strings, need) {
         return Ok(answer);
     }
-    let answer = answer_by_play(
-        start.position(),
-        Turn::First,
-        Some(&strings),
-        need,
-        table,
-        meter,
-    )?;
+    let answer = answer_by_leads(start, &strings, need, table, meter)?;
     note_answer(start, &strings, need, &answer, table);
     Ok(answer)
+}
+
+// The answer by the leads of a start with these strings. They are tried by relative ranks where more than a few tricks are left and the
+// table takes such starts.
+#[cycle(zero_window)]
+#[inline(always)]
+fn answer_by_leads<B: Bounds, M: Meter>(
+    start: &TrickStart,
+    strings: &OwnerStrings,
+    need: u8,
+    table: &mut B,
+    meter: &mut M,
+) -> Result<Verdict, HaltWord>
+    requires strings { strings.now ≡ strings_of start.now }
+    requires low { 1 ≤ need }
+    requires high { need ≤ tricks_left start.now }
+    ensures answer { IfOk result (λ answer. IsAnswer start.now need answer.yes) }
+    ensures winning_ranks { IfOk result (λ answer. IsAnswerBy start.now need answer.cards answer.yes) }
+    ensures ticked { (m : M) → M.ticked m meter.old → OnOk result (M.ticked m meter.new) }
+    ensures ends { EndsAs (M.says meter.new) result }
+{
+    let position = start.position();
+    if position.tricks_left() > FEW && table.takes_relative_starts() {
+        by_relative_ranks(start, strings, need, table, meter)
+    } else {
+        answer_by_play(position, Turn::First, Some(strings), need, table, meter)
+    }
 }
 
 // The answer by the cards: one of each class is tried until one settles it, but for those that a failure tells of too. The
