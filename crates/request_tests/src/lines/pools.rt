@@ -4,7 +4,6 @@ use super::ahead::{drawn, searched};
 use super::held::{CountsLooks, HoldsSearch, Sign, Signs, TakesTurns, Turn, held};
 use super::runs::run;
 use crate::devices::{Pieces, Taker};
-use dd_cards::Strain;
 use dd_lines::CountedDevice;
 use dd_search::{Bounds, NoTable};
 use dd_tool::{Pool, answer_ahead, solve_lines_ahead};
@@ -184,7 +183,24 @@ fn tell_at_once<W: Threads + Wait + Clock + Sync>(
     told
 }
 
-// What two streams over one pool write, one after the other or at once, while threads answer ahead over these tables.
+// What two streams over this pool write, one after the other or at once.
+fn tell_two<W: Threads + Wait + Clock + Sync>(
+    rt: &W,
+    alloc: Global,
+    pool: &Pool,
+    signs: &Signs,
+    first: &[u8],
+    second: &[u8],
+    at_once: bool,
+) -> (Vec<u8>, Vec<u8>) {
+    if at_once {
+        tell_at_once(rt, alloc, pool, signs, first, second)
+    } else {
+        tell_in_turn(rt, alloc, pool, signs, first, second)
+    }
+}
+
+// The same over one pool, while threads answer ahead over these tables.
 fn tell_both<W: Threads + Wait + Clock + Sync>(
     rt: &W,
     alloc: Global,
@@ -198,13 +214,7 @@ fn tell_both<W: Threads + Wait + Clock + Sync>(
     let (_, told) = join(
         rt,
         || help(rt, &pool, tables),
-        || {
-            if at_once {
-                tell_at_once(rt, alloc, &pool, signs, first, second)
-            } else {
-                tell_in_turn(rt, alloc, &pool, signs, first, second)
-            }
-        },
+        || tell_two(rt, alloc, &pool, signs, first, second, at_once),
     );
     told
 }
@@ -265,19 +275,19 @@ fn a_second_stream_is_told_while_the_first_one_stays_at_a_reply(
     Ok(())
 }
 
-// What is told of a stream over a pool with one thread, and the looks of who tells. Its output has these turns.
-fn tell_beside_one<W: Threads + Wait + Clock + Sync>(
+// What is told of a stream over a pool with threads, and the looks of who tells. Its output has these turns.
+fn tell_beside<W: Threads + Wait + Clock + Sync>(
     rt: &W,
     alloc: Global,
     signs: &Signs,
+    tables: &mut [HoldsSearch<'_, W>],
     lines: &[u8],
     turns: &[Turn],
 ) -> (Vec<u8>, u64) {
     let pool = Pool::new(alloc, None);
-    let mut tables = [HoldsSearch::new(rt, signs)];
     let (_, told) = join(
         rt,
-        || help(rt, &pool, &mut tables),
+        || help(rt, &pool, tables),
         || tell_and_close(rt, alloc, &pool, signs, lines, turns),
     );
     told
@@ -324,7 +334,8 @@ fn answers_that_are_ready_are_told_without_a_search_by_who_tells(
     let turns = [AFTER_SEARCHING, PLAIN, PLAIN, LETS_GO];
     for _ in 0..ROUNDS {
         let signs = Signs::new(1);
-        let (told, looks) = tell_beside_one(&rt, rt.alloc(), &signs, &lines, &turns);
+        let mut tables = [HoldsSearch::new(&rt, &signs)];
+        let (told, looks) = tell_beside(&rt, rt.alloc(), &signs, &mut tables, &lines, &turns);
         assert!(rt; !signs.is_late() && told.as_slice() == alone.written.as_slice());
         assert_eq!(rt; looks, 0);
     }
@@ -372,7 +383,11 @@ fn last_searched<W: Threads + Wait + Clock + Sync>(
 ) -> (Option<u8>, Vec<u8>) {
     let mut tables = [HoldsSearch::new(rt, signs)];
     let (_, told) = tell_both(rt, alloc, signs, &mut tables, first, second, false);
-    (tables[0].last().map(Strain::code), told)
+    let last = match tables[0].last() {
+        Some(strain) => Some(strain.code()),
+        None => None,
+    };
+    (last, told)
 }
 
 // The first stream leaves all lines but two, most of them with their answers; the thread is at the last one. The second stream takes so
