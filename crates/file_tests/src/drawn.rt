@@ -405,7 +405,7 @@ fn drawn_files_with_a_tag_as_long_as_is_judged_come_out_as_before(
         lengths: 21,
         each_way: true,
     };
-    compare(&rt, making, 65_536, 0, 0)
+    compare(&rt, making, 65_536, 0, 9_379_631_868_422_047_137)
 }
 
 // The end of a front comes before, within and behind a long tag.
@@ -422,5 +422,5 @@ fn drawn_files_of_several_fronts_with_a_long_tag_come_out_as_before(
         lengths: 21,
         each_way: false,
     };
-    compare(&rt, making, HELD, 42, 0)
+    compare(&rt, making, HELD, 42, 2_116_805_653_444_967_365)
 }
