@@ -11,7 +11,7 @@
 # of North and South together; and in three runs at most the twenty results, beside DDS's CalcDDtable. Ratios are to each of the
 # two. Deals are from fixed seeds; it says whether the replies agree, and ends with status 1 where some don't.
 # Words: the number of runs (5), of full deals (40), the seed of the full deals (1013), and the parts, with commas between them
-# (small,leads,best,targets,declarers,tables). `DDS_PEER` names a folder in which the built DDS is kept.
+# (small,leads,best,targets,declarers,tables). `DDS_PEER` names a folder in which the built DDS is kept, `DDSERVE` another built program.
 set -eu
 here=$(cd -- "$(dirname -- "$0")" && pwd)
 top=$(cd -- "$here/../.." && pwd)
@@ -30,7 +30,7 @@ trap 'rm -rf "$work"' EXIT
 g++ -O2 -o "$work/debian" "$here/dds.cpp" -ldds
 bash "$here/peer.sh" "${DDS_PEER:-$work/peer}"
 g++ -O3 -march=x86-64-v3 -flto=auto -pthread -I"${DDS_PEER:-$work/peer}/include" -o "$work/dds" "$here/dds.cpp" "${DDS_PEER:-$work/peer}/libdds.a"
-"$top/ddserve" solve < /dev/null
+"${DDSERVE:-$top/ddserve}" solve < /dev/null
 for cards in 1 4 6; do
     python3 "$top/bench/tools/deals.py" "$cards" 2000 --seed $((2000 + cards)) --requests > "$work/small$cards.jsonl"
 done
@@ -46,7 +46,7 @@ against_notrump --south AQ7.KQ5.AKJ4.KJ3 > "$work/south.jsonl"
 against_notrump --points 26 > "$work/games.jsonl"
 sed 's/"do":"solve"/"do":"table"/; s/,"trump".*}$/}/' "$work/13.jsonl" > "$work/tables.jsonl"
 
-python3 - "$runs" "$top/crates/ddserve/out/ddserve" "$work" "$parts" <<'PY'
+python3 - "$runs" "${DDSERVE:-$top/crates/ddserve/out/ddserve}" "$work" "$parts" <<'PY'
 import json
 import math
 import subprocess
