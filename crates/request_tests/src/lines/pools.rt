@@ -109,7 +109,9 @@ pub fn told_over<W: Wait, B: Bounds, O: Write + Drop>(
 // Answers ahead over each of these tables, in a thread of its own.
 fn help<W: Threads + Wait + Sync, H: Bounds + Send>(rt: &W, pool: &Pool, tables: &mut [H]) {
     let count = tables.len();
-    for_each_mut(rt, tables, count, &|_, table| answer_ahead(rt, pool, table));
+    if count > 0 {
+        for_each_mut(rt, tables, count, &|_, table| answer_ahead(rt, pool, table));
+    }
 }
 
 // What two streams write, the second of which comes after the first has failed at its second reply.
