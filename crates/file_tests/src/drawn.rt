@@ -8,9 +8,9 @@ use std::alloc::{AllocError, Global};
 use std::process::Abort;
 use std::test::Fail;
 
-const SEATS: [Seat; 4] = [Seat::North, Seat::East, Seat::South, Seat::West];
+pub const SEATS: [Seat; 4] = [Seat::North, Seat::East, Seat::South, Seat::West];
 
-const RESULTS: [[u8; 4]; 5] = [
+pub const RESULTS: [[u8; 4]; 5] = [
     [7, 6, 7, 6],
     [6, 7, 6, 7],
     [10, 3, 10, 3],
@@ -94,6 +94,9 @@ const OPENINGS: [&[u8]; 4] = [b"[Board \"", b"[Event \"", b"[Board  \"", b"[Boar
 /// The bytes of a file that are held before any is passed on.
 const HELD: usize = 262_144;
 
+/// What numbers are mixed into.
+pub const FIRST_DIGEST: u64 = 0xCBF2_9CE4_8422_2325;
+
 /// The fewest bytes of a long tag.
 const LONG: usize = 65_530;
 
@@ -146,11 +149,11 @@ fn drawn(
     Ok(file)
 }
 
-fn mixed(digest: u64, number: u64) -> u64 {
+pub fn mixed(digest: u64, number: u64) -> u64 {
     (digest ^ number).wrapping_mul(0x0000_0100_0000_01B3)
 }
 
-fn mixed_bytes(digest: u64, bytes: &[u8]) -> u64 {
+pub fn mixed_bytes(digest: u64, bytes: &[u8]) -> u64 {
     let mut digest = mixed(digest, bytes.len() as u64);
     for byte in bytes {
         digest = mixed(digest, *byte as u64);
@@ -245,18 +248,84 @@ fn wanted_by(number: u64) -> Wanted {
     }
 }
 
-// Which files are made: how many, of how many pieces at least and how many more at most, one of which is repeated up to so often; and of
-// how many lengths their long tags are, if they have one. Each is read in each of three ways, or in one by turns.
+/// Which files are made: how many, of how many pieces at least and how many more at most, one of which is repeated up to so often; and of
+/// how many lengths their long tags are, if they have one. Each is read in each of three ways, or in one by turns.
 #[derive(Clone, Copy)]
-struct Making {
-    seed: u64,
-    files: u64,
-    least: u64,
-    more: u64,
-    times: u64,
-    lengths: usize,
-    each_way: bool,
+pub struct Making {
+    pub seed: u64,
+    pub files: u64,
+    pub least: u64,
+    pub more: u64,
+    pub times: u64,
+    pub lengths: usize,
+    pub each_way: bool,
 }
+
+/// Files of some pieces.
+pub const SHORT: Making = Making {
+    seed: 1,
+    files: 400,
+    least: 1,
+    more: 30,
+    times: 3,
+    lengths: 0,
+    each_way: true,
+};
+
+/// Files of many pieces.
+pub const OF_MANY_PIECES: Making = Making {
+    seed: 2,
+    files: 40,
+    least: 1,
+    more: 400,
+    times: 30,
+    lengths: 0,
+    each_way: true,
+};
+
+/// Files in which one piece is repeated over more than what is read at once.
+pub const WITH_A_LONG_RUN: Making = Making {
+    seed: 3,
+    files: 12,
+    least: 1,
+    more: 8,
+    times: 9_000,
+    lengths: 0,
+    each_way: true,
+};
+
+/// Files that are passed on in fronts: one comes once 262,144 bytes wait.
+pub const OF_SEVERAL_FRONTS: Making = Making {
+    seed: 4,
+    files: 4,
+    least: 20_000,
+    more: 20_000,
+    times: 30,
+    lengths: 0,
+    each_way: true,
+};
+
+/// Files with a tag as long as is judged: what begins at a byte is judged by the next 65,536, and a longer tag is none.
+pub const WITH_A_LONG_TAG: Making = Making {
+    seed: 5,
+    files: 42,
+    least: 40,
+    more: 200,
+    times: 3,
+    lengths: 21,
+    each_way: true,
+};
+
+/// Files of several fronts with such a tag: the end of a front comes before, within and behind it.
+pub const OF_SEVERAL_FRONTS_WITH_A_LONG_TAG: Making = Making {
+    seed: 6,
+    files: 42,
+    least: 9_500,
+    more: 300,
+    times: 30,
+    lengths: 21,
+    each_way: false,
+};
 
 // The bytes of a file's long tag.
 fn length_of_tag(number: u64, lengths: usize) -> usize {
@@ -265,6 +334,38 @@ fn length_of_tag(number: u64, lengths: usize) -> usize {
     } else {
         0
     }
+}
+
+/// A drawn file, the bytes of a small piece of it, and the tags that its games are to get.
+#[derive(Drop)]
+pub struct DrawnFile {
+    pub bytes: Vec<u8>,
+    pub small: usize,
+    pub wanted: Wanted,
+}
+
+/// The file of this number.
+pub fn next_file(
+    alloc: Global,
+    making: Making,
+    state: &mut u64,
+    number: u64,
+) -> Result<DrawnFile, AllocError> {
+    let count = below(state, making.more).wrapping_add(making.least);
+    let repeated = below(state, making.times);
+    let long = length_of_tag(number, making.lengths);
+    let bytes = drawn(alloc, state, count, repeated, long)?;
+    let small = (below(state, 300) % 300) as usize + 1;
+    let wanted = if number % 3 == 0 {
+        wanted_by(number / 3)
+    } else {
+        Wanted::ALL
+    };
+    Ok(DrawnFile {
+        bytes,
+        small,
+        wanted,
+    })
 }
 
 // What the files come to, the bytes of the longest one, and how many are passed on in several fronts. Each is read in pieces as large as
@@ -278,29 +379,20 @@ fn mixed_files(alloc: Global, making: Making) -> Result<(Mixes, usize, u64), Fai
         foresees: false,
         asked: 0,
         left: 0,
-        digest: 0xCBF2_9CE4_8422_2325,
+        digest: FIRST_DIGEST,
     };
     for number in 0..making.files {
-        let count = below(&mut state, making.more).wrapping_add(making.least);
-        let repeated = below(&mut state, making.times);
-        let long = length_of_tag(number, making.lengths);
-        let file = drawn(alloc, &mut state, count, repeated, long)?;
-        longest = longest.max(file.len());
-        if file.len() > HELD {
+        let file = next_file(alloc, making, &mut state, number)?;
+        longest = longest.max(file.bytes.len());
+        if file.bytes.len() > HELD {
             several = several.wrapping_add(1);
         }
-        let small = (below(&mut state, 300) % 300) as usize + 1;
         mixes.foresees = number % 2 == 1;
-        let wanted = if number % 3 == 0 {
-            wanted_by(number / 3)
-        } else {
-            Wanted::ALL
-        };
-        for (turn, most) in [(0, usize::MAX), (1, small), (2, 1)] {
+        for (turn, most) in [(0, usize::MAX), (1, file.small), (2, 1)] {
             if !making.each_way && number % 3 != turn {
                 continue;
             }
-            if filled(alloc, &file, most, wanted, &mut mixes).is_err() {
+            if filled(alloc, &file.bytes, most, file.wanted, &mut mixes).is_err() {
                 mixes.add(5);
             }
         }
@@ -335,92 +427,40 @@ fn compare<R: AllocGlobal + Abort>(
 
 #[test]
 fn short_drawn_files_come_out_as_before(rt: HostRuntime) -> Result<(), Fail> {
-    let making = Making {
-        seed: 1,
-        files: 400,
-        least: 1,
-        more: 30,
-        times: 3,
-        lengths: 0,
-        each_way: true,
-    };
-    compare(&rt, making, 500, 0, 8_283_183_591_809_235_975)
+    compare(&rt, SHORT, 500, 0, 8_283_183_591_809_235_975)
 }
 
 #[test]
 fn drawn_files_of_many_pieces_come_out_as_before(rt: HostRuntime) -> Result<(), Fail> {
-    let making = Making {
-        seed: 2,
-        files: 40,
-        least: 1,
-        more: 400,
-        times: 30,
-        lengths: 0,
-        each_way: true,
-    };
-    compare(&rt, making, 8_000, 0, 3_574_139_286_528_128_542)
+    compare(&rt, OF_MANY_PIECES, 8_000, 0, 3_574_139_286_528_128_542)
 }
 
-// One piece is repeated over more than what is read at once.
 #[test]
 fn drawn_files_with_a_long_run_come_out_as_before(rt: HostRuntime) -> Result<(), Fail> {
-    let making = Making {
-        seed: 3,
-        files: 12,
-        least: 1,
-        more: 8,
-        times: 9_000,
-        lengths: 0,
-        each_way: true,
-    };
-    compare(&rt, making, 65_536, 0, 12_756_514_680_348_021_889)
+    compare(&rt, WITH_A_LONG_RUN, 65_536, 0, 12_756_514_680_348_021_889)
 }
 
-// A file is passed on in fronts once 262,144 bytes of it wait.
 #[test]
 fn drawn_files_of_several_fronts_come_out_as_before(rt: HostRuntime) -> Result<(), Fail> {
-    let making = Making {
-        seed: 4,
-        files: 4,
-        least: 20_000,
-        more: 20_000,
-        times: 30,
-        lengths: 0,
-        each_way: true,
-    };
-    compare(&rt, making, 400_000, 4, 475_837_719_620_738_507)
+    compare(&rt, OF_SEVERAL_FRONTS, 400_000, 4, 475_837_719_620_738_507)
 }
 
-// What begins at a byte is judged by the next 65,536: a tag of so many is one, and a longer one is none.
 #[test]
 fn drawn_files_with_a_tag_as_long_as_is_judged_come_out_as_before(
     rt: HostRuntime,
 ) -> Result<(), Fail> {
-    let making = Making {
-        seed: 5,
-        files: 42,
-        least: 40,
-        more: 200,
-        times: 3,
-        lengths: 21,
-        each_way: true,
-    };
-    compare(&rt, making, 65_536, 0, 9_379_631_868_422_047_137)
+    compare(&rt, WITH_A_LONG_TAG, 65_536, 0, 9_379_631_868_422_047_137)
 }
 
-// The end of a front comes before, within and behind a long tag.
 #[test]
 fn drawn_files_of_several_fronts_with_a_long_tag_come_out_as_before(
     rt: HostRuntime,
 ) -> Result<(), Fail> {
-    let making = Making {
-        seed: 6,
-        files: 42,
-        least: 9_500,
-        more: 300,
-        times: 30,
-        lengths: 21,
-        each_way: false,
-    };
-    compare(&rt, making, HELD, 42, 2_116_805_653_444_967_365)
+    compare(
+        &rt,
+        OF_SEVERAL_FRONTS_WITH_A_LONG_TAG,
+        HELD,
+        42,
+        2_116_805_653_444_967_365,
+    )
 }

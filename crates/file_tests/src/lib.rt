@@ -6,6 +6,8 @@ mod ahead;
 #[cfg(test)]
 mod boards;
 #[cfg(test)]
+mod byte_by_byte;
+#[cfg(test)]
 mod deals;
 #[cfg(test)]
 mod devices;
@@ -13,5 +15,7 @@ mod devices;
 mod drawn;
 #[cfg(test)]
 mod files;
+#[cfg(test)]
+mod order;
 #[cfg(test)]
 mod score;
