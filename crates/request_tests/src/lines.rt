@@ -1,6 +1,7 @@
 //! Lines through `solve_lines`, over devices of memory that give and take little and fail in time, and with threads beside it.
 mod ahead;
 mod budgets;
+mod closing;
 mod counted_device;
 mod cut;
 mod faults;

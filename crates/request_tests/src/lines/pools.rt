@@ -106,8 +106,8 @@ pub fn told_over<W: Wait, B: Bounds, O: Write + Drop>(
     writer.into_inner()
 }
 
-// Answers ahead over each of these tables, in a thread of its own.
-fn help<W: Threads + Wait + Sync, H: Bounds + Send>(rt: &W, pool: &Pool, tables: &mut [H]) {
+/// Answers ahead over each of these tables, in a thread of its own.
+pub fn help<W: Threads + Wait + Sync, H: Bounds + Send>(rt: &W, pool: &Pool, tables: &mut [H]) {
     let count = tables.len();
     if count > 0 {
         for_each_mut(rt, tables, count, &|_, table| answer_ahead(rt, pool, table));
