@@ -1,7 +1,7 @@
 //! A few bounds of one shape, and what is seen of them before they are read.
-ghost use Rattle.std.specs.Prelude.{◌≡◌, ◌<◌, ◌≤◌, ◌⊎◌, IfSome, IfErr, length};
+ghost use Rattle.std.specs.Prelude.{◌≡◌, ◌<◌, ◌≤◌, ◌⊎◌, [], ◌∷◌, IfSome, IfErr, OnOk, OnErr, length};
 ghost use Rattle.dd_rank.specs.FirstOwners.{AreFirst};
-ghost use Rattle.dd_cache.specs.StoredBounds.{StoredBoundsOf, IsSound};
+ghost use Rattle.dd_cache.specs.StoredBounds.{StoredBoundsOf, IsSound, Keeps, StandsNeedless};
 
 use crate::settling_lead::SettlingLead;
 use crate::stored_bounds::StoredBounds;
@@ -25,22 +25,22 @@ pub(crate) struct Page {
     count: u8,
     // that which last settled a start of the shape
     lead: SettlingLead,
-    // those of its places that are free have copies of the first
+    // As many as are counted, from the first place on. The places that are free have copies of the first one that the page had.
     told: [StoredBounds; BOUNDS_OF_A_PAGE],
 }
 
 impl Model for Page {
-    ghost use Rattle.std.specs.Prelude.{◌≡◌, length};
+    ghost use Rattle.std.specs.Prelude.{◌≡◌, ◌≤◌, length, take};
     ghost use Rattle.dd_cache.specs.StoredBounds.{PageOf, AreSound};
 
     ghost Value = { PageOf };
 
     ghost view = { λ p. record {
       shape = record { strain = p.strain; lengths = p.lengths };
-      told = p.told;
+      told = take p.count p.told;
     } };
 
-    ghost invariant = { λ p. (length p.told ≡ 8) × AreSound (record {
+    ghost invariant = { λ p. (length p.told ≡ 8) × (p.count ≤ 8) × AreSound (record {
       shape = record { strain = p.strain; lengths = p.lengths };
       told = p.told;
     }) };
@@ -50,6 +50,8 @@ impl Page {
     /// A page with one entry, before which that of this number was the newest of its place.
     pub(crate) fn new(shape: Shape, before: u32, lead: SettlingLead, first: StoredBounds) -> Page
         requires { IsSound shape first }
+        ensures shape { result.shape ≡ shape }
+        ensures told { result.told ≡ first ∷ [] }
     {
         let mut seen = FirstFours::default();
         seen.put(0, first.firsts.first_four());
@@ -137,6 +139,9 @@ impl Page {
     pub(crate) fn keep(&mut self, new: StoredBounds) -> Result<(), StoredBounds>
         requires { IsSound self.old.shape new }
         ensures shape { self.new.shape ≡ self.old.shape }
+        ensures ok { OnOk result (Keeps self.old.told self.new.told new) }
+        ensures err { OnErr result (self.new ≡ self.old) }
+        ensures room { OnErr result (length self.old.told ≡ BOUNDS_OF_A_PAGE) }
         ensures back { IfErr result (λ told. told ≡ new) }
     {
         let first = new.firsts.first_four();
@@ -157,7 +162,7 @@ impl Page {
 
     // The place of the first of its bounds that these make needless.
     fn needless(&self, new: &StoredBounds, first: FirstFour) -> Option<usize>
-        ensures { IfSome result (λ place. place < 8) }
+        ensures { IfSome result (StandsNeedless new.now self.now.told) }
     {
         let mut places = self.seen.may_begin_as(first);
         for _ in 0..BOUNDS_OF_A_PAGE {
@@ -165,7 +170,11 @@ impl Page {
                 return None;
             }
             let place = places.trailing_zeros() as usize;
-            if new.replaces(self.told.get(place)?) {
+            // Behind those that are counted all places are free.
+            if place >= self.count as usize {
+                return None;
+            }
+            if new.replaces(&self.told[place]) {
                 return Some(place);
             }
             places &= places - 1;

@@ -1,6 +1,7 @@
 //! Bounds, and the owners of the highest cards under which they hold.
 ghost use Rattle.std.specs.Prelude.{◌≡◌, ◌<◌, ◌≤◌, ◌⊎◌, IsTrue};
 ghost use Rattle.dd_rank.specs.FirstOwners.{AreFirst};
+ghost use Rattle.dd_cache.specs.StoredBounds.{MakesNeedless};
 
 use dd_play::Interval;
 use dd_rank::{FirstOwners, OwnerStrings};
@@ -48,7 +49,9 @@ impl StoredBounds {
 
     /// Does it make the other needless, which is of its shape: it says as much of no fewer positions?
     #[inline]
-    pub(crate) fn replaces(&self, other: &StoredBounds) -> bool {
+    pub(crate) fn replaces(&self, other: &StoredBounds) -> bool
+        ensures { IsTrue result → MakesNeedless self.now other.now }
+    {
         let says_as_much = (other.interval.lo <= self.interval.lo)
             & (self.interval.hi <= other.interval.hi);
         says_as_much & self.firsts.include(&other.firsts)

@@ -39,6 +39,16 @@ fn noted_above<T: Bounds>(table: &mut T, start: &TrickStart) -> Option<u8> {
     Some(tricks)
 }
 
+// Notes that the value, which does, lies between these, with its depths.
+fn noted_between<T: Bounds>(table: &mut T, start: &TrickStart, lo: u8, hi: u8) -> Option<bool> {
+    let (tricks, depths) = start_value(start, &mut NoTable, &mut Endless).ok()?;
+    if tricks < lo || hi < tricks {
+        return None;
+    }
+    table.note(start, depths, Interval { lo, hi });
+    Some(true)
+}
+
 // A lead of this suit settled the start, of which the value is then noted.
 fn settled_by<T: Bounds>(table: &mut T, start: &TrickStart, lead: Suit) -> Option<u8> {
     noted(table, start)?;
@@ -91,7 +101,7 @@ fn remembers<T: Bounds>(table: &T, start: &TrickStart, want: &[u8]) -> bool {
 }
 
 // Does to the table what a row says before its bar, with the deal after it, and tells whether it found what the row has. Rows:
-// `notes VALUE`, `bounds VALUE` (0 to the value), `hearts` and `spades` (a lead that settled it), `begins`; `settles NEED BOUNDS`
+// `notes VALUE`, `bounds VALUE` (0 to the value), `between LO HI` (bounds of the value), `hearts` and `spades` (a lead that settled it), `begins`; `settles NEED BOUNDS`
 // and `leads SUITS`.
 fn holds<T: Bounds>(table: &mut T, row: &[u8]) -> Option<bool> {
     let mut parts = row.split(is_bar);
@@ -102,6 +112,8 @@ fn holds<T: Bounds>(table: &mut T, row: &[u8]) -> Option<bool> {
         Some(noted(table, &start)? == number(want))
     } else if what == b"bounds".as_slice() {
         Some(noted_above(table, &start)? == number(want))
+    } else if what == b"between".as_slice() {
+        noted_between(table, &start, number(want), number(word(words, 2)))
     } else if what == b"hearts".as_slice() {
         Some(settled_by(table, &start, Suit::Hearts).is_some())
     } else if what == b"spades".as_slice() {
@@ -228,6 +240,21 @@ fn narrower_bounds_take_the_place_of_wider_ones(rt: HostRuntime) -> Result<(), A
         notes 3|N:AKQ... .AKQ.. ..AKQ. ...AKQ\n\
         settles 3 33|N:AKQ... .AKQ.. ..AKQ. ...AKQ\n\
         settles 4 33|N:AKQ... .AKQ.. ..AKQ. ...AKQ";
+    follow_alone(&rt, rows)
+}
+
+// The first bounds give way to narrower ones, and others stand beside these. Their positions are those of a shape: they rest on no card's
+// rank. Wider ones that come then take the place of none.
+#[test]
+fn bounds_beside_others_are_kept_when_more_come(rt: HostRuntime) -> Result<(), AllocError> {
+    let rows = b"between 0 5|N:AK... .AK.. ..AK. ...AK\n\
+        between 0 2|N:AK... .AK.. ..AK. ...AK\n\
+        between 2 5|N:AK... .AK.. ..AK. ...AK\n\
+        settles 3 020|N:AK... .AK.. ..AK. ...AK\n\
+        settles 2 250|N:AK... .AK.. ..AK. ...AK\n\
+        between 0 9|N:AK... .AK.. ..AK. ...AK\n\
+        settles 3 020|N:AK... .AK.. ..AK. ...AK\n\
+        settles 2 250|N:AK... .AK.. ..AK. ...AK";
     follow_alone(&rt, rows)
 }
 
