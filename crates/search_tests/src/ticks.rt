@@ -151,7 +151,7 @@ fn deals_at_notrump_take_as_many_positions(rt: HostRuntime) -> Result<(), AllocE
 fn all_leads_and_one_best_lead_take_as_many_positions(rt: HostRuntime) -> Result<(), AllocError> {
     let rows =
         b"first 0 1 0 8 4415|N:J87.AKJ2.Q532.A8 KQ53.95.KT76.JT2 T92.QT7.4.KQ9653 A64.8643.AJ98.74\n\
-        scores 1 0 0 32 86941|N:AKT9432.KQ6..KJ2 Q875..K7653.AQT6 J6.AJ8.J942.9543 .T975432.AQT8.87\n\
+        scores 1 0 0 32 86900|N:AKT9432.KQ6..KJ2 Q875..K7653.AQT6 J6.AJ8.J942.9543 .T975432.AQT8.87\n\
         first 2 3 0 9 42698|N:Q753.Q987532..QT 96.64.AJ653.K752 AK42.KJ.KT9.8643 JT8.AT.Q8742.AJ9\n\
         scores 3 2 0 44 9834|N:J75.K84.AKQJ53.Q T3.Q93.T9.JT8743 AKQ864.J5.8642.K 92.AT762.7.A9652\n\
         first 4 1 0 6 36954|N:8.KJ987643.QJ9.5 QJT52.QT.7.KQJ86 AK764..AK852.742 93.A52.T643.AT93";
@@ -243,7 +243,7 @@ fn endings_with_voids_take_as_many_positions(rt: HostRuntime) -> Result<(), Allo
         first 1 2 0 8 68|N:AJ.T63.A.A93 T85432.9.7.5 .AQ87.52.KQT 9.K4.KJ843.J\n\
         scores 0 1 0 54 5050|N:72.2.KJ87.K7 K9.953..T843 Q4.4.AQ532.2 A63.Q8.T9.A5\n\
         value 2 3 0 5 6839|N:7.T74.A8.Q852 53.Q83.QT42.J AQJ8..95.KT97 K62.AJ965.6.3\n\
-        scores 3 1 0 53 58934|N:KQJ864.84.J4. A2.KJ92..KQ83 .Q.KQT82.A965 975.A63.A7.42\n\
+        scores 3 1 0 53 58926|N:KQJ864.84.J4. A2.KJ92..KQ83 .Q.KQT82.A965 975.A63.A7.42\n\
         value 4 1 0 10 19|N:JT9.Q6.863.J3 AK874..AK74.A Q63.KT42.J.85 .95.QT952.KQ7\n\
         first 1 2 0 3 7177|N:KT97.QT5.3.T3 J5.AK732.5.82 A2.64.KJ872.4 8..A96.QJ9765\n\
         scores 0 0 0 18 14336|N:543.74.KJ75.2 QT2.92.A9.A65 J86.J.QT2.T97 A.K8653.43.J4\n\
