@@ -124,10 +124,11 @@ class Browser:
     def fill(self, selector, text):
         self.value(f"document.querySelector({json.dumps(selector)}).value = {json.dumps(text)}")
 
-    def picture(self, path):
+    def picture(self, path, whole=True):
+        """The whole page, or what is seen of it."""
         size = self.call("Page.getLayoutMetrics")["cssContentSize"]
-        clip = {"x": 0, "y": 0, "width": size["width"], "height": size["height"], "scale": 1}
-        shot = self.call("Page.captureScreenshot", captureBeyondViewport=True, clip=clip)
+        clip = {"clip": {"x": 0, "y": 0, "width": size["width"], "height": size["height"], "scale": 1}}
+        shot = self.call("Page.captureScreenshot", captureBeyondViewport=whole, **(clip if whole else {}))
         with open(path, "wb") as file:
             file.write(base64.b64decode(shot["data"]))
 

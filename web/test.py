@@ -1,99 +1,18 @@
 """The page in headless Chromium, over a server of the built program. What it shows is compared with the answers of DDS in cases/data.
+Words: which parts to run (all).
 
 PICTURES names a folder for pictures of the page."""
-import atexit
 import json
-import os
 import shutil
 import socket
-import subprocess
 import sys
 import threading
 import time
-import urllib.parse
-from pathlib import Path
 
+import servers
+import texts
 from browser import Browser
-
-HERE = Path(__file__).resolve().parent
-DATA = HERE.parent / "cases" / "data"
-RANKS = "23456789TJQKA"
-SYMBOLS = "♠♥♦♣"
-PROGRAM = os.environ["DDSERVE"]
-PICTURES = os.environ.get("PICTURES")
-
-
-def recorded(name):
-    return [tuple(map(json.loads, lines)) for lines in zip((DATA / f"{name}.jsonl").open(), (DATA / f"{name}.expected").open())]
-
-
-def check(what, got, wanted):
-    if got != wanted:
-        sys.exit(f"web: {what}: {got!r} in place of {wanted!r}")
-
-
-def card(suit, rank):
-    return "SHDC"[suit] + RANKS[rank - 2]
-
-
-class Server:
-    def __init__(self, *options, port=0):
-        words = [PROGRAM, "serve", "--websocket", "--listen", f"127.0.0.1:{port}", "--workers", "2", *options]
-        self.process = subprocess.Popen(words, stdout=subprocess.PIPE, text=True)
-        atexit.register(self.process.kill)
-        self.port = int(self.process.stdout.readline().rpartition(":")[2])
-
-    def end(self):
-        self.process.kill()
-        self.process.communicate()
-
-
-class Page:
-    """The page, by what a user sees and does."""
-
-    def __init__(self, browser, port, deal=None):
-        self.browser = browser
-        browser.open(f"file://{HERE}/index.html?server=ws://127.0.0.1:{port}/" + (f"&deal={urllib.parse.quote(deal)}" if deal else ""))
-        self.shown(0)
-
-    def shown(self, at=None):
-        where = "" if at is None else f" && document.querySelector('#table').dataset.at === '{at}'"
-        self.browser.until(f"document.querySelector('#table').dataset.state === 'shown'{where}")
-
-    def numbers(self):
-        """The cards that may be played, with their numbers."""
-        return dict(self.browser.value("[...document.querySelectorAll('.card.may')].map(it => [it.dataset.card, it.querySelector('b') ? +it.querySelector('b').textContent : null])"))
-
-    def bold(self):
-        return set(self.browser.value("[...document.querySelectorAll('.card.may b.best')].map(it => it.parentElement.dataset.card)"))
-
-    def text(self, selector):
-        return self.browser.value(f"document.querySelector({json.dumps(selector)}).innerText")
-
-    def turn(self):
-        return self.browser.value("[0, 1, 2, 3].findIndex(seat => document.querySelector('#hand' + seat).classList.contains('turn'))")
-
-    def won(self):
-        return [int(it) for it in self.browser.value("[...document.querySelectorAll('#won b')].map(it => it.textContent)")]
-
-    def trace(self):
-        return [int(it) if it else None for it in self.browser.value("document.querySelector('#chart').dataset.values").split(",")]
-
-    def paste(self, text):
-        self.browser.value("document.querySelector('#input').open = true")
-        self.browser.fill("#text", text)
-        self.browser.click("#paste button")
-        self.shown(0)
-
-    def choose(self, trump, declarer):
-        self.browser.click(f"#trumps button:nth-child({trump + 1})")
-        self.browser.click(f"#declarers button:nth-child({declarer + 1})")
-        self.shown(0)
-
-    def picture(self, name):
-        if PICTURES:
-            time.sleep(0.3)
-            self.browser.picture(os.path.join(PICTURES, f"{name}.png"))
+from page import HERE, SYMBOLS, Page, Server, as_lin, as_pbn, card, check, recorded
 
 
 def opening_leads(page):
@@ -176,6 +95,27 @@ def keys(page, request):
     check("a deal by chance", len(browser.value("[...document.querySelectorAll('.card')].map(it => it.dataset.card)")), 52)
     browser.key("u")
     page.shown()
+    capitals(page)
+
+
+def capitals(page):
+    """With the capitals lock, or with Shift."""
+    browser, before = page.browser, page.hands()
+    browser.key("Home")
+    page.shown(0)
+    browser.key("N")
+    page.shown(0)
+    check("that N deals", page.hands() == before, False)
+    browser.key("U")
+    page.shown()
+    browser.key("Home")
+    page.shown(0)
+    best = page.bold()
+    browser.key("B")
+    page.shown(1)
+    check("that B with Shift plays a best card", len(best - set(sum(page.hands(), []))), 1)
+    browser.key("U")
+    page.shown()
 
 
 def table_and_par(page):
@@ -197,37 +137,6 @@ def table_and_par(page):
             texts.append(f"{it['level']}{(*SYMBOLS, 'NT')[it['trump']]}{'×' if over < 0 else ''} {''.join('NESW'[seat] for seat in it['declarers'])} {result}")
         side = "NS" if reply["score"] >= 0 else "EW"
         check("par", page.text("#par"), f"Par: {side} {abs(reply['score'])}, {', '.join(texts)}" if texts else "Par: passed out")
-
-
-def hands_of(deal):
-    first, _, rest = deal.partition(":")
-    turned = [None] * 4
-    for at, hand in enumerate(rest.split()):
-        turned[("NESW".index(first) + at) % 4] = hand.split(".")
-    return turned
-
-
-def as_lin(request, cards):
-    hands = hands_of(request["deal"])
-    written = ["".join(letter + suit for letter, suit in zip("SHDC", hands[seat])) for seat in (2, 3, 0)]
-    declarer = (request["first"] + 3) % 4
-    bid = f"1{'SHDCN'[request['trump']]}"
-    calls = "".join(f"mb|{call}|" for call in (bid, "p", "p", "p"))
-    played = "".join(f"pc|{card(*it)}|" for it in cards)
-    return f"pn|S,W,N,E|st||md|{(declarer + 2) % 4 + 1}{','.join(written)},|sv|b|{calls}{played}"
-
-
-def as_pbn(request, cards):
-    """A column of the section Play is a hand, whoever leads."""
-    hands, first = hands_of(request["deal"]), request["first"]
-    holder = {letter + rank: seat for seat, hand in enumerate(hands) for letter, suit in zip("SHDC", hand) for rank in suit}
-    rows = []
-    for at in range(0, len(cards), 4):
-        four = {holder[card(*it)]: card(*it) for it in cards[at : at + 4]}
-        rows.append(" ".join(four.get((first + place) % 4, "-") for place in range(4)))
-    declarer = "NESW"[(first + 3) % 4]
-    contract = "3NT" if request["trump"] == 4 else f"3{'SHDC'[request['trump']]}X"
-    return f'[Deal "{request["deal"]}"]\n[Declarer "{declarer}"]\n[Contract "{contract}"]\n[Play "{"NESW"[first]}"]\n' + "\n".join(rows) + "\n*\n"
 
 
 def pasted_plays(page):
@@ -328,8 +237,7 @@ class Others:
             thread.join()
 
 
-def main():
-    browser = Browser(shutil.which("chromium") or shutil.which("chromium-browser"))
+def play(browser):
     server = Server()
     page = Page(browser, server.port)
     page.browser.until("/^Par: [NEp]/.test(document.querySelector('#par').innerText)")
@@ -369,7 +277,9 @@ def main():
         whole_play(page, *recorded("plays")[at])
     small.end()
     print("page: runs that are used up are left unseen")
-    server = Server()
+
+
+def narrow(browser, server):
     request, reply = recorded("plays")[9]
     page = Page(browser, server.port, as_lin(request, request["cards"][:8]))
     page.browser.until("document.querySelector('#chart').dataset.values.split(',').every(it => it !== '')")
@@ -393,7 +303,24 @@ def main():
     page.picture("phone-dark")
     browser.size(1280, 900)
     page.picture("dark")
+    browser.call("Emulation.setEmulatedMedia", features=[])
     print("page: it fits a phone")
+
+
+PARTS = {"narrow": narrow, "address": texts.address, "games": texts.games, "unanswered": servers.unanswered}
+
+
+def main():
+    words = sys.argv[1:] or ["play", *PARTS]
+    browser = Browser(shutil.which("chromium") or shutil.which("chromium-browser"))
+    if "play" in words:
+        play(browser)
+    server = Server()
+    for word in words:
+        if word in PARTS:
+            browser.size(1280, 900)
+            PARTS[word](browser, server)
+    check("words that are no part", [it for it in words if it not in ("play", *PARTS)], [])
     check("exceptions of the page", browser.errors, [])
     browser.close()
     server.end()
