@@ -9,6 +9,7 @@ import sys
 import threading
 import time
 
+import fits
 import servers
 import texts
 from browser import Browser
@@ -307,7 +308,7 @@ def narrow(browser, server):
     print("page: it fits a phone")
 
 
-PARTS = {"narrow": narrow, "address": texts.address, "games": texts.games, "unanswered": servers.unanswered}
+PARTS = {"narrow": narrow, "sizes": fits.sizes, "address": texts.address, "games": texts.games, "unanswered": servers.unanswered}
 
 
 def main():
