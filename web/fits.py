@@ -1,5 +1,6 @@
 """What is seen at once while cards are played, on a phone and on a laptop, and what a screen reader is told."""
-from page import Page, as_lin, card, check, recorded
+from page import Page, Server, as_lin, card, check, recorded
+from texts import SAMPLES, text_of
 
 # Width and height in pixels, and whether a finger points.
 WINDOWS = {"phone": (360, 740, True), "laptop": (1366, 650, False), "small-laptop": (1024, 650, False)}
@@ -49,6 +50,25 @@ def pasted_in(browser, server, name):
         page.paste(as_lin(recorded("plays")[at][0], []))
         check(f"what isn't seen at {width} x {height} after a deal was pasted", outside(page), [])
         check("the choices above", browser.value("document.querySelector('#trumps').getBoundingClientRect().top >= 0"), True)
+    page.paste(text_of(SAMPLES / "22-sixteen.pbn"))
+    check(f"what isn't seen at {width} x {height} with sixteen boards to choose from", outside(page), [])
+    page.picture(f"{name}-boards", whole=False)
+
+
+def away_in(browser, name):
+    """While the server is away, which is said above."""
+    width, height, is_phone = WINDOWS[name]
+    browser.size(width, height, phone=is_phone)
+    server = Server()
+    page = Page(browser, server.port)
+    server.end()
+    page.until_seen("No server at 127.0.0.1:")
+    check(f"what isn't seen at {width} x {height} while the server is away", outside(page), [])
+    page.picture(f"{name}-away", whole=False)
+    page = Page(browser, server.port, is_answered=False)
+    page.until_seen("or one without --websocket.")
+    check(f"what isn't seen at {width} x {height} while there never was one", outside(page), [])
+    page.picture(f"{name}-never", whole=False)
 
 
 def many_deals(browser, server):
@@ -106,6 +126,7 @@ def sizes(browser, server):
         for at in (51, 9):
             played_in(browser, server, name, at)
         pasted_in(browser, server, name)
+        away_in(browser, name)
     many_deals(browser, server)
     labels(browser, server)
     reached(browser, server)

@@ -106,7 +106,7 @@ def no_websocket(browser):
     server = Server(lines=True)
     page = Page(browser, server.port, is_answered=False)
     page.until_seen("without --websocket")
-    check("what is said", page.text("#linkText"), f"No WebSocket at 127.0.0.1:{server.port}: no server is there, or it was started without --websocket. Trying again.")
+    check("what is said", page.text("#linkText"), f"No WebSocket at 127.0.0.1:{server.port}: no server is there, or one without --websocket. Trying again.")
     page.picture("no-websocket")
     server.end()
     server = Server(port=server.port)
