@@ -140,6 +140,22 @@ def choose(page, board):
     page.shown(0)
 
 
+def conditions(page):
+    """The codes of dealer and vulnerability."""
+    return page.browser.value("['#dealer', '#vulnerable'].map(it => document.querySelector(it).value)")
+
+
+def inherited(browser, server):
+    """Values of the games before; the README of the sample files has what they are."""
+    page = Page(browser, server.port, text_of(SAMPLES / "09-inherited.pbn"))
+    check("the boards of two rooms", boards(page)[0], ["Board 1", "Board 1 (2)", "Board 2", "Board 3", "Board 4"])
+    first = page.hands()
+    for at, wanted in enumerate((["0", "0"], ["0", "0"], ["1", "2"], ["1", "2"], ["3", "2"])):
+        choose(page, at)
+        check(f"dealer and vulnerability of game {at + 1}", conditions(page), wanted)
+        check(f"whether game {at + 1} has the hands of the first", page.hands() == first, at < 2)
+
+
 def several_games(browser, server):
     page = Page(browser, server.port)
     name = "13-no-empty-lines"
@@ -149,7 +165,7 @@ def several_games(browser, server):
     for at, (dealer, vulnerable) in enumerate((("0", "0"), ("1", "2"), ("2", "3"), ("3", "1"))):
         choose(page, at)
         check(f"the hands of board {at + 1}", page.hands(), cards_of(deals[at]))
-        check(f"dealer and vulnerability of board {at + 1}", browser.value("['#dealer', '#vulnerable'].map(it => document.querySelector(it).value)"), [dealer, vulnerable])
+        check(f"dealer and vulnerability of board {at + 1}", conditions(page), [dealer, vulnerable])
     page.picture("boards")
     browser.key("u")
     page.shown(0)
@@ -257,6 +273,7 @@ def address(browser, server):
 
 def games(browser, server):
     several_games(browser, server)
+    inherited(browser, server)
     several_of_lin(browser, server)
     file_opened(browser, server)
     files, found = as_the_other_reader(browser, server)
