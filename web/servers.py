@@ -1,5 +1,6 @@
 """Servers that don't answer: budgets that are spent, faults, one that closes, one of lines, and none."""
 import base64
+import contextlib
 import hashlib
 import json
 import socket
@@ -34,10 +35,15 @@ class Between:
         accept = base64.b64encode(hashlib.sha1(f"{key}258EAFA5-E914-47DA-95CA-C5AB0DC85B11".encode()).digest()).decode()
         stream.sendall(f"HTTP/1.1 101 Switching Protocols\r\nUpgrade: websocket\r\nConnection: Upgrade\r\nSec-WebSocket-Accept: {accept}\r\n\r\n".encode())
         server = Frames(socket.create_connection(("127.0.0.1", self.target)))
-        while (text := self.message(reader)) is not None:
-            reply = self.told(json.loads(text))
-            data = json.dumps(reply).encode() if reply else server.ask(text).encode()
-            stream.sendall(bytes([0x81, len(data)] if len(data) < 126 else [0x81, 126, *struct.pack(">H", len(data))]) + data)
+        # Either end may go.
+        with contextlib.suppress(ConnectionError):
+            while (text := self.message(reader)) is not None:
+                told = self.told(json.loads(text))
+                reply = json.dumps(told) if told else server.ask(text)
+                if not isinstance(reply, str):
+                    break
+                data = reply.encode()
+                stream.sendall(bytes([0x81, len(data)] if len(data) < 126 else [0x81, 126, *struct.pack(">H", len(data))]) + data)
         stream.close()
         server.close()
 
@@ -72,7 +78,9 @@ def spent(browser):
     check("what a screen reader is told of them", browser.value("document.querySelector('#results button').getAttribute('aria-label')"), "North in notrump: no result")
     page.until_seen("No numbers: the server’s budget for a search is spent.")
     check("that the cards have no numbers", set(page.numbers().values()), {None})
-    browser.until("document.querySelector('#gaps').innerText.includes('numbers are missing: the server’s budget for a search is spent')", 20)
+    # Each number has come, or is said to be missing.
+    browser.until("document.querySelector('#chart').dataset.values.split(',').filter(it => it === '').length === parseInt(document.querySelector('#gaps').innerText)", 30)
+    page.until_seen("numbers are missing: the server’s budget for a search is spent.")
     known = [(got, wanted) for got, wanted in zip(page.trace(), reply["tricks"]) if got is not None]
     check("the numbers of the end of the play, which take no long search", len(known) > 10 and all(got == wanted for got, wanted in known), True)
     check("how many are missing", page.text("#gaps").split()[0], str(53 - len(known)))
