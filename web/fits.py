@@ -66,7 +66,7 @@ def away_in(browser, name):
     check(f"what isn't seen at {width} x {height} while the server is away", outside(page), [])
     page.picture(f"{name}-away", whole=False)
     page = Page(browser, server.port, is_answered=False)
-    page.until_seen("or one without --websocket.")
+    page.until_seen("--websocket")
     check(f"what isn't seen at {width} x {height} while there never was one", outside(page), [])
     page.picture(f"{name}-never", whole=False)
 

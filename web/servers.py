@@ -113,7 +113,7 @@ def no_websocket(browser):
     """A server of lines, one that is not there, and one that went."""
     server = Server(lines=True)
     page = Page(browser, server.port, is_answered=False)
-    page.until_seen("without --websocket")
+    page.until_seen("--websocket")
     check("what is said", page.text("#linkText"), f"No WebSocket at 127.0.0.1:{server.port}: no server is there, or one without --websocket. Trying again.")
     page.picture("no-websocket")
     server.end()
