@@ -1,11 +1,13 @@
 #!/usr/bin/env bash
-# Tests the packages of the programs given (as for build.sh): the same bytes of two builds, lintian without errors, each option of the
-# program's help in the page of the manual and in the completions, and in a bare Debian made by debootstrap: installed, it answers, the unit
-# verifies, its command serves, also with the user, the limits and the filters of the unit (`confined.py`), and nothing stays when it is
-# purged. No service manager is started. Ends with 77 where a tool is missing, and says which. It has to be root, for debootstrap. BARE
-# names a folder in which a bare Debian is kept for the next time.
+# Tests the packages of the programs given (as for build.sh): each program is packed as what it was compiled for, whatever is said of it;
+# what a release is made of; the same bytes of two builds, lintian without errors, each option of the program's help in the page of the
+# manual and in the completions, what these complete; the links and the commands of the package's README. And in a bare Debian made by
+# debootstrap: installed, it answers, the unit verifies, its command serves, also with the user, the limits and the filters of the unit
+# (`confined.py`), and nothing stays when it is purged. No service manager is started. Ends with 77 where a tool is missing, and says
+# which. It has to be root, for debootstrap. BARE names a folder in which a bare Debian is kept for the next time.
 set -eu
 here=$(cd -- "$(dirname -- "$0")" && pwd)
+top=$(dirname -- "$here")
 missing() {
     echo "packaging/test.sh: $1 is missing" >&2
     exit 77
@@ -14,7 +16,7 @@ fail() {
     echo "packaging/test.sh: $1" >&2
     exit 1
 }
-for tool in lintian debootstrap systemd-analyze zsh python3 man; do
+for tool in lintian debootstrap systemd-analyze zsh fish gcc git python3 man; do
     command -v "$tool" > /dev/null || missing "the command $tool"
 done
 /usr/bin/python3 -c 'import seccomp' 2> /dev/null || missing 'the package python3-seccomp'
@@ -22,6 +24,76 @@ done
 work=$(mktemp -d)
 server=''
 trap 'for it in $server; do kill "$it" 2> /dev/null || true; done; rm -rf --one-file-system "$work"' EXIT
+
+# A program is packed as what its instructions say, and not as what is said of it. These are small programs in place of the solver.
+version=$(sed -n 's/^## \([0-9.]*\)$/\1/p' "$top/CHANGELOG.md" | head -n 1)
+cat > "$work/stub.c" <<END
+#include <stdio.h>
+#include <string.h>
+int main(int count, char **words) {
+    if (count > 1 && !strcmp(words[1], "--version")) puts("ddserve $version");
+    return count * 1.5 > 40 && (count & -count) > 2;
+}
+END
+gcc -O2 -march=x86-64-v2 "$work/stub.c" -o "$work/stub-v2"
+gcc -O2 -march=x86-64-v3 "$work/stub.c" -o "$work/stub-v3"
+gcc -O2 -march=x86-64-v2 -mbmi "$work/stub.c" -o "$work/stub-bmi"
+git clone -q "$top" "$work/clone"
+cp -r "$here/." "$work/clone/packaging"
+packed() { # WANTED WORDS..: the forms in the package that build.sh makes of these words, or what it says
+    wanted=$1
+    shift
+    rm -rf "$work/packed"
+    if said=$("$work/clone/packaging/build.sh" "$@" "$work/packed" 2>&1); then
+        said=$(tar -tzf "$work"/packed/*.tar.gz | sed -n 's,.*/libexec/ddserve/ddserve-,,p' | xargs)
+    fi
+    [[ $said == *"$wanted" ]] || fail "build.sh $* makes '$said' and not '$wanted'"
+}
+built=$work/clone/crates/ddserve/out
+mkdir -p "$built"
+packed 'no program is built: start ./ddserve once, or name one by --v2 or --v3'
+for noted in x86-64-v2 x86-64-v3 nothing; do
+    if [ "$noted" = nothing ]; then rm "$built/processor"; else echo "$noted" > "$built/processor"; fi
+    for form in v2 v3; do
+        cp "$work/stub-$form" "$built/ddserve"
+        packed "$form"
+    done
+done
+packed 'v2 v3' --v2 "$work/stub-v2" --v3 "$work/stub-v3"
+packed 'name it by --v3' --v2 "$work/stub-v3"
+packed 'name it by --v3' --v2 "$work/stub-bmi"
+packed 'name it by --v2' --v3 "$work/stub-v2"
+packed 'is no program for x86-64' --v2 "$here/ddserve.sh"
+at=1
+for word in "$@"; do
+    at=$((at + 1))
+    [ "$word" != --v3 ] || packed 'name it by --v3' --v2 "${!at}"
+done
+echo 'packages: each program is packed as what it was compiled for'
+
+# What a release is made of.
+release() { # WANTED WORDS..: what release.sh ends with
+    wanted=$1
+    shift
+    said=$("$work/clone/packaging/release.sh" "$@" "$work/release" 2>&1) || true
+    [[ $said == *"$wanted" ]] || fail "release.sh $* says '$said' and not '$wanted'"
+}
+both=(--v2 "$work/stub-v2" --v3 "$work/stub-v3")
+commit=(git -C "$work/clone" -c user.name=nobody -c user.email=nobody@example.org)
+"${commit[@]}" add -A
+"${commit[@]}" commit -q --allow-empty -m 'As it is now'
+git -C "$work/clone" tag "v$version" HEAD~
+release "the commit has no tag v$version, which CHANGELOG.md begins with" "${both[@]}"
+git -C "$work/clone" tag -f "v$version" > /dev/null
+echo >> "$work/clone/README.md"
+release 'files of the commit are changed' "${both[@]}"
+git -C "$work/clone" checkout -q README.md
+sed "s/ddserve $version/ddserve 0.0.9/" "$work/stub.c" | gcc -O2 -x c - -o "$work/stub-old"
+release "is 'ddserve 0.0.9' and not ddserve $version" --v2 "$work/stub-old" --v3 "$work/stub-v3"
+[ ! -e "$work/release" ] || fail 'release.sh leaves something where it refuses'
+release "$work/release/SHA256SUMS" "${both[@]}"
+(cd "$work/release" && sha256sum --quiet -c SHA256SUMS && [ "$(wc -l < SHA256SUMS)" = 2 ] && [ "$(find . -type f | wc -l)" = 3 ]) || fail 'the sums of the release are not those of its files'
+echo 'packages: a release is made of a commit with the tag of its version'
 
 # Two builds, in other folders and with another mask and clock zone.
 mapfile -t first < <("$here/build.sh" "$@" "$work/first")
@@ -49,22 +121,51 @@ done
 man -l "$tree/share/man/man1/ddserve.1" 2>&1 > "$work/page" | grep . && fail 'the page of the manual has mistakes'
 bash -n "$tree/share/bash-completion/completions/ddserve"
 zsh -n "$tree/share/zsh/site-functions/_ddserve"
+fish=$tree/share/fish/vendor_completions.d/ddserve.fish
+fish -n "$fish"
+fish_completes() { # LINE: what fish completes its last word to
+    fish --no-config -c 'source $argv[1]; complete -C "$argv[2]"' "$fish" "$1" | cut -f 1 | sed 's/=$//' | sort -u
+}
 commands=$("$tree/bin/ddserve" --help | sed -n '/^Commands:/,/^$/s/^  \([a-z][a-z]*\) .*/\1/p')
 for command in $commands; do
-    for page in "$tree/share/bash-completion/completions/ddserve" "$tree/share/zsh/site-functions/_ddserve"; do
+    for page in "$tree/share/bash-completion/completions/ddserve" "$tree/share/zsh/site-functions/_ddserve" "$fish"; do
         grep -q -w -- "$command" "$page" || fail "$page doesn't have the command $command"
     done
     [ "$command" = help ] || for option in $("$tree/bin/ddserve" "$command" --help | grep -o '^ *\(-[a-z], \)*--[a-z-]*' | grep -o -- '--[a-z-]*'); do
         for page in "$work/page" "$tree/share/bash-completion/completions/ddserve" "$tree/share/zsh/site-functions/_ddserve"; do
             tr '\342\200\220' '-' < "$page" | grep -q -- "$option" || grep -q -- "$option" "$page" || fail "$page doesn't have the option $option of $command"
         done
+        fish_completes "ddserve $command $option" | grep -q -x -e "$option" || fail "fish doesn't complete $option of $command"
     done
 done
 complete() { # WORDS.. : what bash completes the last one to
     bash -c '. "$1"; shift; COMP_WORDS=("$@"); COMP_CWORD=$(($# - 1)); _ddserve; echo "${COMPREPLY[*]}"' - "$tree/share/bash-completion/completions/ddserve" "$@"
 }
-[ "$(complete ddserve so)" = solve ] && [ "$(complete ddserve serve --we)" = --websocket ] || fail 'bash completes wrongly'
+completes() { # WANTED WORDS..: what both complete the last word to, in any order
+    wanted=$1
+    shift
+    for told in "$(complete "$@")" "$(fish_completes "$*" | xargs)"; do
+        [ "$(xargs -n 1 <<< "$told" | sort)" = "$(xargs -n 1 <<< "$wanted" | sort)" ] || fail "a shell completes '$*' to '$told'"
+    done
+}
+completes solve ddserve so
+completes --websocket ddserve serve --we
+completes --tags ddserve pbn --t
+completes 'DoubleDummyTricks OptimumScore ParContract OptimumResultTable' ddserve pbn --tags ''
+completes 'OptimumScore OptimumResultTable' ddserve pbn --tags Opt
+completes 'ParContract,OptimumScore ParContract,OptimumResultTable' ddserve pbn --tags ParContract,Opt
+completes 'OptimumScore,OptimumResultTable' ddserve pbn --tags OptimumScore,Opt
+[ "$(complete ddserve pbn --tags = Par)" = ParContract ] && [ "$(complete ddserve pbn --tags = | wc -w)" = 4 ] || fail 'bash does not complete the names behind --tags='
+[ "$(fish_completes 'ddserve pbn --tags=OptimumScore,Opt')" = --tags=OptimumScore,OptimumResultTable ] || fail 'fish does not complete the names behind --tags='
 echo 'packages: the tarball answers, and its pages have each option'
+
+# The README's links, and what it tells: by Debian's Python, which finds what the package has for it.
+/usr/bin/python3 -c 'import sys; sys.exit("/usr/lib/python3/dist-packages" not in sys.path)' || fail "Debian's Python looks elsewhere"
+mkdir "$work/scratch"
+python3 "$here/links.py" "$tree" "$work/scratch" "PATH=$tree/bin:/usr/bin:$PATH" "PYTHONPATH=$tree/python"
+dpkg-deb -x "$deb" "$work/unpacked"
+python3 "$here/links.py" "$work/unpacked/usr/share/doc/ddserve" "$work/scratch" "PATH=$work/unpacked/usr/bin:/usr/bin:$PATH" "PYTHONPATH=$work/unpacked/usr/lib/python3/dist-packages"
+echo 'packages: each link of its pages leads somewhere, and the commands of its README do what it says'
 
 # A bare Debian.
 bare=$work/bare
@@ -166,6 +267,9 @@ server=''
 "${confined[@]}" perl -MSocket -e 'socket(my $it, PF_INET, SOCK_STREAM, 0) or exit 1; exit(socket(my $other, PF_UNIX, SOCK_STREAM, 0) ? 2 : 0)' \
     || fail 'the filters of the unit are not in force'
 echo 'packages: it serves with the user, the limits and the filters of the unit'
+# Root's Python leaves what it has compiled.
+mkdir -p "$bare/usr/lib/python3/dist-packages/ddserve/__pycache__"
+touch "$bare/usr/lib/python3/dist-packages/ddserve/__pycache__/pool.cpython-311.pyc"
 chroot "$bare" dpkg --purge ddserve > "$work/log" 2>&1 || { cat "$work/log" >&2; fail 'dpkg --purge failed'; }
 left=$(find "$bare" -xdev -path "$bare/proc" -prune -o -name '*ddserve*' -print | grep -v -e '/ddserve.deb$' -e '/var/log/' || true)
 [ -z "$left" ] || fail "a purge leaves $left"
