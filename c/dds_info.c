@@ -45,6 +45,8 @@ void ErrorMessage(int code, char line[80]) {
 }
 
 void GetDDSInfo(struct DDSInfo *info) {
+    char failure[LONGEST_FAILURE];
+    copy_failure(failure);
     memset(info, 0, sizeof *info);
     info->major = DDS_VERSION / 10000;
     info->minor = DDS_VERSION / 100 % 100;
@@ -59,6 +61,7 @@ void GetDDSInfo(struct DDSInfo *info) {
     info->noOfThreads = thread_count();
     snprintf(info->threadSizes, sizeof info->threadSizes, "0 S, %d L", info->noOfThreads);
     snprintf(
-        info->systemString, sizeof info->systemString, "ddserve by the interface of DDS %s\nNumber of cores %d\nNumber of threads %d\n",
-        info->versionString, info->numCores, info->noOfThreads);
+        info->systemString, sizeof info->systemString,
+        "ddserve by the interface of DDS %s\nNumber of cores %d\nNumber of threads %d\n%s%s%s", info->versionString, info->numCores,
+        info->noOfThreads, *failure ? "No answers: " : "", failure, *failure ? "\n" : "");
 }

@@ -1,7 +1,9 @@
 /* Lines, the solvers that answer them, and threads over many boards. */
 #define _GNU_SOURCE
 #include "dds_lines.h"
+#include "ddserve_start.h"
 
+#include <errno.h>
 #include <pthread.h>
 #include <stdatomic.h>
 #include <stdio.h>
@@ -23,6 +25,9 @@ static int idle_count;
 static int processors = 1; /* counted once, since the system reads a file for it */
 static atomic_int threads_asked;
 static atomic_uint entries = MOST_ENTRIES;
+static char failure[LONGEST_FAILURE];
+static atomic_bool is_failing; /* whether `failure` is a text */
+static bool is_told;
 
 void put(struct line *line, const char *text) {
     size_t length = strlen(text);
@@ -97,12 +102,41 @@ static bool ask_solver(ddserve_solver *solver, const struct line *line, struct r
     return false;
 }
 
+/* Keeps why there is no reply, and says it once in the life of a program: each call that fails after it would say the same. */
+static void keep_failure(int error) {
+    pthread_mutex_lock(&lock);
+    ddserve_failure(error, failure, sizeof failure);
+    is_failing = true;
+    if (!is_told) fprintf(stderr, "ddserve: %s\n", failure);
+    is_told = true;
+    pthread_mutex_unlock(&lock);
+}
+
+static void forget_failure(void) {
+    if (!is_failing) return;
+    pthread_mutex_lock(&lock);
+    failure[0] = '\0';
+    is_failing = false;
+    pthread_mutex_unlock(&lock);
+}
+
+void copy_failure(char text[LONGEST_FAILURE]) {
+    pthread_mutex_lock(&lock);
+    strcpy(text, failure);
+    pthread_mutex_unlock(&lock);
+}
+
 bool ask(const struct line *line, struct reply *reply) {
     /* One that was idle may have ended meanwhile, or be of the process that this one was forked from. */
     for (ddserve_solver *solver = take_idle(); solver; solver = take_idle()) {
         if (ask_solver(solver, line, reply)) return true;
     }
-    return ask_solver(ddserve_open(entries), line, reply);
+    ddserve_solver *solver = ddserve_open(entries);
+    int error = solver ? 0 : errno;
+    bool is_answered = ask_solver(solver, line, reply);
+    if (is_answered) forget_failure();
+    else keep_failure(error);
+    return is_answered;
 }
 
 bool next(struct reply *reply, const char *text) {

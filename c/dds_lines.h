@@ -24,8 +24,13 @@ void put_number(struct line *line, int number);
 void put_cards(struct line *line, const struct deal *deal); /* the field `deal` */
 void put_list(struct line *line, const char *field, int count, const int *suits, const int *ranks);
 
-/* The reply to a line, of an idle solver or a new one: whether there is one. */
+/* The reply to a line, of an idle solver or a new one: whether there is one. The first time that there is none, standard error says
+   why. */
 bool ask(const struct line *line, struct reply *reply);
+
+/* A copy of the reason why the last new solver had no reply. It is empty where that one had one. */
+#define LONGEST_FAILURE 512
+void copy_failure(char text[LONGEST_FAILURE]);
 
 /* Whether the reply goes on with this text: then it goes on behind it. */
 bool next(struct reply *reply, const char *text);

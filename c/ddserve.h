@@ -8,6 +8,10 @@
 
 #include <stddef.h>
 
+/* These alone are the library's names; its own parts share others, which stay hidden (-fvisibility=hidden). */
+#ifdef __GNUC__
+#pragma GCC visibility push(default)
+#endif
 #ifdef __cplusplus
 extern "C" {
 #endif
@@ -37,6 +41,9 @@ void ddserve_close(ddserve_solver *solver);
 
 #ifdef __cplusplus
 }
+#endif
+#ifdef __GNUC__
+#pragma GCC visibility pop
 #endif
 
 #endif

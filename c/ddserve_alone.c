@@ -1,9 +1,11 @@
 /* Solvers of the proved library: a line is answered on the thread that asks. */
 #include "ddserve.h"
+#include "ddserve_start.h"
 
 #include <errno.h>
 #include <stdbool.h>
 #include <stdint.h>
+#include <stdio.h>
 #include <stdlib.h>
 #include <string.h>
 #include <sys/types.h>
@@ -61,4 +63,8 @@ void ddserve_close(ddserve_solver *solver) {
     /* In a process that was forked from the owner's the library's memory is let go. */
     if (solver->owner == getpid()) ddserve_c_close(&solver->solver);
     free(solver);
+}
+
+void ddserve_failure(int error, char *text, size_t size) {
+    snprintf(text, size, error ? "there is no memory for a solver" : "the library has no reply");
 }

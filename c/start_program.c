@@ -7,17 +7,24 @@
 #include <spawn.h>
 #include <stdio.h>
 #include <stdlib.h>
+#include <string.h>
 #include <sys/wait.h>
 #include <unistd.h>
 
 extern char **environ;
 
+/* The program that the variable names, or NULL where it names none. */
+static const char *named_program(void) {
+    const char *name = getenv("DDSERVE");
+    return name && *name ? name : NULL;
+}
+
 /* Starts the program with this socket as its input and its output. Returns 0 or an error's number. */
 static int spawn(pid_t *program, int stream, unsigned entries) {
-    const char *path = getenv("DDSERVE");
+    const char *name = named_program();
     char number[16];
     snprintf(number, sizeof number, "%u", entries);
-    char *words[] = {(char *)(path && *path ? path : "ddserve"), "solve", entries ? "--entries" : NULL, number, NULL};
+    char *words[] = {(char *)(name ? name : "ddserve"), "solve", entries ? "--entries" : NULL, number, NULL};
     posix_spawn_file_actions_t actions;
     posix_spawnattr_t attributes;
     sigset_t none, defaults;
@@ -55,4 +62,13 @@ void ddserve_stop(pid_t program, bool is_own) {
     if (!is_own || waitpid(program, NULL, WNOHANG) != 0) return;
     kill(program, SIGKILL);
     while (waitpid(program, NULL, 0) < 0 && errno == EINTR) {}
+}
+
+void ddserve_failure(int error, char *text, size_t size) {
+    const char *name = named_program();
+    /* The name comes last, since it may be long. */
+    const char *whence = name ? ", which DDSERVE names" : ", from the PATH, since DDSERVE is not set";
+    if (!name) name = "ddserve";
+    if (error) snprintf(text, size, "can't start the program (%s): %s%s", strerror(error), name, whence);
+    else snprintf(text, size, "the program ended before its first reply: %s%s", name, whence);
 }

@@ -231,9 +231,13 @@ struct DDSInfo {
     int threading;
     int noOfThreads;
     char threadSizes[128];
-    char systemString[1024];
+    char systemString[1024]; /* with a line `No answers: ` and the reason where no solver could be started */
 };
 
+/* These alone are the library's names; its own parts share others, which stay hidden (-fvisibility=hidden). */
+#ifdef __GNUC__
+#pragma GCC visibility push(default)
+#endif
 #ifdef __cplusplus
 extern "C" {
 #endif
@@ -277,6 +281,9 @@ void ErrorMessage(int code, char line[80]);
 
 #ifdef __cplusplus
 }
+#endif
+#ifdef __GNUC__
+#pragma GCC visibility pop
 #endif
 
 #endif

@@ -4,6 +4,7 @@
 #include <dds/dll.h>
 
 #include <pthread.h>
+#include <stdbool.h>
 #include <stdio.h>
 #include <stdlib.h>
 #include <string.h>
@@ -125,18 +126,27 @@ static void resources(void) {
 }
 
 #ifndef ALONE
-/* Without a program each call says that it failed, and the next one tries anew. */
+static bool tells(const char *reason) {
+    struct DDSInfo info;
+    GetDDSInfo(&info);
+    return strstr(info.systemString, reason);
+}
+
+/* Without a program each call says that it failed, and the next one tries anew. What stands of it is of the last try. */
 static void programs(void) {
     char *program = strdup(getenv("DDSERVE"));
     struct futureTricks found;
+    CHECK(!tells("No answers"));
     FreeMemory();
     setenv("DDSERVE", "/nowhere/ddserve", 1);
     CHECK(SolveBoardPBN(three_cards, -1, 3, 1, &found, 0) == RETURN_UNKNOWN_FAULT);
+    CHECK(tells("No answers") && tells("(No such file or directory): /nowhere/ddserve"));
     setenv("DDSERVE", "/bin/true", 1);
     CHECK(SolveBoardPBN(three_cards, -1, 3, 1, &found, 0) == RETURN_UNKNOWN_FAULT);
+    CHECK(tells("ended before its first reply: /bin/true") && !tells("/nowhere/ddserve"));
     setenv("DDSERVE", program, 1);
     free(program);
-    CHECK(is_solved());
+    CHECK(is_solved() && !tells("No answers"));
 }
 #endif
 
