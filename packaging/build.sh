@@ -73,11 +73,11 @@ programs() { # BIN LIBEXEC: the programs and what chooses between them
     [ -z "$v3" ] || put 755 "$v3" "$2/ddserve-v3"
     strip --remove-section=.comment --remove-section=.note.gnu.build-id "$2"/ddserve-*
 }
-files() { # FOLDER: its files, but for tests, each with its path from the top
+files() { # FOLDER: its files, but for those that test it, each with its path from the top
     listed=$(git -C "$top" ls-files -- "$1" 2> /dev/null) || listed=''
     # Sources that were unpacked are no repository.
     [ -n "$listed" ] || listed=$(cd "$top" && find "$1" -type f ! -name '*.pyc')
-    grep -v -e '/test_' -e '/tests/' -e '/test\.sh$' <<< "$listed" | sort
+    grep -v -e '/tests/' -e '/test\.sh$' <<< "$listed" | sort
 }
 put_files() { # FOLDER TO: what is run stays so
     files "$1" | while read -r file; do
