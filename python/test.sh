@@ -1,6 +1,6 @@
 #!/usr/bin/env bash
 # Tests the package: pytest over the program that DDSERVE names (or the built one of this repository), mypy --strict, and the examples
-# of its README. Ends with 77 where a tool is missing, and says which. PYTHON names another interpreter.
+# of its README. How a page of hand records is printed is tested by print.sh. Ends with 77 where a tool is missing, and says which. PYTHON names another interpreter.
 set -eu
 here=$(cd -- "$(dirname -- "$0")" && pwd)
 missing() {

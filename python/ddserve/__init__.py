@@ -1,7 +1,7 @@
 """Double-dummy answers of ddserve: the tricks of each card, the twenty results of a deal, par, and the trace of a play.
 
 `table`, `solve`, `leads`, `par` and `play` ask a program that is started with the first question. `Solver`, `Client`,
-`AsyncSolver`, `AsyncClient` and `Pool` are for more."""
+`AsyncSolver`, `AsyncClient` and `Pool` are for more. `read_pbn` and `boards` read PBN files."""
 from . import requests
 from .aio import AsyncClient, AsyncSolver
 from .bridge import Card, Seat, Side, Strain, Suit, Vulnerable
@@ -9,6 +9,7 @@ from .client import Client
 from .deal import BadDeal, Deal
 from .default import ask, leads, par, play, solve, table
 from .faults import FAULTS, Cancelled, Ended, Error, Fault, NoProgram, NoServer, Spent
+from .pbn import Board, boards, read_pbn
 from .pool import Pool
 from .requests import Request
 from .results import Cards, Choice, Contract, Par, Play, Step, Table
@@ -21,6 +22,7 @@ __all__ = [
     "AsyncClient",
     "AsyncSolver",
     "BadDeal",
+    "Board",
     "Cancelled",
     "Card",
     "Cards",
@@ -47,9 +49,11 @@ __all__ = [
     "Table",
     "Vulnerable",
     "ask",
+    "boards",
     "leads",
     "par",
     "play",
+    "read_pbn",
     "requests",
     "solve",
     "table",

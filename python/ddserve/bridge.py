@@ -95,6 +95,10 @@ class Vulnerable(IntEnum):
     NORTH_SOUTH = 2
     EAST_WEST = 3
 
+    @property
+    def words(self) -> str:
+        return ("neither side vulnerable", "both sides vulnerable", "North-South vulnerable", "East-West vulnerable")[self]
+
     @classmethod
     def of(cls, value: VulnerableLike) -> Vulnerable:
         """Vulnerability from itself, its number, or a word of PBN: `None`, `NS`, `EW`, `All`, also `Love`, `-` and `Both`."""
