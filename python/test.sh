@@ -1,6 +1,7 @@
 #!/usr/bin/env bash
 # Tests the package: pytest over the program that DDSERVE names (or the built one of this repository), mypy --strict, and the examples
-# of its README. How a page of hand records is printed is tested by print.sh. Ends with 77 where a tool is missing, and says which. PYTHON names another interpreter.
+# of its README. How a page of hand records is printed is tested by print.sh. Ends with 77 where a tool is missing, and says which.
+# PYTHON names another interpreter.
 set -eu
 here=$(cd -- "$(dirname -- "$0")" && pwd)
 missing() {
@@ -27,6 +28,10 @@ elif command -v mypy > /dev/null; then
 else
     missing 'mypy (package mypy)'
 fi
+# What the test of the wheel builds with.
+for name in pip setuptools wheel; do
+    "$python" -c "import $name" 2> /dev/null || missing "$name (package python3-$name)"
+done
 cd "$here"
 "${mypy[@]}" --strict --cache-dir=/dev/null ddserve tests
 "$python" -m pytest -q "$@"

@@ -8,7 +8,7 @@ from .bridge import Card, Seat, Side, Strain, Suit, Vulnerable
 from .client import Client
 from .deal import BadDeal, Deal
 from .default import ask, leads, par, play, solve, table
-from .faults import FAULTS, Cancelled, Ended, Error, Fault, NoProgram, NoServer, Spent
+from .faults import FAULTS, BadQuestion, Cancelled, Ended, Error, Fault, NoLines, NoProgram, NoServer, Spent
 from .pbn import Board, boards, read_pbn
 from .pool import Pool
 from .requests import Request
@@ -22,6 +22,7 @@ __all__ = [
     "AsyncClient",
     "AsyncSolver",
     "BadDeal",
+    "BadQuestion",
     "Board",
     "Cancelled",
     "Card",
@@ -33,6 +34,7 @@ __all__ = [
     "Ended",
     "Error",
     "Fault",
+    "NoLines",
     "NoProgram",
     "NoServer",
     "Par",

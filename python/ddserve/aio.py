@@ -5,11 +5,11 @@ import asyncio
 from types import TracebackType
 from typing import Awaitable, Callable, List, Optional, Type, TypeVar
 
-from .client import PATIENCE, WAIT, Retries
-from .faults import Cancelled, Ended, Fault, NoProgram, NoServer
+from .client import PATIENCE, WAIT, Retries, address_of, times_of
+from .faults import Cancelled, Ended, Fault, NoLines, NoProgram, NoServer
 from .questions import AsyncQuestions
 from .requests import Exchange, Reply, Request, reply_of
-from .solver import command, processors
+from .solver import command, number_in, workers_of
 
 R = TypeVar("R")
 Self = TypeVar("Self", bound="Channels")
@@ -84,12 +84,13 @@ class Channels(AsyncQuestions):
 
 
 class AsyncSolver(Channels):
-    """Questions to as many programs as there are processors, or as `processes` says. The other options are those of `Solver`."""
+    """Questions to as many programs as `processes` says; by -1, and where it is left out, to as many as there are processors. The other
+    options are those of `Solver`."""
 
     def __init__(
         self, program: Optional[str] = None, *, processes: Optional[int] = None, budget: Optional[int] = None, entries: Optional[int] = None
     ) -> None:
-        super().__init__(processes or processors())
+        super().__init__(workers_of("processes", processes))
         self._words = command(program, budget, entries)
 
     async def ask(self, request: Request[R]) -> R:
@@ -105,15 +106,14 @@ class AsyncSolver(Channels):
 
 
 class AsyncClient(Channels):
-    """Questions to a server over `connections` of them. The other options are those of `Client`."""
+    """Questions to a server over `connections`, 1 or more. The other options are those of `Client`."""
 
     def __init__(
         self, host: str = "127.0.0.1", port: int = 4100, *, connections: int = 8, wait: int = WAIT, patience: float = PATIENCE
     ) -> None:
-        super().__init__(connections)
-        self._address = (host, port)
-        self._wait = wait
-        self._patience = patience
+        super().__init__(number_in("connections", connections, 1))
+        self._address = address_of(host, port)
+        self._wait, self._patience = times_of(wait, patience)
         self._was_there = False
 
     async def ask(self, request: Request[R]) -> R:
@@ -122,7 +122,7 @@ class AsyncClient(Channels):
             try:
                 return await self._ask_on_one(request.exchange_with_server(self._wait))
             except NoServer as error:
-                if not self._was_there:
+                if not self._was_there or isinstance(error, NoLines):
                     raise
                 pause = retries.pause_after(error)
             except (Fault, Cancelled, Ended) as error:

@@ -1,10 +1,13 @@
 """The words of bridge: suits, strains, seats, vulnerability and cards. The numbers are those of the protocol."""
 from __future__ import annotations
 
+import re
 from enum import IntEnum
-from typing import NamedTuple, Tuple, Type, TypeVar, Union
+from typing import Iterable, NamedTuple, Tuple, Type, TypeVar, Union
 
 RANKS = "23456789TJQKA"
+# A card in a text: suit and rank in either order.
+_CARD = re.compile(r"[SHDC♠♥♦♣](?:10|[2-9TJQKA])|(?:10|[2-9TJQKA])[SHDC♠♥♦♣]")
 LOWEST, HIGHEST = 2, 14
 PER_HAND = 13
 
@@ -134,6 +137,21 @@ class Card(NamedTuple):
         if len(text) >= 2 and text[-1] in _SUITS:
             return cls(_SUITS[text[-1]], _rank(text[:-1]))
         raise ValueError(f"{value!r} is no card")
+
+
+def cards_of(cards: Iterable[CardLike]) -> Tuple[Card, ...]:
+    """Cards from a list of them, or from a text that has one after the other: `S6S2SAS3`, `S6 S2 SA S3`, `6S, 2S`."""
+    if not isinstance(cards, str):
+        return tuple(map(Card.of, cards))
+    text = re.sub(r"[\s,]", "", cards).upper()
+    found = []
+    while text:
+        card = _CARD.match(text)
+        if not card:
+            raise ValueError(f"{cards[:80]!r} is no list of cards: none begins with {text[:3]!r}")
+        found.append(Card.of(card.group()))
+        text = text[card.end() :]
+    return tuple(found)
 
 
 SuitLike = Union[Suit, int, str]

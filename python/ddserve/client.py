@@ -5,17 +5,29 @@ import socket
 import threading
 import time
 from types import TracebackType
-from typing import Optional, Type, TypeVar
+from typing import Optional, Tuple, Type, TypeVar
 
-from .faults import CONNECT_ANEW, Cancelled, Ended, Error, Fault, NoServer
+from .faults import CONNECT_ANEW, Cancelled, Ended, Error, Fault, NoLines, NoServer
 from .questions import Questions
 from .requests import Reply, Request, reply_of
-from .solver import drive
+from .solver import drive, number_in
 
 R = TypeVar("R")
+MOST_PORT = 65_535
 WAIT = 30_000
 PATIENCE = 10.0
 FIRST_PAUSE, LONGEST_PAUSE = 0.02, 1.0
+
+
+def address_of(host: str, port: int) -> Tuple[str, int]:
+    return host, number_in("port", port, 0, MOST_PORT)
+
+
+def times_of(wait: int, patience: float) -> Tuple[int, float]:
+    """A wait in milliseconds and a patience in seconds; neither is below 0."""
+    if not isinstance(patience, (int, float)) or not patience >= 0:
+        raise ValueError(f"patience is {patience!r}: it has to be 0 seconds or more")
+    return number_in("wait", wait, 0), patience
 
 
 class Retries:
@@ -45,9 +57,8 @@ class Client(Questions):
     connects anew and asks again, for `patience` seconds. `wait` is how many milliseconds a line waits at the server before it is fetched again."""
 
     def __init__(self, host: str = "127.0.0.1", port: int = 4100, *, wait: int = WAIT, patience: float = PATIENCE) -> None:
-        self._address = (host, port)
-        self._wait = wait
-        self._patience = patience
+        self._address = address_of(host, port)
+        self._wait, self._patience = times_of(wait, patience)
         self._lock = threading.Lock()
         self._stream: Optional[socket.socket] = None
         self._rest = b""
@@ -60,7 +71,7 @@ class Client(Questions):
                 try:
                     return drive(request.exchange_with_server(self._wait), self._round_trip)
                 except NoServer as error:
-                    if not self._was_there:
+                    if not self._was_there or isinstance(error, NoLines):
                         raise
                     pause = retries.pause_after(error)
                 except (Fault, Cancelled, Ended) as error:

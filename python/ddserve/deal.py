@@ -8,7 +8,8 @@ from typing import Iterable, Mapping, Optional, Tuple, Union
 from urllib.parse import unquote
 
 from . import show
-from .bridge import HIGHEST, LOWEST, PER_HAND, RANKS, Card, CardLike, Seat, SeatLike, Suit
+from .bridge import HIGHEST, LOWEST, PER_HAND, RANKS, Card, CardLike, Seat, SeatLike, Suit, cards_of
+from .marks import TagText, marks
 
 Hand = Tuple[str, str, str, str]
 HandLike = Union[str, Iterable[CardLike]]
@@ -37,14 +38,13 @@ class Deal:
     @classmethod
     def from_pbn(cls, text: str) -> Deal:
         """A deal from the value of PBN's tag Deal, `N:AKQ.J98..T ...`, or from a text that has the whole tag."""
-        tag = re.search(r'\[\s*Deal\s+"([^"]*)"\s*\]', text)
-        value = (tag.group(1) if tag else text).strip()
+        value = (_tag_deal(text) if "[" in text else text).strip()
         found = re.fullmatch(r"([NESWnesw]):(.*)", value, re.DOTALL)
         if not found:
-            raise BadDeal(f"{value[:80]!r} doesn't begin with a seat and a colon")
+            raise BadDeal(f"{value[:80]!r} is no deal of PBN: it doesn't begin with a seat and a colon, as in N:")
         hands = found.group(2).split()
         if len(hands) != 4:
-            raise BadDeal(f"{value[:80]!r} has {len(hands)} hands")
+            raise BadDeal(f"{value[:80]!r} is no deal of PBN: it has {len(hands)} hands")
         return cls._from(Seat.of(found.group(1)), [_hand_of_pbn(hand) for hand in hands])
 
     @classmethod
@@ -95,9 +95,11 @@ class Deal:
         """A deal from itself, or from a text of PBN or LIN."""
         if isinstance(value, Deal):
             return value
-        if re.match(r"\s*[NESWnesw]:", value) or re.search(r'\[\s*Deal\s+"', value):
-            return cls.from_pbn(value)
-        return cls.from_lin(value)
+        if not isinstance(value, str):
+            raise BadDeal(f"{repr(value)[:80]} is no deal")
+        # LIN has bars between its fields and commas between its hands. PBN has neither.
+        is_pbn = re.match(r"\s*[NESWnesw]:|[^|]*\[", value) or not re.search("[|,]|%7c", value, re.IGNORECASE)
+        return cls.from_pbn(value) if is_pbn else cls.from_lin(value)
 
     @classmethod
     def _from(cls, first: Seat, hands: list[Hand]) -> Deal:
@@ -114,7 +116,7 @@ class Deal:
 
     def without(self, cards: Iterable[CardLike]) -> Deal:
         """The deal when these cards have left it."""
-        gone = [Card.of(card) for card in cards]
+        gone = cards_of(cards)
         for card in gone:
             if self.holder(card) is None:
                 raise BadDeal(f"{card} is in no hand")
@@ -133,6 +135,12 @@ class Deal:
 
 
 DealLike = Union[Deal, str]
+
+
+def _tag_deal(text: str) -> str:
+    """What the first tag Deal of a text says, or else the text."""
+    tags = (it for it in marks(text.encode("utf-8", "replace")) if isinstance(it, TagText))
+    return next((tag.value.decode() for tag in tags if tag.name.lower() == b"deal"), text)
 
 
 def _card(value: CardLike) -> Card:

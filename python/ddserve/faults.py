@@ -74,3 +74,11 @@ class NoProgram(Error):
 
 class NoServer(Error):
     """The server can't be reached."""
+
+
+class NoLines(NoServer):
+    """The server is there and speaks HTTP, as one for WebSockets does: it takes no lines."""
+
+
+class BadQuestion(Error, ValueError):
+    """What was asked is no question."""

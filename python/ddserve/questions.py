@@ -48,7 +48,9 @@ class Questions:
         return self.ask(requests.par(of, vulnerable, dealer, side))
 
     def play(self, deal: DealLike, trump: StrainLike, first: SeatLike, cards: Iterable[CardLike]) -> Play:
-        """The tricks of declarer's side before the first card and after each one. The deal is that before the opening lead."""
+        """The tricks of declarer's side before the first card and after each one. The deal is that before the opening lead.
+
+        The cards may also be one text: `S2S4SA`, with blanks or commas between them or not."""
         return self.ask(requests.play(deal, trump, first, cards))
 
 

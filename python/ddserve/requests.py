@@ -5,9 +5,9 @@ import json
 from dataclasses import dataclass
 from typing import Any, Callable, Generator, Generic, Iterable, Mapping, Optional, Sequence, TypeVar, Union
 
-from .bridge import Card, CardLike, Seat, SeatLike, Side, SideLike, Strain, StrainLike, Vulnerable, VulnerableLike
+from .bridge import Card, CardLike, Seat, SeatLike, Side, SideLike, Strain, StrainLike, Vulnerable, VulnerableLike, cards_of
 from .deal import Deal, DealLike
-from .faults import Cancelled, Error, Fault, Spent
+from .faults import Cancelled, Error, Fault, NoLines, Spent
 from .results import Cards, Par, Play, Table
 
 R = TypeVar("R")
@@ -77,6 +77,8 @@ def _line(fields: Mapping[str, Any]) -> str:
 
 def reply_of(line: Union[str, bytes]) -> Reply:
     """The reply that a line is."""
+    if line[:5] in (b"HTTP/", "HTTP/"):
+        raise NoLines("the server speaks HTTP, as one with --websocket does: a client of lines needs a server without it")
     try:
         reply = json.loads(line)
     except ValueError:
@@ -95,7 +97,7 @@ def solve(
     target: Optional[int] = None,
 ) -> Request[Cards]:
     held, strain, leader = Deal.of(deal), Strain.of(trump), Seat.of(first)
-    trick = tuple(map(Card.of, played))
+    trick = cards_of(played)
     fields: dict[str, Any] = {"do": "solve", "deal": held.pbn, "trump": strain, "first": leader}
     if trick:
         fields["played"] = _pairs(trick)
@@ -140,7 +142,7 @@ def par(
 
 def play(deal: DealLike, trump: StrainLike, first: SeatLike, cards: Iterable[CardLike]) -> Request[Play]:
     held, strain, leader = Deal.of(deal), Strain.of(trump), Seat.of(first)
-    order = tuple(map(Card.of, cards))
+    order = cards_of(cards)
     fields = {"do": "play", "deal": held.pbn, "trump": strain, "first": leader, "cards": _pairs(order)}
     return Request(fields, lambda reply: Play.of_reply(reply["tricks"], held, strain, leader, order))
 

@@ -90,7 +90,10 @@ class Cards:
 
 @dataclass(frozen=True)
 class Table:
-    """The twenty results of a deal: `table[strain, seat]` is what that seat takes as declarer. `tricks` has a row for each strain."""
+    """The twenty results of a deal: `table[strain, seat]` is what that seat takes as declarer.
+
+    `tricks` has a row for each strain, spades to notrump, and a row the tricks of North, East, South and West, 0 to 13 each. The table
+    itself may be listed as these rows."""
 
     tricks: Tuple[Tuple[int, int, int, int], ...]
     deal: Deal
@@ -102,6 +105,12 @@ class Table:
     def __getitem__(self, at: Tuple[StrainLike, SeatLike]) -> int:
         strain, seat = at
         return self.tricks[Strain.of(strain)][Seat.of(seat)]
+
+    def __iter__(self) -> Iterator[Tuple[int, int, int, int]]:
+        return iter(self.tricks)
+
+    def __len__(self) -> int:
+        return len(self.tricks)
 
     def __str__(self) -> str:
         head = "  " + "".join(f"{strain.symbol:>4}" for strain in PRINTED)

@@ -1,6 +1,7 @@
 """The line tool as a co-process."""
 from __future__ import annotations
 
+import operator
 import os
 import shutil
 import subprocess
@@ -13,15 +14,37 @@ from .questions import Questions
 from .requests import Exchange, Reply, Request, reply_of
 
 R = TypeVar("R")
+# The greatest budget, in positions, and the most entries of a table, as `ddserve solve` has them.
+MOST_POSITIONS = 1_000_000_000_000
+MOST_ENTRIES = 65_536
+# So many workers are as many as there are processors, as in joblib.
+ALL_PROCESSORS = -1
 
 
-def command(program: Optional[str], budget: Optional[int], entries: Optional[int], workers: Optional[int] = None) -> List[str]:
+def number_in(name: str, value: int, least: int, most: Optional[int] = None) -> int:
+    """The value of an option that is a whole number in a range; another is a ValueError."""
+    try:
+        number = operator.index(value)
+    except TypeError:
+        raise ValueError(f"{name} is {value!r}: it has to be a whole number") from None
+    if number < least or most is not None and number > most:
+        raise ValueError(f"{name} is {number}: it has to be {least} {'or more' if most is None else f'to {most}'}")
+    return number
+
+
+def workers_of(name: str, value: Optional[int]) -> int:
+    """So many workers as are asked for, 1 or more; as many as there are processors by -1, and where none are asked for."""
+    return processors() if value is None or value == ALL_PROCESSORS else number_in(name, value, 1)
+
+
+def command(program: Optional[str], budget: Optional[int], entries: Optional[int]) -> List[str]:
     """`ddserve solve` with these options. Without a program it is that of the variable DDSERVE, or the one on the PATH."""
     path = program or os.environ.get("DDSERVE") or shutil.which("ddserve")
+    words = [] if budget is None else ["--budget", str(number_in("budget", budget, 0, MOST_POSITIONS))]
+    words += [] if entries is None else ["--entries", str(number_in("entries", entries, 1, MOST_ENTRIES))]
     if path is None:
         raise NoProgram("ddserve is not on the PATH, and the variable DDSERVE doesn't name it")
-    options = {"--budget": budget, "--entries": entries, "--workers": workers}
-    return [path, "solve", *(word for name, value in options.items() if value is not None for word in (name, str(value)))]
+    return [path, "solve", *words]
 
 
 def processors() -> int:
@@ -94,8 +117,8 @@ class Process:
 class Solver(Questions):
     """Questions to a program of one's own, which is started with the first one and kept. Threads may share it, one at a time.
 
-    `program` is its path; without it the variable DDSERVE or the PATH. A result that needs more positions than `budget` is
-    raised as `Spent`. `entries` is the size of its table."""
+    `program` is its path; without it the variable DDSERVE or the PATH. A result that needs more positions than `budget`, 0 to
+    1,000,000,000,000, is raised as `Spent`. `entries`, 1 to 65,536, is the size of its table. Another number is a ValueError."""
 
     def __init__(self, program: Optional[str] = None, *, budget: Optional[int] = None, entries: Optional[int] = None) -> None:
         self._words = command(program, budget, entries)

@@ -10,7 +10,7 @@ from typing import Any, Callable, Dict, Iterator, List
 import pytest
 
 from conftest import Scripted, Serving, recorded
-from ddserve import AsyncClient, AsyncSolver, Cancelled, Client, Deal, Ended, Error, Fault, NoProgram, NoServer, Pool, Solver, Spent, Table, requests
+from ddserve import AsyncClient, AsyncSolver, Cancelled, Client, Deal, Ended, Error, Fault, NoLines, NoProgram, NoServer, Pool, Solver, Spent, Table, requests
 from ddserve.client import Retries
 
 ONE_CARD = "N:A... K... Q... J..."
@@ -259,3 +259,53 @@ def test_the_pool_tells_faults_in_their_places(program: str) -> None:
 
 def test_the_pool_of_no_questions(program: str) -> None:
     assert list(Pool(program=program).tables([])) == []
+
+
+@pytest.mark.parametrize(
+    "make",
+    [
+        lambda program: Solver(program, budget=-1),
+        lambda program: Solver(program, budget=10**12 + 1),
+        lambda program: Solver(program, budget="many"),  # type: ignore[arg-type]
+        lambda program: Solver(program, entries=0),
+        lambda program: Solver(program, entries=65_537),
+        lambda program: Solver(program, entries=4.5),  # type: ignore[arg-type]
+        lambda program: Pool(1, program=program, entries=0),
+        lambda program: AsyncSolver(program, processes=0),
+        lambda program: AsyncSolver(program, processes=-2),
+        lambda program: AsyncSolver(program, entries=-1),
+        lambda program: Client(port=65_536),
+        lambda program: Client(port="4100"),  # type: ignore[arg-type]
+        lambda program: Client(wait=-1),
+        lambda program: Client(patience=-0.5),
+        lambda program: Client(patience=float("nan")),
+        lambda program: AsyncClient(port=-1),
+        lambda program: AsyncClient(connections=0),
+        lambda program: AsyncClient(wait="long"),  # type: ignore[arg-type]
+        lambda program: AsyncClient(patience="long"),  # type: ignore[arg-type]
+    ],
+)
+def test_a_wrong_option_is_refused(program: str, make: Callable[[str], object]) -> None:
+    with pytest.raises(ValueError):
+        make(program)
+
+
+def test_the_least_and_the_greatest_options_are_taken(program: str) -> None:
+    for budget, entries in ((0, 1), (10**12, 65_536)):
+        with Solver(program, budget=budget, entries=entries) as solver:
+            assert solver.solve(ONE_CARD, "NT", "N")["SA"] == 1
+
+
+def test_a_server_of_websockets_is_told_from_one_of_lines(serving: Callable[..., Serving]) -> None:
+    port = serving("--websocket").port
+
+    async def solve() -> None:
+        async with AsyncClient(port=port) as client:
+            await client.solve(ONE_CARD, "NT", "N")
+
+    start = time.monotonic()
+    with Client(port=port) as client, pytest.raises(NoLines, match="--websocket"):
+        client.solve(ONE_CARD, "NT", "N")
+    with pytest.raises(NoLines, match="--websocket"):
+        asyncio.run(solve())
+    assert time.monotonic() - start < 5

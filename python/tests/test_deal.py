@@ -1,12 +1,12 @@
 """Deals, cards and the words of bridge, from the forms in which people have them."""
 import pickle
 import random
-from typing import Callable, Dict, List
+from typing import Any, Callable, Dict, List
 
 import pytest
 
-from ddserve import BadDeal, Card, Deal, Seat, Strain, Suit, Vulnerable
-from ddserve.bridge import SeatLike, StrainLike
+from ddserve import BadDeal, Card, Deal, Seat, Strain, Suit, Vulnerable, requests
+from ddserve.bridge import SeatLike, StrainLike, cards_of
 from ddserve.deal import HandLike
 
 PBN = "N:J6.72.AQ7643.AJ7 Q9842.Q854.T.K42 AT75.AT9.KJ8.T83 K3.KJ63.952.Q965"
@@ -75,6 +75,40 @@ def test_a_deal_from_cards() -> None:
 def test_what_is_no_deal_is_refused(text: str) -> None:
     with pytest.raises(BadDeal):
         Deal.of(text)
+
+
+@pytest.mark.parametrize("text", [PBN[2:], "", "A K Q J", PBN[2:].replace(" ", "\n"), f'[Event "{PBN}"]'])
+def test_a_deal_without_its_first_seat_is_none_of_pbn(text: str) -> None:
+    with pytest.raises(BadDeal, match="is no deal of PBN"):
+        Deal.of(text)
+
+
+@pytest.mark.parametrize("value", [None, 7, ["A..."]])
+def test_what_is_no_text_is_no_deal(value: Any) -> None:
+    with pytest.raises(BadDeal, match="is no deal"):
+        Deal.of(value)
+
+
+def test_a_deal_is_that_of_a_tag_and_not_of_a_comment() -> None:
+    other = PBN.replace("N:", "S:")
+    for tag in (f'[deal"{PBN}"]', f'[\nDeal ; a comment\n"{PBN}"\n]', f'{{[Deal "{other}"]}}[Deal "{PBN}"]', f'% [Deal "{other}"]\n[Deal "{PBN}"]\n[Deal "{other}"]'):
+        assert Deal.of(tag).pbn == PBN
+
+
+@pytest.mark.parametrize("text", ["S6S2SAS3", "S6 S2 SA S3", "s6,s2,sa,s3", "6S 2S AS 3S", " ♠6♠2\nAS S3 "])
+def test_cards_may_be_one_text(text: str) -> None:
+    cards = [(Suit.SPADES, rank) for rank in (6, 2, 14, 3)]
+    assert list(cards_of(text)) == cards
+    assert requests.play(PBN, "NT", "N", text).fields["cards"] == [[0, 6], [0, 2], [0, 14], [0, 3]]
+    assert requests.solve("N:9... ... ... ...", "NT", "E", text).fields["played"] == [[0, 6], [0, 2], [0, 14], [0, 3]]
+    assert Deal.of("N:6... 2... A... 3...").without(text).pbn == "N:... ... ... ..."
+
+
+def test_tens_are_cards_of_a_text() -> None:
+    assert [str(card) for card in cards_of("H10D10 10c TS")] == ["HT", "DT", "CT", "ST"] and cards_of("") == ()
+    for wrong in ("S6S", "S1", "S6 X", "66", "SS"):
+        with pytest.raises(ValueError, match="is no list of cards"):
+            cards_of(wrong)
 
 
 def test_deals_by_chance() -> None:

@@ -2,7 +2,7 @@
 import xml.etree.ElementTree as tree
 
 import ddserve
-from ddserve import Deal, Solver
+from ddserve import Deal, Seat, Solver, Strain, Table
 
 DEAL = "N:92.K97.A3.QJT632 T83.AQJ84.Q4.A97 AKQJ.65.K872.K85 7654.T32.JT965.4"
 DIAGRAM = """\
@@ -75,6 +75,13 @@ W    3   6   7   3   6"""
     assert ["".join(cell.itertext()) for cell in parts(table._repr_html_()).iter("th")] == ["", "NT", "♠", "♥", "♦", "♣", "N", "E", "S", "W"]
     assert str(par).endswith("\n\nPar: NS 400, 3NT NS =")
     assert "Par: NS 400, 3NT NS =" in words(par._repr_html_())
+
+
+def test_a_table_is_listed_by_its_strains() -> None:
+    rows = ((7, 6, 7, 6), (6, 7, 6, 7), (10, 3, 10, 3), (7, 6, 7, 6), (9, 3, 9, 3))
+    table = Table(rows, Deal.of(DEAL))
+    assert list(table) == [row for row in table] == list(rows) and len(table) == 5
+    assert {strain: row[Seat.NORTH] for strain, row in zip(Strain, table)} == {strain: table[strain, "N"] for strain in Strain}
 
 
 def test_par_of_results_alone(program: str) -> None:
