@@ -94,7 +94,7 @@ def results_of(deal: ddserve.Deal) -> Tuple[Tuple[int, ...], ...]:
 
 def test_each_board_of_a_drawn_file_has_the_results_of_its_own_deal(program: str) -> None:
     checked = 0
-    for data in drawn_files(63, 60, 25):
+    for data in drawn_files(63, 80, 25):
         filled, _ = said(program, data)
         plain, added = list(games(data)), list(boards(filled))
         assert len(plain) == len(added)
@@ -103,10 +103,11 @@ def test_each_board_of_a_drawn_file_has_the_results_of_its_own_deal(program: str
             if board.deal is not None and board.closed and lacks:
                 assert board.table is not None and board.table.tricks == results_of(board.deal)
                 checked += 1
-            elif board.table is not None:
-                # A tag that was there is kept: it may tell of another deal, but not beside results that it doesn't tell.
-                assert board.table.tricks == RESULTS
-    assert checked > 60
+            elif board.table is not None and board.deal is not None:
+                # Results that were there are kept, though they may be of another deal. Beside the right ones they are none.
+                kept = any(value.decode() == DIGITS for value, _ in game.named(b"doubledummytricks"))
+                assert board.table.tricks == (RESULTS if kept else results_of(board.deal))
+    assert checked > 40
 
 
 DIGITS = "976a7976a73673636736"

@@ -19,7 +19,7 @@ VOID = {"br", "meta"}
 
 
 class Page(HTMLParser):
-    """The sections of a page and its headings, as texts whose parts have a space between them. What is opened is closed."""
+    """The sections of a page and its headings, as texts with a space between blocks. What is opened is closed."""
 
     def __init__(self, text: str) -> None:
         super().__init__()
@@ -29,21 +29,26 @@ class Page(HTMLParser):
         self.feed(text)
         self.close()
         assert not self._open
+        self.sections, self.headings = ([" ".join(it.split()) for it in found] for found in (self.sections, self.headings))
 
     def handle_starttag(self, tag: str, attrs: List[Tuple[str, Optional[str]]]) -> None:
         if tag not in VOID:
             self._open.append(tag)
-        for name, found in (("section", self.sections), ("header", self.headings)):
-            if tag == name:
-                found.append("")
+        if tag in ("section", "header"):
+            (self.sections if tag == "section" else self.headings).append("")
+        self._add(" " * (tag != "span"))
 
     def handle_endtag(self, tag: str) -> None:
+        self._add(" " * (tag != "span"))
         assert self._open.pop() == tag
 
     def handle_data(self, data: str) -> None:
+        self._add(data)
+
+    def _add(self, text: str) -> None:
         for name, found in (("section", self.sections), ("header", self.headings)):
             if name in self._open:
-                found[-1] = " ".join(f"{found[-1]} {data}".split())
+                found[-1] += text
 
 
 def filled(program: str, name: str) -> bytes:
@@ -76,7 +81,7 @@ FILES: Dict[str, List[Tuple[str, str, Optional[str]]]] = {
     "comm": [(f"Board 1 North deals {NEITHER}", "first", FIRST)],
     "latin": [(f"Board 1 North deals {NEITHER}", "first", FIRST)],
     "merged": [(f"Board 1 North deals {NEITHER}", "suits", "NS 1510, 7♠ NS ="), ("Board 2", "first", NONE)],
-    "noblank": [(f"Board 1 North deals {NEITHER}", "first", FIRST), (f"Board 2 North deals {NEITHER}", "second", "NS 140, 3♠ N =")],
+    "noblank": [(f"Board 1 North deals {NEITHER}", "first", FIRST), (f"Board 2 North deals {NEITHER}", "second", "NS 300, 4♦x EW -2")],
     "spaces": [(f"Board 1 North deals {NEITHER}", "first", FIRST)] * 2,
     "missing": [
         ("Board 1", "first", NONE),
@@ -107,7 +112,7 @@ def shown(title: str, deal: str, par: Optional[str]) -> str:
 @pytest.mark.parametrize("name", FILES)
 def test_each_board_has_its_own_hands_results_and_par(program: str, name: str, command: List[str]) -> None:
     found, said = record(filled(program, name), command)
-    assert [section.replace(" , ", ", ") for section in found.sections] == [shown(*board) for board in FILES[name]]
+    assert found.sections == [shown(*board) for board in FILES[name]]
     without = sum(deal not in HANDS for _, deal, _ in FILES[name])
     boards_ = "1 board" if len(FILES[name]) == 1 else f"{len(FILES[name])} boards"
     assert said == f"ddserve record: {boards_} printed, {without} without results\n"
@@ -149,7 +154,7 @@ def test_what_a_file_says_is_no_html() -> None:
     text = '[Event "<b>&\\"\x00\x85"]\n[Board "<script>"]\n[Dealer "<i>"]\n[Vulnerable "<u>"]\n[OptimumScore "<s>"]\n[ParContract "<s>; NS 4S"]\n'
     found, _ = record(text.encode() + b'[Deal "' + NORTH + b'"]\n')
     assert found.headings == ['<b>&"\ufffd\ufffd']
-    assert found.sections[0].startswith("Board <script> Dealer: <i> Vulnerable: <u> ♠ J6 ") and found.sections[0].endswith("Par: <s> , <s> , NS 4♠")
+    assert found.sections[0].startswith("Board <script> Dealer: <i> Vulnerable: <u> ♠ J6 ") and found.sections[0].endswith("Par: <s>, <s>, NS 4♠")
 
 
 def test_results_that_differ_are_not_shown() -> None:
