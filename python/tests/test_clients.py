@@ -291,9 +291,10 @@ def test_a_wrong_option_is_refused(program: str, make: Callable[[str], object]) 
 
 
 def test_the_least_and_the_greatest_options_are_taken(program: str) -> None:
-    for budget, entries in ((0, 1), (10**12, 65_536)):
-        with Solver(program, budget=budget, entries=entries) as solver:
-            assert solver.solve(ONE_CARD, "NT", "N")["SA"] == 1
+    with Solver(program, budget=10**12, entries=65_536) as solver:
+        assert solver.solve(ONE_CARD, "NT", "N")["SA"] == 1
+    with Solver(program, budget=0, entries=1) as solver, pytest.raises(Spent):
+        solver.solve(ONE_CARD, "NT", "N")
 
 
 def test_a_server_of_websockets_is_told_from_one_of_lines(serving: Callable[..., Serving]) -> None:
