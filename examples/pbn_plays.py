@@ -200,7 +200,8 @@ def data_words(data):
 def pbn_contract(game):
     """Strain and declarer by the tags, else by the auction."""
     contract, declarer = section(game, "contract"), section(game, "declarer")
-    match = re.match(r"[1-7](NT|[SHDCN])", contract[0].upper()) if contract else None
+    # A word of another language is none of these: `3SA` is not spades.
+    match = re.match(r"[1-7](NT?|[SHDC])X{0,2}(?![^\W\d_])", contract[0].upper()) if contract else None
     if match and declarer and declarer[0].upper()[-1:] in tuple(SEATS):
         return STRAINS.index(match.group(1)[0]), SEATS.index(declarer[0].upper()[-1])
     auction = section(game, "auction")

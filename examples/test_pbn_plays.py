@@ -34,6 +34,13 @@ class Sections(unittest.TestCase):
         lines = pbn(f'[Deal "{DEAL}"]', '[Contract "1NT"]', '[Declarer "W"]', '[Play "N"]', "S3 SA SK SQ", "H2 HA - HQ")
         self.assertTrue(lines[0].endswith('[0,12],[1,14]]}'))
 
+    def test_a_contract_in_words_of_another_language_is_none(self):
+        for contract in ("3SA", "4SP", "4C\u0153ur"):
+            self.assertEqual(pbn(f'[Deal "{DEAL}"]', f'[Contract "{contract}"]', '[Declarer "W"]', '[Play "N"]', "S3 SA SK SQ"), [])
+        for contract, trump in (("3NT", 4), ("3N", 4), ("1ntx", 4), ("4SXX", 0), ("2C", 3)):
+            lines = pbn(f'[Deal "{DEAL}"]', f'[Contract "{contract}"]', '[Declarer "W"]', '[Play "N"]', "S3 SA SK SQ")
+            self.assertIn(f'"trump":{trump},', lines[0])
+
     def test_notes_suffixes_and_comments_are_no_cards(self):
         lines = pbn(f'[Deal "{DEAL}"]', '[Contract "1H"]', '[Declarer "W"]', '[Play "N"]', "S3! $6 SA =1= {SK} SK?? ; S2", "SQ *", "H2")
         self.assertTrue(lines[0].endswith('"trump":1,"first":0,"cards":[[0,3],[0,14],[0,13],[0,12]]}'))

@@ -156,6 +156,15 @@ def inherited(browser, server):
         check(f"whether game {at + 1} has the hands of the first", page.hands() == first, at < 2)
 
 
+def foreign_contracts(browser, server):
+    """A contract in words of another language is none: `3SA` is not spades."""
+    page = Page(browser, server.port)
+    for contract, trumps in (("4S", 0), ("3SA", 4), ("4HX", 1), ("4SP", 4), ("2DXX", 2), ("3NT", 4), ("4C\u0153ur", 4), ("4C", 3)):
+        page.paste(f'[Deal "N:AK... QJ... T9... 87..."]\n[Declarer "N"]\n[Contract "{contract}"]\n')
+        pressed = "[...document.querySelectorAll('#trumps button')].findIndex(it => it.getAttribute('aria-pressed') === 'true')"
+        check(f"trumps of {contract}", browser.value(pressed), trumps)
+
+
 def several_games(browser, server):
     page = Page(browser, server.port)
     name = "13-no-empty-lines"
@@ -274,6 +283,7 @@ def address(browser, server):
 def games(browser, server):
     several_games(browser, server)
     inherited(browser, server)
+    foreign_contracts(browser, server)
     several_of_lin(browser, server)
     file_opened(browser, server)
     files, found = as_the_other_reader(browser, server)
