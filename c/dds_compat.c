@@ -234,7 +234,11 @@ static int solve(const struct deal *deal, int target, int solutions, int mode, s
     /* Of the last trick, and of all cards, the score is told whatever the target. */
     bool has_target = target >= 0 && solutions < 3 && !is_last_trick;
     fault = ask_position(deal, solutions, has_target ? target : -1, found);
-    if (fault != RETURN_NO_FAULT) return fault;
+    if (fault != RETURN_NO_FAULT) {
+        /* The cards that were listed have no scores. */
+        found->cards = 0;
+        return fault;
+    }
     if (found->cards == 0) found->score[0] = target > 1 ? -1 : 0;
     if (is_last_trick && target == 0 && solutions < 3) found->score[0] = 0;
     return RETURN_NO_FAULT;

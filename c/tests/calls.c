@@ -143,6 +143,9 @@ static void programs(void) {
     /* Under valgrind the system's spawn is a fork, which can't tell that there is no such program. */
     CHECK(tells("No answers"));
     CHECK(tells(getenv("UNDER_VALGRIND") ? "ended before its first reply: /nowhere/ddserve" : "(No such file or directory): /nowhere/ddserve"));
+    struct dealPBN several = three_cards;
+    several.first = 1;
+    CHECK(SolveBoardPBN(several, -1, 3, 0, &found, 0) == RETURN_UNKNOWN_FAULT && found.cards == 0);
     setenv("DDSERVE", "/bin/true", 1);
     CHECK(SolveBoardPBN(three_cards, -1, 3, 1, &found, 0) == RETURN_UNKNOWN_FAULT);
     CHECK(tells("ended before its first reply: /bin/true") && !tells("/nowhere/ddserve"));

@@ -26,6 +26,13 @@ answers='1 1'
 printf '#!/bin/sh\n"$@" | head -n 1\n' > "$work/codes"
 chmod 755 "$work/codes"
 
+# The folder alone has no version: none is made up.
+mkdir "$work/alone"
+cp -r "$here/." "$work/alone/c"
+if make -s -C "$work/alone/c" BUILD="$built" PREFIX="$work/alone/to" install 2> "$work/alone/said"; then fail 'what is installed has no version'; fi
+grep -q 'no version for ddserve.pc' "$work/alone/said" || fail "without a version make says: $(cat "$work/alone/said")"
+[ ! -e "$work/alone/to" ] || fail 'something is installed without a version'
+
 gcc -I"$here" "$here/tests/starts.c" -L"$built" -ldds -o "$work/by_folder" || fail '-L and -ldds do not find the library'
 says "$answers" 'a program that is linked by -L and -ldds' env LD_LIBRARY_PATH="$built" "$work/codes" "$work/by_folder"
 g++ -x c++ -I"$here" "$here/tests/starts.c" -L"$built" -ldds -o "$work/by_folder"

@@ -1,6 +1,7 @@
 """The line tool as a co-process."""
 from __future__ import annotations
 
+import contextlib
 import operator
 import os
 import shutil
@@ -103,6 +104,9 @@ class Process:
         return reply_of(replies[0])
 
     def _ended(self) -> Ended:
+        # It closed its output, so it is about to end by itself: the status is its own, and not that of the kill.
+        with contextlib.suppress(subprocess.TimeoutExpired):
+            self._process.wait(1)
         self.close()
         return Ended(f"the program ended with status {self._process.returncode} before its reply")
 

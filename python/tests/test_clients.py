@@ -123,6 +123,13 @@ def test_a_fault_has_its_number_its_text_and_its_field(program: str, request_: A
         assert solver.solve(ONE_CARD, "NT", "N")["SA"] == 1
 
 
+@pytest.mark.parametrize("program, status", (("/bin/true", 0), ("/bin/false", 1)))
+def test_a_program_that_ends_by_itself_tells_its_own_status(program: str, status: int) -> None:
+    for _ in range(20):
+        with Solver(program) as solver, pytest.raises(Ended, match=f"ended with status {status} before its reply"):
+            solver.table("N:A... K... Q... J...")
+
+
 def test_a_budget_that_is_spent(program: str) -> None:
     with Solver(program, budget=1) as solver, pytest.raises(Spent):
         solver.table(FULL)
