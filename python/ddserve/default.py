@@ -32,7 +32,7 @@ def solve(
     trump: StrainLike,
     first: SeatLike,
     played: Iterable[CardLike] = (),
-    solutions: int = 3,
+    solutions: Optional[int] = None,
     target: Optional[int] = None,
 ) -> Cards:
     """As `Solver.solve`."""

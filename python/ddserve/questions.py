@@ -25,12 +25,13 @@ class Questions:
         trump: StrainLike,
         first: SeatLike,
         played: Iterable[CardLike] = (),
-        solutions: int = 3,
+        solutions: Optional[int] = None,
         target: Optional[int] = None,
     ) -> Cards:
         """The tricks of each card that may be played. `first` led to the trick or leads; the cards `played` to it are in no hand.
 
-        `solutions` is 3 for every card, 2 for the best ones, 1 for the first of these; with a `target` 2 or 1."""
+        `solutions` is 3 for every card, 2 for the best ones, 1 for the first of these; with a `target` 2 or 1. Left out it is 3, and 2 with
+        a `target`."""
         return self.ask(requests.solve(deal, trump, first, played, solutions, target))
 
     def leads(self, deal: DealLike, trump: StrainLike, declarer: SeatLike, solutions: int = 3) -> Cards:
@@ -66,7 +67,7 @@ class AsyncQuestions:
         trump: StrainLike,
         first: SeatLike,
         played: Iterable[CardLike] = (),
-        solutions: int = 3,
+        solutions: Optional[int] = None,
         target: Optional[int] = None,
     ) -> Cards:
         """As `Questions.solve`."""

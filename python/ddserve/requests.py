@@ -93,7 +93,7 @@ def solve(
     trump: StrainLike,
     first: SeatLike,
     played: Iterable[CardLike] = (),
-    solutions: int = 3,
+    solutions: Optional[int] = None,
     target: Optional[int] = None,
 ) -> Request[Cards]:
     held, strain, leader = Deal.of(deal), Strain.of(trump), Seat.of(first)
@@ -101,7 +101,7 @@ def solve(
     fields: dict[str, Any] = {"do": "solve", "deal": held.pbn, "trump": strain, "first": leader}
     if trick:
         fields["played"] = _pairs(trick)
-    fields["solutions"] = solutions
+    fields["solutions"] = (3 if target is None else 2) if solutions is None else solutions
     if target is not None:
         fields["target"] = target
     return Request(fields, lambda reply: Cards.of_reply(reply["cards"], held, strain, leader, trick, target))

@@ -130,6 +130,13 @@ def test_a_program_that_ends_by_itself_tells_its_own_status(program: str, status
             solver.table("N:A... K... Q... J...")
 
 
+def test_a_target_alone_asks_for_each_card_that_reaches_it(program: str) -> None:
+    with Solver(program) as solver:
+        deal = "N:AK... 32... 54... 76..."
+        assert solver.solve(deal, "NT", "N", target=2) == solver.solve(deal, "NT", "N", solutions=2, target=2)
+        assert solver.solve(deal, "NT", "N") == solver.solve(deal, "NT", "N", solutions=3)
+
+
 def test_a_budget_that_is_spent(program: str) -> None:
     with Solver(program, budget=1) as solver, pytest.raises(Spent):
         solver.table(FULL)
