@@ -1,14 +1,15 @@
 -- To be believed: what a run leaves.
-use Rattle.std.specs.Prelude.{◌≡◌, ℕ, List, length, true}
+use Rattle.std.specs.Prelude.{◌≡◌, ◌≤◌, ℕ, List, length, true}
 use Rattle.dd_book.specs.Limits.{LimitsOf}
 use Rattle.dd_desk.specs.Events.{AnswersAreOwn, EventOf, IsLegal}
 use Rattle.dd_desk.specs.Receipts.{PassOf}
 use Rattle.dd_desk.specs.Closing.{numbers_of, by_these, AllTheirs}
 
--- The journal of a desk of these limits is one that one thread could have made; all that callers were told of a job is of what
--- was submitted under its number; the receipts of each of these passes are the events of its caller, in order and at their
+-- The journal of a desk of these limits has at most so many events as they allow, and is one that one thread could have made; all
+-- that callers were told of a job is of what was submitted under its number; the receipts of each of these passes are the events of its caller, in order and at their
 -- places; and each event's caller is one of these passes.
 pub record IsHistory (limits : LimitsOf) (journal : List EventOf) (passes : List PassOf) : Type 0 where
+  pub within : length journal ≤ limits.events
   pub legal : IsLegal limits journal
   pub answers : AnswersAreOwn journal
   pub theirs : AllTheirs journal passes
