@@ -1,6 +1,7 @@
 """What a stranger can do to a server, each with its end. Words: which of `page`, `slow`, `handshakes`, `answers`, `idle`, `silent`.
 
-A page of the web sends a request of HTTP whose body is a `stop`: it is told nothing, and nothing stops. A client that takes 1,500
+A page of the web sends a request of HTTP whose body is a `stop`: it is told nothing, and nothing stops. Nor is one whose
+handshake of TLS has a `stop` within. A client that takes 1,500
 bytes of its replies each ten seconds doesn't hold a stop up. Clients that don't shake hands to the end are cut off, and hold no
 descriptor. So are those that send nothing, unless a job of theirs is open. A
 handshake that fails has its answer of HTTP."""
@@ -26,6 +27,14 @@ LINES = 2_000_000
 IDLE, DESCRIPTORS, SILENT = 2, 64, 100
 
 
+def handshake():
+    """A ClientHello of TLS (RFC 8446, section 4.1.2) that would go on with a session, whose name another server chose: a `stop`."""
+    name = b'\n{"do":"stop"}\n'
+    body = b"\x03\x03" + bytes(range(32, 64)) + bytes([len(name)]) + name + b"\x00\x02\xc0\x2f" + b"\x01\x00"
+    hello = b"\x01" + len(body).to_bytes(3, "big") + body
+    return b"\x16\x03\x01" + len(hello).to_bytes(2, "big") + hello
+
+
 def told(stream):
     """All that comes until the stream ends."""
     found = b""
@@ -39,12 +48,17 @@ def told(stream):
 
 def page():
     server = Server("--allow-stop", workers=1)
-    for pieces in [(PAGE,), (PAGE[:3], PAGE[3:]), (PAGE.replace(b"POST", b"GET", 1),)]:
+    hello = handshake()
+    for pieces in [(PAGE,), (PAGE[:3], PAGE[3:]), (PAGE.replace(b"POST", b"GET", 1),), (hello,), [bytes([byte]) for byte in hello[:60]]]:
         stream = server.stream()
         stream.setsockopt(socket.IPPROTO_TCP, socket.TCP_NODELAY, 1)
-        for piece in pieces:
-            stream.sendall(piece)
-            time.sleep(0.05)
+        try:
+            for piece in pieces:
+                stream.sendall(piece)
+                time.sleep(0.05)
+        except ConnectionError:
+            # The program closes the stream at the first byte of a handshake of TLS.
+            check("who is cut off", pieces[0][:1], hello[:1])
         check("what a page is told", told(stream), b"")
     check("the program runs", server.runs(), True)
     client = server.connect()
@@ -53,7 +67,7 @@ def page():
     check("a fetch", client.ask(fetch(1)), '{"fault":16}')
     check("a stop", client.ask(STOP), CLOSING)
     server.end_after(1 + 1)
-    print("page: it is told nothing, and its stop stops nothing")
+    print("page: it is told nothing, and its stop stops nothing, nor does one within a handshake of TLS")
 
 
 def greedy(server, lines):

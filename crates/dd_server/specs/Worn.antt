@@ -1,6 +1,8 @@
 -- To be believed: when a run is worn, and when a server is crowded.
 use Rattle.std.specs.Prelude.{◌≡◌, ℕ, ◌+◌, ◌-◌, ◌/◌, Bool, true, false, Option, IsSomeAnd, nat_le}
 use Rattle.dd_book.specs.Limits.{LimitsOf}
+use Rattle.dd_desk.specs.declared.tally.Tally.{Tally}
+use Rattle.dd_desk.specs.Looks.{SeesTally}
 use Rattle.dd_wire.specs.declared.want.Want.{Want}
 use Rattle.dd_wire.specs.declared.want.Want.TheVariants.{Submit, Cancel, Fetch, Stop}
 use Rattle.dd_server.specs.declared.roster.TheConstants.{MOST_RUNS}
@@ -8,6 +10,23 @@ use Rattle.dd_server.specs.declared.roster.TheConstants.{MOST_RUNS}
 -- three quarters of the events that a run may have stand in its journal, the last of them at this place
 abbrev pub are_events_used : LimitsOf → ℕ → Bool
 are_events_used limits place = nat_le (limits.events - limits.events / 4) (place + 1)
+
+-- of the events that a run may have no more than the last quarter is left
+abbrev pub are_few_left : LimitsOf → ℕ → Bool
+are_few_left limits left = nat_le left (limits.events / 4)
+
+-- no more than the last quarter is left or more is, as this tells, by what the journal of a desk of these limits has room for,
+-- whoever made its events
+pub record SeesFewLeft (limits : LimitsOf) (few : Bool) : Type 0 where
+  pub tally : Tally
+  pub seen : SeesTally limits tally
+  pub sees : few ≡ are_few_left limits tally.events_left
+
+-- a run whose desk has these limits is used up at least where no more than the last quarter of its events is left
+pub record SeesUsedUp (limits : LimitsOf) (used_up : Bool) : Type 0 where
+  pub few : Bool
+  pub seen : SeesFewLeft limits few
+  pub sees : few ≡ true → used_up ≡ true
 
 -- fifteen sixteenths of the passes that a run may give were given
 abbrev pub are_passes_used : LimitsOf → ℕ → Bool

@@ -21,8 +21,8 @@ const PASSING: [i32; 5] = [103, 24, 23, 105, 12];
 // How many milliseconds a listener that lacks something rests, and a run that ends until it looks again.
 const REST: u64 = 100;
 
-/// Accepts connections, each served on a thread of its own, until the server is stopped, or the run is worn and the next one
-/// begins with the connection that came last. An accept that fails shuts the book and stops the server; one that may do better
+/// Accepts connections, each served on a thread of its own, until the server is stopped, or the run is used up, by whomever, and
+/// the next one begins with the connection that came last. An accept that fails shuts the book and stops the server; one that may do better
 /// when a session ends is tried again while a session is open.
 pub(crate) fn accept_connections<'s, E, J, L, R>(
     rt: &'s R,
@@ -45,7 +45,7 @@ where
             break;
         }
         match stream {
-            Ok(stream) if state.is_worn() => match hand_over(rt, state, runs, stream) {
+            Ok(stream) if state.is_used_up(rt) => match hand_over(rt, state, runs, stream) {
                 Some(stream) => start_connection(rt, scope, state, stream),
                 None => break,
             },
@@ -63,17 +63,20 @@ where
     Ok(())
 }
 
-// The next run begins with this connection, unless the server was stopped meanwhile. Where there is no memory for its row the
-// connection comes back.
-fn hand_over<J: Naming, L: RunLimits, R: Wait>(
+// The next run begins with this connection, unless the server was stopped meanwhile. Where there is no room for it in time, or no
+// memory for its row, the connection comes back: this run tells it 15.
+fn hand_over<J: Naming, L: RunLimits, R: Wait + Clock>(
     rt: &R,
     state: &RunState<'_, J>,
     runs: &Runs<L>,
     stream: TcpStream,
 ) -> Option<TcpStream> {
-    runs.make_room(rt, state.number);
+    let has_room = runs.make_room(rt, state.number);
     if state.server.stop.is_stopped() {
         return None;
+    }
+    if !has_room {
+        return Some(stream);
     }
     let Ok(row) = runs.row() else {
         return Some(stream);

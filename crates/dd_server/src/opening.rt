@@ -1,8 +1,8 @@
-//! What a connection of lines begins with: a request of HTTP ends it, so that no page of the web is a client.
+//! What a connection of lines begins with: a request of HTTP or a handshake of TLS ends it, so that no page of the web is a client.
 ghost use Rattle.std.specs.Prelude.{◌≡◌, false, take, IfOk, Ok, nat_eq};
 ghost use Rattle.std.specs.Io.{ReadsAtMost};
 ghost use Rattle.std.specs.List.{list_any, starts_with};
-ghost use Rattle.dd_server.specs.Opening.{begins_request, may_begin_request};
+ghost use Rattle.dd_server.specs.Opening.{begins_handshake, begins_request, is_other_protocol, may_begin_request};
 
 use std::io;
 use std::io::Read;
@@ -20,18 +20,21 @@ const METHODS: [&[u8]; 9] = [
     b"PATCH ",
 ];
 
+/// The type of a record of TLS that is part of a handshake (RFC 8446, section 5.1).
+const HANDSHAKE: u8 = 22;
+
 /// How far a stream of lines is.
 #[derive(Clone, Copy, Debug, PartialEq, Eq)]
 enum Stage {
     /// Nothing was read.
     New,
-    /// It is no request of HTTP.
+    /// It is of no other protocol.
     Lines,
-    /// It ended before its first line, or it is a request of HTTP.
+    /// It ended before its first line, or it is a request of HTTP or a handshake of TLS.
     Ended,
 }
 
-/// A stream of lines, which ends where it begins with a request of HTTP.
+/// A stream of lines, which ends where it begins with a request of HTTP or a handshake of TLS.
 #[derive(Drop)]
 pub(crate) struct LineStream<R> {
     reader: R,
@@ -54,7 +57,7 @@ impl<R: Read> Read for LineStream<R> {
     fn read(&mut self, buf: &mut [u8]) -> io::Result<usize>
         ensures bound { ReadsAtMost result buf.new }
         ensures first { self.old.stage ≡ Stage.New → IfOk result (λ count.
-            begins_request (take count buf.new) ≡ false) }
+            is_other_protocol (take count buf.new) ≡ false) }
         ensures ended { self.old.stage ≡ Stage.Ended → result ≡ Ok 0 }
     {
         match self.stage {
@@ -101,18 +104,35 @@ fn begin_one(bytes: &[u8], methods: &[&[u8]]) -> bool
     methods.iter().any(|method| method.starts_with(bytes))
 }
 
-/// The first read of a stream of lines. It goes on until the bytes show whether a request of HTTP begins: that is as an
-/// empty stream.
+/// Does it begin with a handshake of TLS? A line within it may be chosen by who it is meant for.
+fn begins_handshake(bytes: &[u8]) -> bool
+    ensures { result ≡ begins_handshake bytes.now }
+{
+    match bytes {
+        [first, ..] => *first == HANDSHAKE,
+        [] => false,
+    }
+}
+
+/// Is it of another protocol?
+fn is_other_protocol(bytes: &[u8]) -> bool
+    ensures { result ≡ is_other_protocol bytes.now }
+{
+    begins_request(bytes) || begins_handshake(bytes)
+}
+
+/// The first read of a stream of lines. It goes on until the bytes show whether a request of HTTP or a handshake of TLS begins:
+/// that is as an empty stream.
 fn read_first<R: Read>(reader: &mut R, buf: &mut [u8]) -> io::Result<usize>
     ensures bound { ReadsAtMost result buf.new }
-    ensures lines { IfOk result (λ count. begins_request (take count buf.new) ≡ false) }
+    ensures lines { IfOk result (λ count. is_other_protocol (take count buf.new) ≡ false) }
 {
     let mut count = 0;
     for _ in 0..buf.len() {
         let more = reader.read(&mut buf[count..])?;
         count += more;
         let first = &buf[..count];
-        if begins_request(first) {
+        if is_other_protocol(first) {
             return Ok(0);
         }
         if more == 0 || !may_begin_request(first) {

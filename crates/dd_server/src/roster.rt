@@ -49,6 +49,8 @@ pub(crate) struct Roster<L: RunLimits> {
     begun: u64,
     // The runs before this one are to end soon.
     hurried: u64,
+    // There was no room for another run in time, and none has ended since.
+    stuck: bool,
     opening: Option<Opening<L>>,
     fault: Option<ServeFault>,
     ghost room: { vec_len ends + live ≤ vec_capacity ends },
@@ -94,6 +96,7 @@ impl<L: RunLimits> Roster<L> {
             live: 0,
             begun: 0,
             hurried: 0,
+            stuck: false,
             opening: None,
             fault: None,
         }
@@ -111,6 +114,7 @@ impl<L: RunLimits> Roster<L> {
             live,
             begun,
             hurried: _,
+            stuck: _,
             opening: _,
             fault: _,
         } = self;
@@ -142,6 +146,16 @@ impl<L: RunLimits> Roster<L> {
         number < self.hurried
     }
 
+    /// There was no room for another run in time.
+    pub(crate) fn stick(&mut self) {
+        self.stuck = true;
+    }
+
+    /// Was there no room in time, and has no run ended since?
+    pub(crate) fn is_stuck(&self) -> bool {
+        self.stuck
+    }
+
     /// Another run is to begin so.
     pub(crate) fn open_next(&mut self, opening: Opening<L>) {
         self.opening = Some(opening);
@@ -170,9 +184,11 @@ impl<L: RunLimits> Roster<L> {
             live,
             begun: _,
             hurried: _,
+            stuck,
             opening: _,
             fault,
         } = self;
+        *stuck = false;
         if *live > 0 {
             match end {
                 Ok(end) => ends.push_reserved(end),

@@ -78,7 +78,7 @@ fn serve_row<
     gate: &G,
 ) -> Result<Closed<J>, ServeFault>
     requires cells { (map cell_name row.cells.items ≡ J.cells) × (J.all ≡ J.parts) }
-    requires limits { row.limits ≡ J.limits }
+    requires limits { (row.limits ≡ J.limits) × (J.limits ≡ L.limits) }
     requires count { (row.count.name ≡ J.counts) × (row.count.parts ≡ J.parts) }
     requires sum { (row.sum.name ≡ J.places) × (row.sum.parts ≡ J.parts) }
     ensures history { IfOk result (λ closed.
@@ -87,6 +87,7 @@ fn serve_row<
     let state = RunState {
         server,
         number,
+        limits: runs.limits(),
         desk: Desk::<J>::new(row),
         returned: Mutex::new(Returned::new(server.alloc)),
         stop: RunStop::new(server.alloc),
@@ -97,6 +98,7 @@ fn serve_row<
     let RunState {
         server: _,
         number: _,
+        limits: _,
         desk,
         returned,
         stop: _,

@@ -86,6 +86,13 @@ impl<'a, J: Naming, R: Wait + Clock> RunPort<'a, J, R> {
         }
     }
 
+    // A desk whose journal is full says so, and has no place for it.
+    fn note_full(&self, said: &Result<Reply, DeskFault>) {
+        if matches!(said, Err(DeskFault::JournalFull)) {
+            self.state.note_used_up();
+        }
+    }
+
     // A call at the desk, and where it is a stop, that of the server.
     fn ask_desk(&mut self, want: Want) -> Result<Reply, DeskFault>
         ensures told { Tells (port_of (told_by self.old.port.port)
@@ -98,6 +105,7 @@ impl<'a, J: Naming, R: Wait + Clock> RunPort<'a, J, R> {
         let stops = is_stop(&want);
         let reply = self.port.ask(want);
         self.note();
+        self.note_full(&reply);
         if stops && !found_no_memory(&reply) {
             let ended = self.state.stop.end(self.rt, &reply);
             self.state.server.stop.stop(ended);
@@ -137,6 +145,7 @@ impl<'a, J: Naming, R: Wait + Clock> BookPort for RunPort<'a, J, R> {
     fn fetch_within(&mut self, job: u64, wait: u64) -> Result<Reply, DeskFault> {
         let reply = self.port.fetch_within(job, wait);
         self.note();
+        self.note_full(&reply);
         reply
     }
 

@@ -8,6 +8,10 @@ use dd_book::Limits;
 use dd_desk::Row;
 use std::alloc::{AllocError, Global};
 use std::sync::{Condvar, Mutex, Wait};
+use std::time::{Clock, Duration};
+
+/// How many milliseconds a connection waits for room for its run.
+const MOST_WAIT: u64 = 1_000;
 
 /// The runs of a server under a lock, and the limits that each of them has.
 #[derive(Drop)]
@@ -31,6 +35,13 @@ impl<L: RunLimits> Runs<L> {
             roster: Mutex::new(Roster::new(alloc)),
             changed: Condvar::new(),
         }
+    }
+
+    /// The limits of each run.
+    pub(crate) fn limits(&self) -> Limits
+        ensures { result ≡ L.limits }
+    {
+        self.limits
     }
 
     /// A row for the desk of a run.
@@ -60,16 +71,27 @@ impl<L: RunLimits> Runs<L> {
         roster.take_news()
     }
 
-    /// Waits until fewer runs serve than may. Those before this one are to end soon where it has to wait.
-    pub(crate) fn make_room<R: Wait>(&self, rt: &R, number: u64) {
+    /// Is there room for another run? Where there is none, those before this one are to end soon, and it waits for that: a second at
+    /// most, and where that was too short not again before a run has ended.
+    pub(crate) fn make_room<R: Wait + Clock>(&self, rt: &R, number: u64) -> bool {
         let mut roster = self.roster.lock(rt);
-        if roster.is_crowded() {
-            roster.hurry(number);
-            let roster = self
-                .changed
-                .wait_while(rt, roster, |roster: &mut Roster<L>| roster.is_crowded());
-            drop(roster);
+        if !roster.is_crowded() {
+            return true;
         }
+        roster.hurry(number);
+        if roster.is_stuck() {
+            return false;
+        }
+        let (mut roster, waited) = self.changed.wait_timeout_while(
+            rt,
+            roster,
+            Duration::from_millis(MOST_WAIT),
+            |roster: &mut Roster<L>| roster.is_crowded(),
+        );
+        if waited.timed_out() {
+            roster.stick();
+        }
+        !waited.timed_out()
     }
 
     /// The run that accepts is worn, and another is to begin so.

@@ -1,6 +1,6 @@
 //! When a run is used up.
 ghost use Rattle.std.specs.Prelude.{◌≡◌};
-ghost use Rattle.dd_server.specs.Worn.{are_events_used, are_passes_used};
+ghost use Rattle.dd_server.specs.Worn.{are_events_used, are_few_left, are_passes_used};
 
 use dd_book::Limits;
 
@@ -10,6 +10,13 @@ pub(crate) fn are_events_used(limits: Limits, place: u64) -> bool
 {
     let most = limits.events();
     most - most / 4 - 1 <= place
+}
+
+/// Is no more than the last quarter of the events left, where so many are?
+pub(crate) fn are_few_left(limits: Limits, left: u64) -> bool
+    ensures { result ≡ are_few_left limits left }
+{
+    left <= limits.events() / 4
 }
 
 /// Are fifteen sixteenths of the passes given, where so many are?

@@ -1,5 +1,5 @@
 //! Runs that follow one another. Each has twenty events, and is worn after fifteen.
-use crate::server::client::{Client, Way};
+use crate::server::client::{Client, MOST_FETCHES, Way};
 use crate::server::serving::{LINES, Run, Told, serve_runs};
 use dd_work::NoGate;
 use std::alloc::Global;
@@ -22,6 +22,14 @@ const SOLVE: &str =
 const FETCH: &str = r#"{"do":"fetch","job":2}"#;
 
 const STOP: &str = r#"{"do":"stop"}"#;
+
+const HEALTH: &str = r#"{"do":"health"}"#;
+
+// Twenty parts, of which the worker makes two events each.
+const TABLE: &str = r#"{"do":"table","deal":"N:A... K... Q... J..."}"#;
+
+// How the run is once the worker has used up what the client left.
+const FULL: &str = r#"{"events_left":0,"jobs":1,"workers":1}"#;
 
 // Writes a reply down, in a line.
 fn note(told: &mut String, reply: &str) -> io::Result<()> {
@@ -81,6 +89,65 @@ fn a_worn_run_takes_no_submit_and_the_next_connection_begins_the_next_run(
                 Told {
                     runs: 2,
                     events: 25
+                },
+                Ok(())
+            ))
+    );
+    Ok(())
+}
+
+// One client makes a single event, and the worker uses up the run. Another is served by the next run, and stops both.
+fn converse_beside_a_worker<R: Net<Stream = TcpStream>>(
+    rt: &R,
+    alloc: Global,
+    address: SocketAddr,
+) -> io::Result<String> {
+    let mut told = String::new(alloc);
+    let stream = TcpStream::connect(rt, address)?;
+    let mut first = Client::new(alloc, Way::Lines, &stream)?;
+    note(&mut told, first.ask(TABLE)?.as_str())?;
+    note(&mut told, health_when_full(&mut first)?.as_str())?;
+    let next = TcpStream::connect(rt, address)?;
+    let mut second = Client::new(alloc, Way::Lines, &next)?;
+    note(&mut told, second.ask(SOLVE)?.as_str())?;
+    note(&mut told, first.ask(FETCH)?.as_str())?;
+    note(&mut told, second.ask(STOP)?.as_str())?;
+    Ok(told)
+}
+
+// Asks how the run is until its journal is full.
+fn health_when_full(client: &mut Client<'_>) -> io::Result<String> {
+    let mut told = client.ask(HEALTH)?;
+    for _ in 0..MOST_FETCHES {
+        if told.as_str() == FULL {
+            break;
+        }
+        told = client.ask(HEALTH)?;
+    }
+    Ok(told)
+}
+
+// The first run has a submit and what the worker made, as many events as there is room for. The second has a submit, a fetch, the
+// stop, a claim, a finish and the last claim.
+#[test]
+fn a_run_that_its_worker_used_up_is_followed_by_another(rt: HostRuntime) -> Result<(), Fail> {
+    let listener = TcpListener::bind(&rt, "127.0.0.1:0")?;
+    let address = listener.local_addr()?;
+    let (served, told) = thread::join(
+        &rt,
+        || serve_runs(&rt, rt.alloc(), listener, SMALL, &NoGate),
+        || converse_beside_a_worker(&rt, rt.alloc(), address).ok(),
+    );
+    let told = told.expect(&rt, "the clients have their replies");
+    let wanted =
+        "{\"job\":1}\n{\"events_left\":0,\"jobs\":1,\"workers\":1}\n{\"cards\":[{\"equals\":0,\"rank\":14,\"score\":1,\"suit\":0}],\"job\":1,\"state\":\"done\"}\n{\"fault\":15}\n{\"closing\":true}\n";
+    assert_eq!(rt; told.as_str(), wanted);
+    assert!(rt;
+        served
+            == Some((
+                Told {
+                    runs: 2,
+                    events: 26
                 },
                 Ok(())
             ))
