@@ -1,9 +1,10 @@
 #!/usr/bin/env bash
 # Runs `ddserve pbn` over sample files of PBN, and compares what it writes and what it says of games byte for byte with what is
-# recorded; a second run has to change nothing. Then several workers, what a terminal shows, and bad input: a picture, NUL bytes,
-# a line and a game that never end, in little memory. With the word `cuts` instead: each sample cut after each of its bytes, read
-# whole and in pieces of one byte, beside a reader of its own (`tools/pbn_filled.py`), over one table of results for all deals.
-# With the word `reader` instead: boards that Debian's `dealer` deals, read by its `pbn_to_ascii.pl` before and after.
+# recorded; a second run has to change nothing. Then several workers, what is said of drawn files, what a terminal shows, and bad
+# input: a picture, NUL bytes, a line and a game that never end, in little memory. With the word `cuts` instead: each sample cut after
+# each of its bytes, read whole and in pieces of one byte, beside a reader of its own (`tools/pbn_filled.py`), over one table of
+# results for all deals. With the word `reader` instead: boards that Debian's `dealer` deals, read by its `pbn_to_ascii.pl` before and
+# after.
 set -eu
 here=$(cd -- "$(dirname -- "$0")" && pwd)
 data=$here/data/pbn
@@ -60,5 +61,6 @@ echo "samples: a second run changes nothing"
 "$ddserve" pbn < "$here/../examples/record.pbn" > "$work/filled"
 cmp "$work/four" "$work/filled"
 echo "workers: 36 boards come out the same by one and by four"
+python3 "$here/tools/pbn_notes.py" "$ddserve"
 python3 "$here/tools/pbn_terminal.py" "$ddserve" "$work/filled"
 python3 "$here/tools/pbn_bad.py" "$ddserve"

@@ -62,9 +62,15 @@ ends 0 "^ddserve $version\$" "$ddserve" --version
 ends 0 'Usage: ddserve solve' "$ddserve" solve --help
 ends 2 "unrecognized subcommand 'resolve'" "$ddserve" resolve
 ends 2 '' bash -c '"$1" resolve 2>&-' - "$ddserve"
+ends 2 "^ddserve: files are read from the standard input, as in: ddserve pbn < FILE\$" "$ddserve" pbn --workers 2 deals.pbn
+ends 2 "^ddserve: files are read from the standard input, as in: ddserve solve < FILE\$" "$ddserve" solve -- lines.jsonl
+ends 2 "unexpected argument '--limit'" "$ddserve" pbn --limit 5
+! grep -q FILE "$work/said" || { echo "cases: an option that there isn't is taken for a file" >&2; exit 1; }
+ends 2 "unexpected argument 'file'" "$ddserve" serve --listen 127.0.0.1:0 file
+! grep -q FILE "$work/said" || { echo "cases: a server is said to take a file" >&2; exit 1; }
 ends 1 '^ddserve: read failed$' bash -c '"$1" solve < /' - "$ddserve"
 ends 1 '^ddserve: write failed$' bash -c '"$1" solve < "$2" > /dev/full' - "$ddserve" "$data/written.jsonl"
-echo "endings: six commands end as they should"
+echo "endings: ten commands end as they should"
 rustc -O --edition 2021 -o "$work/play" "$here/tools/play.rs"
 for name in written small; do
     "$work/play" < "$data/$name.jsonl" > "$work/replies"

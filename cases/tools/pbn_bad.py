@@ -11,6 +11,7 @@ import threading
 HERE = os.path.dirname(os.path.abspath(__file__))
 # The most memory, in kB.
 MOST = 64 * 1024
+NO_GAME = b"ddserve: no game was found: the input has no tag of PBN\n"
 PIECE = 1 << 20
 
 
@@ -69,9 +70,9 @@ def main():
     subprocess.run([program, "--version"], check=True, stdout=subprocess.DEVNULL)
     with open(os.path.join(HERE, "../../docs/page.png"), "rb") as file:
         picture = file.read()
-    run(program, "a picture", lambda _: iter([picture]), 0, b"")
-    run(program, "NUL bytes", repeated(b"", b"\0"), size // 10, b"")
-    run(program, "a line that never ends", repeated(b"", b"abc [x] % "), size, b"")
+    run(program, "a picture", lambda _: iter([picture]), 0, NO_GAME)
+    run(program, "NUL bytes", repeated(b"", b"\0"), size // 10, NO_GAME)
+    run(program, "a line that never ends", repeated(b"", b"abc [x] % "), size, NO_GAME)
     run(program, "a game that never ends", repeated(b'[Event "x"]\n', b"1 C 2 D 3 H\n"), size // 10, b"ddserve: game 1 (board ?): no deal\n")
     run(program, "a comment that never ends", repeated(b'[Event "x"]\n{', b"so on\n\n"), size // 10, b"ddserve: game 1 (board ?): not closed\n")
     run(program, "tags that never end", repeated(b'[Event "x"]\n', b'[Event "'), size // 10, b"ddserve: game 1 (board ?): not closed\n")

@@ -159,8 +159,11 @@ class Value:
 
     def __init__(self):
         self.own, self.before, self.lacking = [], None, None
+        # What the tag of this game says.
+        self.text = b""
 
     def told(self, text):
+        self.text = text
         if text == b"#":
             self.own = [self.before]
         elif text.startswith(b"##"):
@@ -173,7 +176,13 @@ class Value:
         return self.own[0] if self.own else self.lacking
 
     def end_game(self):
-        self.before, self.own = self.value(), []
+        self.before, self.own, self.text = self.value(), [], b""
+
+    def unknown(self):
+        """What is said of the text where it tells no value: its first 32 bytes, but control bytes, if there are any."""
+        if self.text in (b"", b"?"):
+            return ""
+        return " or unknown: " + re.sub(r"[\0-\x1f\x7f]", "?", self.text[:32].decode("latin-1"))
 
 
 def filled(data, results_of, tags=None):
@@ -213,7 +222,8 @@ def filled(data, results_of, tags=None):
         dealer, vulnerable = dealer_of(values[b"dealer"].value()), vulnerable_of(values[b"vulnerable"].value())
         known = dealer is not None and vulnerable is not None
         if {b"optimumscore", b"parcontract"} & set(lacking) and not known:
-            note(f"no par: {'Dealer' if dealer is None else 'Vulnerable'} is missing")
+            name = "Dealer" if dealer is None else "Vulnerable"
+            note(f"no par: {name} is missing{values[name.lower().encode()].unknown()}")
         if not any(known or tag in (b"doubledummytricks", b"optimumresulttable") for tag in lacking):
             return
         table = results_of(deal)

@@ -205,7 +205,7 @@ same-point p new states lefts modes =
 
 pub KeepsCounts-then : (old mid new : Filler) → KeepsCounts old mid → KeepsCounts mid new → KeepsCounts old new
 KeepsCounts-then old mid new first second =
-    record { number = second.number ∙ first.number; board = second.board ∙ first.board; passed = second.passed ∙ first.passed }
+    record { number = second.number ∙ first.number; board = second.board ∙ first.board; unknown = second.unknown ∙ first.unknown; passed = second.passed ∙ first.passed }
 
 pub Takes-none : (old : Filler) (text : List ℕ) → Takes old old text text
 Takes-none old text = record { wanted = refl; bytes = []; split = refl; stays = Stays-none (point_of old) }

@@ -145,16 +145,18 @@ pub record Takes (old new : Filler) (before after : List ℕ) : Type 0 where
   pub split : before ≡ bytes ++ after
   pub stays : Stays (point_of old) (point_of new) bytes
 
--- the number of the game at hand, what its tag Board says and how many bytes were passed on are as they were
+-- the number of the game at hand, what its tags say that is told, and how many bytes were passed on are as they were
 pub record KeepsCounts (old new : Filler) : Type 0 where
   pub number : new.number ≡ old.number
   pub board : new.board ≡ old.board
+  pub unknown : new.unknown ≡ old.unknown
   pub passed : new.passed ≡ old.passed
 
 -- So many bytes more were passed on, in the same game; a count that is too great stays at the most.
 pub record Counts (old new : Filler) (count : ℕ) : Type 0 where
   pub number : new.number ≡ old.number
   pub board : new.board ≡ old.board
+  pub unknown : new.unknown ≡ old.unknown
   pub some : 0 < count → new.passed ≡ min (old.passed + count) (2 ^ 64 - 1)
   pub none : count ≡ 0 → new.passed ≡ old.passed
 

@@ -68,6 +68,11 @@ pub trait Analyst {
     /// the place where it ends. No answer rests on it.
     fn passed(&mut self, _games: u64, _bytes: u64) {}
 
-    /// Is told why the game of this number, with this value of its tag Board, lacks a tag that was asked for.
-    fn left(&mut self, game: u64, board: &[u8], reason: Reason);
+    /// Is told why the game of this number, with this value of its tag Board, lacks a tag that was asked for. For `NoDealer` and
+    /// `NoVulnerable` `unknown` is what that tag of the game says, `#` and `##` as they stand there; it is empty where the tag is
+    /// missing, empty or `?`, and for other reasons. Of both the first 32 bytes are told.
+    fn left(&mut self, game: u64, board: &[u8], reason: Reason, unknown: &[u8]);
+
+    /// Is told at the end of the file how many games it has: each has a tag. No answer rests on it.
+    fn ended(&mut self, _games: u64) {}
 }

@@ -205,7 +205,7 @@ fn drop_front(alloc: Global, window: &mut Vec<u8>, count: usize) -> Result<(), F
     }
 }
 
-// Passes on the rest of the file.
+// Passes on the rest of the file, and tells the analyst how many games it had.
 fn write_last<W: Write, A: Analyst>(
     alloc: Global,
     filler: &mut Filler,
@@ -222,6 +222,7 @@ fn write_last<W: Write, A: Analyst>(
     let Some(text) = last_text(alloc, window, filler, analyst) else {
         return Err(FileFault::Memory);
     };
+    analyst.ended(filler.games());
     write_text(writer, text.as_slice())
 }
 

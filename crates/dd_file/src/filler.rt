@@ -8,7 +8,7 @@ ghost use Rattle.dd_file.specs.Lines.{contract_line, line_with, score_line, tabl
 ghost use Rattle.dd_file.specs.Marked.{is_closed, left_of, left_within};
 ghost use Rattle.dd_file.specs.Marks.{shown};
 ghost use Rattle.dd_file.specs.Modes.{next_mode};
-ghost use Rattle.dd_file.specs.Notes.{AsksAtEnd, Notes, NotesFirst, board_here, board_of, board_told, board_with, is_board, number_here};
+ghost use Rattle.dd_file.specs.Notes.{AsksAtEnd, Notes, NotesFirst, board_here, board_of, board_told, board_with, games_of, is_board, no_texts, number_here, texts_here, texts_told, texts_with, unknown_of};
 ghost use Rattle.dd_file.specs.Passing.{AddsAnswer, AddsFound, AddsLast, EndsBefore, EndsHere, KeepsPlace, PassesByte, begins_now, par_found};
 ghost use Rattle.dd_file.specs.Quiet.{Counts, IsPlace, KeepsCounts, PassesQuiet, PassesTag, Takes, is_alone, is_quiet, with_line_bytes};
 ghost use Rattle.dd_file.specs.Values.{unescaped};
@@ -21,6 +21,7 @@ use crate::mark::{Mark, NEAR, mark_at};
 use crate::mode::{CARRIAGE_RETURN, LINE_FEED, Mode};
 use crate::quiet::{after_calm, after_plain_lines, is_alone};
 use crate::tag_reader::{after_first, read_short_tag};
+use crate::told_texts::{TOLD_BYTES, UnknownTexts, told_front};
 use crate::value::{Unfit, thirteen_in, unescaped};
 use crate::wanted::Wanted;
 use dd_cards::Hands;
@@ -37,9 +38,10 @@ pub(crate) struct Filler {
     pub(crate) left: usize,
     pub(crate) state: FillState,
     alloc: Global,
-    // The number of the game at hand, and what its tag Board says.
+    // The number of the game at hand, what its tag Board says, and what those say whose values aren't known.
     number: u64,
     board: Vec<u8>,
+    unknown: UnknownTexts,
     // How many bytes were passed on.
     passed: u64,
 }
@@ -51,6 +53,7 @@ impl Filler {
         ensures mode { result.mode ≡ Mode.Head }
         ensures left { result.left ≡ 0 }
         ensures state { result.state ≡ first_state }
+        ensures number { result.number ≡ 1 }
     {
         Filler {
             wanted,
@@ -60,6 +63,7 @@ impl Filler {
             alloc,
             number: 1,
             board: Vec::new(alloc),
+            unknown: UnknownTexts::new(),
             passed: 0,
         }
     }
@@ -74,8 +78,20 @@ impl Filler {
             alloc: self.alloc,
             number: self.number,
             board: Vec::from_slice(self.alloc, self.board.as_slice())?,
+            unknown: self.unknown.copy(),
             passed: self.passed,
         })
+    }
+
+    /// How many games there are so far, with the one at hand.
+    pub(crate) fn games(&self) -> u64
+        ensures { result ≡ games_of self.now }
+    {
+        if self.state.begun {
+            self.number
+        } else {
+            self.number.saturating_sub(1)
+        }
     }
 
     /// Passes on the first of these bytes, which are all that follow, or the next `NEAR`.
@@ -177,9 +193,12 @@ impl Filler {
         ensures passed { OnOk result (self.new.passed ≡ self.old.passed) }
         ensures number { OnOk result (self.new.number ≡ self.old.number) }
         ensures board { OnOk result (board_of self.new ≡ board_told number quoted.now (board_of self.old)) }
+        ensures texts { OnOk result (unknown_of self.new
+            ≡ texts_told number quoted.now (told number quoted.now self.old.state) (unknown_of self.old)) }
     {
         self.note_plain_board(number, quoted)?;
         self.state.tell_text(number, quoted);
+        self.unknown.tell(number, quoted, &self.state);
         self.state.pass_line_bytes(bytes);
         self.mode = Mode::Plain;
         Ok(())
@@ -322,6 +341,7 @@ impl Filler {
         ensures passed { OnOk result (self.new.passed ≡ self.old.passed) }
         ensures number { OnOk result (self.new.number ≡ number_here (ends self.old.state (shown mark.now)) self.old.number) }
         ensures board { OnOk result (board_of self.new ≡ board_here (ends self.old.state (shown mark.now)) (board_of self.old)) }
+        ensures texts { OnOk result (unknown_of self.new ≡ texts_here (ends self.old.state (shown mark.now)) (unknown_of self.old)) }
         ensures asks { ends self.old.state (shown mark.now) ≡ false → analyst.new ≡ analyst.old }
     {
         let ends = self.state.ends(mark);
@@ -341,6 +361,7 @@ impl Filler {
         ensures passed { OnOk result (self.new.passed ≡ self.old.passed) }
         ensures number { OnOk result (self.new.number ≡ number_here ends self.old.number) }
         ensures board { OnOk result (board_of self.new ≡ board_here ends (board_of self.old)) }
+        ensures texts { OnOk result (unknown_of self.new ≡ texts_here ends (unknown_of self.old)) }
         ensures asks { ends ≡ false → analyst.new ≡ analyst.old }
     {
         if !ends {
@@ -359,10 +380,12 @@ impl Filler {
         ensures passed { self.new.passed ≡ self.old.passed }
         ensures number { self.new.number ≡ min (self.old.number + 1) (2 ^ 64 - 1) }
         ensures board { self.new.board.items ≡ [] }
+        ensures texts { unknown_of self.new ≡ no_texts }
     {
         self.state.end_game();
         self.number = self.number.saturating_add(1);
         self.board.clear();
+        self.unknown.clear();
     }
 
     // The byte has been passed on, and what begins with it is taken in.
@@ -374,6 +397,7 @@ impl Filler {
         ensures passed { OnOk result (self.new.passed ≡ min (self.old.passed + 1) (2 ^ 64 - 1)) }
         ensures number { OnOk result (self.new.number ≡ self.old.number) }
         ensures board { OnOk result (board_of self.new ≡ board_with (shown mark.now) (board_of self.old)) }
+        ensures texts { OnOk result (unknown_of self.new ≡ texts_with (shown mark.now) self.old.state (unknown_of self.old)) }
     {
         self.tell(mark)?;
         self.state.pass(byte);
@@ -392,12 +416,15 @@ impl Filler {
         ensures passed { OnOk result (self.new.passed ≡ self.old.passed) }
         ensures number { OnOk result (self.new.number ≡ self.old.number) }
         ensures board { OnOk result (board_of self.new ≡ board_with (shown mark.now) (board_of self.old)) }
+        ensures texts { OnOk result (unknown_of self.new ≡ texts_with (shown mark.now) self.old.state (unknown_of self.old)) }
     {
         match *mark {
             Mark::Tag { name, quoted, .. } => {
                 let number = known_number(name);
                 self.note_board(number, quoted)?;
-                self.state.tell_tag(self.alloc, number, quoted)
+                self.state.tell_tag(self.alloc, number, quoted)?;
+                self.unknown
+                    .tell_quoted(self.alloc, number, quoted, &self.state)
             }
             _ => Ok(()),
         }
@@ -410,6 +437,7 @@ impl Filler {
         ensures passed { OnOk result (self.new.passed ≡ self.old.passed) }
         ensures number { OnOk result (self.new.number ≡ self.old.number) }
         ensures board { OnOk result (board_of self.new ≡ board_told number (unescaped false quoted.now) (board_of self.old)) }
+        ensures unknown { OnOk result (self.new.unknown ≡ self.old.unknown) }
     {
         if is_board(number) {
             self.board = unescaped(self.alloc, quoted)?;
@@ -423,11 +451,12 @@ impl Filler {
         ensures place { OnOk result (KeepsPlace self.old self.new) }
         ensures passed { OnOk result (self.new.passed ≡ self.old.passed) }
         ensures number { OnOk result (self.new.number ≡ self.old.number) }
-        ensures board { number ≡ Some 3 → OnOk result (self.new.board.items ≡ take BOARD_BYTES text.now) }
+        ensures board { number ≡ Some 3 → OnOk result (self.new.board.items ≡ take TOLD_BYTES text.now) }
         ensures told { OnOk result (board_of self.new ≡ board_told number text.now (board_of self.old)) }
+        ensures unknown { OnOk result (self.new.unknown ≡ self.old.unknown) }
     {
         if is_board(number) {
-            self.board = Vec::from_slice(self.alloc, board_front(text))?;
+            self.board = Vec::from_slice(self.alloc, told_front(text))?;
         }
         Ok(())
     }
@@ -522,24 +551,30 @@ impl Filler {
             return;
         }
         if self.state.dealer.value().is_none() {
-            self.leave(analyst, Reason::NoDealer);
+            self.leave_unknown(analyst, Reason::NoDealer, self.unknown.dealer.as_slice());
         } else if self.state.vulnerable.value().is_none() {
-            self.leave(analyst, Reason::NoVulnerable);
+            self.leave_unknown(
+                analyst,
+                Reason::NoVulnerable,
+                self.unknown.vulnerable.as_slice(),
+            );
         }
     }
 
     // Tells why the game at hand lacks a tag, where it lacks one.
     fn leave<A: Analyst>(&self, analyst: &mut A, reason: Reason) {
+        self.leave_unknown(analyst, reason, b"");
+    }
+
+    // The same, with the text of a tag whose value isn't known.
+    fn leave_unknown<A: Analyst>(&self, analyst: &mut A, reason: Reason, unknown: &[u8]) {
         let lacking = self.state.lacks(self.wanted);
         if lacking.tricks || lacking.score || lacking.contract || lacking.table {
-            let board = self.board.as_slice();
-            analyst.left(self.number, &board[..board.len().min(BOARD_BYTES)], reason);
+            let board = told_front(self.board.as_slice());
+            analyst.left(self.number, board, reason, unknown);
         }
     }
 }
-
-/// The most bytes of the value of a tag Board that are told.
-const BOARD_BYTES: usize = 32;
 
 // Whether a tag that begins at a byte that stands so is the first thing on its line, where one can begin. The byte is not
 // within a tag, nor the first of the file or of its text behind a byte-order mark.
@@ -561,17 +596,6 @@ fn is_board(number: Option<u8>) -> bool
     match number {
         Some(number) => number == BOARD,
         None => false,
-    }
-}
-
-// What is told of this value of a tag Board.
-fn board_front(text: &[u8]) -> &[u8]
-    ensures { result.now ≡ take BOARD_BYTES text.now }
-{
-    if text.len() <= BOARD_BYTES {
-        text
-    } else {
-        &text[..BOARD_BYTES]
     }
 }
 

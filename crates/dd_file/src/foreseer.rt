@@ -19,5 +19,5 @@ impl<'a, A: Analyst> Analyst for Foreseer<'a, A> {
         None
     }
 
-    fn left(&mut self, _game: u64, _board: &[u8], _reason: Reason) {}
+    fn left(&mut self, _game: u64, _board: &[u8], _reason: Reason, _unknown: &[u8]) {}
 }

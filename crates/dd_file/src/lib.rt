@@ -15,6 +15,7 @@ mod mark;
 mod mode;
 mod quiet;
 mod tag_reader;
+mod told_texts;
 mod value;
 mod wanted;
 

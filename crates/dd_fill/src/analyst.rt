@@ -4,7 +4,7 @@ ghost use Rattle.dd_fill.specs.Told.{IsRowTold, IsTold, MaySpend};
 
 use crate::deal::Deal;
 use crate::limit::Limit;
-use crate::note::note_of;
+use crate::note::{no_game, note_of};
 use crate::pool::Pool;
 use crate::progress::{clear_progress, show_progress};
 use crate::solving::{CLUBS, DIAMONDS, HEARTS, Row, SPADES, results_by_strains, solve_row};
@@ -17,7 +17,7 @@ use std::io::Write;
 use std::sync::Wait;
 
 /// Takes results from those that search ahead for a pool, if there is one. Where they have none it searches over a table, each
-/// time within a limit. It says on a device which games are left.
+/// time within a limit. It says on a device which games are left, and that a file has none.
 #[derive(Drop)]
 pub(crate) struct DealAnalyst<'r, 'p, 't, 'e, W, B, E, L> {
     pub(crate) rt: &'r W,
@@ -59,8 +59,15 @@ impl<'r, 'p, 't, 'e, W: Wait, B: Bounds, E: Write, L: Limit> Analyst
         show_progress(self.shows_progress, games, bytes, &mut *self.errors);
     }
 
-    fn left(&mut self, game: u64, board: &[u8], reason: Reason) {
-        say(game, board, reason, &mut *self.errors, self.shows_progress);
+    fn left(&mut self, game: u64, board: &[u8], reason: Reason, unknown: &[u8]) {
+        let note = note_of(game, board, reason, unknown);
+        say(note.as_slice(), &mut *self.errors, self.shows_progress);
+    }
+
+    fn ended(&mut self, games: u64) {
+        if games == 0 {
+            say(no_game().as_bytes(), &mut *self.errors, self.shows_progress);
+        }
     }
 }
 
@@ -112,16 +119,9 @@ fn found_ahead<W: Wait>(
     pool?.row_of(rt, deal, strain, budget)
 }
 
-// Says why the game of this number, with this value of its tag Board, lacks a tag: in place of what is shown in the last line.
-fn say<E: Write>(
-    game: u64,
-    board: &[u8],
-    reason: Reason,
-    errors: &mut CountedDevice<E>,
-    shows_progress: bool,
-) {
+// Says a line, in place of what is shown in the last one.
+fn say<E: Write>(line: &[u8], errors: &mut CountedDevice<E>, shows_progress: bool) {
     clear_progress(shows_progress, errors);
-    let note = note_of(game, board, reason);
     // Where it fails there is no place left to say so.
-    let _ = write_whole(errors, note.as_slice());
+    let _ = write_whole(errors, line);
 }

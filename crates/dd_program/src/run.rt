@@ -31,6 +31,17 @@ const GRACE: u64 = 600_000;
 /// The most bytes that one read takes.
 const PIECE: usize = 4_096;
 
+/// What the parser of arguments says of an option that there isn't.
+const NO_OPTION: &str = "error: unexpected argument '-";
+
+/// What is said of a file that is named in place of being the standard input.
+const FILE_OF_PBN: &str =
+    "ddserve: files are read from the standard input, as in: ddserve pbn < FILE\n";
+
+/// The same of a file of lines.
+const FILE_OF_LINES: &str =
+    "ddserve: files are read from the standard input, as in: ddserve solve < FILE\n";
+
 /// Does what the arguments ask for: answers the lines of the input on the output, serves the clients of an address, passes a
 /// file on with its lines, shows help or the version on the output, or says on the standard error what is wrong with the
 /// arguments. Where the standard error is a terminal it shows how far a file has been passed on.
@@ -210,7 +221,7 @@ fn show<O: Write, E: Write>(
         (streams input (state_of O.contents output.old) (state_of E.contents errors.old))
         (streams input (state_of O.contents output.new) (state_of E.contents errors.new)) result }
 {
-    let Ok(text) = error.to_string(alloc) else {
+    let Ok(text) = text_of(alloc, error) else {
         return fail(errors, Ending::OutOfMemory);
     };
     match error.kind() {
@@ -225,6 +236,28 @@ fn show<O: Write, E: Write>(
             let _ = write_whole(errors, text.as_bytes());
             Ending::BadLine
         }
+    }
+}
+
+/// What is shown of an error: its text, and a hint where a file seems to be named.
+fn text_of(alloc: Global, error: &Error) -> Result<String, AllocError> {
+    let mut text = error.to_string(alloc)?;
+    let hint = hint_of(error.kind(), text.as_str());
+    text.push_str(hint)?;
+    Ok(text)
+}
+
+/// What is added to an error of this kind and text: how `pbn` and `solve` take a file, where one of them has a word that is no
+/// option. The text has the usage of the command.
+fn hint_of(kind: ErrorKind, text: &str) -> &'static str {
+    if kind != ErrorKind::UnknownArgument || text.starts_with(NO_OPTION) {
+        ""
+    } else if text.contains(" pbn [OPTIONS]") {
+        FILE_OF_PBN
+    } else if text.contains(" solve [OPTIONS]") {
+        FILE_OF_LINES
+    } else {
+        ""
     }
 }
 

@@ -24,7 +24,7 @@ impl Analyst for Told {
         None
     }
 
-    fn left(&mut self, _game: u64, board: &[u8], _reason: Reason) {
+    fn left(&mut self, _game: u64, board: &[u8], _reason: Reason, _unknown: &[u8]) {
         self.left = self.left.saturating_add(1);
         self.board.clear();
         for byte in board {

@@ -40,6 +40,7 @@ fn pass_on<A: Analyst>(
     let mut filler = Filler::new(alloc, wanted);
     pass_front(file, file.len(), true, &mut filler, analyst)?;
     filler.add_last(analyst);
+    analyst.ended(filler.games());
     Ok(())
 }
 
@@ -93,5 +94,5 @@ impl<'a, A: Analyst> Analyst for Foreseer<'a, A> {
         None
     }
 
-    fn left(&mut self, _game: u64, _board: &[u8], _reason: Reason) {}
+    fn left(&mut self, _game: u64, _board: &[u8], _reason: Reason, _unknown: &[u8]) {}
 }

@@ -112,4 +112,31 @@ fn a_game_that_is_left_is_said_why(rt: HostRuntime) {
             b"ddserve: game 1 (board 7): no deal\n"
         )
     );
+    assert!(rt;
+        is_left(
+            &rt,
+            alloc,
+            b"[Board \"7\"]\n[Deal \"N:A... - - -\"]\n",
+            None,
+            b"ddserve: game 1 (board 7): deal refused, fault 5: a hand of the deal is left out\n"
+        )
+    );
+}
+
+// It has its results, so nothing is searched for. No byte of the value ends the line, clears it or goes back in it.
+#[test]
+fn a_value_that_is_not_known_is_said_without_control_bytes(rt: HostRuntime) {
+    let file =
+        b"[Board \"7\"]\n[Dealer \"No\r\x1b[K\x7fr\x1fth \xff\"]\n[Vulnerable \"None\"]\n[Deal \"N:J6.72.AQ7643.AJ7 Q9842.Q854.T.K42 AT75.AT9.KJ8.T83 K3.KJ63.952.Q965\"]\n[DoubleDummyTricks \"x\"]\n[OptimumResultTable \"x\"]\n";
+    let note =
+        b"ddserve: game 1 (board 7): no par: Dealer is missing or unknown: No??[K?r?th \xff\n";
+    assert!(rt; is_left(&rt, rt.alloc(), file, None, note));
+}
+
+#[test]
+fn a_file_without_games_is_said_to_have_none(rt: HostRuntime) {
+    let note = b"ddserve: no game was found: the input has no tag of PBN\n";
+    for file in [b"".as_slice(), b"words [ without ] a tag\n".as_slice()] {
+        assert!(rt; is_left(&rt, rt.alloc(), file, None, note));
+    }
 }

@@ -212,7 +212,7 @@ impl Analyst for Mixes {
         self.add(bytes);
     }
 
-    fn left(&mut self, game: u64, board: &[u8], reason: Reason) {
+    fn left(&mut self, game: u64, board: &[u8], reason: Reason, _unknown: &[u8]) {
         self.left = self.left.wrapping_add(1);
         self.add(4);
         self.add(game);

@@ -57,7 +57,7 @@ impl Analyst for Known {
         }
     }
 
-    fn left(&mut self, game: u64, _board: &[u8], reason: Reason) {
+    fn left(&mut self, game: u64, _board: &[u8], reason: Reason, _unknown: &[u8]) {
         self.left = self.left.saturating_add(1);
         self.game = game;
         self.reason = Some(reason);

@@ -19,3 +19,5 @@ mod files;
 mod order;
 #[cfg(test)]
 mod score;
+#[cfg(test)]
+mod unknown;

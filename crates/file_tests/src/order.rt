@@ -72,12 +72,17 @@ impl Analyst for Listener {
         self.told = mixed(mixed(mixed(self.told, 2), games), bytes);
     }
 
-    fn left(&mut self, game: u64, board: &[u8], reason: Reason) {
+    fn left(&mut self, game: u64, board: &[u8], reason: Reason, unknown: &[u8]) {
         self.left = self.left.wrapping_add(1);
         self.told = mixed_bytes(mixed(mixed(self.told, 3), game), board);
+        self.told = mixed_bytes(self.told, unknown);
         if let Ok(text) = format!(in self.alloc; "{reason:?}") {
             self.told = mixed_bytes(self.told, text.as_bytes());
         }
+    }
+
+    fn ended(&mut self, games: u64) {
+        self.told = mixed(mixed(self.told, 4), games);
     }
 }
 

@@ -2,7 +2,7 @@
 ghost use Rattle.dd_file.specs.Deals.{IsThirteen};
 
 use super::fill_state::FillState;
-use super::known_tag::{BOARD, known_number};
+use super::known_tag::{BOARD, DEALER, VULNERABLE, known_number};
 use super::mark::{Mark, mark_at};
 use super::mode::Mode;
 use super::value::{Unfit, thirteen_in, unescaped};
@@ -20,9 +20,11 @@ pub(crate) struct Filler {
     pub(crate) left: usize,
     pub(crate) state: FillState,
     alloc: Global,
-    // The number of the game at hand, and what its tag Board says.
+    // The number of the game at hand, and what its tags Board, Dealer and Vulnerable say.
     number: u64,
     board: Vec<u8>,
+    dealer: Vec<u8>,
+    vulnerable: Vec<u8>,
     // How many bytes were passed on.
     passed: u64,
 }
@@ -38,7 +40,18 @@ impl Filler {
             alloc,
             number: 1,
             board: Vec::new(alloc),
+            dealer: Vec::new(alloc),
+            vulnerable: Vec::new(alloc),
             passed: 0,
+        }
+    }
+
+    /// How many games there are so far, with the one at hand.
+    pub(crate) fn games(&self) -> u64 {
+        if self.state.begun {
+            self.number
+        } else {
+            self.number.saturating_sub(1)
         }
     }
 
@@ -81,6 +94,8 @@ impl Filler {
         self.state.end_game();
         self.number = self.number.saturating_add(1);
         self.board.clear();
+        self.dealer.clear();
+        self.vulnerable.clear();
     }
 
     // The byte has been passed on, and what begins with it is taken in.
@@ -96,17 +111,22 @@ impl Filler {
     fn tell(&mut self, mark: &Mark<'_>) -> Result<(), AllocError> {
         match *mark {
             Mark::Tag { name, quoted, .. } => {
-                self.note_board(name, quoted)?;
+                self.note(name, quoted)?;
                 self.state.tell_tag(self.alloc, name, quoted)
             }
             _ => Ok(()),
         }
     }
 
-    // Notes what a tag Board says.
-    fn note_board(&mut self, name: &[u8], quoted: &[u8]) -> Result<(), AllocError> {
-        if known_number(name) == Some(BOARD) {
+    // Notes what a tag Board, Dealer or Vulnerable says.
+    fn note(&mut self, name: &[u8], quoted: &[u8]) -> Result<(), AllocError> {
+        let number = known_number(name);
+        if number == Some(BOARD) {
             self.board = unescaped(self.alloc, quoted)?;
+        } else if number == Some(DEALER) {
+            self.dealer = unescaped(self.alloc, quoted)?;
+        } else if number == Some(VULNERABLE) {
+            self.vulnerable = unescaped(self.alloc, quoted)?;
         }
         Ok(())
     }
@@ -161,24 +181,34 @@ impl Filler {
             return;
         }
         if self.state.dealer.value().is_none() {
-            self.leave(analyst, Reason::NoDealer);
+            self.leave_unknown(analyst, Reason::NoDealer, self.dealer.as_slice());
         } else if self.state.vulnerable.value().is_none() {
-            self.leave(analyst, Reason::NoVulnerable);
+            self.leave_unknown(analyst, Reason::NoVulnerable, self.vulnerable.as_slice());
         }
     }
 
     // Tells why the game at hand lacks a tag, where it lacks one.
     fn leave<A: Analyst>(&self, analyst: &mut A, reason: Reason) {
+        self.leave_unknown(analyst, reason, b"");
+    }
+
+    // The same, with the text of a tag whose value isn't known.
+    fn leave_unknown<A: Analyst>(&self, analyst: &mut A, reason: Reason, text: &[u8]) {
         let lacking = self.state.lacks(self.wanted);
         if lacking.tricks || lacking.score || lacking.contract || lacking.table {
-            let board = self.board.as_slice();
-            analyst.left(self.number, &board[..board.len().min(BOARD_BYTES)], reason);
+            let unknown: &[u8] = if text == b"?".as_slice() { b"" } else { text };
+            analyst.left(self.number, front(self.board.as_slice()), reason, front(unknown));
         }
     }
 }
 
-/// The most bytes of the value of a tag Board that are told.
-const BOARD_BYTES: usize = 32;
+/// The most bytes of a tag's text that are told.
+const TOLD_BYTES: usize = 32;
+
+// The first bytes of a text.
+fn front(text: &[u8]) -> &[u8] {
+    &text[..text.len().min(TOLD_BYTES)]
+}
 
 fn reason_of(unfit: Unfit) -> Reason {
     match unfit {

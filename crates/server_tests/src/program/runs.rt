@@ -135,6 +135,8 @@ fn a_bad_line_is_explained_on_the_standard_error_and_ends_with_2(
         ("ddserve resolve", "unrecognized subcommand 'resolve'"),
         ("ddserve solve --entries 0", "0 is not in 1..=65536"),
         ("ddserve solve --limit 5", "unexpected argument '--limit'"),
+        ("ddserve solve lines.jsonl", "as in: ddserve solve < FILE\n"),
+        ("ddserve pbn deals.pbn", "as in: ddserve pbn < FILE\n"),
         (
             "ddserve pbn --tags Deal",
             "--tags takes DoubleDummyTricks, ",

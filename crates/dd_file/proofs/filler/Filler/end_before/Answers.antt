@@ -1,6 +1,6 @@
 use Rattle.std.proofs.Common.{◌∙◌, Bool, ap}
 use Rattle.std.proofs.lemmas.Result.{on_ok_weaker}
-use Rattle.dd_file.specs.Notes.{board_here, board_of, number_here}
+use Rattle.dd_file.specs.Notes.{board_here, board_of, number_here, texts_here, unknown_of}
 use Rattle.dd_file.proofs.Passed.{EndsHere-before}
 use Rattle.dd_file.proofs.filler.Filler.end_before.Goals as goal
 
@@ -13,6 +13,9 @@ returns-clause-number g c = on_ok_weaker c.end_here.result (λ is. is ∙ ap (λ
 
 pub returns-clause-board : goal.returns-clause-board
 returns-clause-board g c = on_ok_weaker c.end_here.result (λ is. is ∙ ap (λ (h : Bool). board_here h (board_of c.args.self.now)) c.ends-ends.ensures) c.end_here.ensures.board
+
+pub returns-clause-texts : goal.returns-clause-texts
+returns-clause-texts g c = on_ok_weaker c.end_here.result (λ is. is ∙ ap (λ (h : Bool). texts_here h (unknown_of c.args.self.now)) c.ends-ends.ensures) c.end_here.ensures.texts
 
 pub returns-clause-asks : goal.returns-clause-asks
 returns-clause-asks g c = λ none. c.end_here.ensures.asks (c.ends-ends.ensures ∙ none)

@@ -1,5 +1,6 @@
 use Rattle.std.proofs.Common.{◌∙◌, ap, refl, take}
-use Rattle.dd_file.specs.declared.filler.TheConstants.{BOARD_BYTES}
+use Rattle.dd_file.specs.declared.told_texts.TheConstants.{TOLD_BYTES}
+use Rattle.dd_file.specs.Notes.{texts_of}
 use Rattle.dd_file.proofs.Noted.{AsksAtEnd-tag, NotesFirst-tag}
 use Rattle.dd_file.proofs.ShortTags.{PassesTag-more, PassesTag-none, PassesTag-told}
 use Rattle.dd_file.proofs.filler.Filler.pass_tag.Goals as goal
@@ -28,7 +29,17 @@ returns-clause-notes g c =
     let whole = c.in_ok-take_whole.ensures in
     let keeps = c.take_line_end-behind.ensures.counts in
     NotesFirst-tag c.args.self.now _ _ _ _ _ _ _ _ c.in-Some.ensures.left c.in-Some.ensures.mode c.in-Some-read_short_tag.ensures c.saturating_sub-length.ensures c.if-length-gt-NEAR.false
-    c.known_number-number.ensures.value c.ends_at_tag-ends.ensures _ _ _ _ (keeps.number ∙ whole.number ∙ ended.number) ended.board whole.board (ap (λ b. take BOARD_BYTES b.items) keeps.board)
+    c.known_number-number.ensures.value c.ends_at_tag-ends.ensures _ _ (record {
+      counted = keeps.number ∙ whole.number ∙ ended.number;
+      ended = _;
+      ended_is = ended.board;
+      board = ap (λ b. take TOLD_BYTES b.items) keeps.board ∙ whole.board;
+      state = _;
+      state_is = ended.ends.state;
+      texts = _;
+      texts_is = ended.texts;
+      unknown = ap (λ t. texts_of t) keeps.unknown ∙ whole.texts;
+    })
 
 pub returns-clause-asks : goal.returns-clause-asks
 returns-clause-asks g c =

@@ -3,7 +3,7 @@ use Rattle.dd_file.proofs.Staying.{KeepsCounts-then, Takes-byte, Takes-none, Tak
 use Rattle.dd_file.proofs.filler.Filler.take_quiet.Goals as goal
 
 pub stretches-init : goal.stretches-init
-stretches-init c = (Takes-none _ _, record { number = refl; board = refl; passed = refl })
+stretches-init c = (Takes-none _ _, record { number = refl; board = refl; unknown = refl; passed = refl })
 
 pub stretches-preserved : goal.stretches-preserved
 stretches-preserved c =
