@@ -9,17 +9,16 @@ SMALL = 1_024
 # How many events a run has where nothing is asked for.
 MOST = 1_048_576
 # So many of these make the first client, and the others' jobs need more than what is left.
-FETCHES = 735_000
-OTHERS = 128
+FETCHES = 700_000
+OTHERS = 136
 # The most jobs that a client may have open.
 TABLES = 64
 AT_ONCE = 1_000
-CARDS = 5
-PAR = '{"do":"par","table":[[7,6,7,6],[6,7,6,7],[10,3,10,3],[7,6,7,6],[9,3,9,3]],"dealer":0,"vulnerable":0}'
+CARDS = 6
 
 
 def table(drawn):
-    """A line for the twenty results of a deal of five cards a hand."""
+    """A line for the twenty results of a deal of six cards a hand."""
     ranks = "23456789TJQKA"
     pack = list(range(52))
     drawn.shuffle(pack)
@@ -88,10 +87,10 @@ def by_many_clients():
 
 
 def never_reads(server):
-    """A client that asks for par, which is no event, until neither side takes more."""
+    """A client that sends blank lines, each of which is told why it is none, until neither side takes more."""
     client = server.stream()
     client.setblocking(False)
-    lines = f"{PAR}\n".encode() * 100
+    lines = b"\n" * 10_000
     since = time.monotonic()
     while time.monotonic() - since < 0.5:
         try:
@@ -104,26 +103,26 @@ def never_reads(server):
 
 def by_clients_that_never_read():
     """Three runs are used up, and none can end while its clients don't read: who comes then is told so soon, and served soon after."""
-    server = Server("--allow-stop", "--events", str(SMALL), workers=1)
+    server = Server("--allow-stop", "--explain", "--events", str(SMALL), workers=1)
     held = []
     for _ in range(3):
         held.append(never_reads(server))
         client = server.connect()
         for _ in range(SMALL - SMALL // 4):
-            check("a fetch", client.ask(fetch(0)), '{"fault":16}')
+            check("a fetch", client.ask(fetch(0))[:11], '{"fault":16')
         held.append(client)
     longest, told = 0, set()
     begin = time.monotonic()
     while '{"job":1}' not in told:
         since = time.monotonic()
         with server.connect() as client:
-            told.add(client.ask(ONE_CARD))
+            told.add(client.ask(ONE_CARD)[:11])
         longest = max(longest, time.monotonic() - since)
         if time.monotonic() - begin > 30:
             sys.exit(f"cases/server: no run follows: {told}")
         time.sleep(0.05)
     taken = time.monotonic() - begin
-    check(f"who comes is told soon, after {longest:.1f} s at most", (longest < 2, told), (True, {'{"fault":15}', '{"job":1}'}))
+    check(f"who comes is told soon, after {longest:.1f} s at most", (longest < 2, told), (True, {'{"fault":15', '{"job":1}'}))
     with server.connect() as client:
         check("a stop", client.ask(STOP), CLOSING)
     runs, status, said = server.end_of_runs()
