@@ -1,5 +1,5 @@
 //! What is said of a game that lacks a tag which was asked for, and of a file without games.
-ghost use Rattle.std.specs.Prelude.{◌≡◌, ◌+◌, ◌<◌, ◌≤◌, ◌∷◌, ◌++◌, List, ℕ, decimal, length, map, take};
+ghost use Rattle.std.specs.Prelude.{◌≡◌, ◌+◌, ◌≤◌, ◌++◌, decimal, length, map, take};
 ghost use Rattle.arrayvec.specs.ArrayVec.{array_vec_len};
 ghost use Rattle.dd_fill.specs.Notes.{board_text, fault_text, no_game_text, note_text, reason_text, said_byte, unknown_text};
 
@@ -81,7 +81,11 @@ fn push_said(note: &mut Note, bytes: &[u8])
 fn said_byte(byte: u8) -> u8
     ensures { result ≡ said_byte byte }
 {
-    if byte < b' ' || byte == 127 { b'?' } else { byte }
+    if byte < b' ' || byte == 127 {
+        b'?'
+    } else {
+        byte
+    }
 }
 
 // The first bytes of the value of Board, or a question mark where it has none.

@@ -197,7 +197,12 @@ impl Filler {
         let lacking = self.state.lacks(self.wanted);
         if lacking.tricks || lacking.score || lacking.contract || lacking.table {
             let unknown: &[u8] = if text == b"?".as_slice() { b"" } else { text };
-            analyst.left(self.number, front(self.board.as_slice()), reason, front(unknown));
+            analyst.left(
+                self.number,
+                front(self.board.as_slice()),
+                reason,
+                front(unknown),
+            );
         }
     }
 }
