@@ -264,7 +264,7 @@ def as_the_other_reader(browser, server, count=2000):
 
 def as_the_program(browser, server, count=400):
     """Games of drawn files with more that is no tag, as the program's notes have them."""
-    said = "ddserve: game 1 (board 1): deal refused, fault 4\nddserve: game 2 (board ?): deal refused, fault 4: it hasn't the form (PBN): x\nddserve: game 12 (board (2)): spent\nddserve: no game was found: nothing is added\n"
+    said = "ddserve: game 1 (board 1): deal refused, fault 4\nddserve: game 2 (board ?): deal refused, fault 4: the text of the deal has not the form of a deal\nddserve: game 12 (board (2)): spent\nddserve: no game was found: the input has no tag of PBN\n"
     check("the reasons in notes", reasons_in(said), ["deal refused, fault 4", "deal refused, fault 4", "spent"])
     Page(browser, server.port)
     drawn, deals = random.Random(7), [request["deal"] for request, _ in recorded("tables")]

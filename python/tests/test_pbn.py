@@ -66,8 +66,8 @@ def test_notes_are_read_with_and_without_what_stands_behind_the_reason() -> None
     told = (
         b"ddserve: game 1 (board 1): no par: Dealer is missing\nddserve: game 2 (board 2): no par: Vulnerable is missing\n"
         b"ddserve: game 3 (board 3): no par: Dealer is missing or unknown: x): no deal\nddserve: game 4 (board 4): no par: Vulnerable is missing or unknown: E-W\n"
-        b"ddserve: game 5 (board 5): deal refused, fault 5\nddserve: game 6 (board ?): deal refused, fault 23: par of hands (not of thirteen cards)\n"
-        b"ddserve: game 7 (board (7)): no deal\nddserve: no game was found, so nothing was added\n"
+        b"ddserve: game 5 (board 5): deal refused, fault 5\nddserve: game 6 (board ?): deal refused, fault 23: the hands are not of thirteen cards\n"
+        b"ddserve: game 7 (board (7)): no deal\nddserve: no game was found: the input has no tag of PBN\n"
     )
     reasons = ["no par: Dealer", "no par: Vulnerable", "no par: Dealer", "no par: Vulnerable", "deal refused, fault 5", "deal refused, fault 23", "no deal"]
     assert notes_of(told) == list(zip(range(1, 8), [b"1", b"2", b"3", b"4", b"5", b"?", b"(7)"], reasons))
