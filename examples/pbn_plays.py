@@ -5,7 +5,8 @@
 
 A board of PBN has its play in the section Play, and its contract in the tags Contract and Declarer or in the section
 Auction. A board of LIN has its hands in `md`, its calls in `mb` and its cards in `pc`; `mc`, a claim, ends the play.
-Boards without a deal, a contract or a play are left out. Nothing of this program is proved.
+Boards without a deal, a contract or a play are left out. In a deal the ten is T, as for ddserve; a card of a play may be
+S10. Nothing of this program is proved.
 """
 
 import argparse
@@ -232,18 +233,21 @@ def pbn_lines(text):
 
 
 def lin_hands(value):
-    """Dealer and hands of a field `md`: its digit is the dealer, South's hand comes first, and East's may be left out."""
+    """Dealer and hands of a field `md`: its digit is the dealer, South's hand comes first, and East's may be left out. The hands are None
+    where a letter is no suit and no rank: the ten is `T`."""
     dealer = "SWNE".find("SWNE"[int(value[0]) - 1]) if value[:1] in tuple("1234") else 0
     dealer = SEATS.index("SWNE"[dealer])
     texts = re.sub(r"^\d", "", value).split(",")[:4]
     hands = {}
     for seat, text in zip("SWNE", texts):
         suit, hand = None, []
-        for letter in text.upper().replace("10", "T"):
+        for letter in "".join(text.upper().split()):
             if letter in SUITS:
                 suit = SUITS.index(letter)
             elif letter in RANKS and suit is not None:
                 hand.append((suit, RANKS.index(letter) + 2))
+            else:
+                return dealer, None
         if hand:
             hands[seat] = hand
     missing = [seat for seat in SEATS if seat not in hands]
@@ -260,7 +264,7 @@ def lin_lines(text):
     for name, value in list(zip(fields[::2], fields[1::2])) + [("md", "")]:
         name = name.strip().lower()
         if name in ("md", "qx"):
-            if board and board["cards"]:
+            if board and board["hands"] and board["cards"]:
                 contract = contract_of(board["dealer"], board["calls"])
                 if contract:
                     strain, declarer = contract

@@ -78,6 +78,17 @@ class Lin(unittest.TestCase):
         self.assertIn('"deal":"N:..AKQJT98765432. ...AKQJT98765432 AKQJT98765432... .AKQJT98765432.."', line)
         self.assertTrue(line.endswith('"trump":0,"first":3,"cards":[[1,14]]}'))
 
+    def test_a_ten_of_two_digits_is_none_in_a_deal_and_one_as_a_card_of_a_play(self):
+        text = "md|3SA,S%s,SQ,SJ|mb|1N|mb|p|mb|p|mb|p|pc|SJ|pc|SA|pc|S10|pc|SQ|"
+        [line] = pbn_plays.lines_of((text % "T").encode())
+        self.assertTrue(line.endswith('"deal":"N:Q... J... A... T...","trump":4,"first":1,"cards":[[0,11],[0,14],[0,10],[0,12]]}'))
+        self.assertEqual(list(pbn_plays.lines_of((text % "10").encode())), [])
+        other = text % "T" + "qx|o2|" + text % "x" + "qx|o3|" + text % "T"
+        self.assertEqual(list(pbn_plays.lines_of(other.encode())), [line, line])
+        for ten, count in (("T", 1), ("10", 0)):
+            deal = DEAL.replace("3.2", f"{ten}.2")
+            self.assertEqual(len(pbn(f'[Deal "{deal}"]', '[Contract "1NT"]', '[Declarer "W"]', '[Play "N"]', "S10 SA SK SQ")), count)
+
     def test_a_claim_ends_the_play(self):
         text = "md|3SA,SK,SQ,SJ|mb|1N|mb|p|mb|p|mb|p|pc|SJ|mc|1|pc|SA|"
         self.assertTrue(list(pbn_plays.lines_of(text.encode()))[0].endswith('"cards":[[0,11]]}'))

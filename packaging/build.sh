@@ -85,7 +85,10 @@ put_files() { # FOLDER TO: what is run stays so
     done
 }
 pages() { # TO: and the examples
-    put 644 "$here/package.md" "$1/README.md"
+    # Its links are those of its place in the sources, one folder below the top; in the package it stands at the top.
+    mkdir -p "$1"
+    sed 's,](\.\./,](,g' "$here/package.md" > "$1/README.md"
+    chmod 644 "$1/README.md"
     for page in CHANGELOG.md docs/PROTOCOL.md docs/SERVER.md; do
         put 644 "$top/$page" "$1/$page"
     done

@@ -1,6 +1,7 @@
 #!/usr/bin/env python3
 """That the pages of an unpacked package lead somewhere, and that its README tells what happens. Words: the folder of README.md, the
-folder for files that it makes in place of /tmp, and an environment for its commands as `NAME=VALUE` words.
+folder for files that it makes in place of /tmp, and an environment for its commands as `NAME=VALUE` words. Or `--links` and pages:
+then only the links of these are followed.
 
 Each link of each page leads to a file of the package, and to a heading that is there. Each path in the README, in backticks or in a
 command, is there, but for those below bin/ and share/ where it is not the tarball. Each command of the README with lines below it prints
@@ -72,7 +73,7 @@ def run_commands(page, text, scratch, environment):
             found.append(f"{page}: `{command}` ends with {done.returncode} and prints {done.stdout!r}, {done.stderr!r}")
 
 
-def main(folder, scratch, *environment):
+def look_at_package(folder, scratch, *environment):
     pages = [os.path.join(at, name) for at, _, names in os.walk(folder) for name in names if name.endswith(".md")]
     for page in sorted(pages):
         look_at_links(page)
@@ -80,6 +81,14 @@ def main(folder, scratch, *environment):
     text = read(readme)
     look_at_paths(readme, text)
     run_commands(readme, text, scratch, dict(it.split("=", 1) for it in environment))
+
+
+def main(first, *words):
+    if first == "--links":
+        for page in words:
+            look_at_links(page)
+    else:
+        look_at_package(first, *words)
     for it in found:
         print(it, file=sys.stderr)
     sys.exit(1 if found else 0)

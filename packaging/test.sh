@@ -159,13 +159,15 @@ completes 'OptimumScore,OptimumResultTable' ddserve pbn --tags OptimumScore,Opt
 [ "$(fish_completes 'ddserve pbn --tags=OptimumScore,Opt')" = --tags=OptimumScore,OptimumResultTable ] || fail 'fish does not complete the names behind --tags='
 echo 'packages: the tarball answers, and its pages have each option'
 
+# The links of the pages as they stand in the sources, the package's README among them.
+python3 "$here/links.py" --links "$here"/*.md "$top"/{python,web,examples}/README.md
 # The README's links, and what it tells: by Debian's Python, which finds what the package has for it.
 /usr/bin/python3 -c 'import sys; sys.exit("/usr/lib/python3/dist-packages" not in sys.path)' || fail "Debian's Python looks elsewhere"
 mkdir "$work/scratch"
 python3 "$here/links.py" "$tree" "$work/scratch" "PATH=$tree/bin:/usr/bin:$PATH" "PYTHONPATH=$tree/python"
 dpkg-deb -x "$deb" "$work/unpacked"
 python3 "$here/links.py" "$work/unpacked/usr/share/doc/ddserve" "$work/scratch" "PATH=$work/unpacked/usr/bin:/usr/bin:$PATH" "PYTHONPATH=$work/unpacked/usr/lib/python3/dist-packages"
-echo 'packages: each link of its pages leads somewhere, and the commands of its README do what it says'
+echo 'packages: each link of its pages leads somewhere, in the sources too, and the commands of its README do what it says'
 
 # A bare Debian.
 bare=$work/bare

@@ -104,7 +104,7 @@ def labels(browser, server):
     check("that a card that may be played tells its tricks", [name for name, tricks in cards if not name.endswith(f", {tricks} trick{'' if tricks == '1' else 's'}")], [])
     cells = browser.value("[...document.querySelectorAll('#results td button')].map(it => it.getAttribute('aria-label'))")
     check("that each result has a name", (len(cells), [it for it in cells if " in " not in it or not it.endswith("tricks")]), (20, []))
-    check("what says by itself that it changed", browser.value("['#link', '#say', '#par', '#gaps', '#notice', '#textWrong', '#typedWrong'].map(it => document.querySelector(it).getAttribute('role'))"), ["status"] * 4 + ["alert"] * 3)
+    check("what says by itself that it changed", browser.value("['#link', '#say', '#par', '#gaps', '#notice', '#unread', '#textWrong', '#typedWrong'].map(it => document.querySelector(it).getAttribute('role'))"), ["status"] * 4 + ["alert"] * 4)
 
 
 def reached(browser, server):

@@ -31,6 +31,16 @@ def card(suit, rank):
     return "SHDC"[suit] + RANKS[rank - 2]
 
 
+def par_text(reply):
+    """Par of a reply, as the page has it."""
+    texts = []
+    for it in reply["contracts"]:
+        over = it["tricks"] - it["level"] - 6
+        result = f"+{over}" if over > 0 else f"−{-over}" if over else "="
+        texts.append(f"{it['level']}{(*SYMBOLS, 'NT')[it['trump']]}{'×' if over < 0 else ''} {''.join('NESW'[seat] for seat in it['declarers'])} {result}")
+    return f"Par: {'NS' if reply['score'] >= 0 else 'EW'} {abs(reply['score'])}, {', '.join(texts)}" if texts else "Par: passed out"
+
+
 def hands_of(deal):
     """The four suits of each hand, North's first."""
     first, _, rest = deal.partition(":")

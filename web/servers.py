@@ -119,6 +119,8 @@ def no_websocket(browser):
     server.end()
     server = Server(port=server.port)
     page.shown(0)
+    # The cards come over one of its two connections; the other one may still pause.
+    browser.until("document.querySelector('#link').dataset.state === 'here'", 10)
     check("that it is connected", page.text("#linkText"), f"Connected to 127.0.0.1:{server.port}")
     server.end()
     page.until_seen("No server at 127.0.0.1:")

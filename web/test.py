@@ -9,11 +9,12 @@ import sys
 import threading
 import time
 
+import edits
 import fits
 import servers
 import texts
 from browser import Browser
-from page import HERE, SYMBOLS, Page, Server, as_lin, as_pbn, card, check, recorded
+from page import HERE, Page, Server, as_lin, as_pbn, card, check, par_text, recorded
 
 
 def opening_leads(page):
@@ -131,13 +132,7 @@ def table_and_par(page):
         dealer, vulnerable = "NESW"[request["dealer"]], ("None", "All", "NS", "EW")[request["vulnerable"]]
         page.paste(f'[Event ""]\n[Dealer "{dealer}"]\n[Vulnerable "{vulnerable}"]\n[Deal "{request["deal"]}"]\n')
         page.browser.until("/^Par: [NEp]/.test(document.querySelector('#par').innerText)")
-        texts = []
-        for it in reply["contracts"]:
-            over = it["tricks"] - it["level"] - 6
-            result = f"+{over}" if over > 0 else f"−{-over}" if over else "="
-            texts.append(f"{it['level']}{(*SYMBOLS, 'NT')[it['trump']]}{'×' if over < 0 else ''} {''.join('NESW'[seat] for seat in it['declarers'])} {result}")
-        side = "NS" if reply["score"] >= 0 else "EW"
-        check("par", page.text("#par"), f"Par: {side} {abs(reply['score'])}, {', '.join(texts)}" if texts else "Par: passed out")
+        check("par", page.text("#par"), par_text(reply))
 
 
 def pasted_plays(page):
@@ -178,7 +173,7 @@ def bad_texts(page):
     for seat, hand in enumerate(("A...", "K...", "Q...", "J...")):
         page.browser.fill(f"#typed{seat}", hand)
     page.browser.click("#typed button")
-    page.shown(0)
+    page.choose(4, 2)
     check("a typed deal", (page.numbers(), page.text("#typedWrong")), ({"SJ": 0}, ""))
 
 
@@ -308,7 +303,7 @@ def narrow(browser, server):
     print("page: it fits a phone")
 
 
-PARTS = {"narrow": narrow, "sizes": fits.sizes, "address": texts.address, "games": texts.games, "unanswered": servers.unanswered}
+PARTS = {"narrow": narrow, "sizes": fits.sizes, "address": texts.address, "games": texts.games, "edits": edits.edits, "unanswered": servers.unanswered}
 
 
 def main():

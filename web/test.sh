@@ -1,7 +1,7 @@
 #!/usr/bin/env bash
 # Tests the page in headless Chromium over the program that DDSERVE names, or the built one of this repository. Ends with 77 where a tool
 # is missing, and says which. PICTURES names a folder for pictures of the page. Words: which of `play`, `narrow`, `sizes`, `address`,
-# `games`, `unanswered` to run (all).
+# `games`, `edits`, `unanswered` to run (all).
 set -eu
 here=$(cd -- "$(dirname -- "$0")" && pwd)
 missing() {

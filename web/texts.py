@@ -32,10 +32,15 @@ def games_of(data):
     return [next(written) if reason == "spent" else reason for _, _, reason in notes]
 
 
+def reasons_in(said):
+    """The reasons in the program's notes on games, without what may stand behind them: what a fault means, or a value."""
+    notes = [line for line in said.split("\n") if line.startswith("ddserve: game ")]
+    return [re.fullmatch(r"ddserve: game \d+ \(board .{1,32}?\): ([^:]+).*", line).group(1) for line in notes]
+
+
 def program_games(data):
     """Of each game of a file why the program gives it no results, where it may not search: all have a reason."""
-    said = subprocess.run([PROGRAM, "pbn", "--budget", "0", "--tags", "DoubleDummyTricks"], input=data, capture_output=True, check=True).stderr.decode("latin-1")
-    return [line.rpartition("): ")[2] if "): " in line else line.rpartition(": ")[2] for line in said.splitlines()]
+    return reasons_in(subprocess.run([PROGRAM, "pbn", "--budget", "0", "--tags", "DoubleDummyTricks"], input=data, capture_output=True, check=True).stderr.decode("latin-1"))
 
 
 def deals_of(data):
@@ -259,6 +264,8 @@ def as_the_other_reader(browser, server, count=2000):
 
 def as_the_program(browser, server, count=400):
     """Games of drawn files with more that is no tag, as the program's notes have them."""
+    said = "ddserve: game 1 (board 1): deal refused, fault 4\nddserve: game 2 (board ?): deal refused, fault 4: the text of the deal has not the form of a deal\nddserve: game 12 (board (2)): spent\nddserve: no game was found: the input has no tag of PBN\n"
+    check("the reasons in notes", reasons_in(said), ["deal refused, fault 4", "deal refused, fault 4", "spent"])
     Page(browser, server.port)
     drawn, deals = random.Random(7), [request["deal"] for request, _ in recorded("tables")]
     wild = ["[", "[ ]", "\n% {", "; {", "{ [ }", '"', "\\", "[Site", "[Site {", '[Note "', "}", "\n%", '; [Deal "x"]', "{ ; }"]

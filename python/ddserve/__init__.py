@@ -1,10 +1,12 @@
 """Double-dummy answers of ddserve: the tricks of each card, the twenty results of a deal, par, and the trace of a play.
 
 `table`, `solve`, `leads`, `par` and `play` ask a program that is started with the first question. `Solver`, `Client`,
-`AsyncSolver`, `AsyncClient` and `Pool` are for more. `read_pbn` and `boards` read PBN files."""
+`AsyncSolver`, `AsyncClient` and `Pool` are for more. `read_pbn` and `boards` read PBN files, and `without_results` clears one of results
+that are no longer those of its deals."""
 from . import requests
 from .aio import AsyncClient, AsyncSolver
 from .bridge import Card, Seat, Side, Strain, Suit, Vulnerable
+from .cleared import without_results
 from .client import Client
 from .deal import BadDeal, Deal
 from .default import ask, leads, par, play, solve, table
@@ -59,4 +61,5 @@ __all__ = [
     "requests",
     "solve",
     "table",
+    "without_results",
 ]

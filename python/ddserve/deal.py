@@ -174,9 +174,11 @@ def _hand_of_lin(text: str) -> Hand:
 
 
 def _suits(suits: list[str]) -> Hand:
-    upper = [suit.upper().replace("10", "T") for suit in suits]
-    for rank in "".join(upper):
-        if rank not in RANKS:
-            raise BadDeal(f"{rank!r} is no rank")
+    upper = [suit.upper() for suit in suits]
+    for suit in upper:
+        # In the text of a deal each card is one letter, as the program reads it.
+        wrong = re.search(f"10|[^{RANKS}]", suit)
+        if wrong:
+            raise BadDeal(f"{wrong.group()!r} is no rank" + (": the ten is written T" if wrong.group() == "10" else ""))
     sorted_ = ["".join(sorted(suit, key=RANKS.index, reverse=True)) for suit in upper]
     return (sorted_[0], sorted_[1], sorted_[2], sorted_[3])

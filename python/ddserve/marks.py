@@ -35,6 +35,7 @@ class Text:
     """Bytes outside of tags; a comment is a space or a line feed. A string stands with its quotes."""
 
     data: bytes
+    is_comment: bool = False
 
 
 class EmptyLine:
@@ -58,11 +59,17 @@ class _Ends(Exception):
 
 def marks(data: bytes) -> Iterator[Mark]:
     """What stands in the bytes, in order."""
+    return (mark for mark, _, _ in placed(data))
+
+
+def placed(data: bytes) -> Iterator[Tuple[Mark, int, int]]:
+    """What stands in the bytes, in order, each with the place where it begins, blanks before it counted, and where it ends."""
     at = len(BYTE_ORDER_MARK) if data.startswith(BYTE_ORDER_MARK) else 0
     begins_line = True
     while at < len(data):
+        begin = at
         mark, at = _line_mark(data, at) if begins_line else _mark(data, at, at, False)
-        yield mark
+        yield mark, begin, at
         # Neither a tag nor a comment in braces ends with a line feed.
         begins_line = data[at - 1] == _LINE_FEED
 
@@ -70,7 +77,7 @@ def marks(data: bytes) -> Iterator[Mark]:
 def _line_mark(data: bytes, at: int) -> Tuple[Mark, int]:
     """What a line begins with, and where that ends."""
     if data[at] == _PERCENT:
-        return Text(b"\n"), _past_line(data, at, len(data))
+        return Text(b"\n", True), _past_line(data, at, len(data))
     near = min(len(data), at + NEAR)
     first = _past(_BLANKS, data, at, near)
     if first == near < len(data):
@@ -89,9 +96,9 @@ def _mark(data: bytes, at: int, first: int, is_first: bool) -> Tuple[Mark, int]:
         close = data.find(b"}", first)
         if close < 0:
             return OpenEnd(), len(data)
-        return Text(b" "), close + 1
+        return Text(b" ", True), close + 1
     if byte == _SEMICOLON:
-        return Text(b"\n"), _past_line(data, first, len(data))
+        return Text(b"\n", True), _past_line(data, first, len(data))
     if byte == _QUOTE:
         end, _ = _string_end(data, first + 1, len(data))
     else:

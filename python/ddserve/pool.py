@@ -2,8 +2,10 @@
 from __future__ import annotations
 
 import selectors
+import weakref
 from collections import deque
-from typing import Deque, Dict, Generic, Iterable, Iterator, List, Optional, TypeVar, Union
+from types import TracebackType
+from typing import Any, Deque, Dict, Generic, Iterable, Iterator, List, Optional, Type, TypeVar, Union
 
 from . import requests
 from .deal import DealLike
@@ -29,7 +31,9 @@ class Pool:
 
     Questions may be any iterable, without an end too. At most `ahead` of them, 1 or more, are held at once: taken, and their results not
     yet yielded. Results come in the order of the questions. Where a program ends before its replies, another is started and is asked what
-    had no reply, each question up to twice. The other options are those of `Solver`. Another option is a ValueError."""
+    had no reply, each question up to twice. The other options are those of `Solver`. Another option is a ValueError.
+
+    At the end of a `with` it is closed: no program of its calls is left, even where their results weren't all taken."""
 
     def __init__(
         self,
@@ -43,6 +47,7 @@ class Pool:
         self.workers = workers_of("workers", workers)
         self.ahead = AHEAD * self.workers if ahead is None else number_in("ahead", ahead, 1)
         self._words = command(program, budget, entries)
+        self._crews: weakref.WeakSet[_Crew[Any]] = weakref.WeakSet()
 
     def tables(self, deals: Iterable[DealLike]) -> Iterator[Table]:
         """The twenty results of each deal."""
@@ -50,28 +55,33 @@ class Pool:
 
     def ask_all(self, questions: Iterable[Request[R]]) -> Iterator[R]:
         """The result of each question. The first one without a result ends it, by its exception, behind the results before it."""
-        for outcome in self.outcomes(questions):
-            if isinstance(outcome, Error):
-                raise outcome
-            yield outcome
+        return _results(self.outcomes(questions))
 
     def outcomes(self, questions: Iterable[Request[R]]) -> Iterator[Union[R, Error]]:
         """The result of each question, or in its place the error that it has. An exception of the iterable comes behind the results of
         what it gave before."""
         crew: _Crew[R] = _Crew(self._words, self.workers)
-        source: _Source[R] = _Source(questions)
-        try:
-            while True:
-                if not source.is_over and crew.held < self.ahead and crew.has_room:
-                    source.give_one(crew)
-                # Waits only where nothing more can be taken.
-                crew.collect(wait=source.is_over or crew.held >= self.ahead or not crew.has_room)
-                yield from crew.ready()
-                if source.is_over and not crew.held:
-                    source.check()
-                    return
-        finally:
+        self._crews.add(crew)
+        return crew.outcomes(_Source(questions), self.ahead)
+
+    def close(self) -> None:
+        """Ends the programs of all calls. Results that weren't taken are gone: of an iterator that isn't at its end the next one is the
+        error `Ended`. Another call starts programs anew."""
+        for crew in list(self._crews):
             crew.close()
+
+    def __enter__(self) -> Pool:
+        return self
+
+    def __exit__(self, kind: Optional[Type[BaseException]], error: Optional[BaseException], trace: Optional[TracebackType]) -> None:
+        self.close()
+
+
+def _results(outcomes: Iterator[Union[R, Error]]) -> Iterator[R]:
+    for outcome in outcomes:
+        if isinstance(outcome, Error):
+            raise outcome
+        yield outcome
 
 
 class _Source(Generic[R]):
@@ -126,6 +136,23 @@ class _Crew(Generic[R]):
         self._lost: Dict[int, int] = {}
         self._again: Deque[int] = deque()
         self._taken = self._told = 0
+        self._is_closed = False
+
+    def outcomes(self, source: _Source[R], ahead: int) -> Iterator[Union[R, Error]]:
+        """The outcomes of the questions in their order; closed at their end."""
+        try:
+            while True:
+                self.check()
+                if not source.is_over and self.held < ahead and self.has_room:
+                    source.give_one(self)
+                # Waits only where nothing more can be taken.
+                self.collect(wait=source.is_over or self.held >= ahead or not self.has_room)
+                yield from self.ready()
+                if source.is_over and not self.held:
+                    source.check()
+                    return
+        finally:
+            self.close()
 
     @property
     def held(self) -> int:
@@ -139,6 +166,8 @@ class _Crew(Generic[R]):
 
     def take(self, question: Request[R]) -> None:
         """Gives a question to the program that has fewest."""
+        # The questions themselves may close the pool.
+        self.check()
         turn = self._taken
         self._taken += 1
         if not isinstance(question, Request):
@@ -164,10 +193,17 @@ class _Crew(Generic[R]):
             self._told += 1
             yield self._found.pop(self._told - 1)
 
+    def check(self) -> None:
+        if self._is_closed:
+            raise Ended("the pool was closed before all results were taken")
+
     def close(self) -> None:
+        """Ends the programs. Results that weren't taken are gone."""
+        self._is_closed = True
         self._selector.close()
-        for member in self._members:
-            member.process.close()
+        while self._members:
+            self._members.pop().process.close()
+        self._found.clear()
 
     def _started(self) -> _Member:
         member = _Member(self._words)

@@ -45,7 +45,8 @@ class Questions:
     def par(
         self, of: Results, vulnerable: VulnerableLike, dealer: Optional[SeatLike] = None, side: Optional[SideLike] = None
     ) -> Par:
-        """Par of a deal or of its twenty results, by the dealer or by the side that is asked first."""
+        """Par of a deal or of its twenty results, by the dealer or by the side that calls first: just one of the two. What is missing, as
+        of a board that doesn't tell it, is a ValueError."""
         return self.ask(requests.par(of, vulnerable, dealer, side))
 
     def play(self, deal: DealLike, trump: StrainLike, first: SeatLike, cards: Iterable[CardLike]) -> Play:

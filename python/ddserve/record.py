@@ -15,8 +15,9 @@ PER_SHEET = 16
 # The letters of a contract with its declarers and its result, and some more.
 LONGEST_WHOLE = 16
 # What is wrong with a deal, by the number of its fault.
+TEXT = 4
 REFUSED = {
-    4: "its text is no deal of PBN",
+    TEXT: "its text is no deal of PBN",
     5: "a hand is left out",
     6: "a card stands twice in it",
     7: "its hands have not equally many cards",
@@ -99,13 +100,20 @@ def _sheets(heading: Tuple[str, str], boards: Sequence[Board]) -> str:
 def section_of(board: Board) -> str:
     """One board: who deals and who is vulnerable, the hands, the results and par."""
     if board.deal is None:
-        why = f": {REFUSED[board.fault]}" if board.fault is not None else ""
-        return f"<section>\n{_title(board)}\n<p>No deal{why}.</p>\n</section>"
+        return f"<section>\n{_title(board)}\n<p>No deal{_why(board)}.</p>\n</section>"
     north, east, south, west = (_hand(board.deal, seat) for seat in Seat)
     hands = f'<div class="top">{_title(board)}\n{north}</div>\n<div class="middle">{west}\n{east}</div>\n{south}'
     doubt = "\n<p>Its tags tell different results, so none are shown.</p>" if board.differs else ""
     results = _table(board.table) if board.table is not None else ""
     return f"<section>\n{hands}\n{results}{doubt}{_par(board)}\n</section>"
+
+
+def _why(board: Board) -> str:
+    """What is wrong with the deal, where there is one."""
+    if board.fault is None:
+        return ""
+    ten = "; the ten is written T" if board.fault == TEXT and "10" in (board.value("Deal") or "") else ""
+    return f": {REFUSED[board.fault]}{ten}"
 
 
 def _title(board: Board) -> str:

@@ -6,7 +6,7 @@ from dataclasses import dataclass
 from typing import Any, Callable, Generator, Generic, Iterable, Mapping, Optional, Sequence, TypeVar, Union
 
 from .bridge import Card, CardLike, Seat, SeatLike, Side, SideLike, Strain, StrainLike, Vulnerable, VulnerableLike, cards_of
-from .deal import Deal, DealLike
+from .deal import BadDeal, Deal, DealLike
 from .faults import Cancelled, Error, Fault, NoLines, Spent
 from .results import Cards, Par, Play, Table
 
@@ -122,8 +122,15 @@ def par(
     dealer: Optional[SeatLike] = None,
     side: Optional[SideLike] = None,
 ) -> Request[Par]:
-    if (dealer is None) == (side is None):
-        raise ValueError("par is asked by dealer or by side: just one of the two")
+    # Of a board of PBN each of these may be None.
+    if of is None:
+        raise BadDeal("the deal is missing: par is asked of a deal or of its twenty results")
+    if dealer is None and side is None:
+        raise ValueError("the dealer is missing: give dealer, one of N, E, S and W, or in its place side, NS or EW, which calls first")
+    if dealer is not None and side is not None:
+        raise ValueError("dealer and side are both given: par is asked by just one of the two")
+    if vulnerable is None:
+        raise ValueError("the vulnerability is missing: give one of the words 'None', 'NS', 'EW' and 'All'")
     who: dict[str, int] = {"dealer": Seat.of(dealer)} if dealer is not None else {"side": Side.of(side)} if side is not None else {}
     asked: dict[str, Any] = {**who, "vulnerable": Vulnerable.of(vulnerable)}
 

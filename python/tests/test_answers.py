@@ -6,7 +6,7 @@ import pytest
 
 import ddserve
 from conftest import Serving, recorded
-from ddserve import AsyncClient, AsyncSolver, Cards, Client, Par, Play, Pool, Request, Solver, Table, requests
+from ddserve import AsyncClient, AsyncSolver, BadDeal, Cards, Client, Par, Play, Pool, Request, Solver, Table, requests
 
 Result = Union[Cards, Par, Play, Table]
 
@@ -106,3 +106,31 @@ def test_one_call_each(program: str, monkeypatch: pytest.MonkeyPatch) -> None:
     [(request, reply)] = recorded("plays")[:1]
     cards = [(suit, rank) for suit, rank in request["cards"]]
     assert told(ddserve.play(request["deal"], request["trump"], request["first"], cards)) == reply
+
+
+FULL = "N:J6.72.AQ7643.AJ7 Q9842.Q854.T.K42 AT75.AT9.KJ8.T83 K3.KJ63.952.Q965"
+TABLE = [[7, 6, 7, 6], [6, 7, 6, 7], [10, 3, 10, 3], [7, 6, 7, 6], [9, 3, 9, 3]]
+
+
+@pytest.mark.parametrize("tags, missing", [
+    ('[Vulnerable "None"]', "the dealer is missing"),
+    ('[Dealer "?"][Vulnerable "None"]', "the dealer is missing"),
+    ('[Dealer "North"][Vulnerable "None"]', "the dealer is missing"),
+    ('[Dealer "N"]', "the vulnerability is missing"),
+    ('[Dealer "N"][Vulnerable "E-W"]', "the vulnerability is missing"),
+    ("", "the dealer is missing"),
+])  # fmt: skip
+def test_par_of_a_board_says_what_is_missing(tags: str, missing: str) -> None:
+    [board] = ddserve.boards(f'{tags}[Deal "{FULL}"]')
+    for of in (board.deal, TABLE):
+        with pytest.raises(ValueError, match=f"^{missing}: give ") as caught:
+            requests.par(of, board.vulnerable, dealer=board.dealer)  # type: ignore[arg-type]
+        assert "just one" not in str(caught.value)
+
+
+def test_par_of_no_deal_and_by_dealer_and_side() -> None:
+    with pytest.raises(BadDeal, match="^the deal is missing: "):
+        requests.par(None, "None", dealer="N")  # type: ignore[arg-type]
+    with pytest.raises(ValueError, match="^dealer and side are both given: .* just one of the two$"):
+        requests.par(FULL, "None", dealer="N", side="NS")
+    assert requests.par(FULL, "None", side="NS").fields["side"] == 0 and requests.par(FULL, "None", "W").fields["dealer"] == 3

@@ -47,7 +47,7 @@ def test_words_have_the_numbers_of_the_protocol() -> None:
         f'[Deal "{PBN}"]',
         f'[Event "x"]\n[Deal "{PBN}"]\n[Dealer "N"]\n',
         "E:Q9842.Q854.T.K42 AT75.AT9.KJ8.T83 K3.KJ63.952.Q965 J6.72.AQ7643.AJ7",
-        "S:at75.9ta.kj8.t83  3k.kj63.952.q965 j6.72.aq7643.aj7 q9842.q854.10.k42",
+        "S:at75.9ta.kj8.t83  3k.kj63.952.q965 j6.72.aq7643.aj7 q9842.q854.t.k42",
         LIN,
         "https://www.bridgebase.com/tools/handviewer.html?lin=md%7C3SAT75HAT9DKJ8CT83%2CSK3HKJ63D952CQ965%2CSJ6H72DAQ7643CAJ7%2C%7C",
         "3SAT75HAT9DKJ8CT83,SK3HKJ63D952CQ965,SJ6H72DAQ7643CAJ7,SQ9842HQ854DTCK42",
@@ -102,6 +102,30 @@ def test_cards_may_be_one_text(text: str) -> None:
     assert requests.play(PBN, "NT", "N", text).fields["cards"] == [[0, 6], [0, 2], [0, 14], [0, 3]]
     assert requests.solve("N:9... ... ... ...", "NT", "E", text).fields["played"] == [[0, 6], [0, 2], [0, 14], [0, 3]]
     assert Deal.of("N:6... 2... A... 3...").without(text).pbn == "N:... ... ... ..."
+
+
+@pytest.mark.parametrize("text", [
+    PBN.replace(".T.", ".10."),
+    PBN.lower().replace(".t.", ".10."),
+    f'[Deal "{PBN.replace("KJ8.T83", "KJ8.1083")}"]',
+    LIN.replace("SAT75", "SA1075"),
+    LIN.replace("CT83", "C1083"),
+])  # fmt: skip
+def test_a_ten_of_two_digits_is_none_in_the_text_of_a_deal(text: str) -> None:
+    assert Deal.of(text.replace("10", "T")).pbn == PBN
+    reads: List[Callable[[str], object]] = [Deal.of, requests.table]
+    for read in reads:
+        with pytest.raises(BadDeal, match="^'10' is no rank: the ten is written T$"):
+            read(text)
+
+
+def test_a_ten_of_two_digits_is_none_in_a_hand_and_one_as_a_card() -> None:
+    with pytest.raises(BadDeal, match="the ten is written T"):
+        Deal.from_cards(["10...", "K...", "Q...", "J..."])
+    assert Deal.from_cards([["S10"], "K...", "Q...", ["♠J"]]).pbn == "N:T... K... Q... J..."
+    for wrong in ("N:1... K... Q... J...", "N:0... K... Q... J...", "N:01... K2... Q3... J4..."):
+        with pytest.raises(BadDeal, match="^'[01]' is no rank$"):
+            Deal.of(wrong)
 
 
 def test_tens_are_cards_of_a_text() -> None:

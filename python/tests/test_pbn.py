@@ -17,15 +17,19 @@ HERE = Path(__file__).resolve().parent
 SAMPLES = HERE.parents[1] / "cases" / "data" / "pbn"
 ALL = ("DoubleDummyTricks", "OptimumScore", "ParContract", "OptimumResultTable")
 WANTED = [ALL, ("DoubleDummyTricks",), ("OptimumScore", "ParContract"), ("OptimumResultTable", "ParContract")]
-# A line of `ddserve pbn` on a game that lacks a tag: its number, its board, and the beginning of the reason.
-NOTE = re.compile(rb"ddserve: game (\d+) \(board (.*)\): (no deal|deal refused, fault \d+|no par: Dealer|no par: Vulnerable|not closed|spent)")
+# A line of `ddserve pbn` on a game that lacks a tag: its number, its board, and the reason. What a fault means, and a value that is
+# unknown, may stand behind it.
+NOTE = re.compile(
+    rb"ddserve: game (\d+) \(board (.{1,32}?)\): (?:(no deal|not closed|spent)|(deal refused, fault \d+)(?:: .+)?"
+    rb"|(no par: (?:Dealer|Vulnerable)) is missing(?: or unknown: .*)?)"
+)
 Note = Tuple[int, bytes, str]
 
 
 def notes_of(told: bytes) -> List[Note]:
-    found = [NOTE.match(line) for line in told.split(b"\n") if line.startswith(b"ddserve: game ")]
+    found = [NOTE.fullmatch(line) for line in told.split(b"\n") if line.startswith(b"ddserve: game ")]
     assert all(found), told
-    return [(int(it.group(1)), it.group(2), it.group(3).decode()) for it in found if it]
+    return [(int(it.group(1)), it.group(2), next(filter(None, it.groups()[2:])).decode()) for it in found if it]
 
 
 def reason_of(game: Game, board: Board, lacking: List[str], gives_up: bool) -> Optional[str]:
@@ -56,6 +60,17 @@ def said(program: str, data: bytes, *options: str) -> Tuple[bytes, bytes]:
     """What `ddserve pbn` writes for a file, and what it says."""
     run = subprocess.run([program, "pbn", *options], input=data, capture_output=True, check=True)
     return run.stdout, run.stderr
+
+
+def test_notes_are_read_with_and_without_what_stands_behind_the_reason() -> None:
+    told = (
+        b"ddserve: game 1 (board 1): no par: Dealer is missing\nddserve: game 2 (board 2): no par: Vulnerable is missing\n"
+        b"ddserve: game 3 (board 3): no par: Dealer is missing or unknown: x): no deal\nddserve: game 4 (board 4): no par: Vulnerable is missing or unknown: E-W\n"
+        b"ddserve: game 5 (board 5): deal refused, fault 5\nddserve: game 6 (board ?): deal refused, fault 23: the hands are not of thirteen cards\n"
+        b"ddserve: game 7 (board (7)): no deal\nddserve: no game was found: the input has no tag of PBN\n"
+    )
+    reasons = ["no par: Dealer", "no par: Vulnerable", "no par: Dealer", "no par: Vulnerable", "deal refused, fault 5", "deal refused, fault 23", "no deal"]
+    assert notes_of(told) == list(zip(range(1, 8), [b"1", b"2", b"3", b"4", b"5", b"?", b"(7)"], reasons))
 
 
 @pytest.mark.parametrize("path", sorted(SAMPLES.glob("*.pbn")), ids=lambda path: str(path.stem))

@@ -28,6 +28,19 @@ def deadly(tmp_path: Path, body: str) -> str:
     return str(path)
 
 
+def started_by(monkeypatch: pytest.MonkeyPatch) -> List[Process]:
+    """The programs that pools start from now on."""
+    started: List[Process] = []
+
+    class Noted(Process):
+        def __init__(self, words: List[str]) -> None:
+            super().__init__(words)
+            started.append(self)
+
+    monkeypatch.setattr(ddserve.pool, "Process", Noted)
+    return started
+
+
 @pytest.mark.parametrize("options", [{"workers": 0}, {"workers": -2}, {"workers": 1.5}, {"workers": "2"}, {"ahead": 0}, {"ahead": -1}, {"ahead": -3}, {"ahead": "all"}])
 def test_a_number_of_workers_or_of_questions_that_is_none_is_refused(program: str, options: Any) -> None:
     with pytest.raises(ValueError, match=next(iter(options))):
@@ -72,14 +85,7 @@ def test_an_exception_of_the_questions_comes_behind_the_results_before_it(progra
 
 @pytest.mark.parametrize("workers", [1, 3])
 def test_a_program_that_is_killed_has_a_successor(program: str, workers: int, monkeypatch: pytest.MonkeyPatch) -> None:
-    started: List[Process] = []
-
-    class Noted(Process):
-        def __init__(self, words: List[str]) -> None:
-            super().__init__(words)
-            started.append(self)
-
-    monkeypatch.setattr(ddserve.pool, "Process", Noted)
+    started = started_by(monkeypatch)
     cases = asked("small", "tables", "small", most=60)
     found: List[object] = []
     for result in Pool(workers, program=program).ask_all(request for request, _ in cases):
@@ -118,3 +124,46 @@ def test_a_fault_is_no_end_of_a_program(program: str) -> None:
     wrong = requests.table("N:A... K... Q... J2...")
     outcomes: List[object] = list(Pool(1, program=program).outcomes([wrong, requests.table(ONE_CARD)] * 20))
     assert [type(it) for it in outcomes] == [Fault, Table] * 20
+
+
+def test_a_pool_in_with_leaves_no_program_behind(program: str, monkeypatch: pytest.MonkeyPatch) -> None:
+    started = started_by(monkeypatch)
+    with Pool(2, program=program) as pool:
+        assert [table["NT", "N"] for table in pool.tables([ONE_CARD] * 3)] == [1] * 3
+        tables, outcomes, later = pool.tables([ONE_CARD] * 50), pool.outcomes([requests.table(ONE_CARD)] * 50), pool.tables([ONE_CARD])
+        assert isinstance(next(tables), Table) and isinstance(next(outcomes), Table)
+        assert any(it._process.poll() is None for it in started)
+    assert started and all(it._process.returncode is not None for it in started)
+    count = len(started)
+    for left in (tables, outcomes, later):
+        with pytest.raises(Ended, match="the pool was closed"):
+            next(left)
+        assert list(left) == []
+    assert len(started) == count
+    # Another call starts programs anew.
+    assert [table["NT", "N"] for table in pool.tables([ONE_CARD] * 3)] == [1] * 3
+    pool.close()
+    pool.close()
+
+
+def test_an_exception_within_with_closes_the_pool_and_is_raised(program: str, monkeypatch: pytest.MonkeyPatch) -> None:
+    started = started_by(monkeypatch)
+    tables: Iterator[Table]
+    with pytest.raises(KeyError), Pool(1, program=program) as pool:
+        tables = pool.tables([ONE_CARD] * 50)
+        next(tables)
+        raise KeyError
+    assert started and all(it._process.returncode is not None for it in started)
+
+
+def test_questions_that_close_their_pool_start_no_program(program: str, monkeypatch: pytest.MonkeyPatch) -> None:
+    started = started_by(monkeypatch)
+    pool = Pool(1, program=program)
+
+    def deals() -> Iterator[str]:
+        pool.close()
+        yield ONE_CARD
+
+    with pytest.raises(Ended, match="the pool was closed"):
+        list(pool.tables(deals()))
+    assert not started

@@ -92,7 +92,7 @@ FILES: Dict[str, List[Tuple[str, str, Optional[str]]]] = {
         (f"Board 6 North deals {NEITHER}", "No deal: a card stands twice in it.", NONE),
         (f"Board 7 North deals {NEITHER}", "first", FIRST),
         ("Board 8 North deals Both sides vulnerable", "first", "NS 600, 3NT NS ="),
-        (f"Board 9 North deals {NEITHER}", "No deal: its text is no deal of PBN.", NONE),
+        (f"Board 9 North deals {NEITHER}", "No deal: its text is no deal of PBN; the ten is written T.", NONE),
         (f"Board 10 North deals {NEITHER}", "first", FIRST),
         ("Board 11 North deals Vulnerable: E-W", "No deal: its hands have not equally many cards.", NONE),
     ],
