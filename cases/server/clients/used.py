@@ -2,7 +2,7 @@
 import random
 import sys
 import time
-from client import CLOSING, ONE_CARD, ONE_CARD_REPLY, STOP, Server, check, done, fetch, more_descriptors
+from client import CLOSING, ONE_CARD, ONE_CARD_REPLY, STOP, Server, check, done, fetch, more_descriptors, number_of
 
 HEALTH = '{"do":"health"}'
 SMALL = 1_024
@@ -37,8 +37,10 @@ def wait_until_full(client):
 
 def is_served(server, what):
     with server.connect() as client:
-        check(f"a submit {what}", client.ask(ONE_CARD), '{"job":1}')
-        check(f"its answer {what}", client.until_done(1)[0], done(ONE_CARD_REPLY, 1))
+        told = client.ask(ONE_CARD)
+        check(f"a submit {what}: {told}", told.startswith('{"job":'), True)
+        job = number_of(told)
+        check(f"its answer {what}", client.until_done(job)[0], done(ONE_CARD_REPLY, job))
 
 
 def end(server, most):
