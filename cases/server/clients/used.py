@@ -9,16 +9,16 @@ SMALL = 1_024
 # How many events a run has where nothing is asked for.
 MOST = 1_048_576
 # So many of these make the first client, and the others' jobs need more than what is left.
-FETCHES = 700_000
-OTHERS = 136
+FETCHES = 650_000
+OTHERS = 160
 # The most jobs that a client may have open.
 TABLES = 64
 AT_ONCE = 1_000
-CARDS = 6
+CARDS = 7
 
 
 def table(drawn):
-    """A line for the twenty results of a deal of six cards a hand."""
+    """A line for the twenty results of a deal of seven cards a hand."""
     ranks = "23456789TJQKA"
     pack = list(range(52))
     drawn.shuffle(pack)
