@@ -18,7 +18,7 @@ import glob, os, re, subprocess, sys
 work, *crates = sys.argv[1:]
 os.chdir(work)
 # What a test may take: a test that is stopped refuses nothing.
-SECONDS = 300
+SECONDS = 900
 
 
 def outcome(tests):
