@@ -9,7 +9,7 @@ use Rattle.std.proofs.lemmas.Iterator.Adapters.{position_from-zero}
 use Rattle.std.proofs.lemmas.List.Quantifiers.{position-Some}
 use Rattle.std.proofs.lemmas.Option.{same_Some, slice_get-get_or, slice_get_within}
 use Rattle.dd_book.specs.Indexes.{waits_by}
-use Rattle.dd_book.specs.Jobs.{JobOf, chosen, chosen_from, has_free, has_waiting, is_due, is_free_by, last_claim_of}
+use Rattle.dd_book.specs.Jobs.{JobOf, chosen, chosen_from, has_free, has_waiting, is_due, is_free_by, last_turn_of}
 use Rattle.dd_book.specs.Waiting.{IsFirstFrom, IsNextPlace, has_place}
 use Rattle.dd_book.proofs.Elements.{position_from-first, position_from-none}
 use Rattle.dd_book.proofs.Seats.{waits_by-here, waits_by-job, waits_by-within}
@@ -49,7 +49,7 @@ chosen-due jobs due job is here free =
 -- a job of the owner that is due waits: it is due too
 due-like : (jobs : List JobOf) (job other : JobOf) → is_due jobs job ≡ true → other.owner ≡ job.owner → has_waiting other ≡ true → is_due jobs other ≡ true
 due-like jobs job other due own waits =
-    rw waits (subst (λ (o : ℕ). list_all (λ (y : JobOf). nat_le (last_claim_of o jobs) (last_claim_of y.owner jobs)) (filter has_waiting jobs) ≡ true) (sym own) (both (has_waiting job) _ due).1)
+    rw waits (subst (λ (o : ℕ). list_all (λ (y : JobOf). nat_le (last_turn_of o jobs) (last_turn_of y.owner jobs)) (filter has_waiting jobs) ≡ true) (sym own) (both (has_waiting job) _ due).1)
 
 -- the job that is claimed next is due
 pub chosen-at : (jobs : List JobOf) (place : ℕ) → chosen jobs ≡ Some place → (job : JobOf) × (slice_get jobs place ≡ Some job) × (is_due jobs job ≡ true)
@@ -68,6 +68,28 @@ chosen-at jobs place h = first (position (is_due jobs) jobs) refl h
     first (Some due) is e =
         let found = found-at (is_due jobs) jobs due is in
         of_owner due found.0 (position (is_free_by found.0.owner) jobs) found.1 found.2 refl
+        (sym (ap (λ (o : Option JobOf). Some (unwrap_or (option_and_then (λ (j : JobOf). position (is_free_by j.owner) jobs) o) due)) found.1) ∙ e)
+
+-- the first job that is due is this owner's
+abbrev pub DueBy : List JobOf → ℕ → Type 0
+DueBy jobs owner = (due : ℕ) × (position (is_due jobs) jobs ≡ Some due) × ((first : JobOf) × (slice_get jobs due ≡ Some first) × (first.owner ≡ owner))
+
+-- so it is of the owner of the job that is claimed next
+pub chosen-owner : (jobs : List JobOf) (place : ℕ) (job : JobOf) → chosen jobs ≡ Some place → slice_get jobs place ≡ Some job → DueBy jobs job.owner
+chosen-owner jobs place job h here = first (position (is_due jobs) jobs) refl h
+  where
+    of_owner : (due : ℕ) (y : JobOf) (o : Option ℕ) → position (is_due jobs) jobs ≡ Some due → slice_get jobs due ≡ Some y → position (is_free_by y.owner) jobs ≡ o → Some (unwrap_or o due) ≡ Some place → DueBy jobs job.owner
+    of_owner due y None is at free e = (due, is, (y, at, ap (λ (j : JobOf). j.owner) (same_Some y job (sym at ∙ ap (slice_get jobs) (same_Some due place e) ∙ here))))
+    of_owner due y (Some p) is at free e =
+        let found = found-at (is_free_by y.owner) jobs p free in
+        let own = eqb-true found.0.owner y.owner (both (nat_eq found.0.owner y.owner) (has_free found.0) found.2).0 in
+        (due, is, (y, at, sym own ∙ ap (λ (j : JobOf). j.owner) (same_Some found.0 job (sym found.1 ∙ ap (slice_get jobs) (same_Some p place e) ∙ here))))
+
+    first : (o : Option ℕ) → position (is_due jobs) jobs ≡ o → option_map (chosen_from jobs) o ≡ Some place → DueBy jobs job.owner
+    first None is e = absurd (cc)
+    first (Some due) is e =
+        let found = found-at (is_due jobs) jobs due is in
+        of_owner due found.0 (position (is_free_by found.0.owner) jobs) is found.1 refl
         (sym (ap (λ (o : Option JobOf). Some (unwrap_or (option_and_then (λ (j : JobOf). position (is_free_by j.owner) jobs) o) due)) found.1) ∙ e)
 
 -- it stands in the list

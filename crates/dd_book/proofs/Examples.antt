@@ -9,12 +9,12 @@ use Rattle.dd_solve.specs.declared.asked.Asked.TheVariants.{Solve, Table, Play}
 use Rattle.dd_book.specs.declared.job.Stage.TheVariants.{Open}
 use Rattle.dd_book.specs.declared.parts.Part.{Part}
 use Rattle.dd_book.specs.declared.parts.Part.TheVariants.{Waiting, Running, Number}
-use Rattle.dd_book.specs.Jobs.{JobOf, Turn, next_turn}
+use Rattle.dd_book.specs.Jobs.{JobOf, Turn, first_turn, next_turn}
 use Rattle.dd_book.specs.Next.{from_last}
 
--- the owner of a job, its newest claim and its parts, whatever was asked
+-- the owner of a job, its last turn and its parts, whatever was asked
 abbrev row : Asked → ℕ → ℕ → List Part → JobOf
-row asked owner last parts = record { owner = owner; asked = asked; stage = Open parts; last_claim = last }
+row asked owner last parts = record { owner = owner; asked = asked; stage = Open parts; last_turn = last }
 
 -- the number of the job that is due, and of its part
 abbrev due : List JobOf → Option (ℕ × ℕ)
@@ -25,7 +25,7 @@ module _ (question : Question) where
   first-of_all : due (row (Solve question) 7 0 (Waiting ∷ []) ∷ row (Solve question) 5 0 (Waiting ∷ []) ∷ []) ≡ Some (1, 0)
   first-of_all = refl
 
-  -- owner 7 was claimed for: its parts that wait come after owner 5's
+  -- owner 7 was claimed for when owner 5 had asked: its parts that wait come after owner 5's
   other-owner : due (row (Solve question) 7 1 (Running 9 1 ∷ Waiting ∷ []) ∷ row (Solve question) 5 0 (Waiting ∷ []) ∷ []) ≡ Some (2, 0)
   other-owner = refl
 
@@ -42,9 +42,24 @@ module _ (question : Question) where
   new-job_of_last : due (row (Solve question) 7 2 (Waiting ∷ []) ∷ row (Solve question) 5 3 (Running 9 3 ∷ []) ∷ row (Solve question) 5 0 (Waiting ∷ []) ∷ []) ≡ Some (1, 0)
   new-job_of_last = refl
 
-  -- an owner that was never claimed for comes first, and of two such the one whose waiting job is first
-  never-claimed : due (row (Solve question) 7 2 (Waiting ∷ []) ∷ row (Solve question) 5 0 (Waiting ∷ []) ∷ row (Solve question) 6 0 (Waiting ∷ []) ∷ []) ≡ Some (2, 0)
-  never-claimed = refl
+  -- owners that asked before owner 7 had its last turn come before it, and of two that asked alike the one whose waiting job is first
+  asked-before : due (row (Solve question) 7 2 (Waiting ∷ []) ∷ row (Solve question) 5 0 (Waiting ∷ []) ∷ row (Solve question) 6 0 (Waiting ∷ []) ∷ []) ≡ Some (2, 0)
+  asked-before = refl
+
+  -- owner 5 asked for the first time after owner 7's last turn: it comes behind
+  asked-after : due (row (Solve question) 5 3 (Waiting ∷ []) ∷ row (Solve question) 7 2 (Waiting ∷ []) ∷ []) ≡ Some (2, 0)
+  asked-after = refl
+
+  -- it asked right after that turn, before another claim: the job that was there first
+  asked-next : due (row (Solve question) 7 2 (Waiting ∷ []) ∷ row (Solve question) 5 2 (Waiting ∷ []) ∷ []) ≡ Some (1, 0)
+  asked-next = refl
+
+  -- three claims were given: who asks for the first time stands behind them, and who had a job where it stood
+  newcomer : first_turn 5 (row (Solve question) 7 2 (Waiting ∷ []) ∷ []) 3 ≡ 3
+  newcomer = refl
+
+  asks-again : first_turn 7 (row (Solve question) 7 2 [] ∷ []) 3 ≡ 0
+  asks-again = refl
 
   -- nothing waits
   nothing-waits : due (row (Solve question) 7 2 (Running 9 2 ∷ []) ∷ row (Solve question) 5 0 [] ∷ []) ≡ None

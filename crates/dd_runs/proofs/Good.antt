@@ -70,7 +70,7 @@ open-unfinal : (b : Bool) → IsFinal (cond b shown.Waiting shown.Running) → �
 open-unfinal true h = h
 open-unfinal false h = h
 
-final-stage : (owner : ℕ) (asked : Asked) (last : ℕ) (stage : Stage) → IsFinal (shown_stage stage) → (let job : JobOf = record { owner = owner; asked = asked; stage = stage; last_claim = last } in is_open job) ≡ false
+final-stage : (owner : ℕ) (asked : Asked) (last : ℕ) (stage : Stage) → IsFinal (shown_stage stage) → (let job : JobOf = record { owner = owner; asked = asked; stage = stage; last_turn = last } in is_open job) ≡ false
 final-stage owner asked last (Open parts) h = absurd (open-unfinal (list_all is_waiting parts) h)
 final-stage owner asked last (Done solved) h = refl
 final-stage owner asked last (TableDone table) h = refl
@@ -81,7 +81,7 @@ final-stage owner asked last Spent h = refl
 
 -- a job that shows a final state has ended
 final-closed : (job : JobOf) (state : JobState) → IsFinal state → state ≡ shown_stage job.stage → is_open job ≡ false
-final-closed job state final is = final-stage job.owner job.asked job.last_claim job.stage (subst IsFinal is final)
+final-closed job state final is = final-stage job.owner job.asked job.last_turn job.stage (subst IsFinal is final)
 
 -- the event of a submit by its caller
 the-submit : (k : ℕ) (c : Call) (reply : Reply) (owner number : ℕ) (asked : Asked) → c ≡ Submit owner asked → IsBy k c → reply ≡ Submitted number → event k c reply ≡ event owner (Submit owner asked) (Submitted number)

@@ -29,7 +29,7 @@ use Rattle.dd_book.specs.declared.parts.Part.{Part}
 use Rattle.dd_book.specs.declared.parts.Part.TheVariants.{Waiting, Ended, Number}
 use Rattle.dd_book.specs.Next.{next_part}
 use Rattle.dd_book.specs.Parts.{is_ended, runs_by}
-use Rattle.dd_book.specs.Jobs.{JobOf, Turn, chosen, if_owned, is_of_play, is_open, job_after, job_at, job_with, new_job, next_turn, own_job, parts_of, play_stage, shown_stage, stage_after, table_stage, turn, turn_at, turn_of, with_claim, with_job, with_stage}
+use Rattle.dd_book.specs.Jobs.{JobOf, Turn, chosen, if_owned, is_of_play, is_open, job_after, job_at, job_with, first_turn, new_job, next_turn, own_job, parts_of, play_stage, shown_stage, stage_after, table_stage, turn, turn_at, turn_of, with_claim, with_job, with_stage}
 use Rattle.dd_book.specs.Calls.{BookOf, after, book_claimed, cancel_told, claim_told, claimed, fetch_told, jobs_after_finish, jobs_cancelled, reply_of, with_jobs}
 use Rattle.dd_solve.proofs.CallerLemmas.{same_question-is, same_target-is}
 use Rattle.dd_book.proofs.CallerLemmas.{job_at-place, next-within, refused}
@@ -88,7 +88,7 @@ moves x y opened owner asked right = record { owner = owner; asked = asked; ende
 
 -- a stage with a part is open
 open-stage : (test : Part → Bool) (owner : ℕ) (asked : Asked) (last : ℕ) (stage : Stage) (part : ℕ) → position test (parts_of stage) ≡ Some part
-    → (let job : JobOf = record { owner = owner; asked = asked; stage = stage; last_claim = last } in is_open job) ≡ true
+    → (let job : JobOf = record { owner = owner; asked = asked; stage = stage; last_turn = last } in is_open job) ≡ true
 open-stage test owner asked last (Open parts) part h = refl
 open-stage test owner asked last (Done solved) part h = absurd (cc)
 open-stage test owner asked last (TableDone table) part h = absurd (cc)
@@ -99,10 +99,10 @@ open-stage test owner asked last Spent part h = absurd (cc)
 
 -- so is a job with a part
 has-part : (test : Part → Bool) (job : JobOf) (part : ℕ) → position test (parts_of job.stage) ≡ Some part → is_open job ≡ true
-has-part test job part h = open-stage test job.owner job.asked job.last_claim job.stage part h
+has-part test job part h = open-stage test job.owner job.asked job.last_turn job.stage part h
 
 -- a part at this place makes its job open
-place-open : (place owner last : ℕ) (asked : Asked) (stage : Stage) → place < length (parts_of stage) → (let job : JobOf = record { owner = owner; asked = asked; stage = stage; last_claim = last } in is_open job) ≡ true
+place-open : (place owner last : ℕ) (asked : Asked) (stage : Stage) → place < length (parts_of stage) → (let job : JobOf = record { owner = owner; asked = asked; stage = stage; last_turn = last } in is_open job) ≡ true
 place-open place owner last asked (Open parts) h = refl
 place-open place owner last asked (Done solved) h = absurd (omega arith)
 place-open place owner last asked (TableDone table) h = absurd (omega arith)
@@ -113,7 +113,7 @@ place-open place owner last asked Spent h = absurd (omega arith)
 
 -- a job with a part that is claimed next is open
 next-open : (job : JobOf) (part : ℕ) → next_part job.asked (parts_of job.stage) ≡ Some part → is_open job ≡ true
-next-open job part h = place-open part job.owner job.last_claim job.asked job.stage (next-within job.asked (parts_of job.stage) part h)
+next-open job part h = place-open part job.owner job.last_turn job.asked job.stage (next-within job.asked (parts_of job.stage) part h)
 
 -- ---- jobs by their numbers
 
@@ -192,9 +192,9 @@ set-changes jobs place was job c reply here goes tells = record {
 }
 
 -- a new job at the end
-push-changes : (jobs : List JobOf) (caller : ℕ) (asked : Asked) → Changes jobs (jobs ++ new_job caller asked ∷ []) (Submit caller asked) (Submitted (length jobs + 1))
-push-changes jobs caller asked =
-    let job : JobOf = new_job caller asked in
+push-changes : (jobs : List JobOf) (caller turn : ℕ) (asked : Asked) → Changes jobs (jobs ++ new_job caller asked turn ∷ []) (Submit caller asked) (Submitted (length jobs + 1))
+push-changes jobs caller turn asked =
+    let job : JobOf = new_job caller asked turn in
     record {
       back = λ place y h. elim (slice_get-push-or jobs job place y h) [
         | inl l ↦ inl (y, l, stays y)
@@ -213,10 +213,11 @@ push-changes jobs caller asked =
 submit-changes : (book : BookOf) (caller : ℕ) (asked : Asked) → Changes book.jobs (after book (Submit caller asked)).jobs (Submit caller asked) (reply_of book (Submit caller asked))
 submit-changes book caller asked =
     let jobs = book.jobs in
+    let turn = first_turn caller jobs book.claims in
     refused
-    (λ (o : Option Reply). Changes jobs (cond (is_some o) book (with_jobs book (jobs ++ new_job caller asked ∷ []))).jobs (Submit caller asked) (unwrap_or o (Submitted (length jobs + 1))))
+    (λ (o : Option Reply). Changes jobs (cond (is_some o) book (with_jobs book (jobs ++ new_job caller asked turn ∷ []))).jobs (Submit caller asked) (unwrap_or o (Submitted (length jobs + 1))))
     _ _ _
-    (λ refusal. same-changes jobs (Submit caller asked) (Fault refusal) tt) (push-changes jobs caller asked)
+    (λ refusal. same-changes jobs (Submit caller asked) (Fault refusal) tt) (push-changes jobs caller turn asked)
 
 idle-tells : (jobs : List JobOf) (c : Call) (b : Bool) → TellsJob jobs c (cond b Closing NothingWaits)
 idle-tells jobs c true = tt

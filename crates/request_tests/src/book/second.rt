@@ -23,6 +23,8 @@ fn is_free(strain: &[Part]) -> bool {
 struct Job {
     owner: u64,
     asks: Asks,
+    // How many claims were given before it was submitted.
+    claims_before: usize,
     parts: Vec<Part>,
     ended: Option<Shows>,
 }
@@ -199,23 +201,29 @@ impl Second {
         self.jobs.push(Job {
             owner,
             asks,
+            claims_before: self.given.len(),
             parts,
             ended,
         })?;
         Ok(MadeReply::Job(self.jobs.len() as u64))
     }
 
-    // How many claims ago this owner was claimed for: the number of all where it never was.
+    // How many claims ago this owner had its last turn: a claim of a part of its, or where there was none its first submit.
     fn claims_ago(&self, owner: u64) -> usize {
-        let found = self
+        let claimed = self
             .given
             .iter()
             .rev()
             .position(|given| given.owner == owner);
-        found.unwrap_or(self.given.len())
+        let first = self.jobs.iter().find(|job| job.owner == owner);
+        match (claimed, first) {
+            (Some(ago), _) => ago,
+            (None, Some(job)) => self.given.len().saturating_sub(job.claims_before),
+            (None, None) => 0,
+        }
     }
 
-    // The place of the first job that waits whose owner was claimed for longest ago.
+    // The place of the first job that waits whose owner had its last turn longest ago.
     fn due(&self) -> Option<usize> {
         let mut due = None;
         let mut most = 0;

@@ -128,11 +128,48 @@ fn three_owners_are_claimed_for_in_turn(rt: HostRuntime) -> Result<(), AllocErro
 3 submits A: job 7
 2 submits A: job 8
 4 submits A: job 9
-9 claims: job 9 claim 7
-9 claims: job 2 claim 8
-9 claims: job 8 claim 9
-9 claims: job 7 claim 10
+9 claims: job 2 claim 7
+9 claims: job 8 claim 8
+9 claims: job 7 claim 9
+9 claims: job 9 claim 10
 9 claims: nothing waits";
+    follow(&rt, rt.alloc(), ample(&rt), rows)
+}
+
+#[test]
+fn newcomers_come_after_those_who_waited_already(rt: HostRuntime) -> Result<(), AllocError> {
+    let rows = "1 submits A: job 1
+9 claims: job 1 claim 1
+1 submits T: job 2
+2 submits A: job 3
+3 submits A: job 4
+9 claims: job 2 part 0 claim 2
+4 submits A: job 5
+9 claims: job 3 claim 3
+9 claims: job 4 claim 4
+5 submits A: job 6
+9 claims: job 2 part 4 claim 5
+9 claims: job 5 claim 6
+9 claims: job 6 claim 7
+6 submits A: job 7
+9 claims: job 2 part 8 claim 8
+9 claims: job 7 claim 9";
+    follow(&rt, rt.alloc(), ample(&rt), rows)
+}
+
+#[test]
+fn who_never_had_a_turn_stands_where_it_asked_first(rt: HostRuntime) -> Result<(), AllocError> {
+    let rows = "1 submits T: job 1
+2 submits A: job 2
+2 submits A: job 3
+9 claims: job 1 part 0 claim 1
+2 cancels 2: cancelled 2
+2 cancels 3: cancelled 3
+3 submits A: job 4
+9 claims: job 1 part 4 claim 2
+2 submits B: job 5
+9 claims: job 5 claim 3
+9 claims: job 4 claim 4";
     follow(&rt, rt.alloc(), ample(&rt), rows)
 }
 

@@ -1,2 +1,0 @@
-use Rattle.std.proofs.Common.{◌≡◌, ◌∙◌, ap, refl, sym, Some, None}
-use Rattle.dd_book.proofs.jobs.Jobs.chosen.Goals as goal
