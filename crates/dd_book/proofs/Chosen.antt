@@ -11,13 +11,8 @@ use Rattle.std.proofs.lemmas.Option.{same_Some, slice_get-get_or, slice_get_with
 use Rattle.dd_book.specs.Indexes.{waits_by}
 use Rattle.dd_book.specs.Jobs.{JobOf, chosen, chosen_from, has_free, has_waiting, is_due, is_free_by, last_turn_of}
 use Rattle.dd_book.specs.Waiting.{IsFirstFrom, IsNextPlace, has_place}
-use Rattle.dd_book.proofs.Elements.{position_from-first, position_from-none}
+use Rattle.dd_book.proofs.Elements.{both, position_from-first, position_from-none}
 use Rattle.dd_book.proofs.Seats.{waits_by-here, waits_by-job, waits_by-within}
-
-both : (a b : Bool) → (a && b) ≡ true → (a ≡ true) × (b ≡ true)
-both true true h = (refl, refl)
-both true false h = absurd (cc)
-both false b h = absurd (cc)
 
 -- the job that is found, and that it passes
 found-at : (test : JobOf → Bool) (jobs : List JobOf) (place : ℕ) → position test jobs ≡ Some place → (job : JobOf) × (slice_get jobs place ≡ Some job) × (test job ≡ true)

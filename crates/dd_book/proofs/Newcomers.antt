@@ -1,6 +1,6 @@
 -- Newcomers come last.
 use Rattle.std.proofs.Common.{eq-eqb, ◌≡◌, ℕ, zero, suc, ◌-◌, ◌<◌, ◌≤◌, Bool, true, false, refl, sym, ap, ◌∙◌, arith, List, [], ◌∷◌, ◌++◌, length, map, max, Some, None, inl, inr, nat_eq}
-use Rattle.std.specs.Prelude.{Option, filter, option_map, unwrap_or, slice_get, ◌&&◌, ◌||◌}
+use Rattle.std.specs.Prelude.{Option, filter, option_map, unwrap_or, slice_get, ◌||◌}
 use Rattle.std.specs.List.{list_all}
 use Rattle.std.proofs.lemmas.Bool.{cases_eq, eqb-true}
 use Rattle.std.proofs.lemmas.Bool.Decides.{eqb_tells}
@@ -12,15 +12,10 @@ use Rattle.dd_book.specs.Calls.{BookOf, after, empty_book, run}
 use Rattle.dd_book.specs.Fairness.{IsHeldBack, NewcomersComeLast, job_waits, next_owner}
 use Rattle.dd_book.proofs.AsksKept.{there}
 use Rattle.dd_book.proofs.Chosen.{chosen-owner}
-use Rattle.dd_book.proofs.Elements.{slice_get-push_here, slice_get-push_other}
+use Rattle.dd_book.proofs.Elements.{both, slice_get-push_here, slice_get-push_other}
 use Rattle.dd_book.proofs.LastTurns.{Joins, Rests, Takes, by-change, last, owners, within-run}
 use Rattle.dd_book.proofs.Seats.{all-waiting, any-there, le-test, le-tested, one-waiting}
 use Rattle.dd_book.proofs.Turns.{turn-chosen}
-
-both : (a b : Bool) → (a && b) ≡ true → (a ≡ true) × (b ≡ true)
-both true true h = (refl, refl)
-both true false h = absurd (cc)
-both false b h = absurd (cc)
 
 -- ---- owners by their places
 

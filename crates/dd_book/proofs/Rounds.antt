@@ -10,6 +10,7 @@ use Rattle.dd_book.specs.declared.call.Call.TheVariants as call
 use Rattle.dd_book.specs.Jobs.{JobOf, Turn, has_job, has_waiting, is_no_later, next_turn}
 use Rattle.dd_book.specs.Calls.{BookOf, after, book_claimed, empty_book, run}
 use Rattle.dd_book.specs.Fairness.{ClaimsGoRound, IsPassedOver, is_claim, next_owner, owner_waits}
+use Rattle.dd_book.proofs.Elements.{both}
 use Rattle.dd_book.proofs.LastTurns.{IsWithin, Joins, Takes, by-change, last, takes, within-run}
 use Rattle.dd_book.proofs.Seats.{any-there, le-tested, one-waiting}
 use Rattle.dd_book.proofs.Turns.{due-at}
@@ -56,11 +57,6 @@ later-after book c one other has passed l = by-change (IsLater one other) book c
     (λ owner now claims is t. later-takes book now one other owner (λ e. passed claims (is ∙ ap Some (sym e))) t l)
 
 -- ---- so the one is not due while the other waits
-
-both : (a b : Bool) → (a && b) ≡ true → (a ≡ true) × (b ≡ true)
-both true true h = (refl, refl)
-both true false h = absurd (cc)
-both false b h = absurd (cc)
 
 -- who waits has a job
 waits-has : (jobs : List JobOf) (o : ℕ) → list_any (λ (job : JobOf). nat_eq job.owner o && has_waiting job) jobs ≡ true → has_job o jobs ≡ true

@@ -8,17 +8,13 @@ use Rattle.std.proofs.lemmas.Bool.{cases_eq, eqb-true}
 use Rattle.std.proofs.lemmas.Bool.Decides.{nat_tests, eqb_tells}
 use Rattle.std.proofs.lemmas.Iterator.Adapters.{position_from-zero}
 use Rattle.std.proofs.lemmas.Option.{same_Some, slice_get_within}
+use Rattle.dd_cards.proofs.CallerLemmas.{or-left, or-right}
 use Rattle.dd_book.specs.Jobs.{JobOf, first_turn, has_job, has_waiting, is_due, is_no_later, last_turn_of}
 use Rattle.dd_book.specs.Indexes.{AreOwners, ChangesOnly, IsKnown, count_of, waits_by}
 use Rattle.dd_book.specs.Tournaments.{IsFirstKey, key_at, with_key}
 use Rattle.dd_book.specs.Waiting.{IsFirstOf, IsFirstPlace, SetsOnly, has_place}
-use Rattle.dd_book.proofs.Elements.{slice_get-set_here, slice_get-set_other, slice_get-push_here, slice_get-push_other, slice_get-end, position_from-first, position_from-none}
+use Rattle.dd_book.proofs.Elements.{both, position_from-first, position_from-none, slice_get-end, slice_get-push_here, slice_get-push_other, slice_get-set_here, slice_get-set_other}
 use Rattle.dd_book.proofs.Winning.{key_at-set_here, key_at-set_other, key_at-within}
-
-both : (a b : Bool) → (a && b) ≡ true → (a ≡ true) × (b ≡ true)
-both true true h = (refl, refl)
-both true false h = absurd (cc)
-both false b h = absurd (cc)
 
 never-both : {b : Bool} → b ≡ true → b ≡ false → ⊥
 never-both t f = absurd (let e : true ≡ false = sym t ∙ f in cc)
@@ -255,14 +251,6 @@ has_job-push (x ∷ jobs) job o = ap (λ b. nat_eq x.owner o || b) (has_job-push
     go : (b : Bool) → (b || (has_job o jobs || nat_eq job.owner o)) ≡ ((b || has_job o jobs) || nat_eq job.owner o)
     go true = refl
     go false = refl
-
-or-left : (a b : Bool) → a ≡ true → (a || b) ≡ true
-or-left true b h = refl
-or-left false b h = absurd (cc)
-
-or-right : (a b : Bool) → b ≡ true → (a || b) ≡ true
-or-right true b h = refl
-or-right false b h = h
 
 -- who has a job is known
 has_job-known : (jobs : List JobOf) (newest : BTreeMap ℕ ℕ) (o : ℕ) → ((p : ℕ) (job : JobOf) → slice_get jobs p ≡ Some job → IsKnown newest job.owner) → has_job o jobs ≡ true → IsKnown newest o
