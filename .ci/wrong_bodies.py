@@ -48,10 +48,12 @@ def crate_of(edit):
 
 
 def names_no_tests(edit):
-    """Whether its first line lacks a crate of tests."""
+    """Whether its first line lacks a crate of tests, or names a module behind it that isn't there."""
     with open(edit, encoding="utf-8") as file:
         word, _, tests = file.readline().rstrip("\n").partition(": ")
-    return word != "tests" or not tests.endswith("_tests") or not os.path.isdir(f"crates/{tests}")
+    crate, *modules = tests.split() or [""]
+    lacks = [module for module in modules if not os.path.isfile(f"crates/{crate}/src/{module}.rt")]
+    return word != "tests" or not crate.endswith("_tests") or not os.path.isdir(f"crates/{crate}") or bool(lacks)
 
 
 found = 0
@@ -62,7 +64,7 @@ for edit in sorted(glob.glob("crates/*/must-fail/*.edit") + glob.glob("wrong_bod
         print(f"{edit}:1: stands under {crate}/must-fail/ too")
         found += 1
     if edit in by_tests and names_no_tests(edit):
-        print(f"{edit}:1: no line tests: with a crate of tests")
+        print(f"{edit}:1: no line tests: with a crate of tests, and modules of it if any")
         found += 1
     for number, what in breaches(edit, crate):
         print(f"{edit}:{number}: {what}")

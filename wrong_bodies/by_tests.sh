@@ -1,7 +1,9 @@
 #!/usr/bin/env bash
 # Tries the wrong bodies that no contract refuses, since no clause says what they change (`by_tests/`). In a copy of the last
 # commit each is made by itself, and a test of the crate that its line `tests:` names has to fail; as the code stands, all of them
-# pass. A test that doesn't end in time refuses nothing. It proves nothing, and takes some three minutes for each. Words: crates (all that have a folder in `by_tests/`).
+# pass. Modules named behind the crate are those whose tests are run, with what they use: where others take long and see nothing of
+# it. A test that doesn't end in time refuses nothing. It proves nothing, and takes some three minutes for each. Words: crates (all
+# that have a folder in `by_tests/`).
 set -eu
 here=$(cd -- "$(dirname -- "$0")" && pwd)
 top=$(cd -- "$here/.." && pwd)
@@ -21,8 +23,36 @@ os.chdir(work)
 SECONDS = 900
 
 
-def outcome(tests):
+def used_by(tests, modules):
+    """These modules of a crate of tests, and those that they use."""
+    found = set()
+    while modules:
+        module, *modules = modules
+        if module not in found:
+            found.add(module)
+            files = glob.glob(f"crates/{tests}/src/{module}.rt") + glob.glob(f"crates/{tests}/src/{module}/**/*.rt", recursive=True)
+            if not files:
+                sys.exit(f"wrong_bodies: {tests} has no module {module}")
+            for file in files:
+                modules += re.findall(r"crate::(\w+)", open(file, encoding="utf-8").read())
+    return found
+
+
+def outcome(tests, modules):
     """How the tests end: "ok", "FAILED", "stopped" where some were and none failed, or "no end"; and those that failed."""
+    root = f"crates/{tests}/src/lib.rt"
+    whole = open(root, encoding="utf-8").read()
+    kept = used_by(tests, modules)
+    if kept:
+        some = re.sub(r"#\[cfg\(test\)\]\nmod (\w+);\n", lambda found: found[0] if found[1] in kept else "", whole)
+        open(root, "w", encoding="utf-8").write(some)
+    try:
+        return ended_as(tests)
+    finally:
+        open(root, "w", encoding="utf-8").write(whole)
+
+
+def ended_as(tests):
     ran = subprocess.run(["rt", "try", "--test", "--seconds", str(SECONDS)], cwd=f"crates/{tests}", capture_output=True, text=True).stdout
     ended = re.search(r"^test result: (\w+)\.", ran, re.M)
     if not ended:
@@ -42,18 +72,18 @@ for crate in crates:
     for edit in edits:
         pairs = [line.partition(": ")[::2] for line in open(edit, encoding="utf-8").read().splitlines()]
         said = dict(pairs)
-        tests, path = said["tests"], f"crates/{crate}/{said['file']}"
-        if tests not in passed:
-            ended, failed = outcome(tests)
+        (tests, *modules), path = said["tests"].split(), f"crates/{crate}/{said['file']}"
+        if said["tests"] not in passed:
+            ended, failed = outcome(tests, modules)
             if ended != "ok":
-                sys.exit(f"wrong_bodies: {tests} as the code stands: {ended} {' '.join(failed)}")
-            passed.add(tests)
+                sys.exit(f"wrong_bodies: {said['tests']} as the code stands: {ended} {' '.join(failed)}")
+            passed.add(said["tests"])
         right = open(path, encoding="utf-8").read()
         wrong = right
         for (_, old), (_, new) in zip(pairs[2::2], pairs[3::2]):
             wrong = wrong.replace(old, new)
         open(path, "w", encoding="utf-8").write(wrong)
-        ended, failed = outcome(tests)
+        ended, failed = outcome(tests, modules)
         open(path, "w", encoding="utf-8").write(right)
         refused = ended == "FAILED"
         missed += not refused
