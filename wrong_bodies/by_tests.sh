@@ -16,7 +16,7 @@ work=$(mktemp -d)
 trap 'rm -rf "$work"' EXIT
 git -C "$top" archive HEAD | tar -x -C "$work"
 python3 - "$work" "$@" <<'END'
-import glob, os, re, subprocess, sys
+import glob, os, re, shutil, subprocess, sys
 work, *crates = sys.argv[1:]
 os.chdir(work)
 # What a test may take: a test that is stopped refuses nothing.
@@ -40,16 +40,24 @@ def used_by(tests, modules):
 
 def outcome(tests, modules):
     """How the tests end: "ok", "FAILED", "stopped" where some were and none failed, or "no end"; and those that failed."""
-    root = f"crates/{tests}/src/lib.rt"
-    whole = open(root, encoding="utf-8").read()
-    kept = used_by(tests, modules)
-    if kept:
-        some = re.sub(r"#\[cfg\(test\)\]\nmod (\w+);\n", lambda found: found[0] if found[1] in kept else "", whole)
-        open(root, "w", encoding="utf-8").write(some)
+    if not modules:
+        return ended_as(tests)
+    kept, source, aside = used_by(tests, modules), f"crates/{tests}/src", f"{tests}.aside"
+    shutil.copytree(source, aside)
+    with open(f"{source}/lib.rt", encoding="utf-8") as file:
+        whole = file.read()
+    with open(f"{source}/lib.rt", "w", encoding="utf-8") as file:
+        file.write(re.sub(r"#\[cfg\(test\)\]\nmod (\w+);\n", lambda found: found[0] if found[1] in kept else "", whole))
+    # A file that no `mod` names stops the compiler.
+    for name in os.listdir(source):
+        module = name.removesuffix(".rt")
+        if module not in kept | {"lib"}:
+            (shutil.rmtree if os.path.isdir(f"{source}/{name}") else os.remove)(f"{source}/{name}")
     try:
         return ended_as(tests)
     finally:
-        open(root, "w", encoding="utf-8").write(whole)
+        shutil.rmtree(source)
+        shutil.move(aside, source)
 
 
 def ended_as(tests):
