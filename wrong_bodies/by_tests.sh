@@ -30,11 +30,10 @@ def used_by(tests, modules):
         module, *modules = modules
         if module not in found:
             found.add(module)
-            files = glob.glob(f"crates/{tests}/src/{module}.rt") + glob.glob(f"crates/{tests}/src/{module}/**/*.rt", recursive=True)
-            if not files:
-                sys.exit(f"wrong_bodies: {tests} has no module {module}")
-            for file in files:
-                modules += re.findall(r"crate::(\w+)", open(file, encoding="utf-8").read())
+            own = f"crates/{tests}/src/{module}"
+            for file in [f"{own}.rt", *glob.glob(f"{own}/**/*.rt", recursive=True)]:
+                roots = "crate|super" if file == f"{own}.rt" else "crate"
+                modules += re.findall(rf"\b(?:{roots})::(\w+)", open(file, encoding="utf-8").read())
     return found
 
 
