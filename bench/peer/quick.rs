@@ -12,7 +12,7 @@ pub const JOINT_TRUMPS: u32 = 4;
 pub const CROSSING: u32 = 8;
 /// All cards of a long suit of the partner's, once the leader has crossed.
 pub const PARTNERS_LONG_SUITS: u32 = 1024;
-/// Without trumps, one trick where the leader's side has to lead a suit that an opponent heads.
+/// Without trumps, one trick where the leader's side has to lead to a card that an opponent guards.
 pub const LATER_TRICK: u32 = 8192;
 /// Joint trumps below some of the opponents', but for as many tricks.
 pub const LOWER_TRUMPS: u32 = 65536;
@@ -56,8 +56,14 @@ pub const CROSSING_WITHOUT_TRUMPS: u32 = 1 << 30;
 
 /// The leader's side may have a round of its own suits for each trick left.
 pub const A_ROUND_FOR_EACH_TRICK: u32 = 16384;
-/// Of a suit that it heads the leader's side has as many rounds as its shorter holding.
+/// Of a suit that nobody guards the leader's side has as many rounds as its shorter holding.
 pub const ROUNDS_OF_THE_SHORTER: u32 = 32768;
+/// A card below some of the leader's side is guarded by none.
+pub const A_LONE_HONOUR_IS_GUARDED: u32 = 128;
+/// It is guarded before a hand that has one of those and others.
+pub const GUARDED_BEFORE_A_HIGHER: u32 = 1 << 23;
+/// An opponent keeps what it guards, however few tricks are left.
+pub const GUARDS_WITHOUT_ROOM: u32 = 1 << 31;
 
 /// The opponents' higher trumps take no trick.
 pub const HIGHER_TRUMPS_TAKE_NOTHING: u32 = 1 << 17;
@@ -479,16 +485,30 @@ fn kept_cards(position: &Position, seat: Seat, need: u8) -> u64 {
     cards
 }
 
-// Of a suit: the longer holding of the leader's side, or the shorter, and whether an opponent heads it.
+// Of a suit: how often the leader's side can lead it before the opponents win, and whether the left or the right one guards it:
+// it has the highest card of the two, and one for each card of the leader's side above it, and the hand behind it has none of
+// those, or no others.
 fn led<const RULES: u32>(position: &Position, suit: Suit) -> (u8, bool, bool) {
-    let [left, partner, right] = others(position.first);
-    let (own, his) = (length(position, position.first, suit), length(position, partner, suit));
-    let heads = |seat| winners(position, seat, suit) != 0 && own.max(his) > 0;
-    let rounds = if RULES & ROUNDS_OF_THE_SHORTER != 0 { own.min(his) } else { own.max(his) };
-    (rounds, heads(left), heads(right))
+    let [left, partner, right] = others(position.first).map(|seat| position.holding(seat, suit));
+    let own = position.holding(position.first, suit);
+    let tops = above_all(own | partner, left | right);
+    let above = tops.count_ones();
+    let longer = own.count_ones().max(partner.count_ones());
+    let guards = |hand: u16, other: u16, behind: u16| {
+        let long = hand.count_ones() > above || RULES & A_LONE_HONOUR_IS_GUARDED != 0;
+        let over = behind & tops == 0 || behind & !tops == 0 || RULES & GUARDED_BEFORE_A_HIGHER != 0;
+        longer > above && above_all(hand, other) != 0 && long && over
+    };
+    let (by_left, by_right) = (guards(left, right, partner), guards(right, left, own));
+    let rounds = match () {
+        () if by_left || by_right => above,
+        () if RULES & ROUNDS_OF_THE_SHORTER != 0 => own.count_ones().min(partner.count_ones()),
+        () => longer,
+    };
+    (rounds as u8, by_left, by_right)
 }
 
-// Has the leader's side to lead a suit that an opponent heads?
+// Has the leader's side to lead to a card that an opponent guards?
 fn later_trick<const RULES: u32>(position: &Position) -> bool {
     let [left, partner, right] = others(position.first);
     let seats = [position.first, left, partner, right];
@@ -496,23 +516,22 @@ fn later_trick<const RULES: u32>(position: &Position) -> bool {
         return false;
     }
     let led = SUITS.map(|suit| led::<RULES>(position, suit));
-    let rounds: u8 = led.iter().map(|&(rounds, left, right)| if left || right { 0 } else { rounds }).sum();
+    let rounds: u8 = led.iter().map(|led| led.0).sum();
     let left = led.iter().filter(|led| led.1).count() as u8;
     let right = led.iter().filter(|led| led.2).count() as u8;
     let tricks = position.tricks_left();
     let rounds_left = if RULES & A_ROUND_FOR_EACH_TRICK != 0 { tricks } else { tricks - 1 };
-    rounds <= rounds_left && rounds + left <= tricks && rounds + right <= tricks
+    rounds <= rounds_left && (RULES & GUARDS_WITHOUT_ROOM != 0 || rounds + left <= tricks && rounds + right <= tricks)
 }
 
-// The cards with which opponents head suits.
+// The cards that opponents guard.
 fn later_cards(position: &Position) -> u64 {
-    let [left, partner, right] = others(position.first);
+    let [left, _, right] = others(position.first);
     let mut cards = 0;
     for suit in SUITS {
-        let longer = length(position, position.first, suit).max(length(position, partner, suit));
-        for seat in [left, right] {
-            cards = with_highest(cards, suit, winners(position, seat, suit), longer.min(1));
-        }
+        let (_, by_left, by_right) = led::<0>(position, suit);
+        let guarded = position.holding(left, suit) | position.holding(right, suit);
+        cards = with_highest(cards, suit, guarded, (by_left || by_right) as u8);
     }
     cards
 }

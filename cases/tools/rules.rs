@@ -13,6 +13,7 @@ use deals::{Chance, Played, code, dealt_anew, random_deal, start, turned, writte
 use search::quick::{ALL, CROSSING, JOINT_TRUMPS, LATER_TRICK, LONG_SUITS, LOWER_TRUMPS, PARTNERS_LONG_SUITS, RUNS};
 use search::quick::{against_leader, for_leader, for_second_hand, others as other_seats};
 use search::quick::{CROSSES_WITHOUT_A_CARD, LONG_BEFORE_THE_LEADER, LONG_BEFORE_THE_OPPONENTS};
+use search::quick::{A_LONE_HONOUR_IS_GUARDED, GUARDED_BEFORE_A_HIGHER, GUARDS_WITHOUT_ROOM};
 use search::quick::{A_ROUND_FOR_EACH_TRICK, ROUNDS_OF_THE_SHORTER};
 use search::quick::{CROSSING_WITHOUT_TRUMPS, NOBODY_HAS_FOLLOWED, NOBODY_RUFFS_THE_PARTNER};
 use search::quick::{KEEPS_EACH_WINNER, KEEPS_OVER_THE_SHORTER, KEPT_WINNERS};
@@ -94,7 +95,7 @@ const RIGHT: [Rule; 35] = [
     others("second hand: all after the lead of a trump", 1, trump_led::<ALL>),
 ];
 
-const WRONG: [Rule; 30] = [
+const WRONG: [Rule; 33] = [
     leaders("joint trumps added after a draw", for_leader::<{ ALL | TRUMPS_ARE_DRAWN }>),
     leaders("long suits that opponents with trumps can't follow", for_leader::<{ LONG_SUITS | NOBODY_RUFFS }>),
     leaders("lower trumps where higher ones take nothing", lower_leaders::<{ ALL | HIGHER_TRUMPS_TAKE_NOTHING }>),
@@ -108,6 +109,9 @@ const WRONG: [Rule; 30] = [
     others("second hand: crossing to a suit that opponents are long in", 1, second_long::<{ ALL | LONG_BEFORE_THE_OPPONENTS }>),
     others("a later trick where there is a round for each trick", 0, against_leader::<{ LATER_TRICK | A_ROUND_FOR_EACH_TRICK }>),
     others("a later trick by the shorter holdings", 0, against_leader::<{ LATER_TRICK | ROUNDS_OF_THE_SHORTER }>),
+    others("a later trick by a card that is guarded by none", 0, against_leader::<{ LATER_TRICK | A_LONE_HONOUR_IS_GUARDED }>),
+    others("a later trick by a card guarded before a higher one", 0, against_leader::<{ LATER_TRICK | GUARDED_BEFORE_A_HIGHER }>),
+    others("a later trick by guards without room for them", 0, against_leader::<{ LATER_TRICK | GUARDS_WITHOUT_ROOM }>),
     others("kept winners without a trick for each", 0, against_leader::<{ KEPT_WINNERS | KEEPS_EACH_WINNER }>),
     others("kept winners by the shorter holdings", 0, against_leader::<{ KEPT_WINNERS | KEEPS_OVER_THE_SHORTER }>),
     others("a lone trump is guarded", 0, against_leader::<{ GUARDED_TRUMP | A_LONE_TRUMP_IS_GUARDED }>),

@@ -141,7 +141,7 @@ no-trick to from top [] (d ∷ ds) e a = absurd a
 no-trick to from top (c ∷ cs) ds e a = absurd (cc)
 
 -- a hand's cards by their suits
-by-suits : (cards : List PlayingCard) → total (λ u. count_of u cards) ≡ length cards
+pub by-suits : (cards : List PlayingCard) → total (λ u. count_of u cards) ≡ length cards
 by-suits [] = refl
 by-suits (c ∷ cards) =
     let ih = by-suits cards in

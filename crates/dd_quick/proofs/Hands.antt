@@ -76,7 +76,7 @@ and-fails true b e h = h
 and-fails false b e h = absurd (cc)
 
 -- what a hand does not beat is higher than each card of its suit in it
-lower : (p : Board) → IsBoard p → (h x : Seat) (c e : PlayingCard) → seat_code x ≢ seat_code h → beats p x c ≡ false → has_card (cards_at p h) c ≡ true
+pub lower : (p : Board) → IsBoard p → (h x : Seat) (c e : PlayingCard) → seat_code x ≢ seat_code h → beats p x c ≡ false → has_card (cards_at p h) c ≡ true
     → has_card (cards_at p x) e ≡ true → e.suit ≡ c.suit → e.rank < c.rank
 lower p valid h x c e apart free own his suit =
     let fails : (is_of c.suit e && nat_lt c.rank e.rank) ≡ false = none-of (λ d. is_of c.suit d && nat_lt c.rank d.rank) (cards_at p x) e free his in

@@ -27,8 +27,7 @@ use Rattle.dd_quick.proofs.Chosen.{Chosen, choose}
 use Rattle.dd_quick.proofs.Covered.{left-same, length-same, no-trick, run-covered, seat-same}
 use Rattle.dd_quick.proofs.Crossings.{NoTrumps, chosen-many}
 use Rattle.dd_quick.proofs.Hands.{IsOpposed, no-higher}
-use Rattle.dd_quick.proofs.KeptWinners.{CanKeep, kept-taken}
-use Rattle.dd_quick.proofs.LaterTrick.{rounds_of}
+use Rattle.dd_quick.proofs.KeptWinners.{CanKeep, kept-taken, rounds_of}
 use Rattle.dd_quick.proofs.Plays.{count-where}
 use Rattle.dd_quick.proofs.Reached.{length-of, reached-of}
 use Rattle.dd_quick.proofs.TakenTrick.{one-three}

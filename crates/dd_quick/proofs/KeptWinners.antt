@@ -30,7 +30,6 @@ use Rattle.dd_quick.proofs.Chosen.{count-never, count-split}
 use Rattle.dd_quick.proofs.Covered.{some-card}
 use Rattle.dd_quick.proofs.Crossings.{NoTrumps}
 use Rattle.dd_quick.proofs.JointTrumps.{place-of}
-use Rattle.dd_quick.proofs.LaterTrick.{rounds_of}
 use Rattle.dd_quick.proofs.PlainTrick.{IsDone, IsUnder, hand-left, lead-on, trick-on}
 use Rattle.dd_quick.proofs.Plays.{count-where, whoever}
 use Rattle.dd_quick.proofs.Sound.{CanTake, can-take, own-side, partners-side, trumps-count}
@@ -53,6 +52,10 @@ any-legal q some = go (legal q) refl
     go : (cards : List PlayingCard) → legal q ≡ cards → (c : PlayingCard) × IsLegal q c
     go [] e = absurd (let none : tricks_left q ≡ 0 = no-legal q e in omega (arith, none, some))
     go (c ∷ cards) e = (c, ap (λ l. has_card l c) e ∙ has-first c cards)
+
+-- the longer holding of the seat and its partner in a suit that is not headed
+abbrev pub rounds_of : Seat → (Suit → Bool) → Board → Suit → ℕ
+rounds_of f headed p u = (if headed u then 0 else max (count_of u (cards_at p f)) (count_of u (cards_at p (seat_after f 2))))
 
 module _ (o : Board) (h : Seat) (guard : PlayingCard → Bool) (headed : Suit → Bool) (hold : CanKeep o h guard headed) where
   abbrev t : Side

@@ -1,142 +1,45 @@
 -- from what the code counts to the claim that the other side takes one later trick
-use Rattle.std.proofs.Common.{◌≡◌, ◌≢◌, ℕ, ◌+◌, ◌<◌, ◌≤◌, Bool, true, false, refl, sym, ap, ◌∙◌, subst, arith, List, [], inl, inr, max}
-use Rattle.std.specs.Prelude.{nat_le, nat_lt, ◌&&◌, ◌||◌, if◌then◌else◌}
+use Rattle.std.proofs.Common.{◌≡◌, ◌≢◌, ℕ, ◌+◌, ◌<◌, ◌≤◌, Bool, true, false, refl, sym, ap, ◌∙◌, subst, arith, List, [], inl, inr, max, zero-le}
+use Rattle.std.specs.Prelude.{nat_le, nat_lt, ◌&&◌, ◌||◌, ◌==◌, ◌⊎◌, if◌then◌else◌}
+use mathlib.Core.Bool.{not}
 use mathlib.Core.Path.{ap₂}
-use Rattle.std.proofs.lemmas.Bool.{leb-true, ltb-true}
+use Rattle.std.proofs.lemmas.Bool.{eqb-true, leb-true, ltb-true}
 use Rattle.dd_cards.specs.declared.seat.Seat.{Seat}
+use Rattle.dd_cards.specs.declared.seat.Seat.TheVariants.{North, East, South, West}
 use Rattle.dd_cards.specs.declared.suit.Suit.{Suit}
 use Rattle.dd_cards.specs.declared.suit.Suit.TheVariants.{Spades, Hearts, Diamonds, Clubs}
+use Rattle.dd_cards.specs.declared.side.Side.{Side}
 use Rattle.dd_cards.specs.PlayingCard.{PlayingCard}
-use Rattle.dd_cards.specs.Cards.{is_of, has_card}
+use Rattle.dd_cards.specs.Cards.{is_of, card_of, has_card}
 use Rattle.dd_cards.specs.Seats.{seat_code, seat_after}
 use Rattle.dd_cards.specs.Sides.{side_of, other_side, is_side}
-use Rattle.dd_cards.proofs.CallerLemmas.{and-left, and-right, else-false, is-other, or-split, or-right, same-other}
-use Rattle.dd_play.specs.Board.{Board, IsBoard, cards_at, tricks_left}
-use Rattle.dd_play.specs.Reach.{TakesBy, reach}
+use Rattle.dd_cards.proofs.CallerLemmas.{and-left, and-right, is-other, same-other}
+use Rattle.dd_play.specs.Board.{Board, cards_at, tricks_left}
+use Rattle.dd_play.specs.Covers.{IsCover, count_of}
+use Rattle.dd_play.specs.Reach.{IsStrict, TakesBy, reach}
 use Rattle.dd_play.specs.Won.{won}
-use Rattle.dd_play.proofs.CallerLemmas.{after-code, code-lt, count, count-has, count-some, flag_of, once-in, same-or, suit-of}
-use Rattle.dd_quick.specs.QuickTricks.{RestsOnHead, all_rounds, has_later_trick, headed, heads, is_winner, no_trumps, rounds, run}
+use Rattle.dd_play.proofs.CallerLemmas.{after-code, code-lt, count, count-has, flag_of, of-suit', reach-upward, turn-turn}
+use Rattle.dd_quick.specs.QuickTricks.{RestsOnGuard, all_rounds, guarded, guards, has_later_trick, length_at, longer, no_trumps, rounds, tops, unbeaten}
 use Rattle.dd_quick.proofs.Across.{plain-covered}
 use Rattle.dd_quick.proofs.AcrossClaims.{no-trumps-at}
-use Rattle.dd_quick.proofs.Cashing.{by-suits, hand_on, total}
-use Rattle.dd_quick.proofs.Chosen.{Chosen, choose, count-same}
-use Rattle.dd_quick.proofs.Covered.{left-same, length-same, no-trick, run-covered, seat-same}
-use Rattle.dd_quick.proofs.Crossings.{NoTrumps, chosen-many}
-use Rattle.dd_quick.proofs.Hands.{IsOpposed, no-higher, one-hand}
-use Rattle.dd_quick.proofs.LaterTrick.{CanHold, leaders-side, one-later, opposite, rounds_of}
+use Rattle.dd_quick.proofs.Cashing.{total}
+use Rattle.dd_quick.proofs.Chosen.{count-split}
+use Rattle.dd_quick.proofs.Covered.{left-same, length-same, no-trick, seat-same}
+use Rattle.dd_quick.proofs.Crossings.{NoTrumps}
+use Rattle.dd_quick.proofs.Hands.{IsOpposed}
+use Rattle.dd_quick.proofs.GuardedSuits.{CanHold, guards_of, over, rounds_of}
+use Rattle.dd_quick.proofs.HonourLed.{leaders-side, opposite}
+use Rattle.dd_quick.proofs.Honours.{IsHonour, above, above-same, guard-parts, image, image-suit, own-none, partner-none, some-honour, tops-last, tops-next}
+use Rattle.dd_quick.proofs.LaterTrick.{one-later}
 use Rattle.dd_quick.proofs.Sound.{opponents-side}
-
--- the left opponent heads the suits that `a` passes, the right one those that `b` passes
-module _ (q : Board) (a b : Suit → Bool) (valid : IsBoard q) (start : q.trick ≡ []) (none : NoTrumps q) (by_left : (u : Suit) → a u ≡ true → 1 ≤ run q (seat_after q.first 1) u) (by_right : (u : Suit) → b u ≡ true → 1 ≤ run q (seat_after q.first 3) u) where
-  abbrev suits : Suit → Bool
-  suits u = a u || b u
-
-  -- a card with which a hand heads a suit
-  head : (i : ℕ) (g : Suit → Bool) → ((u : Suit) → g u ≡ true → 1 ≤ run q (seat_after q.first i) u) → (u : Suit) → Chosen (λ c. is_of u c && is_winner q (seat_after q.first i) c) (hand_on q i) (flag_of (g u))
-  head i g has u = choose (λ c. is_of u c && is_winner q (seat_after q.first i) c) (hand_on q i) (flag_of (g u)) (once-in q valid (seat_after q.first i)) (go (g u) refl)
-    where
-      go : (x : Bool) → g u ≡ x → flag_of x ≤ run q (seat_after q.first i) u
-      go true e = has u e
-      go false e = omega arith
-
-  abbrev left_head : PlayingCard → Bool
-  left_head c = (head 1 a by_left c.suit).kept c
-
-  abbrev right_head : PlayingCard → Bool
-  right_head c = (head 3 b by_right c.suit).kept c
-
-  abbrev guard : PlayingCard → Bool
-  guard c = left_head c || right_head c
-
-  -- what the chosen cards of one opponent are
-  module _ (i : ℕ) (opposed : IsOpposed i) (g : Suit → Bool) (has : (u : Suit) → g u ≡ true → 1 ≤ run q (seat_after q.first i) u) where
-    -- its suits
-    of-headed : (c : PlayingCard) → (head i g has c.suit).kept c ≡ true → g c.suit ≡ true
-    of-headed c keep = go (g c.suit) refl
-      where
-        go : (x : Bool) → g c.suit ≡ x → g c.suit ≡ true
-        go true e = e
-        go false e = absurd (
-            let some = count-has (head i g has c.suit).kept (hand_on q i) c ((head i g has c.suit).within c keep).0 keep in
-            let many = (head i g has c.suit).many in
-            let z : flag_of (g c.suit) ≡ 0 = ap flag_of e in
-            omega (arith, some, many, z))
-
-    -- no card of another hand beats them
-    over : (x y : Seat) (c d : PlayingCard) → has_card (cards_at q x) c ≡ true → (head i g has c.suit).kept c ≡ true → seat_code y ≢ seat_code x → has_card (cards_at q y) d ≡ true → d.suit ≡ c.suit → d.rank < c.rank
-    over x y c d own keep away his suit = elim (same-or x (seat_after q.first i)) [
-      | inl e ↦ no-higher q valid (seat_after q.first i) y c d (λ z. away (z ∙ ap seat_code (sym e))) (and-right (is_of c.suit c) (is_winner q (seat_after q.first i) c) ((head i g has c.suit).within c keep).1) ((head i g has c.suit).within c keep).0 his suit
-      | inr apart ↦ absurd (one-hand q valid x (seat_after q.first i) c apart own ((head i g has c.suit).within c keep).0)
-    ]
-
-    -- each headed suit has one
-    some-head : (u : Suit) → g u ≡ true → (c : PlayingCard) × (has_card (hand_on q i) c ≡ true) × ((head i g has c.suit).kept c ≡ true) × (u ≡ c.suit)
-    some-head u e =
-        let one : flag_of (g u) ≡ 1 = ap flag_of e in
-        let many = (head i g has u).many in
-        let c = count-some (head i g has u).kept (hand_on q i) (omega (arith, one, many)) in
-        let suit : u ≡ c.0.suit = sym (suit-of u c.0 (and-left (is_of u c.0) (is_winner q (seat_after q.first i) c.0) ((head i g has u).within c.0 c.2).1)) in
-        (c.0, c.1, subst (λ v. (head i g has v).kept c.0 ≡ true) suit c.2, suit)
-
-    -- there are as many as suits
-    heads-many : count (λ c. (head i g has c.suit).kept c) (hand_on q i) ≡ total (λ u. flag_of (g u))
-    heads-many =
-        let all = by-suits (λ c. (head i g has c.suit).kept c) (hand_on q i) in
-        let s = chosen-many (hand_on q i) (λ u. is_winner q (seat_after q.first i)) (λ u. flag_of (g u)) (head i g has) Spades in
-        let h = chosen-many (hand_on q i) (λ u. is_winner q (seat_after q.first i)) (λ u. flag_of (g u)) (head i g has) Hearts in
-        let d = chosen-many (hand_on q i) (λ u. is_winner q (seat_after q.first i)) (λ u. flag_of (g u)) (head i g has) Diamonds in
-        let k = chosen-many (hand_on q i) (λ u. is_winner q (seat_after q.first i)) (λ u. flag_of (g u)) (head i g has) Clubs in
-        omega (arith, all, s, h, d, k)
-
-    -- another hand has none of them
-    not-there : (j : ℕ) (c : PlayingCard) → seat_code (seat_after q.first j) ≢ seat_code (seat_after q.first i) → has_card (hand_on q j) c ≡ true → (head i g has c.suit).kept c ≡ false
-    not-there j c apart own = else-false ((head i g has c.suit).kept c) (λ keep. absurd (one-hand q valid (seat_after q.first j) (seat_after q.first i) c apart own ((head i g has c.suit).within c keep).0))
-
-  -- the two opponents are two seats
-  two : seat_code (seat_after q.first 1) ≢ seat_code (seat_after q.first 3)
-  two = (let x = after-code q.first 1 in let y = after-code q.first 3 in let z = code-lt q.first in λ e. omega (arith, x, y, z, e))
-
-  holds : CanHold q guard suits
-  holds = record {
-    plain = none;
-    masters = λ x y c d on own keep away his suit. elim (or-split (left_head c) (right_head c) keep) [
-      | inl l ↦ over 1 (inl refl) a by_left x y c d own l away his suit
-      | inr r ↦ over 3 (inr refl) b by_right x y c d own r away his suit
-    ];
-    holder = λ u e. elim (or-split (a u) (b u) e) [
-      | inl l ↦ (let h = some-head 1 (inl refl) a by_left u l in (seat_after q.first 1, h.0, (opponents-side q.first).0, h.1, ap (λ x. x || right_head h.0) h.2, h.3))
-      | inr r ↦ (let h = some-head 3 (inr refl) b by_right u r in (seat_after q.first 3, h.0, (opponents-side q.first).1, h.1, or-right (left_head h.0) (right_head h.0) h.2, h.3))
-    ];
-    suits = λ c keep. elim (or-split (left_head c) (right_head c) keep) [
-      | inl l ↦ ap (λ x. x || b c.suit) (of-headed 1 (inl refl) a by_left c l)
-      | inr r ↦ or-right (a c.suit) (b c.suit) (of-headed 3 (inr refl) b by_right c r)
-    ];
-  }
-
-  -- what each of them keeps
-  kept-left : count guard (hand_on q 1) ≡ total (λ u. flag_of (a u))
-  kept-left = count-same guard left_head (hand_on q 1) (λ c own. none-of (left_head c) (right_head c) (not-there 3 (inr refl) b by_right 1 c two own)) ∙ heads-many 1 (inl refl) a by_left
-    where
-      none-of : (x y : Bool) → y ≡ false → (x || y) ≡ x
-      none-of true y e = refl
-      none-of false y e = e
-
-  kept-right : count guard (hand_on q 3) ≡ total (λ u. flag_of (b u))
-  kept-right = count-same guard right_head (hand_on q 3) (λ c own. ap (λ x. x || right_head c) (not-there 1 (inl refl) a by_left 3 c (λ e. two (sym e)) own)) ∙ heads-many 3 (inr refl) b by_right
-
-  -- so their side takes a trick
-  later-taken : total (rounds_of q.first suits q) + 1 ≤ tricks_left q → total (rounds_of q.first suits q) + total (λ u. flag_of (a u)) ≤ tricks_left q → total (rounds_of q.first suits q) + total (λ u. flag_of (b u)) ≤ tricks_left q → 1 ≤ won (other_side (side_of q.first)) q
-  later-taken few room_left room_right = one-later q guard suits holds valid start few (λ x on. elim (opposite (other_side (side_of q.first)) q.first x (leaders-side q.first) on).1 [
-    | inl e ↦ (let k = kept-left in let at : count guard (cards_at q x) ≡ count guard (hand_on q 1) = ap (λ y. count guard (cards_at q y)) ((opposite (other_side (side_of q.first)) q.first x (leaders-side q.first) on).2 ∙ ap (seat_after q.first) e) in omega (arith, k, at, room_left))
-    | inr e ↦ (let k = kept-right in let at : count guard (cards_at q x) ≡ count guard (hand_on q 3) = ap (λ y. count guard (cards_at q y)) ((opposite (other_side (side_of q.first)) q.first x (leaders-side q.first) on).2 ∙ ap (seat_after q.first) e) in omega (arith, k, at, room_right))
-  ])
+use Rattle.dd_quick.proofs.TakenTrick.{one-three}
 
 -- the parts of what is counted
 record IsLaterTrick (p : Board) : Type 0 where
   plain : no_trumps p ≡ true
   few : all_rounds p < tricks_left p
-  room_left : all_rounds p + headed p 1 ≤ tricks_left p
-  room_right : all_rounds p + headed p 3 ≤ tricks_left p
+  room_left : all_rounds p + guarded p 1 ≤ tricks_left p
+  room_right : all_rounds p + guarded p 3 ≤ tricks_left p
 
 parts : (p : Board) → has_later_trick p ≡ true → IsLaterTrick p
 unfolding has_later_trick
@@ -146,8 +49,8 @@ parts p e =
     record {
       plain = and-left (no_trumps p) _ e;
       few = ltb-true (all_rounds p) (tricks_left p) (and-left (nat_lt (all_rounds p) (tricks_left p)) _ rest);
-      room_left = leb-true (all_rounds p + headed p 1) (tricks_left p) (and-left (nat_le (all_rounds p + headed p 1) (tricks_left p)) _ rooms);
-      room_right = leb-true (all_rounds p + headed p 3) (tricks_left p) (and-right (nat_le (all_rounds p + headed p 1) (tricks_left p)) _ rooms);
+      room_left = leb-true (all_rounds p + guarded p 1) (tricks_left p) (and-left (nat_le (all_rounds p + guarded p 1) (tricks_left p)) _ rooms);
+      room_right = leb-true (all_rounds p + guarded p 3) (tricks_left p) (and-right (nat_le (all_rounds p + guarded p 1) (tricks_left p)) _ rooms);
     }
 
 -- a later trick is one of those left
@@ -158,32 +61,242 @@ later-most p = go (has_later_trick p) refl
     go true e = (let k = (parts p e).few in omega (arith, k))
     go false e = omega arith
 
--- it is a claim by the cards on which it rests
-pub later-claim : (p : Board) (cards : List PlayingCard) → p.trick ≡ [] → has_later_trick p ≡ true → ((u : Suit) → RestsOnHead p 1 u cards) → ((u : Suit) → RestsOnHead p 3 u cards) → TakesBy (reach cards) (other_side (side_of p.first)) p 1
-later-claim p cards start later by_left by_right k to from t q r strict =
-    let empty = no-trick to from (reach cards) p.trick q.trick start r.trick in
-    let parts_p = parts p later in
-    let plain = plain-covered (reach cards) k to from (other_side (side_of p.first)) p t q r (no-trumps-at p parts_p.plain) in
-    let lefts = left-same p q start empty (λ u. length-same (reach cards) k to from (other_side (side_of p.first)) p t q r 0 u) in
-    let few = parts_p.few in
-    let room_left = parts_p.room_left in
-    let room_right = parts_p.room_right in
-    let s = same-rounds Spades in
-    let h = same-rounds Hearts in
-    let d = same-rounds Diamonds in
-    let c = same-rounds Clubs in
-    let taken = later-taken q (heads p 1) (heads p 3) r.valid_q empty plain (at 1 by_left) (at 3 by_right) (omega (arith, lefts, few, s, h, d, c)) (omega (arith, lefts, room_left, s, h, d, c)) (omega (arith, lefts, room_right, s, h, d, c)) in
-    subst (λ z. 1 ≤ won z q) (is-other (side_of q.first) t (ap (is_side t) r.first ∙ r.sides p.first ∙ same-other (side_of p.first))) taken
-  where
-    same-rounds : (u : Suit) → rounds_of q.first (λ v. heads p 1 v || heads p 3 v) q u ≡ rounds p u
-    same-rounds u =
-        let own = length-same (reach cards) k to from (other_side (side_of p.first)) p t q r 0 u in
-        let his = length-same (reach cards) k to from (other_side (side_of p.first)) p t q r 2 u in
-        ap (λ n. if heads p 1 u || heads p 3 u then 0 else n) (ap₂ max own his)
+-- the seats after the right opponent
+three-two : (f : Seat) → seat_after (seat_after f 3) 2 ≡ seat_after f 1
+three-two North = refl
+three-two East = refl
+three-two South = refl
+three-two West = refl
 
-    at : (i : ℕ) → ((u : Suit) → RestsOnHead p i u cards) → (u : Suit) → heads p i u ≡ true → 1 ≤ run q (seat_after q.first i) u
-    at i rests u e =
-        let some = rests u e in
-        let run_q = run-covered (reach cards) k to from (other_side (side_of p.first)) p t q r (seat_after p.first i) u in
-        let seat = ap (λ x. run q x u) (seat-same (reach cards) k to from (other_side (side_of p.first)) p t q r i) in
-        omega (arith, some, run_q, seat)
+three-last : (f : Seat) → seat_after (seat_after f 3) 3 ≡ seat_after f 2
+three-last North = refl
+three-last East = refl
+three-last South = refl
+three-last West = refl
+
+one-last : (f : Seat) → seat_after (seat_after f 1) 3 ≡ f
+one-last North = refl
+one-last East = refl
+one-last South = refl
+one-last West = refl
+
+-- where as many cards of a list pass two tests as pass the first, each that passes the first passes both
+all-pass : (test other : PlayingCard → Bool) (cards : List PlayingCard) (c : PlayingCard) → count (λ d. test d && other d) cards ≡ count test cards → has_card cards c ≡ true → test c ≡ true → (test c && other c) ≡ true
+all-pass test other cards c same has pass = go (other c) refl
+  where
+    go : (b : Bool) → other c ≡ b → (test c && other c) ≡ true
+    go true e = ap₂ (λ x y. x && y) pass e
+    go false e = absurd (
+        let split = count-split test other cards in
+        let one = count-has (λ d. test d && not (other d)) cards c has (ap₂ (λ x y. x && not y) pass e) in
+        omega (arith, same, split, one))
+
+-- at a position that is covered by cards with which opponents guard suits
+module _ (p : Board) (cards : List PlayingCard) (by_left : (u : Suit) → RestsOnGuard p 1 u cards) (by_right : (u : Suit) → RestsOnGuard p 3 u cards) (k : ℕ) (to from : PlayingCard → PlayingCard) (t : Side) (q : Board)
+    (r : IsCover (reach cards) k to from (other_side (side_of p.first)) p t q) (strict : IsStrict (reach cards) to from p q) where
+  abbrev s : Side
+  s = other_side (side_of p.first)
+
+  -- is the suit guarded?
+  abbrev held : Suit → Bool
+  held u = guards p 1 u || guards p 3 u
+
+  -- with a reached card each higher one of its suit is reached
+  upward : (c d : PlayingCard) → reach cards c ≡ true → c.suit ≡ d.suit → c.rank ≤ d.rank → reach cards d ≡ true
+  upward c d top suit most = go (reach cards d) refl
+    where
+      go : (b : Bool) → reach cards d ≡ b → reach cards d ≡ true
+      go true e = e
+      go false e = absurd (let l = reach-upward cards c d top e suit in omega (arith, l, most))
+
+  -- What is known of a seat of q and a card with which it guards a suit.
+  record IsKept (u : Suit) (x : Seat) (g : PlayingCard) : Type 0 where
+    place : (i : ℕ) × IsOpposed i × (x ≡ seat_after q.first i) × (guards p i u ≡ true)
+    own : has_card (cards_at q x) g ≡ true
+    suit : g.suit ≡ u
+    low : (j : ℕ) → IsOpposed j → (c : PlayingCard) → has_card (cards_at q (seat_after q.first j)) c ≡ true → above u g c ≡ false
+    leader : count (above u g) (cards_at q q.first) ≡ unbeaten p p.first u
+    partner : count (above u g) (cards_at q (seat_after q.first 2)) ≡ unbeaten p (seat_after p.first 2) u
+    behind : (count (above u g) (cards_at q (seat_after x 1)) ≡ 0) ⊎ ((c : PlayingCard) → has_card (cards_at q (seat_after x 1)) c ≡ true → c.suit ≡ u → above u g c ≡ true)
+
+  -- the seat and its card, where the suit is guarded
+  record Kept (u : Suit) : Type 0 where
+    seat : Seat
+    card : PlayingCard
+    known : held u ≡ true → IsKept u seat card
+
+  -- of an opponent that guards a suit
+  module _ (u : Suit) (i : ℕ) (opposed : IsOpposed i) (e : guards p i u ≡ true) (rests : RestsOnGuard p i u cards) where
+    abbrev x : Seat
+    x = seat_after p.first i
+
+    honour : (g : PlayingCard) × IsHonour (reach cards) p x u g
+    honour = some-honour p cards i u r.valid_p e rests
+
+    abbrev g : PlayingCard
+    g = honour.0
+
+    turned : seat_after q.first i ≡ seat_after x k
+    turned = seat-same (reach cards) k to from s p t q r i
+
+    -- the hands of the leader's side
+    last : (seat_after x 3 ≡ p.first) ⊎ (seat_after x 1 ≡ p.first)
+    last = elim opposed [ inl z ↦ inl (ap (λ n. seat_after (seat_after p.first n) 3) z ∙ one-last p.first) | inr z ↦ inr (ap (λ n. seat_after (seat_after p.first n) 1) z ∙ one-three p.first) ]
+
+    next : (seat_after x 1 ≡ seat_after p.first 2) ⊎ (seat_after x 3 ≡ seat_after p.first 2)
+    next = elim opposed [ inl z ↦ inl (ap (λ n. seat_after (seat_after p.first n) 1) z) | inr z ↦ inr (ap (λ n. seat_after (seat_after p.first n) 3) z ∙ three-last p.first) ]
+
+    -- another hand than x has as many cards above the image as it had above the honour
+    same-above : (z : Seat) → seat_code z ≢ seat_code x → count (above u (to g)) (cards_at q (seat_after z k)) ≡ count (above u g) (cards_at p z)
+    same-above z away = above-same (reach cards) k to from s p t q r strict upward x u g honour.1 z away
+
+    away-from : (z : Seat) (j : ℕ) → z ≡ seat_after x j → 1 ≤ j → j < 4 → seat_code z ≢ seat_code x
+    away-from z j f l m = (let a = after-code x j in let b = code-lt x in let d : seat_code z ≡ seat_code (seat_after x j) = ap seat_code f in λ y. omega (arith, a, b, d, l, m, y))
+
+    ours-next : (z : Seat) → z ≡ seat_after x 1 → count (above u (to g)) (cards_at q (seat_after z k)) ≡ unbeaten p z u
+    ours-next z f = same-above z (away-from z 1 f (omega arith) (omega arith)) ∙ sym (tops-next (reach cards) p x u g r.valid_p honour.1 z f)
+
+    ours-last : (z : Seat) → z ≡ seat_after x 3 → count (above u (to g)) (cards_at q (seat_after z k)) ≡ unbeaten p z u
+    ours-last z f = same-above z (away-from z 3 f (omega arith) (omega arith)) ∙ sym (tops-last (reach cards) p x u g r.valid_p honour.1 z f)
+
+    at-place : (j : ℕ) → seat_after q.first j ≡ seat_after (seat_after p.first j) k
+    at-place j = seat-same (reach cards) k to from s p t q r j
+
+    -- x or its partner
+    side-of-x : (j : ℕ) → IsOpposed j → (seat_after p.first j ≡ x) ⊎ (seat_after p.first j ≡ seat_after x 2)
+    side-of-x j other = elim opposed [
+      | inl z ↦ elim other [ inl y ↦ inl (ap (seat_after p.first) (y ∙ sym z)) | inr y ↦ inr (ap (seat_after p.first) y ∙ sym (ap (λ n. seat_after (seat_after p.first n) 2) z)) ]
+      | inr z ↦ elim other [ inl y ↦ inr (ap (seat_after p.first) y ∙ sym (ap (λ n. seat_after (seat_after p.first n) 2) z ∙ three-two p.first)) | inr y ↦ inl (ap (seat_after p.first) (y ∙ sym z)) ]
+    ]
+
+    kept-here : IsKept u (seat_after q.first i) (to g)
+    kept-here = record {
+      place = (i, opposed, refl, e);
+      own = ap (λ y. has_card (cards_at q y) (to g)) turned ∙ (image (reach cards) k to from s p t q r strict upward x u g honour.1).0;
+      suit = image-suit (reach cards) k to from s p t q r strict upward x u g honour.1;
+      low = λ j other c has. elim (side-of-x j other) [
+        | inl f ↦ own-none (reach cards) k to from s p t q r strict upward x u g honour.1 c (subst (λ y. has_card (cards_at q y) c ≡ true) (at-place j ∙ ap (λ y. seat_after y k) f) has)
+        | inr f ↦ partner-none (reach cards) k to from s p t q r strict upward x u g honour.1 c (subst (λ y. has_card (cards_at q y) c ≡ true) (at-place j ∙ ap (λ y. seat_after y k) f) has)
+      ];
+      leader = ap (λ y. count (above u (to g)) (cards_at q y)) r.first ∙ elim last [ inl f ↦ ours-last p.first (sym f) | inr f ↦ ours-next p.first (sym f) ];
+      partner = ap (λ y. count (above u (to g)) (cards_at q y)) (at-place 2) ∙ elim next [ inl f ↦ ours-next (seat_after p.first 2) (sym f) | inr f ↦ ours-last (seat_after p.first 2) (sym f) ];
+      behind = elim (guard-parts p i u e).bare [
+        | inl none ↦ inl (counted ∙ none)
+        | inr all ↦ inr (λ c has suit. every c has suit all)
+      ];
+    }
+      where
+        behind_turned : seat_after (seat_after q.first i) 1 ≡ seat_after (seat_after x 1) k
+        behind_turned = ap (λ y. seat_after y 1) turned ∙ turn-turn x k 1
+
+        counted : count (above u (to g)) (cards_at q (seat_after (seat_after q.first i) 1)) ≡ unbeaten p (seat_after x 1) u
+        counted = ap (λ y. count (above u (to g)) (cards_at q y)) behind_turned ∙ ours-next (seat_after x 1) refl
+
+        long_is : length_at q (seat_after (seat_after q.first i) 1) u ≡ length_at p (seat_after x 1) u
+        long_is = ap (λ y. length_at q y u) behind_turned ∙ r.lengths (seat_after x 1) u
+
+        every : (c : PlayingCard) → has_card (cards_at q (seat_after (seat_after q.first i) 1)) c ≡ true → c.suit ≡ u → unbeaten p (seat_after x 1) u ≡ length_at p (seat_after x 1) u → above u (to g) c ≡ true
+        every c has suit all = all-pass (is_of u) (λ d. nat_lt (to g).rank d.rank) (cards_at q (seat_after (seat_after q.first i) 1)) c (counted ∙ all ∙ sym long_is) has (of-suit' u c suit)
+
+  kept : (u : Suit) → Kept u
+  kept u = go (guards p 1 u) (guards p 3 u) refl refl
+    where
+      go : (a b : Bool) → guards p 1 u ≡ a → guards p 3 u ≡ b → Kept u
+      go true b e f = record { seat = seat_after q.first 1; card = to (honour u 1 (inl refl) e (by_left u)).0; known = λ h. kept-here u 1 (inl refl) e (by_left u) }
+      go false true e f = record { seat = seat_after q.first 3; card = to (honour u 3 (inr refl) f (by_right u)).0; known = λ h. kept-here u 3 (inr refl) f (by_right u) }
+      go false false e f = record { seat = q.first; card = card_of u 0; known = λ h. absurd (let z : true ≡ false = sym h ∙ ap₂ (λ a b. a || b) e f in cc) }
+
+  abbrev keeper : Suit → Seat
+  keeper u = (kept u).seat
+
+  abbrev honours : Suit → PlayingCard
+  honours u = (kept u).card
+
+  -- a seat of the other side is one of the opponents
+  theirs-at : (y : Seat) → is_side (other_side (side_of q.first)) y ≡ true → (j : ℕ) × IsOpposed j × (y ≡ seat_after q.first j)
+  theirs-at y on = opposite (other_side (side_of q.first)) q.first y (leaders-side q.first) on
+
+  opponent-side : (j : ℕ) → IsOpposed j → is_side (other_side (side_of q.first)) (seat_after q.first j) ≡ true
+  opponent-side j opposed = elim opposed [ inl z ↦ ap (λ n. is_side (other_side (side_of q.first)) (seat_after q.first n)) z ∙ (opponents-side q.first).0 | inr z ↦ ap (λ n. is_side (other_side (side_of q.first)) (seat_after q.first n)) z ∙ (opponents-side q.first).1 ]
+
+  holds : NoTrumps q → CanHold q held keeper honours
+  holds plain = record {
+    plain = plain;
+    theirs = λ u e. (let w = (kept u).known e in ap (is_side (other_side (side_of q.first))) w.place.2 ∙ opponent-side w.place.0 w.place.1);
+    own = λ u e. ((kept u).known e).own;
+    suit = λ u e. ((kept u).known e).suit;
+    low = λ u e y c on has. (let j = theirs-at y on in ((kept u).known e).low j.0 j.1 c (subst (λ z. has_card (cards_at q z) c ≡ true) j.2 has));
+    behind = λ u e. ((kept u).known e).behind;
+  }
+
+  -- there are as many rounds
+  same-rounds : (u : Suit) → rounds_of q.first held honours q u ≡ rounds p u
+  same-rounds u = go (held u) refl
+    where
+      own : length_at q q.first u ≡ length_at p p.first u
+      own = length-same (reach cards) k to from s p t q r 0 u
+
+      his : length_at q (seat_after q.first 2) u ≡ length_at p (seat_after p.first 2) u
+      his = length-same (reach cards) k to from s p t q r 2 u
+
+      go : (b : Bool) → held u ≡ b → (if b then count (over honours u) (cards_at q q.first) + count (over honours u) (cards_at q (seat_after q.first 2)) else max (count_of u (cards_at q q.first)) (count_of u (cards_at q (seat_after q.first 2)))) ≡ (if b then tops p u else longer p u)
+      go true e = ap₂ (λ a b. a + b) ((kept u).known e).leader ((kept u).known e).partner
+      go false e = ap₂ max own his
+
+  -- the keeper has a card for each round beside the honour
+  long-enough : (u : Suit) → held u ≡ true → rounds_of q.first held honours q u + 1 ≤ count_of u (cards_at q (keeper u))
+  long-enough u e =
+      let w = (kept u).known e in
+      let long = (guard-parts p w.place.0 u w.place.3).long in
+      let same = same-rounds u in
+      let open_is : rounds p u ≡ tops p u = ap (λ b. if b then tops p u else longer p u) e in
+      let lengths = length-same (reach cards) k to from s p t q r w.place.0 u in
+      let at : count_of u (cards_at q (keeper u)) ≡ length_at q (seat_after q.first w.place.0) u = ap (λ y. length_at q y u) w.place.2 in
+      omega (arith, long, same, open_is, lengths, at)
+
+  -- a seat guards no more suits than at p
+  guarded-most : (i : ℕ) → IsOpposed i → total (λ u. flag_of (guards_of held keeper (seat_after q.first i) u)) ≤ guarded p i
+  guarded-most i opposed = (let a = each Spades in let b = each Hearts in let c = each Diamonds in let d = each Clubs in omega (arith, a, b, c, d))
+    where
+      flags : (a b : Bool) → (a ≡ true → b ≡ true) → flag_of a ≤ flag_of b
+      flags true b h = (let z : flag_of b ≡ 1 = ap flag_of (h refl) in omega (arith, z))
+      flags false b h = zero-le
+
+      same-place : (j : ℕ) → IsOpposed j → seat_code (seat_after q.first j) ≡ seat_code (seat_after q.first i) → j ≡ i
+      same-place j other e = (let a = after-code q.first i in let b = after-code q.first j in let c = code-lt q.first in
+          elim opposed [ inl z ↦ elim other [ inl y ↦ y ∙ sym z | inr y ↦ omega (arith, a, b, c, e, z, y) ] | inr z ↦ elim other [ inl y ↦ omega (arith, a, b, c, e, z, y) | inr y ↦ y ∙ sym z ] ])
+
+      each : (u : Suit) → flag_of (guards_of held keeper (seat_after q.first i) u) ≤ (if guards p i u then 1 else 0)
+      each u = flags (guards_of held keeper (seat_after q.first i) u) (guards p i u) (λ h.
+          let e = and-left (held u) (seat_code (keeper u) == seat_code (seat_after q.first i)) h in
+          let codes = eqb-true (seat_code (keeper u)) (seat_code (seat_after q.first i)) (and-right (held u) (seat_code (keeper u) == seat_code (seat_after q.first i)) h) in
+          let w = (kept u).known e in
+          subst (λ j. guards p j u ≡ true) (same-place w.place.0 w.place.1 (ap seat_code (sym w.place.2) ∙ codes)) w.place.3)
+
+  -- so the other side takes a trick there
+  taken-there : p.trick ≡ [] → has_later_trick p ≡ true → 1 ≤ won t q
+  taken-there start later =
+      let empty = no-trick to from (reach cards) p.trick q.trick start r.trick in
+      let parts_p = parts p later in
+      let plain = plain-covered (reach cards) k to from s p t q r (no-trumps-at p parts_p.plain) in
+      let lefts = left-same p q start empty (λ u. length-same (reach cards) k to from s p t q r 0 u) in
+      let few = parts_p.few in
+      let room_left = parts_p.room_left in
+      let room_right = parts_p.room_right in
+      let a = same-rounds Spades in
+      let b = same-rounds Hearts in
+      let c = same-rounds Diamonds in
+      let d = same-rounds Clubs in
+      let taken = one-later q held keeper honours (holds plain) r.valid_q empty long-enough (omega (arith, lefts, few, a, b, c, d)) (λ y on.
+      let j = theirs-at y on in
+      subst (λ z. total (rounds_of q.first held honours q) + total (λ u. flag_of (guards_of held keeper z u)) ≤ tricks_left q) (sym j.2) (
+      let most = guarded-most j.0 j.1 in
+      elim j.1 [
+        | inl z ↦ (let e : guarded p j.0 ≡ guarded p 1 = ap (guarded p) z in omega (arith, lefts, room_left, a, b, c, d, most, e))
+        | inr z ↦ (let e : guarded p j.0 ≡ guarded p 3 = ap (guarded p) z in omega (arith, lefts, room_right, a, b, c, d, most, e))
+      ])) in
+      subst (λ z. 1 ≤ won z q) (is-other (side_of q.first) t (ap (is_side t) r.first ∙ r.sides p.first ∙ same-other (side_of p.first))) taken
+
+-- it is a claim by the cards on which it rests
+pub later-claim : (p : Board) (cards : List PlayingCard) → p.trick ≡ [] → has_later_trick p ≡ true → ((u : Suit) → RestsOnGuard p 1 u cards) → ((u : Suit) → RestsOnGuard p 3 u cards) → TakesBy (reach cards) (other_side (side_of p.first)) p 1
+later-claim p cards start later by_left by_right k to from t q r strict = taken-there p cards by_left by_right k to from t q r strict start later

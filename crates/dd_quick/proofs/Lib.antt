@@ -28,6 +28,9 @@ pub mod SecondHand
 pub mod SecondTrump
 pub mod SecondAcross
 pub mod PlainTrick
+pub mod HonourLed
+pub mod GuardedSuits
+pub mod Honours
 pub mod LaterTrick
 pub mod LaterClaims
 pub mod KeptWinners

@@ -36,12 +36,13 @@ use Rattle.dd_quick.proofs.TakenTrick.{some-left}
 -- ---- the winner
 
 -- The winning card of a trick without trumps is the highest of the suit led.
-record IsHighest (trick : List PlayingCard) (u : Suit) (w : ℕ) (d : PlayingCard) : Type 0 where
-  within : w < length trick
-  suit : (get_or trick w d).suit ≡ u
-  high : (x : PlayingCard) → has_card trick x ≡ true → x.suit ≡ u → x.rank ≤ (get_or trick w d).rank
+pub record IsHighest (trick : List PlayingCard) (u : Suit) (w : ℕ) (d : PlayingCard) : Type 0 where
+  pub within : w < length trick
+  pub suit : (get_or trick w d).suit ≡ u
+  pub high : (x : PlayingCard) → has_card trick x ≡ true → x.suit ≡ u → x.rank ≤ (get_or trick w d).rank
 
-suit-wins : (strain : Strain) (led : PlayingCard) (rest : List PlayingCard) (d : PlayingCard) → ((x : PlayingCard) → has_card (led ∷ rest) x ≡ true → IsRank x.rank) → ((x : PlayingCard) → has_card (led ∷ rest) x ≡ true → is_trump strain x ≡ false)
+-- it is
+pub suit-wins : (strain : Strain) (led : PlayingCard) (rest : List PlayingCard) (d : PlayingCard) → ((x : PlayingCard) → has_card (led ∷ rest) x ≡ true → IsRank x.rank) → ((x : PlayingCard) → has_card (led ∷ rest) x ≡ true → is_trump strain x ≡ false)
     → IsHighest (led ∷ rest) led.suit (winning_place strain (led ∷ rest)) d
 suit-wins strain led rest d real none = subst (λ w. IsHighest trick led.suit w d) (sym (winning-strongest strain trick real)) (record { within = within; suit = suit; high = high })
   where
@@ -109,7 +110,7 @@ hand-left p valid start x =
     not-under a b h = grind (arith, nat_tests)
 
 -- a card of a list stands at a place
-at-place : (cards : List PlayingCard) (x d : PlayingCard) → has_card cards x ≡ true → (i : ℕ) × (i < length cards) × (get_or cards i d ≡ x)
+pub at-place : (cards : List PlayingCard) (x d : PlayingCard) → has_card cards x ≡ true → (i : ℕ) × (i < length cards) × (get_or cards i d ≡ x)
 at-place [] x d has = absurd (cc)
 at-place (c ∷ cards) x d has = go (same_card c x) refl (at-place cards x d)
   where

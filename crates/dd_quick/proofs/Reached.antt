@@ -1,6 +1,6 @@
 -- which winners the cards reach that the code puts together
 use Rattle.std.proofs.Common.{◌≡◌, ℕ, ◌≤◌, Bool, true, refl, sym, ap, ◌∙◌, arith, List, length}
-use Rattle.std.specs.Prelude.{filter, map, min, nat_lt, ◌&&◌}
+use Rattle.std.specs.Prelude.{filter, map, min, nat_lt, ◌&&◌, if◌then◌else◌}
 use mathlib.Core.Path.{ap₂}
 use Rattle.std.proofs.lemmas.Bool.{ltb-true}
 use Rattle.std.proofs.lemmas.List.{length-map}
@@ -13,8 +13,8 @@ use Rattle.dd_cards.specs.Seats.{seat_after}
 use Rattle.dd_cards.proofs.CallerLemmas.{and-left, and-right, filter-filter, filter-map, ranks-from_cards, suit-ranks}
 use Rattle.dd_play.specs.Board.{Board, IsBoard, cards_at}
 use Rattle.dd_play.specs.Reach.{reach}
-use Rattle.dd_play.proofs.CallerLemmas.{count, reach-of, reach-within}
-use Rattle.dd_quick.specs.QuickTricks.{RestsOn, RestsOnHead, RestsOnNext, is_next, is_winner, longer, run}
+use Rattle.dd_play.proofs.CallerLemmas.{count, flag_of, reach-of, reach-within}
+use Rattle.dd_quick.specs.QuickTricks.{RestsOn, RestsOnGuard, RestsOnNext, ahead, guards, is_ahead, is_next, is_winner, length_at, longer, tops}
 use Rattle.dd_quick.proofs.Plays.{count-where}
 
 -- where the ranks are the cards of a list that pass, those among the cards are reached
@@ -38,22 +38,23 @@ winners-reached p suit ranks cards n same most =
     let b = length-of suit (λ c. is_of suit c && is_winner p p.first c) ranks (cards_at p p.first) same in
     omega (arith, a, b, most)
 
--- the card with which an opponent heads a suit is reached
-pub head-reached : (p : Board) (i : ℕ) (suit : Suit) (ranks : List ℕ) (cards : List PlayingCard) → map (card_of suit) ranks ≡ filter (λ c. is_of suit c && is_winner p (seat_after p.first i) c) (cards_at p (seat_after p.first i))
-    → min (min (longer p suit) 1) (length ranks) ≤ length (filter (λ q. has_card cards (card_of suit q)) ranks) → RestsOnHead p i suit cards
-head-reached p i suit ranks cards same most heads_it =
-    let a = reached-of suit (λ c. is_of suit c && is_winner p (seat_after p.first i) c) ranks (cards_at p (seat_after p.first i)) cards same in
-    let b = length-of suit (λ c. is_of suit c && is_winner p (seat_after p.first i) c) ranks (cards_at p (seat_after p.first i)) same in
-    let some = ltb-true 0 (run p (seat_after p.first i) suit) (and-left (nat_lt 0 (run p (seat_after p.first i) suit)) (nat_lt 0 (longer p suit)) heads_it) in
-    let long = ltb-true 0 (longer p suit) (and-right (nat_lt 0 (run p (seat_after p.first i) suit)) (nat_lt 0 (longer p suit)) heads_it) in
-    omega (arith, a, b, some, long, most)
+-- a card with which an opponent guards a suit is reached
+pub guard-reached : (p : Board) (i : ℕ) (suit : Suit) (ranks : List ℕ) (cards : List PlayingCard) (n : ℕ) → map (card_of suit) ranks ≡ filter (λ c. is_of suit c && is_ahead p (seat_after p.first i) c) (cards_at p (seat_after p.first i))
+    → n ≡ (if guards p i suit then 1 else 0) → min n (length ranks) ≤ length (filter (λ q. has_card cards (card_of suit q)) ranks) → RestsOnGuard p i suit cards
+guard-reached p i suit ranks cards n same one most it_guards =
+    let a = reached-of suit (λ c. is_of suit c && is_ahead p (seat_after p.first i) c) ranks (cards_at p (seat_after p.first i)) cards same in
+    let b = length-of suit (λ c. is_of suit c && is_ahead p (seat_after p.first i) c) ranks (cards_at p (seat_after p.first i)) same in
+    let e : n ≡ 1 = one ∙ ap flag_of it_guards in
+    let k : nat_lt 0 (ahead p (seat_after p.first i) suit) ≡ true = and-left (nat_lt 0 (ahead p (seat_after p.first i) suit)) _ (and-left (nat_lt 0 (ahead p (seat_after p.first i) suit) && nat_lt (tops p suit) (longer p suit)) _ (and-left ((nat_lt 0 (ahead p (seat_after p.first i) suit) && nat_lt (tops p suit) (longer p suit)) && nat_lt (tops p suit) (length_at p (seat_after p.first i) suit)) _ it_guards)) in
+    let some = ltb-true 0 (ahead p (seat_after p.first i) suit) k in
+    omega (arith, a, b, e, some, most)
 
 -- with more cards too
-pub head-more : (p : Board) (i : ℕ) (suit : Suit) (few many : List PlayingCard) → ((c : PlayingCard) → has_card few c ≡ true → has_card many c ≡ true) → RestsOnHead p i suit few → RestsOnHead p i suit many
-head-more p i suit few many within rests heads_it =
-    let r = rests heads_it in
-    let m = count-where (λ c. (is_of suit c && is_winner p (seat_after p.first i) c) && reach few c) (λ c. (is_of suit c && is_winner p (seat_after p.first i) c) && reach many c) (cards_at p (seat_after p.first i)) (λ c has pass.
-    ap₂ (λ a b. a && b) (and-left (is_of suit c && is_winner p (seat_after p.first i) c) (reach few c) pass) (reach-within few many within c (and-right (is_of suit c && is_winner p (seat_after p.first i) c) (reach few c) pass))) in
+pub guard-more : (p : Board) (i : ℕ) (suit : Suit) (few many : List PlayingCard) → ((c : PlayingCard) → has_card few c ≡ true → has_card many c ≡ true) → RestsOnGuard p i suit few → RestsOnGuard p i suit many
+guard-more p i suit few many within rests it_guards =
+    let r = rests it_guards in
+    let m = count-where (λ c. (is_of suit c && is_ahead p (seat_after p.first i) c) && reach few c) (λ c. (is_of suit c && is_ahead p (seat_after p.first i) c) && reach many c) (cards_at p (seat_after p.first i)) (λ c has pass.
+    ap₂ (λ a b. a && b) (and-left (is_of suit c && is_ahead p (seat_after p.first i) c) (reach few c) pass) (reach-within few many within c (and-right (is_of suit c && is_ahead p (seat_after p.first i) c) (reach few c) pass))) in
     omega (arith, r, m)
 
 -- and so are the partner's cards next below the leader's run

@@ -13,11 +13,11 @@ use Rattle.dd_cards.specs.PlayingCard.{PlayingCard}
 use Rattle.dd_cards.specs.Ranks.{IsRank, lowest_ranks, all_ranks, has_rank}
 use Rattle.dd_cards.specs.Cards.{is_of, card_of, has_card}
 use Rattle.dd_cards.specs.Seats.{seat_code, seat_after}
-use Rattle.dd_cards.proofs.CallerLemmas.{and-left, and-right, else-false, filter-filter, filter-map, filter-true, has_rank-holding, has_rank-lowest_ranks, or-right, or-split}
+use Rattle.dd_cards.proofs.CallerLemmas.{and-left, and-right, else-false, filter-filter, filter-map, filter-true, has_rank-holding, has_rank-lowest_ranks, not-true, or-right, or-split, ranks-from_cards, suit-ranks}
 use Rattle.dd_play.specs.Board.{Board, IsBoard, cards_at}
 use Rattle.dd_play.proofs.CallerLemmas.{after-code, card-real, code-lt, has-first, in-rest, suit-of}
-use Rattle.dd_quick.specs.QuickTricks.{beats, is_winner, is_unbeaten}
-use Rattle.dd_quick.proofs.Hands.{IsOpposed, no-higher, none-over, one-hand, places-on}
+use Rattle.dd_quick.specs.QuickTricks.{beats, is_ahead, is_winner, is_unbeaten}
+use Rattle.dd_quick.proofs.Hands.{IsOpposed, lower, no-higher, none-over, one-hand, places-on}
 
 -- ---- lists of ranks
 
@@ -296,3 +296,20 @@ unbeaten-cards p h suit own one three others winners valid mine a c join part = 
       | inl k ↦ (1, inl refl, sym (has_rank-holding suit one (cards_at p (seat_after h 1)) r a) ∙ k)
       | inr k ↦ (3, inr refl, sym (has_rank-holding suit three (cards_at p (seat_after h 3)) r c) ∙ k)
     ]
+
+-- ---- the ranks of the partner
+
+-- of a holding those above the highest of the partner's are the cards that the partner can't beat
+pub ahead-cards : (p : Board) (h : Seat) (suit : Suit) (own his winners : List ℕ) → IsBoard p → map (card_of suit) own ≡ filter (is_of suit) (cards_at p h) → map (card_of suit) his ≡ filter (is_of suit) (cards_at p (seat_after h 2))
+    → MatchOption (slice_get his 0) (winners ≡ own) (λ r. winners ≡ filter (λ q. nat_lt r q) own) → map (card_of suit) winners ≡ filter (λ c. is_of suit c && is_ahead p h c) (cards_at p h)
+ahead-cards p h suit own his winners valid mine theirs part = those-cards p h suit own his (is_ahead p h) (record {
+  mine = mine;
+  among = λ q. has_card (cards_at p (seat_after h 2)) (card_of suit q);
+  ranks = ranks-from_cards suit his (filter (λ q. has_card (cards_at p (seat_after h 2)) (card_of suit q)) all_ranks) (theirs ∙ suit-ranks suit (cards_at p (seat_after h 2)) (valid.sets (seat_after h 2)));
+  over = λ q most. ap not (no-beat p (seat_after h 2) suit q (λ d has e. most d.rank (has_rank-holding suit his (cards_at p (seat_after h 2)) d.rank theirs ∙ subst (λ u. has_card (cards_at p (seat_after h 2)) (card_of u d.rank) ≡ true) e has)));
+  under = λ q r own_q his_r wins. lower p valid h (seat_after h 2) (card_of suit q) (card_of suit r) apart (not-true (beats p (seat_after h 2) (card_of suit q)) wins)
+      (sym (has_rank-holding suit own (cards_at p h) q mine) ∙ own_q) (sym (has_rank-holding suit his (cards_at p (seat_after h 2)) r theirs) ∙ his_r) refl;
+}) winners part
+  where
+    apart : seat_code (seat_after h 2) ≢ seat_code h
+    apart = (let a = after-code h 2 in let b = code-lt h in λ e. omega (arith, a, b, e))

@@ -164,26 +164,48 @@ no_trumps p = (trumps_at p.strain p p.first == 0 && trumps_at p.strain p (seat_a
 abbrev pub longer : Board → Suit → ℕ
 longer p suit = max (length_at p p.first suit) (length_at p (seat_after p.first 2) suit)
 
--- does the seat that is i places after the leader hold the highest card left of the suit, where the leader's side has one?
-abbrev pub heads : Board → ℕ → Suit → Bool
-heads p i suit = nat_lt 0 (run p (seat_after p.first i) suit) && nat_lt 0 (longer p suit)
+-- how many cards of the suit the seat holds that no opponent of its can beat
+abbrev pub unbeaten : Board → Seat → Suit → ℕ
+unbeaten p seat suit = length (filter (λ c. is_of suit c && is_unbeaten p seat c) (cards_at p seat))
 
--- how often the leader's side can lead a suit that no opponent heads
+-- how many of the highest cards left of the suit the leader's side holds without a gap
+abbrev pub tops : Board → Suit → ℕ
+tops p suit = unbeaten p p.first suit + unbeaten p (seat_after p.first 2) suit
+
+-- is it a card that the seat's partner can't beat?
+abbrev pub is_ahead : Board → Seat → PlayingCard → Bool
+is_ahead p seat c = not (beats p (seat_after seat 2) c)
+
+-- how many cards of the suit the seat holds that its partner can't beat
+abbrev pub ahead : Board → Seat → Suit → ℕ
+ahead p seat suit = length (filter (λ c. is_of suit c && is_ahead p seat c) (cards_at p seat))
+
+-- Has the seat none of its side's highest cards in the suit, or no others in it?
+abbrev pub is_bare : Board → Seat → Suit → Bool
+is_bare p seat suit = (unbeaten p seat suit == 0) || (unbeaten p seat suit == length_at p seat suit)
+
+-- Does the seat that is i places after the leader guard the suit? It has the opponents' highest card, the honour, and for each
+-- higher one, all of which are the leader's side's, another card. One hand of that side has more cards than those, and the hand
+-- behind it, which is the next to play, has none of those, or no others.
+abbrev pub guards : Board → ℕ → Suit → Bool
+guards p i suit = ((nat_lt 0 (ahead p (seat_after p.first i) suit) && nat_lt (tops p suit) (longer p suit)) && nat_lt (tops p suit) (length_at p (seat_after p.first i) suit)) && is_bare p (seat_after (seat_after p.first i) 1) suit
+
+-- how often the leader's side can lead the suit before the honour wins, or if nobody guards it
 abbrev pub rounds : Board → Suit → ℕ
-rounds p suit = (if heads p 1 suit || heads p 3 suit then 0 else longer p suit)
+rounds p suit = (if guards p 1 suit || guards p 3 suit then tops p suit else longer p suit)
 
--- and such suits in all
+-- and all suits
 abbrev pub all_rounds : Board → ℕ
 all_rounds p = rounds p Spades + rounds p Hearts + rounds p Diamonds + rounds p Clubs
 
--- how many suits the seat heads
-abbrev pub headed : Board → ℕ → ℕ
-headed p i = (if heads p i Spades then 1 else 0) + (if heads p i Hearts then 1 else 0) + (if heads p i Diamonds then 1 else 0) + (if heads p i Clubs then 1 else 0)
+-- how many suits the seat guards
+abbrev pub guarded : Board → ℕ → ℕ
+guarded p i = (if guards p i Spades then 1 else 0) + (if guards p i Hearts then 1 else 0) + (if guards p i Diamonds then 1 else 0) + (if guards p i Clubs then 1 else 0)
 
--- The leader's side has to lead a suit that an opponent heads: it has not so many rounds of the others as tricks are left, and
--- neither opponent has to throw the card with which it heads a suit.
+-- The leader's side has to lead to a guarded honour: it has not so many rounds as tricks are left, and with one card for each
+-- suit that an opponent guards these are no more, so that neither opponent has to throw what it guards.
 unfoldable pub has_later_trick : Board → Bool
-has_later_trick p = no_trumps p && (nat_lt (all_rounds p) (tricks_left p) && (nat_le (all_rounds p + headed p 1) (tricks_left p) && nat_le (all_rounds p + headed p 3) (tricks_left p)))
+has_later_trick p = no_trumps p && (nat_lt (all_rounds p) (tricks_left p) && (nat_le (all_rounds p + guarded p 1) (tricks_left p) && nat_le (all_rounds p + guarded p 3) (tricks_left p)))
 
 -- ---- kept winners
 
@@ -249,6 +271,6 @@ RestsOnTrumps (Trump trump) p seat cards n =
 abbrev pub RestsOnRun : Board → Seat → Suit → List PlayingCard → ℕ → Type 0
 RestsOnRun p seat suit cards n = min n (run p seat suit) ≤ length (filter (λ c. (is_of suit c && is_winner p seat c) && reach cards c) (cards_at p seat))
 
--- the card with which the seat heads the suit is reached by these cards
-abbrev pub RestsOnHead : Board → ℕ → Suit → List PlayingCard → Type 0
-RestsOnHead p i suit cards = heads p i suit ≡ true → 1 ≤ length (filter (λ c. (is_of suit c && is_winner p (seat_after p.first i) c) && reach cards c) (cards_at p (seat_after p.first i)))
+-- where the seat guards the suit, a card that its partner can't beat is reached by these cards
+abbrev pub RestsOnGuard : Board → ℕ → Suit → List PlayingCard → Type 0
+RestsOnGuard p i suit cards = guards p i suit ≡ true → 1 ≤ length (filter (λ c. (is_of suit c && is_ahead p (seat_after p.first i) c) && reach cards c) (cards_at p (seat_after p.first i)))

@@ -9,13 +9,12 @@ ghost use Rattle.dd_cards.specs.Cards.{has_card};
 ghost use Rattle.dd_cards.specs.Sides.{side_of, other_side};
 ghost use Rattle.dd_play.specs.Reach.{reach, TakesBy};
 ghost use Rattle.dd_quick.specs.QuickTricks.{RestsOnRun, first_kept, free_rounds, kept_winners};
-ghost use Rattle.dd_quick.specs.QuickTricks.{of_all, run};
+ghost use Rattle.dd_quick.specs.QuickTricks.{longer, of_all, run};
 ghost use Rattle.dd_quick.specs.SecondHand.{Opposes};
 
 use crate::crossing::has_trumps;
-use crate::later_trick::longer;
 use crate::sharing::{Offer, Offers, share_out};
-use crate::winners::{run, with_highest};
+use crate::winners::{length, run, with_highest};
 use dd_cards::{Hand, Seat, Suit};
 use dd_play::Position;
 
@@ -80,6 +79,15 @@ fn length_of(position: &Position, seat: Seat, suit: Suit) -> u8
     ensures bound { result ≤ 13 }
 {
     run(position, seat, suit).len()
+}
+
+// The longer holding of the leader's side in the suit.
+fn longer(position: &Position, suit: Suit) -> u8
+    ensures longer { result ≡ longer position.now suit }
+    ensures bound { result ≤ 13 }
+{
+    let leader = position.first();
+    length(position, leader, suit).max(length(position, leader.partner(), suit))
 }
 
 // What is counted of a suit.

@@ -1,30 +1,35 @@
-//! One later trick. Where no hand has a trump the leader's side can take all tricks only by leads of its own. In a suit that it
-//! heads, each makes the longer of its two holdings shorter; in a suit that an opponent heads, that opponent wins with its
-//! highest card, if it has kept it. It has to throw other cards as long as there are some: so with one card for each suit that
-//! it heads the rounds of the other suits have to be no more than the tricks left. An opponent with more such cards than it
-//! can keep would have to choose, and nothing is counted.
-ghost use Rattle.std.specs.Prelude.{◌≡◌, ◌≤◌, ◌+◌, ◌&&◌, ◌||◌, [], true, nat_lt, if◌then◌else◌};
+//! One later trick. Where no hand has a trump the leader's side can take all tricks only by leads of its own. In a suit that
+//! nobody guards each makes the longer of its two holdings shorter. An opponent guards a suit whose highest cards are the
+//! leader's side's, if any are, and the next one, the honour, its own, with another card for each of those. To one of them, or
+//! before the hand behind has to play one, it plays another card, and else the honour, which wins: so each lead of the suit
+//! takes one of them. It has to throw cards of other suits as long as there are some: so with one card for each suit that it
+//! guards the rounds have to be no more than the tricks left. An opponent with more such cards than it can keep would have to
+//! choose, and nothing is counted.
+ghost use Rattle.std.specs.Prelude.{◌≡◌, ◌≤◌, ◌+◌, ◌&&◌, ◌||◌, ◌==◌, [], true, nat_lt, if◌then◌else◌};
 ghost use Rattle.dd_cards.specs.declared.suit.Suit.TheVariants.{Spades, Hearts, Diamonds, Clubs};
 ghost use Rattle.dd_cards.specs.PlayingCard.{PlayingCard};
 ghost use Rattle.dd_cards.specs.Cards.{has_card};
 ghost use Rattle.dd_cards.specs.Sides.{side_of, other_side};
 ghost use Rattle.dd_play.specs.Reach.{reach, TakesBy};
-ghost use Rattle.dd_quick.specs.QuickTricks.{RestsOnHead, has_later_trick, heads, longer, rounds};
+ghost use Rattle.dd_quick.specs.QuickTricks.{RestsOnGuard, guards, has_later_trick, rounds};
 
 use crate::crossing::has_trumps;
-use crate::winners::{length, run, with_highest};
+use crate::winners::{
+    Ranks, left_ahead, length, own_unbeaten, partners_unbeaten, ranks_at, right_ahead, with_highest,
+};
 use dd_cards::{Hand, Suit};
 use dd_play::Position;
 
-// Of a suit: how often the leader's side can lead it where no opponent heads it, and whether one does.
+// Of a suit: how often the leader's side can lead it before the honour wins, or if nobody guards it, and whether the left or
+// the right opponent guards it.
 #[derive(Clone, Copy)]
-struct Headed {
+struct Led {
     rounds: u8,
     left: u8,
     right: u8,
 }
 
-/// Does the other side take at least one trick, since the leader's side has to lead a suit that an opponent heads?
+/// Does the other side take at least one trick, since the leader's side has to lead to an honour that an opponent guards?
 #[tactic(auto, unfolding(crate::specs::QuickTricks::has_later_trick))]
 pub(crate) fn later_trick(position: &Position) -> bool
     ensures { result ≡ has_later_trick position.now }
@@ -44,31 +49,47 @@ pub(crate) fn later_trick(position: &Position) -> bool
 }
 
 // What is counted of a suit.
-fn by_suit(position: &Position, suit: Suit) -> Headed
+fn by_suit(position: &Position, suit: Suit) -> Led
     ensures rounds { result.rounds ≡ rounds position.now suit }
-    ensures left { result.left ≡ (if heads position.now 1 suit then 1 else 0) }
-    ensures right { result.right ≡ (if heads position.now 3 suit then 1 else 0) }
-    ensures bound { (result.rounds ≤ 13) × (result.left ≤ 1) × (result.right ≤ 1) }
+    ensures left { result.left ≡ (if guards position.now 1 suit then 1 else 0) }
+    ensures right { result.right ≡ (if guards position.now 3 suit then 1 else 0) }
+    ensures bound { (result.rounds ≤ 26) × (result.left ≤ 1) × (result.right ≤ 1) }
 {
-    let leader = position.first();
-    let left = leader.left();
-    let right = leader.right();
-    let longer = longer(position, suit);
-    let by_left = is_some(run(position, left, suit).len(), longer);
-    let by_right = is_some(run(position, right, suit).len(), longer);
-    Headed {
-        rounds: unheaded(by_left, by_right, longer),
+    let ranks = ranks_at(position, position.first(), suit);
+    let own = own_unbeaten(&ranks).len();
+    let partners = partners_unbeaten(&ranks).len();
+    let tops = own + partners;
+    let longer = ranks.own.len().max(ranks.partner.len());
+    let left_ahead = left_ahead(&ranks).len();
+    let right_ahead = right_ahead(&ranks).len();
+    let left = ranks.left.len();
+    let right = ranks.right.len();
+    let partner = ranks.partner.len();
+    let by_left = is_guard(left_ahead, left, tops, longer, partners, partner);
+    let by_right = is_guard(right_ahead, right, tops, longer, own, ranks.own.len());
+    Led {
+        rounds: rounds_of(by_left, by_right, tops, longer),
         left: one_if(by_left),
         right: one_if(by_right),
     }
 }
 
-// So many rounds where neither opponent heads the suit.
+// Does a hand with so many cards that its partner can't beat, and so many in all, guard a suit? The hand behind it has so many
+// of the highest cards of the leader's side, and so many in all.
 #[inline]
-fn unheaded(by_left: bool, by_right: bool, rounds: u8) -> u8
-    ensures { result ≡ (if by_left || by_right then 0 else rounds) }
+fn is_guard(ahead: u8, all: u8, tops: u8, longer: u8, behind_tops: u8, behind: u8) -> bool
+    ensures { result ≡ (((nat_lt 0 ahead && nat_lt tops longer) && nat_lt tops all)
+        && ((behind_tops == 0) || (behind_tops == behind))) }
 {
-    if by_left || by_right { 0 } else { rounds }
+    ((0 < ahead && tops < longer) && tops < all) && (behind_tops == 0 || behind_tops == behind)
+}
+
+// So many rounds of a suit.
+#[inline]
+fn rounds_of(by_left: bool, by_right: bool, tops: u8, longer: u8) -> u8
+    ensures { result ≡ (if by_left || by_right then tops else longer) }
+{
+    if by_left || by_right { tops } else { longer }
 }
 
 /// One where it holds.
@@ -79,45 +100,26 @@ pub(crate) fn one_if(holds: bool) -> u8
     if holds { 1 } else { 0 }
 }
 
-// Are both numbers more than 0?
-#[inline]
-fn is_some(a: u8, b: u8) -> bool
-    ensures { result ≡ (nat_lt 0 a && nat_lt 0 b) }
-{
-    0 < a && 0 < b
-}
-
-/// The longer holding of the leader's side in the suit.
-pub(crate) fn longer(position: &Position, suit: Suit) -> u8
-    ensures longer { result ≡ longer position.now suit }
-    ensures bound { result ≤ 13 }
-{
-    let leader = position.first();
-    length(position, leader, suit).max(length(position, leader.partner(), suit))
-}
-
-/// The cards with which opponents head suits, on which it rests that their side takes that trick.
+/// The cards that opponents guard, on which it rests that their side takes that trick.
 pub(crate) fn later_cards(position: &Position) -> Hand
     requires start { position.now.trick ≡ [] }
     requires later { has_later_trick position.now ≡ true }
     ensures { TakesBy (reach result) (other_side (side_of position.now.first)) position.now 1 }
 {
-    let cards = with_heads(position, Hand::new(), Suit::Spades);
-    let cards = with_heads(position, cards, Suit::Hearts);
-    let cards = with_heads(position, cards, Suit::Diamonds);
-    with_heads(position, cards, Suit::Clubs)
+    let cards = with_honour(position, Hand::new(), Suit::Spades);
+    let cards = with_honour(position, cards, Suit::Hearts);
+    let cards = with_honour(position, cards, Suit::Diamonds);
+    with_honour(position, cards, Suit::Clubs)
 }
 
-// These cards and that with which an opponent heads the suit, where the leader's side has a card of it.
-fn with_heads(position: &Position, cards: Hand, suit: Suit) -> Hand
+// These cards and that which an opponent guards in the suit.
+fn with_honour(position: &Position, cards: Hand, suit: Suit) -> Hand
     ensures more { (c : PlayingCard) → has_card cards c ≡ true → has_card result c ≡ true }
-    ensures left { RestsOnHead position.now 1 suit result }
-    ensures right { RestsOnHead position.now 3 suit result }
+    ensures left { RestsOnGuard position.now 1 suit result }
+    ensures right { RestsOnGuard position.now 3 suit result }
 {
-    let leader = position.first();
-    let left = leader.left();
-    let right = leader.right();
-    let count = longer(position, suit).min(1);
-    let cards = with_highest(cards, suit, run(position, left, suit), count);
-    with_highest(cards, suit, run(position, right, suit), count)
+    let ranks = ranks_at(position, position.first(), suit);
+    let led = by_suit(position, suit);
+    let cards = with_highest(cards, suit, left_ahead(&ranks), led.left);
+    with_highest(cards, suit, right_ahead(&ranks), led.right)
 }

@@ -8,7 +8,8 @@ ghost use Rattle.dd_cards.specs.Cards.{is_of, card_of, has_card};
 ghost use Rattle.dd_cards.specs.Ranks.{all_ranks, has_rank};
 ghost use Rattle.dd_play.specs.Board.{Board, IsBoard, cards_at};
 ghost use Rattle.dd_cards.specs.Seats.{seat_after};
-ghost use Rattle.dd_quick.specs.QuickTricks.{is_winner, is_unbeaten, is_next, length_at, trumps_at};
+ghost use Rattle.dd_quick.specs.QuickTricks.{is_ahead, is_winner, is_unbeaten, is_next};
+ghost use Rattle.dd_quick.specs.QuickTricks.{length_at, trumps_at};
 ghost use Rattle.dd_quick.specs.Seen.{IsSeen, AreRanks};
 
 use dd_cards::{Card, Hand, Holding, Seat, Strain, Suit};
@@ -80,8 +81,8 @@ pub(crate) fn ranks_of(seen: &Seen, suit: Suit) -> Ranks
     }
 }
 
-// The ranks of the suit as this seat sees them.
-fn ranks_at(position: &Position, seat: Seat, suit: Suit) -> Ranks
+/// The ranks of the suit as this seat sees them.
+pub(crate) fn ranks_at(position: &Position, seat: Seat, suit: Suit) -> Ranks
     ensures { AreRanks position.now seat suit result.own result.left result.partner result.right }
 {
     let hands = position.hands();
@@ -148,9 +149,44 @@ pub(crate) fn partners_run(ranks: &Ranks) -> Holding
     above_all(partners_unbeaten(ranks), low)
 }
 
-// Of the partner's ranks those that no opponent can beat.
+/// Of its own ranks those that no opponent can beat.
 #[inline(always)]
-fn partners_unbeaten(ranks: &Ranks) -> Holding
+pub(crate) fn own_unbeaten(ranks: &Ranks) -> Holding
+    ensures { (p : Board) (seat : SeatOf) (suit : SuitOf)
+        → AreRanks p seat suit ranks.now.own ranks.now.left ranks.now.partner ranks.now.right
+        → map (card_of suit) result ≡ filter (λ c. is_of suit c && is_unbeaten p seat c)
+        (cards_at p seat) }
+{
+    above_all(ranks.own, ranks.left.union(ranks.right))
+}
+
+/// Of the left opponent's ranks those that the right one can't beat.
+#[inline(always)]
+pub(crate) fn left_ahead(ranks: &Ranks) -> Holding
+    ensures { (p : Board) (suit : SuitOf)
+        → AreRanks p p.first suit ranks.now.own ranks.now.left ranks.now.partner ranks.now.right
+        → map (card_of suit) result ≡ filter
+        (λ c. is_of suit c && is_ahead p (seat_after p.first 1) c)
+        (cards_at p (seat_after p.first 1)) }
+{
+    above_all(ranks.left, ranks.right)
+}
+
+/// Of the right opponent's ranks those that the left one can't beat.
+#[inline(always)]
+pub(crate) fn right_ahead(ranks: &Ranks) -> Holding
+    ensures { (p : Board) (suit : SuitOf)
+        → AreRanks p p.first suit ranks.now.own ranks.now.left ranks.now.partner ranks.now.right
+        → map (card_of suit) result ≡ filter
+        (λ c. is_of suit c && is_ahead p (seat_after p.first 3) c)
+        (cards_at p (seat_after p.first 3)) }
+{
+    above_all(ranks.right, ranks.left)
+}
+
+/// Of the partner's ranks those that no opponent can beat.
+#[inline(always)]
+pub(crate) fn partners_unbeaten(ranks: &Ranks) -> Holding
     ensures { (p : Board) (suit : SuitOf)
         → AreRanks p p.first suit ranks.now.own ranks.now.left ranks.now.partner ranks.now.right
         → map (card_of suit) result ≡ filter

@@ -1,5 +1,5 @@
 //! A search by relative ranks beside one by the ranks of the deal: on drawn starts of a trick, with more than six tricks left and
-//! with fewer. And both beside what searches found before there was the first.
+//! with fewer. And both beside what is on record: tricks and depths were found before there was the first, positions are counted since.
 use dd_cache::Cache;
 use dd_cards::{Card, Hands, Rank, Seat, Strain, Suit};
 use dd_equal::classes;
@@ -155,8 +155,7 @@ fn digest_of<R: AllocGlobal>(rt: &R, tricks: u64, starts: u64) -> Result<Option<
     Ok(Some(digest))
 }
 
-// Compares the two forms at so many starts with so many tricks left, and what they find with the number that searches found before
-// there was one by relative ranks.
+// Compares the two forms at so many starts with so many tricks left, and what they find with the number on record.
 fn compare_each<R: AllocGlobal + Abort>(
     rt: &R,
     rows: &[(u64, u64, u64)],
@@ -176,9 +175,9 @@ fn both_forms_find_what_was_found_with_few_tricks(rt: HostRuntime) -> Result<(),
     let rows = [
         (4, 16, 7_827_678_740_649_999_591),
         (5, 16, 12_022_159_229_626_017_245),
-        (6, 16, 5_182_297_200_451_684_248),
-        (7, 16, 9_010_320_938_488_648_818),
-        (8, 10, 1_278_173_200_395_194_316),
+        (6, 16, 13_072_118_401_780_127_316),
+        (7, 16, 15_409_799_732_611_398_715),
+        (8, 10, 10_858_325_530_553_755_187),
     ];
     compare_each(&rt, &rows)
 }
@@ -190,8 +189,8 @@ fn both_forms_find_what_was_found_with_nine_and_ten_tricks(
     compare_each(
         &rt,
         &[
-            (9, 5, 11_918_665_426_276_320_022),
-            (10, 3, 10_026_224_494_389_981_037),
+            (9, 5, 2_477_891_487_721_165_609),
+            (10, 3, 14_537_285_774_900_719_318),
         ],
     )
 }
@@ -203,15 +202,15 @@ fn both_forms_find_what_was_found_with_eleven_and_twelve_tricks(
     compare_each(
         &rt,
         &[
-            (11, 2, 14_225_381_500_660_137_266),
-            (12, 1, 15_980_976_126_790_756_228),
+            (11, 2, 11_031_073_460_824_286_315),
+            (12, 1, 9_335_266_369_060_694_465),
         ],
     )
 }
 
 #[test]
 fn both_forms_find_what_was_found_in_full_deals(rt: HostRuntime) -> Result<(), AllocError> {
-    compare_each(&rt, &[(13, 1, 3_883_674_405_665_591_731)])
+    compare_each(&rt, &[(13, 1, 13_560_099_159_385_333_833)])
 }
 
 // A table of a caller, which may look at the cards and says nothing of starts by relative ranks. It keeps nothing, and mixes into one

@@ -226,7 +226,9 @@ fn no_more_is_claimed_than_exhaustive_play_takes(rt: HostRuntime) {
         7.7.A.7 98.J..6 AK..J.4 .T62..J cE 14 2\n\
         7.7.A.7 98.J..6 AK..J.4 .T62..J cS 03 3\n\
         7.7.A.7 98.J..6 AK..J.4 .T62..J cW 14 2\n\
-        JT.K.A. K.A.98. A.J.KQ. Q.Q.JT. nN 34 3";
+        JT.K.A. K.A.98. A.J.KQ. Q.Q.JT. nN 34 3\n\
+        3..KT9. 9..A83. AJ82... T..Q76. nS 44 4\n\
+        .J9.85. ..K974. .A62.2. .KQT.3. nW 44 4";
     each(&rt, rows, Follows::Value);
 }
 
@@ -258,7 +260,7 @@ fn without_trumps_the_leader_crosses_to_its_partner(rt: HostRuntime) {
         A..2. 4..3. 3.K.. 5.2.. nN 121000 the leader has no heart\n\
         2.43.. 3.Q6.. A.K5.. 4.J7.. nN 231100 the partner cashes another suit\n\
         32.3.. 54.4.. AK6... 87.5.. nN 332000 the six takes a trick after the ace and the king\n\
-        32.3.. 54.4.. AK6... 987... nN 232000 West has a spade more\n\
+        32.3.. 54.4.. AK6... 987... nN 223100 West has a spade more, and guards the nine\n\
         T32... 5.43.. AK6... 7.65.. nN 232000 so has the leader\n\
         AT2... 876... K93... 54.2.. nN 232000 the leader's ten is above the nine\n\
         A2.A.. 43.2.. KQJ... 65.3.. nN 332100 three tricks are left";
@@ -274,6 +276,20 @@ fn the_leaders_side_comes_to_a_suit_that_an_opponent_heads(rt: HostRuntime) {
         AK.2.. 2.A.A. 54..2. 763... nN 232000 0 East may have to throw an ace\n\
         AK..2. 32..A. 54..3. 76..K. hN 222010 1 no hand has a trump\n\
         AK..2. 32..A. 54.3.. 76..K. hN 332000 0 the partner has one";
+    each(&rt, rows, Follows::BoundsAndClaim);
+}
+
+// North leads. An opponent has the next card below the highest ones of North and South, and another for each of these, or not.
+#[test]
+fn an_opponent_guards_an_honour(rt: HostRuntime) {
+    let rows = b"A32... K4.2.. 765... T98... nN 122000 1 the king and another\n\
+        765... T98... A32... K4.2.. nN 122000 1 the right opponent's\n\
+        A32... K.42.. 765... T98... nN 131000 0 the king alone\n\
+        765... K4.2.. A32... T98... nN 131000 0 the ace and others behind it\n\
+        765... K4.5.. A.4.3. T9..8. nN 122110 1 the ace alone behind it\n\
+        AK32... Q54.2.. 9876... JT.43.. nN 233000 1 the queen and two others\n\
+        AK32... Q5.32.. 9876... JT4.4.. nN 242000 0 the queen and one other\n\
+        A3..A. K4.A.. 65.3.. T9..2. nN 231010 0 no room for the king's guard and the ace";
     each(&rt, rows, Follows::BoundsAndClaim);
 }
 

@@ -104,11 +104,19 @@ const BEHIND: [Holdings; 4] = [
     [&[13, 4], &[], &[], &[]],
 ];
 
-// `BEHIND` with a heart more in each hand, the highest North's.
-const BEHIND_AN_ACE: [Holdings; 4] = [
-    [&[3, 2], &[14], &[], &[]],
+// The highest and the third card in one hand, the second before it in the order of play.
+const TENACE: [Holdings; 4] = [
+    [&[14, 12], &[], &[], &[]],
+    [&[6, 5], &[], &[], &[]],
+    [&[3, 2], &[], &[], &[]],
+    [&[13, 4], &[], &[], &[]],
+];
+
+// The same with a heart more in each hand, the highest North's.
+const TENACE_AN_ACE: [Holdings; 4] = [
+    [&[14, 12], &[14], &[], &[]],
     [&[6, 5], &[4], &[], &[]],
-    [&[14, 12], &[3], &[], &[]],
+    [&[3, 2], &[3], &[], &[]],
     [&[13, 4], &[2], &[], &[]],
 ];
 

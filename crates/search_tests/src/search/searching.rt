@@ -1,9 +1,9 @@
 //! What a search asks of its table and its meter, in which order, and what it notes.
 //!
-//! The deal is `BEHIND` at notrump, North on lead: spades 3 2, 6 5, A Q, K 4. In each position the search ticks once, then
+//! The deal is `TENACE` at notrump, North on lead: spades A Q, 6 5, 3 2, K 4. In each position the search ticks once, then
 //! asks the quick tricks and looks if a trick starts there, then plays. Quick tricks settle that North and South take one
-//! trick, and no more: North crosses to the ace, and no other leader or partner has a highest card. In the second trick they
-//! settle that West's king takes it.
+//! trick, by the ace, and no more: West's king is guarded, but before a hand that has the ace and another card. In the second
+//! trick they settle that the king takes it.
 ghost use Rattle.std.specs.Prelude.{◌≤◌, IfSome};
 ghost use Rattle.dd_cards.specs.declared.suit.Suit.{Suit as SuitOf};
 ghost use Rattle.dd_play.specs.Board.{Board, IsBoard};
@@ -12,7 +12,7 @@ ghost use Rattle.dd_play.specs.Value.{leaders_tricks};
 ghost use Rattle.dd_play.specs.Intervals.{Holds};
 ghost use Rattle.dd_rank.specs.Depths.{all_cards, depth_in, Covers};
 
-use super::{BEHIND, BEHIND_AN_ACE, Holdings, card_of, position_of, start_of};
+use super::{Holdings, TENACE, TENACE_AN_ACE, card_of, position_of, start_of};
 use crate::rows::{is_line_feed, number, word};
 use arrayvec::ArrayVec;
 use dd_cards::Seat;
@@ -141,18 +141,18 @@ fn asked<B: Bounds, M: Meter>(
 
 // The deal a seat on: East leads.
 fn turned() -> Option<Position> {
-    let [north, east, south, west] = BEHIND;
+    let [north, east, south, west] = TENACE;
     before_the_jack(&[west, north, east, south], Seat::East)
 }
 
 // The deal of this name.
 fn named(name: &[u8]) -> Option<Position> {
-    if name == b"behind".as_slice() {
-        before_the_jack(&BEHIND, Seat::North)
+    if name == b"tenace".as_slice() {
+        before_the_jack(&TENACE, Seat::North)
     } else if name == b"turned".as_slice() {
         turned()
     } else if name == b"ace".as_slice() {
-        before_the_jack(&BEHIND_AN_ACE, Seat::North)
+        before_the_jack(&TENACE_AN_ACE, Seat::North)
     } else {
         None
     }
@@ -190,39 +190,39 @@ fn search_each(rt: &impl Abort, rows: &[u8]) {
     }
 }
 
-// One trick is a quick trick: North crosses to the ace. So the first position is the only one: what the look there doesn't
+// One trick is a quick trick: North has the ace. So the first position is the only one: what the look there doesn't
 // settle the quick trick does, and nothing is noted.
 #[test]
 fn a_quick_trick_settles_what_a_look_does_not(rt: HostRuntime) {
-    search_each(&rt, b"behind 1 14 100 yes 1 L2");
+    search_each(&rt, b"tenace 1 14 100 yes 1 L2");
 }
 
-// Two tricks are not had. North's 3 and East's 6 have equals below them, so there is one card to try in each hand. South
-// tries the ace, the surest winner, and it wins before West's 4; the king is spared, since the ace takes it too. So a
-// position is visited before each of four cards. Then South has the queen to lead, the fifth position, where quick tricks
-// settle that West's king takes it; so West's 4 was enough. South tries the queen in the first trick too, which the ace's
-// failure, by the king, doesn't spare: one position more, West's, where the king settles it by counting. That is six.
-// There is a look at each start of a trick. What is noted at that of the trick that was played is the answer there.
+// Two tricks are not had. East's 6 and South's 3 have equals below them, so there is one card to try in these hands. North
+// tries the ace, the surest winner, and West plays its 4 to it, so that a position is visited before each of four cards. Then
+// North has the queen to lead, the fifth position, where quick tricks settle that West's king takes it; so West's 4 was
+// enough. North tries the queen in the first trick too, which the ace's failure, by the king, doesn't spare: three positions
+// more, East's, South's and West's, where the king settles it by counting. That is eight. There is a look at each start of a
+// trick. What is noted at that of the trick that was played is the answer there.
 #[test]
 fn each_position_is_one_tick_where_two_tricks_are_asked_for(rt: HostRuntime) {
-    search_each(&rt, b"behind 2 14 100 no 6 L2L1N201");
+    search_each(&rt, b"tenace 2 14 100 no 8 L2L1N201");
 }
 
 // East and West have the cards, and the leader's side is theirs: North and South take one trick, since these don't take two.
 // What is noted of them is the same.
 #[test]
 fn each_position_is_one_tick_where_the_other_side_asks(rt: HostRuntime) {
-    search_each(&rt, b"turned 1 14 100 yes 6 L2L1N201");
+    search_each(&rt, b"turned 1 14 100 yes 8 L2L1N201");
 }
 
 // Two tricks of the leader's side, and one of the other side.
 #[test]
 fn a_look_that_settles_it_is_the_end(rt: HostRuntime) {
-    search_each(&rt, b"behind 2 2 100 no 1 L2\nturned 1 2 100 yes 1 L2");
+    search_each(&rt, b"tenace 2 2 100 no 1 L2\nturned 1 2 100 yes 1 L2");
 }
 
 // With a heart more in each hand, North's the ace, three tricks are not had. North leads the ace, and at the second trick is
-// where it was in `BEHIND`: the look there settles that two tricks are not had. A spade first leads to another start of a trick,
+// where it was in `TENACE`: the look there settles that two tricks are not had. A spade first leads to another start of a trick,
 // of which the look tells as much.
 #[test]
 fn a_look_at_the_second_trick_saves_its_positions(rt: HostRuntime) {
@@ -238,9 +238,9 @@ fn a_search_ticks_before_it_looks(rt: HostRuntime) {
     search_each(&rt, rows);
 }
 
-// The value of `BEHIND` over a table that knows it, within this budget, with the ticks and what the table was asked and told.
+// The value of `TENACE` over a table that knows it, within this budget, with the ticks and what the table was asked and told.
 fn known_value(most: u64) -> Option<(Option<u8>, u64, Log)> {
-    let start = start_of(&BEHIND, Seat::North)?;
+    let start = start_of(&TENACE, Seat::North)?;
     let mut log = Log::knowing(2);
     let mut budget = Budget::new(most);
     let value = match start_value(&start, &mut log, &mut budget) {
@@ -263,7 +263,7 @@ fn a_value_that_is_known_is_one_tick(rt: HostRuntime) {
 // reaches.
 #[test]
 fn each_search_tells_its_table_that_it_begins(rt: HostRuntime) {
-    let position = before_the_jack(&BEHIND, Seat::North).expect(&rt, "two cards a hand");
+    let position = before_the_jack(&TENACE, Seat::North).expect(&rt, "two cards a hand");
     let mut log = Log::knowing(NONE);
     let mut begun = [0; 3];
     let has_value = value(&position, &mut log, &mut Endless).is_ok();
