@@ -274,3 +274,29 @@ class Frames:
     def close(self):
         self.reader.close()
         self.stream.close()
+
+
+class Messages:
+    """A connection by WebSocket frames, for those who speak in lines."""
+
+    def __init__(self, stream):
+        self.frames = Frames(stream)
+
+    def send(self, *lines):
+        self.frames.stream.sendall(b"".join(Frames.frame(Frames.TEXT, line.encode()) for line in lines))
+
+    def line(self):
+        return self.frames.text()
+
+    def ask(self, line):
+        self.send(line)
+        return self.line()
+
+    def close(self):
+        self.frames.close()
+
+    def __enter__(self):
+        return self
+
+    def __exit__(self, *_):
+        self.close()

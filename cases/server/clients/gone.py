@@ -3,25 +3,12 @@ import socket
 import struct
 import threading
 import time
-from client import CLOSING, ONE_CARD, ONE_CARD_REPLY, STOP, Frames, Server, check, done, fetch, more_descriptors, number_of, recorded
+from client import CLOSING, ONE_CARD, ONE_CARD_REPLY, STOP, Messages, Server, check, done, fetch, more_descriptors, number_of, recorded
 
 CONNECTIONS = 200
 WORKERS = 2
 # The seconds within which a job of one card is done.
 SOON = 2.0
-
-
-class Messages:
-    """Lines as messages, for those who speak in lines."""
-
-    def __init__(self, stream):
-        self.frames = Frames(stream)
-
-    def ask(self, line):
-        return self.frames.ask(line)
-
-    def close(self):
-        self.frames.close()
 
 
 def one_card(client, since):

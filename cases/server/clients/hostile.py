@@ -9,7 +9,7 @@ import struct
 import sys
 import threading
 import time
-from client import CLOSING, STOP, Frames, Server, cancel, check, done, fetch, is_event, is_open, more_descriptors, number_of, recorded, state
+from client import CLOSING, STOP, Frames, Messages, Server, cancel, check, done, fetch, is_event, is_open, more_descriptors, number_of, recorded, state
 
 CROWD = 1_000
 IDLE = 900
@@ -93,22 +93,6 @@ class Greedy:
             time.sleep(0.001)
         account.add(self.events, self.sent)
         self.connection.close()
-
-
-class Messages:
-    """Lines as messages, for those who speak in lines."""
-
-    def __init__(self, stream):
-        self.frames = Frames(stream)
-
-    def send(self, *lines):
-        self.frames.stream.sendall(b"".join(Frames.frame(Frames.TEXT, line.encode()) for line in lines))
-
-    def line(self):
-        return self.frames.text()
-
-    def close(self):
-        self.frames.close()
 
 
 def honest(account, connection, over, told):
