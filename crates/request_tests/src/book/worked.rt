@@ -251,8 +251,8 @@ fn a_strain_is_split_only_where_no_job_of_the_owner_has_a_free_one(
 1 claims: job 1 part 1 claim 7
 7 claims: job 2 part 4 claim 8
 2 submits B: job 3
-8 claims: job 3 claim 9
-8 claims: job 2 part 8 claim 10
+8 claims: job 2 part 8 claim 9
+8 claims: job 3 claim 10
 9 claims: job 2 part 12 claim 11
 10 claims: job 2 part 16 claim 12
 11 claims: job 1 part 2 claim 13";
