@@ -1,10 +1,18 @@
-//! One later trick. Where no hand has a trump the leader's side can take all tricks only by leads of its own. In a suit that
-//! nobody guards each makes the longer of its two holdings shorter. An opponent guards a suit whose highest cards are the
-//! leader's side's, if any are, and the next one, the honour, its own, with another card for each of those. To one of them, or
-//! before the hand behind has to play one, it plays another card, and else the honour, which wins: so each lead of the suit
-//! takes one of them. It has to throw cards of other suits as long as there are some: so with one card for each suit that it
-//! guards the rounds have to be no more than the tricks left. An opponent with more such cards than it can keep would have to
-//! choose, and nothing is counted.
+//! One later trick. Where no hand has a trump the leader's side can take all tricks only if it leads to each of them. Of a suit the
+//! highest cards left without a gap may be its: the tops, none or more. If one of its hands has more cards than these, the next card is an
+//! opponent's honour. The opponent guards the suit if it has another card for each top, and if the hand behind it, the next to play, has
+//! no top or nothing but tops.
+//!
+//! - A lead of a guarded suit takes a top, or the honour wins. The opponent plays another card where a top has been played, and where the
+//!   hand behind it is still to play and has to play one. Else it plays the honour: no top was played, and none comes behind it. With a
+//!   top gone it has one card fewer, and so still another for each top. So the suit has no more rounds than tops.
+//! - A suit that nobody guards has no more rounds than the longer of the two holdings has cards.
+//! - So if all rounds are fewer than the tricks left, a guarded honour wins in the end, if its owner hasn't had to throw a card that guards
+//!   it. To a suit that it lacks it throws another card. What it keeps is for each suit that it guards a card and one for each top: no more
+//!   than the rounds of these suits and one each. The suit led has a round besides. So it has another card where all rounds, and one for
+//!   each suit that it guards, are no more than the tricks left, which is as many cards as it has.
+//!
+//! An opponent with more such cards than it can keep would have to choose, and nothing is counted.
 ghost use Rattle.std.specs.Prelude.{◌≡◌, ◌≤◌, ◌+◌, ◌&&◌, ◌||◌, ◌==◌, [], true, nat_lt, if◌then◌else◌};
 ghost use Rattle.dd_cards.specs.declared.suit.Suit.TheVariants.{Spades, Hearts, Diamonds, Clubs};
 ghost use Rattle.dd_cards.specs.PlayingCard.{PlayingCard};
