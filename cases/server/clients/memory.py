@@ -54,7 +54,8 @@ def asked(port, line, websocket=False):
 def served(port):
     """The reply to a fetch, None where the connection ends without one."""
     try:
-        with connect(port, timeout=10) as client:
+        # Where no thread can be had for the worker, the program ends when that has waited ten seconds for its last claim.
+        with connect(port, timeout=SOON) as client:
             return client.ask(fetch(1))
     except TimeoutError:
         return "no end"
