@@ -70,13 +70,18 @@ def is_open(reply, job):
     return reply in (state(job, "waiting"), state(job, "running"))
 
 
-def full_deal(drawn):
-    """A deal of all cards, by a random generator."""
+def deal(drawn, cards):
+    """A deal of so many cards a hand, by a random generator."""
     pack = list(range(52))
     drawn.shuffle(pack)
-    hands = [sorted(pack[13 * seat:13 * seat + 13], reverse=True) for seat in range(4)]
+    hands = [sorted(pack[cards * seat:cards * seat + cards], reverse=True) for seat in range(4)]
     suits = [[[card % 13 for card in hand if card // 13 == suit] for suit in range(4)] for hand in hands]
     return "N:" + " ".join(".".join("".join("23456789TJQKA"[rank] for rank in suit) for suit in hand) for hand in suits)
+
+
+def full_deal(drawn):
+    """A deal of all cards, by a random generator."""
+    return deal(drawn, 13)
 
 
 def number_of(reply):

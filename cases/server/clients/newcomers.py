@@ -27,7 +27,7 @@ OVER = 2
 # The seconds for which they come, and those after which each of them goes.
 MINUTE, STAY = 60.0, 1.0
 # How many come where they stay.
-STAYING = 400
+STAYING = 200
 # The seconds that the honest client rests, and those within which its question is done.
 SHORT_REST, REST, LONG_REST, SOON = 0.3, 1.0, 1.5, 2.0
 # Parts that are searched between a reply and the look after it, and submits that are sent and not read.
@@ -162,9 +162,10 @@ def leaving(rate):
 
 def staying(rate):
     server = Server("--allow-stop", workers=1)
-    client, rows = server.connect(300), []
+    client, rows, before = server.connect(300), [], 0
+    # It has had a turn before they come.
+    answered(client.ask(waiting(ONE_CARD)), client)
     newcomers = Newcomers(server, rate, MINUTE, most=STAYING)
-    before = None
     time.sleep(SHORT_REST)
     while newcomers.come_still():
         asked, since = newcomers.asked, time.monotonic()
@@ -174,7 +175,7 @@ def staying(rate):
         left -= events_left(client.line())
         # Besides the newcomers' submits there are its own, its claim and finish, and its fetches.
         parts = (left - more - 3 - answered(reply, client)) // 2
-        rows.append((taken, parts, asked if before is None else before))
+        rows.append((taken, parts, before))
         before = newcomers.asked
         time.sleep(REST)
     newcomers.join()
