@@ -14,16 +14,15 @@ use Rattle.dd_desk.specs.Faults.{IsOfCall}
 use Rattle.dd_desk.specs.Receipts.{PassOf}
 use Rattle.dd_desk.specs.Replies.{IsAnswered}
 
--- a worker has a part under this claim or has none, as this tells, after a journal that one thread could have made
-pub record SeesRunning (worker job claim : ℕ) (runs : Bool) : Type 0 where
-  pub limits : LimitsOf
+-- a worker has a part under this claim or has none, as this tells, at a desk of these limits after a journal that one thread could
+-- have made
+pub record SeesRunning (limits : LimitsOf) (worker job claim : ℕ) (runs : Bool) : Type 0 where
   pub journal : List EventOf
   pub legal : IsLegal limits journal
   pub sees : runs ≡ runs_at (replay limits journal).jobs worker job claim
 
--- the caller has an open job or has none, as this tells, after a journal that one thread could have made
-pub record SeesOpen (caller : ℕ) (has : Bool) : Type 0 where
-  pub limits : LimitsOf
+-- the caller has an open job or has none, as this tells, at a desk of these limits after a journal that one thread could have made
+pub record SeesOpen (limits : LimitsOf) (caller : ℕ) (has : Bool) : Type 0 where
   pub journal : List EventOf
   pub legal : IsLegal limits journal
   pub sees : has ≡ nat_le 1 (open_of caller (replay limits journal).jobs)
@@ -41,9 +40,8 @@ abbrev pub is_ended_job : Option JobOf → Bool
 is_ended_job None = false
 is_ended_job (Some job) = not (is_open job)
 
--- this caller's job of this number has ended, after a journal that one thread could have made
-pub record SeesEnd (caller job : ℕ) : Type 0 where
-  pub limits : LimitsOf
+-- this caller's job of this number has ended, at a desk of these limits after a journal that one thread could have made
+pub record SeesEnd (limits : LimitsOf) (caller job : ℕ) : Type 0 where
   pub journal : List EventOf
   pub legal : IsLegal limits journal
   pub sees : is_ended_job (own_job (replay limits journal).jobs caller job) ≡ true
@@ -54,8 +52,8 @@ FindsNoEnd job reply = (reply ≡ Cancelled job) ⊎ (reply ≡ Fault UnknownJob
 
 -- The pass before and after a job of its is cancelled if need be: the job has ended, and the pass is as it was; or the cancel
 -- is answered, by one receipt; or it is refused, and the pass is as it was.
-abbrev pub IsToldIfOpen : PassOf → ℕ → Result (Option Reply) DeskFault → PassOf → Type 0
-IsToldIfOpen before job (Ok None) after = SeesEnd before.number job × (after ≡ before)
-IsToldIfOpen before job (Ok (Some reply)) after =
-    IsAnswered before (Cancel before.number job) reply after × FindsNoEnd job reply
-IsToldIfOpen before job (Err fault) after = IsOfCall fault × (after ≡ before)
+abbrev pub IsToldIfOpen : LimitsOf → PassOf → ℕ → Result (Option Reply) DeskFault → PassOf → Type 0
+IsToldIfOpen limits before job (Ok None) after = SeesEnd limits before.number job × (after ≡ before)
+IsToldIfOpen limits before job (Ok (Some reply)) after =
+    IsAnswered limits before (Cancel before.number job) reply after × FindsNoEnd job reply
+IsToldIfOpen limits before job (Err fault) after = IsOfCall fault × (after ≡ before)

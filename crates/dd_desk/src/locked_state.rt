@@ -122,7 +122,7 @@ impl<J: Naming> LockedState<J> {
 
     /// Has the caller an open job?
     pub(crate) fn has_open(&self, caller: u64) -> bool
-        ensures { SeesOpen caller result }
+        ensures { SeesOpen J.limits caller result }
     {
         self.history.has_open(caller)
     }
@@ -139,7 +139,7 @@ impl<J: Naming> LockedState<J> {
 
     /// Has this worker a part of the job of this number under this claim number?
     pub(crate) fn still_runs(&self, worker: u64, job: u64, claim: u64) -> bool
-        ensures { SeesRunning worker job claim result }
+        ensures { SeesRunning J.limits worker job claim result }
     {
         self.history.runs(worker, job, claim)
     }

@@ -122,7 +122,7 @@ impl<'a, J: Naming, R: Wait + Clock> BookPort for RunPort<'a, J, R> {
 
     ghost refusals = { λ s. refusals_by s.port.refused s.port.port };
 
-    ghost ended = { λ s job. HasEndedBy s.port.port job };
+    ghost ended = { λ s job. HasEndedBy J.limits s.port.port job };
 
     ghost shows = { λ s health. IsHealth J.limits s.port.workers health };
 

@@ -71,7 +71,7 @@ impl<J: Naming, R: Wait> SessionStream<'_, J, R> {
 
     // Has this caller an open job? Who has no pass has none.
     fn is_open(&self, caller: Option<u64>) -> bool
-        ensures { MatchOption caller (result ≡ false) (λ number. SeesOpen number result) }
+        ensures { MatchOption caller (result ≡ false) (λ number. SeesOpen J.limits number result) }
     {
         match caller {
             Some(number) => self.state.desk.has_open(self.rt, number),

@@ -4,6 +4,7 @@ use Rattle.std.specs.Prelude.{MatchOption, slice_get}
 use Rattle.std.proofs.lemmas.List.{drop-append-le}
 use Rattle.dd_book.specs.declared.call.Call.TheVariants as call
 use Rattle.dd_book.specs.declared.call.Reply.{Reply}
+use Rattle.dd_book.specs.Limits.{LimitsOf}
 use Rattle.dd_desk.specs.declared.fault.DeskFault.{DeskFault}
 use Rattle.dd_desk.specs.Looks.{IsToldIfOpen, SeesEnd}
 use Rattle.dd_desk.specs.Receipts.{PassOf, ReceiptOf, receipt}
@@ -45,127 +46,128 @@ gives-up-more ended (job ∷ jobs) more news later refused others (inr (inl (rep
 gives-up-more ended (job ∷ jobs) more news later refused others (inr (inr (fewer, count, gives))) rest =
     inr (inr (fewer + others, omega (arith, count), gives-up-more ended jobs more news later fewer others gives rest))
 
--- ---- by a pass
-
--- no job
-pub gives-none : (pass : PassOf) (count : ℕ) → GivesUpAt [] pass count pass count
-gives-none pass count =
-    record { number = refl; gained = []; receipts = sym (append-nil pass.receipts); refused = 0; gives_up = (refl, refl); counts = refl }
-
--- a receipt that made none
-pub gives-nothing : (found : Option ReceiptOf) (pass : PassOf) (count : ℕ) → MatchOption found ⊥ (λ r. own_jobs (told_of r.call r.reply) ≡ [])
-    → MatchOption found ⊥ (λ r. GivesUpAt (own_jobs (told_of r.call r.reply)) pass count pass count)
-gives-nothing None pass count none = absurd none
-gives-nothing (Some r) pass count none = subst (λ (jobs : List ℕ). GivesUpAt jobs pass count pass count) (sym none) (gives-none pass count)
-
--- one job that has ended, or whose cancel was told
-pub gives-one : (before after : PassOf) (job count : ℕ) (told : Option Reply) → IsToldIfOpen before job (Ok told) after → GivesUpAt (job ∷ []) before count after count
-gives-one before after job count None (ends, same) =
-    record {
-      number = ap (λ (p : PassOf). p.number) same;
-      gained = [];
-      receipts = ap (λ (p : PassOf). p.receipts) same ∙ sym (append-nil before.receipts);
-      refused = 0;
-      gives_up = inl (ends, (refl, refl));
-      counts = refl;
-    }
-gives-one before after job count (Some reply) (answered, finds) =
-    record {
-      number = ap (λ (p : PassOf). p.number) answered.gained;
-      gained = receipt (length answered.journal) (call.Cancel before.number job) reply ∷ [];
-      receipts = ap (λ (p : PassOf). p.receipts) answered.gained;
-      refused = 0;
-      gives_up = inr (inl (reply, [], finds, refl, (refl, refl)));
-      counts = refl;
-    }
-
--- one whose cancel was refused
-pub refuses-one : (before after : PassOf) (job count counted : ℕ) (fault : DeskFault) → IsToldIfOpen before job (Err fault) after → counted ≡ one_more count
-    → GivesUpAt (job ∷ []) before count after counted
-refuses-one before after job count counted fault (of_call, same) more =
-    record {
-      number = ap (λ (p : PassOf). p.number) same;
-      gained = [];
-      receipts = ap (λ (p : PassOf). p.receipts) same ∙ sym (append-nil before.receipts);
-      refused = 1;
-      gives_up = inr (inr (0, refl, (refl, refl)));
-      counts = more;
-    }
-
--- some jobs, and then more
-gives-more : (jobs more : List ℕ) (before mid after : PassOf) (count between counted : ℕ) → GivesUpAt jobs before count mid between → GivesUpAt more mid between after counted
-    → GivesUpAt (jobs ++ more) before count after counted
-gives-more jobs more before mid after count between counted first then =
-    record {
-      number = then.number ∙ first.number;
-      gained = first.gained ++ then.gained;
-      receipts = then.receipts ∙ ap (λ (l : List ReceiptOf). l ++ then.gained) first.receipts ∙ append_assoc before.receipts first.gained then.gained;
-      refused = first.refused + then.refused;
-      gives_up = subst (λ (t : List Exchange). GivesUp (SeesEnd before.number) (jobs ++ more) t (first.refused + then.refused)) (sym (told_in-append first.gained then.gained))
-          (gives-up-more (SeesEnd before.number) jobs more (told_in first.gained) (told_in then.gained) first.refused then.refused first.gives_up
-          (subst (λ (n : ℕ). GivesUp (SeesEnd n) more (told_in then.gained) then.refused) first.number then.gives_up));
-      counts = then.counts ∙ ap (λ (n : ℕ). count_more n then.refused) first.counts ∙ count_more-add count first.refused then.refused;
-    }
-
--- ---- one receipt after the other
-
 -- the jobs of the receipts before this place are given up: whatever gives up the others, gives up all from the first on
-pub record GoesOver (start : PassOf) (first count place : ℕ) (now : PassOf) (counted : ℕ) : Type 0 where
+pub record GoesOver (limits : LimitsOf) (start : PassOf) (first count place : ℕ) (now : PassOf) (counted : ℕ) : Type 0 where
   pub gained : List ReceiptOf
   pub receipts : now.receipts ≡ start.receipts ++ gained
-  pub more : (after : PassOf) (total : ℕ) → GivesUpAt (own_jobs (told_in (drop place start.receipts))) now counted after total
-      → GivesUpAt (own_jobs (told_in (drop first start.receipts))) start count after total
+  pub more : (after : PassOf) (total : ℕ) → GivesUpAt limits (own_jobs (told_in (drop place start.receipts))) now counted after total
+      → GivesUpAt limits (own_jobs (told_in (drop first start.receipts))) start count after total
 
--- at the first place
-pub goes-start : (start : PassOf) (first count : ℕ) → GoesOver start first count first start count
-goes-start start first count = record { gained = []; receipts = sym (append-nil start.receipts); more = λ after total gives. gives }
-
--- one place further
-goes-step : (start : PassOf) (first count place : ℕ) (now after : PassOf) (counted total : ℕ) (r : ReceiptOf) → GoesOver start first count place now counted → Splits start.receipts place r
-    → GivesUpAt (own_jobs (told_of r.call r.reply)) now counted after total → GoesOver start first count (place + 1) after total
-goes-step start first count place now after counted total r over splits gives =
-    let next : suc place ≡ place + 1 = omega arith in
-    record {
-      gained = over.gained ++ gives.gained;
-      receipts = gives.receipts ∙ ap (λ (l : List ReceiptOf). l ++ gives.gained) over.receipts ∙ append_assoc start.receipts over.gained gives.gained;
-      more = λ later sum rest. over.more later sum (subst (λ (jobs : List ℕ). GivesUpAt jobs now counted later sum) (sym splits)
-          (gives-more (own_jobs (told_of r.call r.reply)) (own_jobs (told_in (drop (suc place) start.receipts))) now after later counted total sum gives
-          (subst (λ (n : ℕ). GivesUpAt (own_jobs (told_in (drop n start.receipts))) after total later sum) (sym next) rest)));
-    }
-
-pub goes-further : (start : PassOf) (first count place : ℕ) (now after : PassOf) (counted total : ℕ) → place < length start.receipts → GoesOver start first count place now counted
-    → MatchOption (slice_get now.receipts place) ⊥ (λ r. GivesUpAt (own_jobs (told_of r.call r.reply)) now counted after total) → GoesOver start first count (place + 1) after total
-goes-further start first count place now after counted total within over gives =
-    go (slice_get now.receipts place) (subst (λ (rs : List ReceiptOf). MatchOption (slice_get rs place) ⊥ (λ r. Splits start.receipts place r)) (sym over.receipts) (splits-at start.receipts over.gained place within)) gives
-  where
-    go : (found : Option ReceiptOf) → MatchOption found ⊥ (λ r. Splits start.receipts place r) → MatchOption found ⊥ (λ r. GivesUpAt (own_jobs (told_of r.call r.reply)) now counted after total)
-        → GoesOver start first count (place + 1) after total
-    go None none some = absurd none
-    go (Some r) splits some = goes-step start first count place now after counted total r over splits some
-
--- at the end
+-- what is left behind the last place
 drop-whole : (rs : List ReceiptOf) (n : ℕ) → n ≡ length rs → drop n rs ≡ []
 drop-whole [] zero is = refl
 drop-whole [] (suc n) is = absurd (omega (arith, is))
 drop-whole (r ∷ rs) zero is = absurd (omega (arith, is))
 drop-whole (r ∷ rs) (suc n) is = drop-whole rs n (omega (arith, is))
 
-pub goes-end : (start : PassOf) (first count place : ℕ) (now : PassOf) (counted : ℕ) → place ≡ length start.receipts → GoesOver start first count place now counted
-    → GivesUpAt (own_jobs (told_in (drop first start.receipts))) start count now counted
-goes-end start first count place now counted end over =
-    over.more now counted (subst (λ (rs : List ReceiptOf). GivesUpAt (own_jobs (told_in rs)) now counted now counted) (sym (drop-whole start.receipts place end)) (gives-none now counted))
+-- ---- by a pass
 
--- ---- and what the port then tells
+module _ {limits : LimitsOf} where
+  -- no job
+  pub gives-none : (pass : PassOf) (count : ℕ) → GivesUpAt limits [] pass count pass count
+  gives-none pass count =
+      record { number = refl; gained = []; receipts = sym (append-nil pass.receipts); refused = 0; gives_up = (refl, refl); counts = refl }
 
-pub Leaves-desk : (before after : PassOf) (n count counted : ℕ) → n ≤ length before.receipts → GivesUpAt (own_jobs (told_in (drop n before.receipts))) before count after counted
-    → Leaves (SeesEnd after.number) (port_of (told_in (drop n before.receipts)) count) (port_of (told_in (drop n after.receipts)) counted)
-Leaves-desk before after n count counted within gives = (
-  told_in gives.gained,
-  gives.refused,
-  subst (λ (k : ℕ). GivesUp (SeesEnd k) (own_jobs (told_in (drop n before.receipts))) (told_in gives.gained) gives.refused) (sym gives.number) gives.gives_up,
-  ap (λ (l : List Exchange). port_of l counted)
-      (ap (λ (rs : List ReceiptOf). told_in (drop n rs)) gives.receipts
-      ∙ ap told_in (drop-append-le n before.receipts gives.gained within)
-      ∙ told_in-append (drop n before.receipts) gives.gained)
-      ∙ ap (λ (k : ℕ). port_of (told_in (drop n before.receipts) ++ told_in gives.gained) k) gives.counts,
-)
+  -- one job that has ended, or whose cancel was told
+  pub gives-one : (before after : PassOf) (job count : ℕ) (told : Option Reply) → IsToldIfOpen limits before job (Ok told) after → GivesUpAt limits (job ∷ []) before count after count
+  gives-one before after job count None (ends, same) =
+      record {
+        number = ap (λ (p : PassOf). p.number) same;
+        gained = [];
+        receipts = ap (λ (p : PassOf). p.receipts) same ∙ sym (append-nil before.receipts);
+        refused = 0;
+        gives_up = inl (ends, (refl, refl));
+        counts = refl;
+      }
+  gives-one before after job count (Some reply) (answered, finds) =
+      record {
+        number = ap (λ (p : PassOf). p.number) answered.gained;
+        gained = receipt (length answered.journal) (call.Cancel before.number job) reply ∷ [];
+        receipts = ap (λ (p : PassOf). p.receipts) answered.gained;
+        refused = 0;
+        gives_up = inr (inl (reply, [], finds, refl, (refl, refl)));
+        counts = refl;
+      }
+
+  -- one whose cancel was refused
+  pub refuses-one : (before after : PassOf) (job count counted : ℕ) (fault : DeskFault) → IsToldIfOpen limits before job (Err fault) after → counted ≡ one_more count
+      → GivesUpAt limits (job ∷ []) before count after counted
+  refuses-one before after job count counted fault (of_call, same) more =
+      record {
+        number = ap (λ (p : PassOf). p.number) same;
+        gained = [];
+        receipts = ap (λ (p : PassOf). p.receipts) same ∙ sym (append-nil before.receipts);
+        refused = 1;
+        gives_up = inr (inr (0, refl, (refl, refl)));
+        counts = more;
+      }
+
+  -- some jobs, and then more
+  gives-more : (jobs more : List ℕ) (before mid after : PassOf) (count between counted : ℕ) → GivesUpAt limits jobs before count mid between → GivesUpAt limits more mid between after counted
+      → GivesUpAt limits (jobs ++ more) before count after counted
+  gives-more jobs more before mid after count between counted first then =
+      record {
+        number = then.number ∙ first.number;
+        gained = first.gained ++ then.gained;
+        receipts = then.receipts ∙ ap (λ (l : List ReceiptOf). l ++ then.gained) first.receipts ∙ append_assoc before.receipts first.gained then.gained;
+        refused = first.refused + then.refused;
+        gives_up = subst (λ (t : List Exchange). GivesUp (SeesEnd limits before.number) (jobs ++ more) t (first.refused + then.refused)) (sym (told_in-append first.gained then.gained))
+            (gives-up-more (SeesEnd limits before.number) jobs more (told_in first.gained) (told_in then.gained) first.refused then.refused first.gives_up
+            (subst (λ (n : ℕ). GivesUp (SeesEnd limits n) more (told_in then.gained) then.refused) first.number then.gives_up));
+        counts = then.counts ∙ ap (λ (n : ℕ). count_more n then.refused) first.counts ∙ count_more-add count first.refused then.refused;
+      }
+
+  -- ---- one receipt after the other
+  -- at the first place
+  pub goes-start : (start : PassOf) (first count : ℕ) → GoesOver limits start first count first start count
+  goes-start start first count = record { gained = []; receipts = sym (append-nil start.receipts); more = λ after total gives. gives }
+
+  -- one place further
+  goes-step : (start : PassOf) (first count place : ℕ) (now after : PassOf) (counted total : ℕ) (r : ReceiptOf) → GoesOver limits start first count place now counted → Splits start.receipts place r
+      → GivesUpAt limits (own_jobs (told_of r.call r.reply)) now counted after total → GoesOver limits start first count (place + 1) after total
+  goes-step start first count place now after counted total r over splits gives =
+      let next : suc place ≡ place + 1 = omega arith in
+      record {
+        gained = over.gained ++ gives.gained;
+        receipts = gives.receipts ∙ ap (λ (l : List ReceiptOf). l ++ gives.gained) over.receipts ∙ append_assoc start.receipts over.gained gives.gained;
+        more = λ later sum rest. over.more later sum (subst (λ (jobs : List ℕ). GivesUpAt limits jobs now counted later sum) (sym splits)
+            (gives-more (own_jobs (told_of r.call r.reply)) (own_jobs (told_in (drop (suc place) start.receipts))) now after later counted total sum gives
+            (subst (λ (n : ℕ). GivesUpAt limits (own_jobs (told_in (drop n start.receipts))) after total later sum) (sym next) rest)));
+      }
+
+  pub goes-further : (start : PassOf) (first count place : ℕ) (now after : PassOf) (counted total : ℕ) → place < length start.receipts → GoesOver limits start first count place now counted
+      → MatchOption (slice_get now.receipts place) ⊥ (λ r. GivesUpAt limits (own_jobs (told_of r.call r.reply)) now counted after total) → GoesOver limits start first count (place + 1) after total
+  goes-further start first count place now after counted total within over gives =
+      go (slice_get now.receipts place) (subst (λ (rs : List ReceiptOf). MatchOption (slice_get rs place) ⊥ (λ r. Splits start.receipts place r)) (sym over.receipts) (splits-at start.receipts over.gained place within)) gives
+    where
+      go : (found : Option ReceiptOf) → MatchOption found ⊥ (λ r. Splits start.receipts place r) → MatchOption found ⊥ (λ r. GivesUpAt limits (own_jobs (told_of r.call r.reply)) now counted after total)
+          → GoesOver limits start first count (place + 1) after total
+      go None none some = absurd none
+      go (Some r) splits some = goes-step start first count place now after counted total r over splits some
+
+  -- at the end
+  pub goes-end : (start : PassOf) (first count place : ℕ) (now : PassOf) (counted : ℕ) → place ≡ length start.receipts → GoesOver limits start first count place now counted
+      → GivesUpAt limits (own_jobs (told_in (drop first start.receipts))) start count now counted
+  goes-end start first count place now counted end over =
+      over.more now counted (subst (λ (rs : List ReceiptOf). GivesUpAt limits (own_jobs (told_in rs)) now counted now counted) (sym (drop-whole start.receipts place end)) (gives-none now counted))
+
+  -- ---- and what the port then tells
+
+  pub Leaves-desk : (before after : PassOf) (n count counted : ℕ) → n ≤ length before.receipts → GivesUpAt limits (own_jobs (told_in (drop n before.receipts))) before count after counted
+      → Leaves (SeesEnd limits after.number) (port_of (told_in (drop n before.receipts)) count) (port_of (told_in (drop n after.receipts)) counted)
+  Leaves-desk before after n count counted within gives = (
+    told_in gives.gained,
+    gives.refused,
+    subst (λ (k : ℕ). GivesUp (SeesEnd limits k) (own_jobs (told_in (drop n before.receipts))) (told_in gives.gained) gives.refused) (sym gives.number) gives.gives_up,
+    ap (λ (l : List Exchange). port_of l counted)
+        (ap (λ (rs : List ReceiptOf). told_in (drop n rs)) gives.receipts
+        ∙ ap told_in (drop-append-le n before.receipts gives.gained within)
+        ∙ told_in-append (drop n before.receipts) gives.gained)
+        ∙ ap (λ (k : ℕ). port_of (told_in (drop n before.receipts) ++ told_in gives.gained) k) gives.counts,
+  )
+
+-- a receipt that made none
+pub gives-nothing : (limits : LimitsOf) (found : Option ReceiptOf) (pass : PassOf) (count : ℕ) → MatchOption found ⊥ (λ r. own_jobs (told_of r.call r.reply) ≡ [])
+    → MatchOption found ⊥ (λ r. GivesUpAt limits (own_jobs (told_of r.call r.reply)) pass count pass count)
+gives-nothing limits None pass count none = absurd none
+gives-nothing limits (Some r) pass count none = subst (λ (jobs : List ℕ). GivesUpAt limits jobs pass count pass count) (sym none) (gives-none pass count)

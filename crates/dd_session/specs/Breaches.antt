@@ -1,5 +1,5 @@
 -- To be believed: what the peer of a WebSocket is told of what it sent against the protocol (RFC 6455, section 7.4.1).
-use Rattle.std.specs.Prelude.{◌≡◌, ⊤, ℕ, List, [], Option, None, Some}
+use Rattle.std.specs.Prelude.{◌≡◌, ℕ, List, [], Option, None, Some}
 use Rattle.tungstenite.specs.Connection.{close_step}
 use Rattle.tungstenite.specs.Socket.{Socket, Writes}
 use Rattle.tungstenite.specs.declared.error.Error.{Error}

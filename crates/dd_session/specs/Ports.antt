@@ -2,6 +2,7 @@
 use Rattle.std.specs.Prelude.{◌≡◌, ℕ, zero, suc, List, [], ◌∷◌, ◌++◌, length, drop, ◌-◌, Option, None, Some, option_map, slice_get, Result, Ok, Err}
 use Rattle.dd_book.specs.declared.call.Call.{Call}
 use Rattle.dd_book.specs.declared.call.Reply.{Reply}
+use Rattle.dd_book.specs.Limits.{LimitsOf}
 use Rattle.dd_desk.specs.declared.fault.DeskFault.{DeskFault}
 use Rattle.dd_desk.specs.Faults.{IsOfCall}
 use Rattle.dd_desk.specs.Looks.{SeesEnd}
@@ -123,10 +124,10 @@ abbrev pub receipts_by : Option DeskPortOf → List ReceiptOf
 receipts_by None = []
 receipts_by (Some port) = port.pass.receipts
 
--- what it has seen of a job that it made: the job has ended
-abbrev pub HasEndedBy : Option DeskPortOf → ℕ → Type 0
-HasEndedBy None job = ⊥
-HasEndedBy (Some port) job = SeesEnd port.pass.number job
+-- what it has seen, at a desk of these limits, of a job that it made: the job has ended
+abbrev pub HasEndedBy : LimitsOf → Option DeskPortOf → ℕ → Type 0
+HasEndedBy limits None job = ⊥
+HasEndedBy limits (Some port) job = SeesEnd limits port.pass.number job
 
 -- the number of its pass
 abbrev pub number_of : Option DeskPortOf → Option ℕ

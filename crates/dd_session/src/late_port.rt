@@ -102,7 +102,7 @@ impl<'a, J: Naming, R: Wait + Clock> BookPort for LatePort<'a, J, R> {
 
     ghost refusals = { λ p. refusals_by p.refused p.port };
 
-    ghost ended = { λ p job. HasEndedBy p.port job };
+    ghost ended = { λ p job. HasEndedBy J.limits p.port job };
 
     ghost shows = { λ p health. IsHealth J.limits p.workers health };
 
@@ -143,7 +143,7 @@ impl<'a, J: Naming, R: Wait + Clock> BookPort for LatePort<'a, J, R> {
     // Who has no pass has no job, and takes none.
     fn leave(&mut self)
         ensures none { self.old.port ≡ None → self.new.port ≡ None }
-        ensures leaves { Leaves (HasEndedBy self.new.port)
+        ensures leaves { Leaves (HasEndedBy J.limits self.new.port)
             (port_of (told_by self.old.port) (refusals_by self.old.refused self.old.port))
             (port_of (told_by self.new.port) (refusals_by self.new.refused self.new.port)) }
     {
@@ -231,7 +231,7 @@ fn fetch_at<J: Naming, R: Wait + Clock>(
 // The port is left, if it is there.
 fn leave_at<J: Naming, R: Wait + Clock>(port: &mut Option<DeskPort<'_, J, R>>)
     ensures none { port.old ≡ None → port.new ≡ None }
-    ensures leaves { (refused : ℕ) → Leaves (HasEndedBy port.new)
+    ensures leaves { (refused : ℕ) → Leaves (HasEndedBy J.limits port.new)
         (port_of (told_by port.old) (refusals_by refused port.old))
         (port_of (told_by port.new) (refusals_by refused port.new)) }
 {

@@ -21,7 +21,7 @@ pub(crate) fn give_up_jobs<J: Naming, R: Wait>(
     refusals: u64,
 ) -> u64
     requires { before ≤ length pass.old.receipts }
-    ensures { GivesUpAt (own_jobs (told_in (drop before pass.old.receipts)))
+    ensures { GivesUpAt J.limits (own_jobs (told_in (drop before pass.old.receipts)))
         pass.old refusals pass.new result }
 {
     let count = pass.receipts().len();
@@ -42,7 +42,7 @@ fn give_up_at<J: Naming, R: Wait>(
 ) -> u64
     requires { place < length pass.old.receipts }
     ensures { MatchOption (slice_get pass.old.receipts place) ⊥ (λ receipt.
-        GivesUpAt (own_jobs (told_of receipt.call receipt.reply))
+        GivesUpAt J.limits (own_jobs (told_of receipt.call receipt.reply))
         pass.old refusals pass.new result) }
 {
     match made_at(pass, place) {
@@ -82,7 +82,7 @@ fn give_up<J: Naming, R: Wait>(
     job: u64,
     refusals: u64,
 ) -> u64
-    ensures { GivesUpAt (job ∷ []) pass.old refusals pass.new result }
+    ensures { GivesUpAt J.limits (job ∷ []) pass.old refusals pass.new result }
 {
     match desk.cancel_if_open(rt, pass, job) {
         Ok(_) => refusals,

@@ -160,7 +160,7 @@ impl<'a, J: Naming, R: Wait + Clock> BookPort for DeskPort<'a, J, R> {
 
     ghost refusals = { λ p. p.refusals };
 
-    ghost ended = { λ p job. SeesEnd p.pass.number job };
+    ghost ended = { λ p job. SeesEnd J.limits p.pass.number job };
 
     ghost shows = { λ p health. IsHealth J.limits p.workers health };
 
@@ -211,7 +211,7 @@ fn call<J: Naming, R: Wait>(
     pass: &mut Pass<J>,
     want: Want,
 ) -> Result<Reply, DeskFault>
-    ensures told { IsTold pass.old (call_by pass.old.number want) result pass.new }
+    ensures told { IsTold J.limits pass.old (call_by pass.old.number want) result pass.new }
     ensures stop { want ≡ StopWant → result ≡ Err OutOfMemory → has_shut pass.old.receipts ≡ true }
 {
     match want {
@@ -230,7 +230,7 @@ fn fetch_within<J: Naming, R: Wait + Clock>(
     job: u64,
     wait: u64,
 ) -> Result<Reply, DeskFault>
-    ensures { IsTold pass.old (Fetch pass.old.number job) result pass.new }
+    ensures { IsTold J.limits pass.old (Fetch pass.old.number job) result pass.new }
 {
     let (told, _) = desk.fetch_within(rt, pass, job, Duration::from_millis(wait));
     told

@@ -24,7 +24,7 @@ pub(crate) fn claim<J: Naming, G: Gate, R: Wait + Clock>(
     pass: &mut Pass<J>,
     gate: &G,
 ) -> Result<Reply, DeskFault>
-    ensures told { IsTold pass.old (Claim pass.old.number) result pass.new }
+    ensures told { IsTold J.limits pass.old (Claim pass.old.number) result pass.new }
     ensures ends { IfOk result EndsWait }
 {
     for _ in 0..MOST_RESTS {
@@ -49,7 +49,7 @@ pub(crate) fn finish<J: Naming, G: Gate, R: Wait + Clock>(
     claim: u64,
     outcome: Outcome,
 ) -> Result<Reply, DeskFault>
-    ensures { IsTold pass.old (Finish pass.old.number job claim outcome) result pass.new }
+    ensures { IsTold J.limits pass.old (Finish pass.old.number job claim outcome) result pass.new }
 {
     for _ in 0..MOST_RESTS {
         let told = desk.finish(rt, pass, job, claim, outcome.copy());
