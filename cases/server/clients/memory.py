@@ -1,5 +1,5 @@
 """Memory that is refused to a server, by `cases/tools/refuse.c`, which is built here (a C compiler is needed). Words: which of
-`once`, `start`, `worker`, `stop`, `away`, `lost`, or `idle`, which is left out where none is given.
+`once`, `start`, `worker`, `stop`, `away`, `lost` and `idle` (all).
 
 Each of the first 300 allocations is refused once: a client's job is done, or the client is told (19, the number of a job whose
 fetch was refused, or the end of its connection) and asks anew; a stop ends the program; and a program that can't go on says so,
@@ -13,8 +13,8 @@ one are served, and a stop ends the program within 15 seconds.
 `lost`: memory is never given again. With jobs open the program ends by itself, with status 1: who waits is told 19 or the number of
 its job, each other one by the end of its connection. Without an open job it goes on to say 19, to a stop too, and a signal ends it.
 Where memory goes out when a stop was taken, the program ends within 15 seconds too.
-`idle`: memory is never given again, and of four workers one has a job. The program should end as soon as where all have. It is
-known to take ten seconds more: when the one gives up the others begin to wait for the memory of their last claim."""
+`idle`: memory is never given again, and of four workers one has a job; then of two runs the later one has a job. The program ends
+as soon as where all workers have one: when this gives up, the others find no memory for their last claim, and wait for none."""
 import concurrent.futures
 import contextlib
 import os
@@ -32,6 +32,8 @@ ALLOCATIONS, STARTS = 300, 150
 AWAY, SOON = 10, 15
 # So many tables are open when memory goes, of one who stays and of one who leaves.
 TABLES, LEFT = 6, 2
+# The least that the events of a run may be, and how many of them are made so that it is used up.
+EVENTS, USED = 1_024, 768
 SHIM = os.path.join(CASES, "tools", "refuse.c")
 OUT, SHORT = "ddserve: out of memory\n", "ddserve: memory is short: a worker waits for it\n"
 HEALTH = '{"do":"health"}'
@@ -360,22 +362,37 @@ def lost(shim, folder):
         lost_with_jobs(shim, next(places), websocket, workers)
 
 
-def idle(shim, folder):
-    out = os.path.join(folder, "out")
-    with start(shim, "--budget", "0", workers=4, OUT=out) as process:
-        client = connect(port_of(process), timeout=90)
+def use_up(client):
+    """Makes the events by which a run takes no more jobs."""
+    for _ in range(USED):
+        check("a fetch", client.ask(fetch(1)), '{"fault":16}')
+    check("a submit", client.ask(ONE_CARD), '{"fault":15}')
+
+
+def idle_beside_one(shim, out, where, *options, prepare=lambda client: None):
+    with start(shim, "--budget", "0", *options, workers=4, OUT=out) as process:
+        port = port_of(process)
+        before = connect(port, timeout=90)
+        prepare(before)
+        client = connect(port, timeout=90)
         number_of(client.ask(recorded("full", 1)[0][0]))
         open(out, "w").close()
         taken = end(process, 8, 4 * SOON, SHORT + OUT)
+        before.close()
         client.close()
-    print(f"memory: lost where one of four workers has a job: the program ends after {taken:.1f} s", flush=True)
+    print(f"memory: lost where {where}: the program ends after {taken:.1f} s", flush=True)
     check(f"the end after {taken:.1f} s", taken < SOON, True)
+
+
+def idle(shim, folder):
+    idle_beside_one(shim, os.path.join(folder, "out1"), "one of four workers has a job")
+    idle_beside_one(shim, os.path.join(folder, "out2"), "a worker of the later of two runs has a job", "--events", str(EVENTS), prepare=use_up)
 
 
 with tempfile.TemporaryDirectory() as folder:
     shim = os.path.join(folder, "shim.so")
     subprocess.run(["cc", "-O2", "-shared", "-fPIC", "-o", shim, SHIM], check=True)
     kinds = {"once": once, "start": at_start, "worker": for_worker, "stop": stop, "away": away, "lost": lost, "idle": idle}
-    for kind in sys.argv[1:] or [kind for kind in kinds if kind != "idle"]:
+    for kind in sys.argv[1:] or kinds:
         with tempfile.TemporaryDirectory() as place:
             kinds[kind](shim, place)

@@ -24,7 +24,7 @@ pub(crate) struct RunState<'a, J: Naming> {
     pub(crate) stop: RunStop,
     // The run is used up: it takes no more jobs, nor connections.
     pub(crate) worn: AtomicBool,
-    // A worker left since memory stays out.
+    // A worker of the run left since memory stays out.
     pub(crate) lacks_memory: AtomicBool,
     pub(crate) ghost same: { limits ≡ J.limits },
 }

@@ -22,6 +22,8 @@ pub(crate) struct ServerState {
     pub(crate) stop: Stop,
     // It was said that memory is short.
     pub(crate) told_short: AtomicBool,
+    // A worker left since memory stays out.
+    pub(crate) lacks_memory: AtomicBool,
 }
 
 impl ServerState {
@@ -50,6 +52,7 @@ impl ServerState {
             table,
             stop,
             told_short: AtomicBool::new(false),
+            lacks_memory: AtomicBool::new(false),
         })
     }
 }

@@ -31,8 +31,14 @@ impl<J: Naming, R: Eprint, G: Gate> Gate for WorkerGate<'_, J, R, G> {
         self.gate.short()
     }
 
+    // Where one worker gave up, of whichever run, none waits on for its last calls: the server ends.
+    fn may_rest(&self) -> bool {
+        !self.state.server.lacks_memory.load(Ordering::SeqCst) && self.gate.may_rest()
+    }
+
     fn give_up(&self) {
         self.state.lacks_memory.store(true, Ordering::SeqCst);
+        self.state.server.lacks_memory.store(true, Ordering::SeqCst);
         self.state.server.stop.fail(ServeFault::OutOfMemory);
         self.gate.give_up()
     }

@@ -17,7 +17,7 @@ const REST: u64 = 100;
 /// How often it asks again: for some ten seconds.
 const MOST_RESTS: u32 = 100;
 
-/// A part to work on, or `Closing`. Where memory is short it rests, holding nothing, and asks again.
+/// A part to work on, or `Closing`. Where memory is short it rests, holding nothing, and asks again, as long as the gate lets it.
 pub(crate) fn claim<J: Naming, G: Gate, R: Wait + Clock>(
     rt: &R,
     desk: &Desk<J>,
@@ -29,10 +29,9 @@ pub(crate) fn claim<J: Naming, G: Gate, R: Wait + Clock>(
 {
     for _ in 0..MOST_RESTS {
         let told = desk.claim(rt, pass);
-        if !is_short(&told) {
+        if !is_short(&told) || !rests(rt, gate) {
             return told;
         }
-        rest(rt, gate);
     }
     let told = desk.claim(rt, pass);
     tell_end(gate, &told);
@@ -53,10 +52,9 @@ pub(crate) fn finish<J: Naming, G: Gate, R: Wait + Clock>(
 {
     for _ in 0..MOST_RESTS {
         let told = desk.finish(rt, pass, job, claim, outcome.copy());
-        if !is_short(&told) {
+        if !is_short(&told) || !rests(rt, gate) {
             return told;
         }
-        rest(rt, gate);
     }
     let told = desk.finish(rt, pass, job, claim, outcome);
     tell_end(gate, &told);
@@ -77,7 +75,13 @@ fn tell_end<G: Gate>(gate: &G, told: &Result<Reply, DeskFault>) {
     }
 }
 
-fn rest<G: Gate, R: Clock>(rt: &R, gate: &G) {
+// Rests before the next call, if the gate lets it. If not, memory stays out, and the gate is told.
+fn rests<G: Gate, R: Clock>(rt: &R, gate: &G) -> bool {
+    if !gate.may_rest() {
+        gate.give_up();
+        return false;
+    }
     gate.short();
     thread::sleep(rt, Duration::from_millis(REST));
+    true
 }

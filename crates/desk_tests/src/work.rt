@@ -4,4 +4,5 @@ mod cancelled;
 mod gate;
 mod lines;
 mod rows;
+mod short;
 mod worked;
