@@ -8,8 +8,8 @@ Where no list can grow any more, a client that is told 19 stops the program all 
 
 `away`: with jobs open every allocation is refused for ten seconds, and then each is given again. Meanwhile a client on an old
 connection is told 19 each time (over a WebSocket its connection ends), a new connection ends or is told 19, one that leaves
-leaves, and one that waits waits. Then the server goes on: each job that was taken is done and right, the old connection and a new
-one are served, and a stop ends the program within 15 seconds.
+leaves, and one that waits waits. Then the server goes on: each job that was taken is done and right, or cancelled where its client
+has left, the old connection and a new one are served, and a stop ends the program within 15 seconds.
 `lost`: memory is never given again. With jobs open the program ends by itself, with status 1: who waits is told 19 or the number of
 its job, each other one by the end of its connection. Without an open job it goes on to say 19, to a stop too, and a signal ends it.
 Where memory goes out when a stop was taken, the program ends within 15 seconds too.
@@ -30,8 +30,8 @@ from client import CASES, CLOSING, ONE_CARD, ONE_CARD_REPLY, PROGRAM, STOP, Line
 ALLOCATIONS, STARTS = 300, 150
 # For how many seconds memory is away, and within how many a program ends after a stop, a signal, or when memory is lost.
 AWAY, SOON = 10, 15
-# So many tables are open when memory goes, of one who stays and of one who leaves.
-TABLES, LEFT = 6, 2
+# So many tables are open when memory goes, of one who stays and of one who leaves; and the events of a table that is searched whole.
+TABLES, LEFT, WHOLE = 6, 2, 40
 # The least that the events of a run may be, and how many of them are made so that it is used up.
 EVENTS, USED = 1_024, 768
 SHIM = os.path.join(CASES, "tools", "refuse.c")
@@ -251,7 +251,7 @@ def away_for(shim, out, websocket):
         for number, (_, expected) in zip(clients.jobs, clients.rows[1:]):
             clients.awaits(clients.holder, clients.ask(clients.holder, waiting(fetch(number))), expected)
         # The fetch of who waited; of jobs that are done two events a part; the new connection's question.
-        clients.events += 1 + 40 * (TABLES + 1) + 2 + 1 + 2
+        clients.events += 1 + WHOLE * (TABLES + 1) + 2 + 1 + 2
         with connect(port, websocket) as client:
             clients.awaits(client, clients.ask(client, waiting(ONE_CARD)), ONE_CARD_REPLY)
             while '"jobs":0,' not in client.ask(HEALTH):
@@ -260,9 +260,9 @@ def away_for(shim, out, websocket):
         clients.close()
         told, said = process.communicate(timeout=SOON)
     check("the end", (said, process.returncode), (SHORT, 0))
-    # Besides the stop and the last claims: of those who left each job is cancelled, or its parts are done in vain.
+    # Besides the stop and the last claims: of those who left each job is cancelled before half of it is searched.
     rest = int(re.fullmatch(r"closed after (\d+) events\n", told)[1]) - clients.events - 1 - 2
-    check(f"{rest} events of jobs that were left", LEFT <= rest <= LEFT * 41, True)
+    check(f"{rest} events of jobs that were left", LEFT <= rest <= LEFT * (1 + WHOLE // 2), True)
     print(f"memory: away for {AWAY} seconds, over {name}: {TABLES + 1} tables are done and right, old and new connections are served {taken:.1f} s later, and of {LEFT} tables that were left there are {rest} events more")
 
 

@@ -38,7 +38,7 @@ impl<'a, J: Naming, R: Wait + Clock> RunPort<'a, J, R> {
     {
         let workers = state.server.args.workers;
         RunPort {
-            port: LatePort::new(rt, &state.desk, blank, workers as u64),
+            port: LatePort::new(rt, &state.desk, blank, workers as u64, state.stop.flag()),
             rt,
             state,
             limits: state.server.limits,

@@ -13,6 +13,7 @@ use dd_desk::{BlankPass, Desk, DeskFault, Naming, Pass};
 use dd_wire::{Health, Want};
 use std::marker::Model;
 use std::sync::Wait;
+use std::sync::atomic::AtomicBool;
 use std::time::Clock;
 
 /// The port over a desk that gives the pass at the first call: who asks nothing takes none. Where no pass is left each call is
@@ -22,6 +23,8 @@ pub struct LatePort<'a, J: Naming, R: Wait + Clock> {
     rt: &'a R,
     desk: &'a Desk<J>,
     workers: u64,
+    // Set, it ends the rests of a session that leaves while memory is out.
+    stop: &'a AtomicBool,
     port: Option<DeskPort<'a, J, R>>,
     // What the pass needs, until there is one.
     blank: Option<BlankPass>,
@@ -39,13 +42,21 @@ impl<'a, J: Naming, R: Wait + Clock> Model for LatePort<'a, J, R> {
 
 impl<'a, J: Naming, R: Wait + Clock> LatePort<'a, J, R> {
     /// A port without a pass that has refused nothing, to a desk with so many workers. It takes no memory, nor does the pass.
-    pub fn new(rt: &'a R, desk: &'a Desk<J>, blank: BlankPass, workers: u64) -> LatePort<'a, J, R>
+    /// A cancel of who leaves that finds none is made again after a rest, for ten seconds in all, unless `stop` is set.
+    pub fn new(
+        rt: &'a R,
+        desk: &'a Desk<J>,
+        blank: BlankPass,
+        workers: u64,
+        stop: &'a AtomicBool,
+    ) -> LatePort<'a, J, R>
         ensures { result ≡ new_late_port workers }
     {
         LatePort {
             rt,
             desk,
             workers,
+            stop,
             port: None,
             blank: Some(blank),
             refused: 0,
@@ -86,6 +97,7 @@ impl<'a, J: Naming, R: Wait + Clock> LatePort<'a, J, R> {
             rt: _,
             desk: _,
             workers: _,
+            stop: _,
             port,
             blank: _,
             refused: _,
@@ -117,6 +129,7 @@ impl<'a, J: Naming, R: Wait + Clock> BookPort for LatePort<'a, J, R> {
             self.rt,
             self.desk,
             self.workers,
+            self.stop,
             self.refused,
             &mut self.port,
             &mut self.blank,
@@ -129,6 +142,7 @@ impl<'a, J: Naming, R: Wait + Clock> BookPort for LatePort<'a, J, R> {
             self.rt,
             self.desk,
             self.workers,
+            self.stop,
             self.refused,
             &mut self.port,
             &mut self.blank,
@@ -156,6 +170,7 @@ fn enrol_at<'a, J: Naming, R: Wait + Clock>(
     rt: &'a R,
     desk: &'a Desk<J>,
     workers: u64,
+    stop: &'a AtomicBool,
     refused: u64,
     port: &mut Option<DeskPort<'a, J, R>>,
     blank: &mut Option<BlankPass>,
@@ -171,7 +186,7 @@ fn enrol_at<'a, J: Naming, R: Wait + Clock>(
         return;
     };
     match desk.enrol_blank(rt, kept) {
-        Ok(pass) => *port = Some(DeskPort::after(rt, desk, pass, workers, refused)),
+        Ok(pass) => *port = Some(DeskPort::after(rt, desk, pass, workers, stop, refused)),
         Err(kept) => *blank = Some(kept),
     }
 }

@@ -15,6 +15,7 @@ use dd_desk::{Desk, DeskFault, Naming, Pass};
 use dd_wire::{Health, Want};
 use std::marker::Model;
 use std::sync::Wait;
+use std::sync::atomic::AtomicBool;
 use std::time::{Clock, Duration};
 
 /// The job book as one caller sees it, or what stands for it.
@@ -67,6 +68,8 @@ pub struct DeskPort<'a, J: Naming, R: Wait + Clock> {
     refusals: u64,
     // Of the run.
     workers: u64,
+    // Set, it ends the rests of a session that leaves while memory is out.
+    stop: &'a AtomicBool,
 }
 
 impl<'a, J: Naming, R: Wait + Clock> Model for DeskPort<'a, J, R> {
@@ -81,11 +84,18 @@ impl<'a, J: Naming, R: Wait + Clock> Model for DeskPort<'a, J, R> {
 }
 
 impl<'a, J: Naming, R: Wait + Clock> DeskPort<'a, J, R> {
-    /// A port that has told nothing and refused nothing, to a desk with so many workers. It takes no memory.
-    pub fn new(rt: &'a R, desk: &'a Desk<J>, pass: Pass<J>, workers: u64) -> DeskPort<'a, J, R>
+    /// A port that has told nothing and refused nothing, to a desk with so many workers. It takes no memory. A cancel of who
+    /// leaves that finds none is made again after a rest, for ten seconds in all, unless `stop` is set.
+    pub fn new(
+        rt: &'a R,
+        desk: &'a Desk<J>,
+        pass: Pass<J>,
+        workers: u64,
+        stop: &'a AtomicBool,
+    ) -> DeskPort<'a, J, R>
         ensures { result ≡ new_port workers 0 pass }
     {
-        DeskPort::after(rt, desk, pass, workers, 0)
+        DeskPort::after(rt, desk, pass, workers, stop, 0)
     }
 
     /// A port that has told nothing, and refused so many calls before it had its pass.
@@ -94,6 +104,7 @@ impl<'a, J: Naming, R: Wait + Clock> DeskPort<'a, J, R> {
         desk: &'a Desk<J>,
         pass: Pass<J>,
         workers: u64,
+        stop: &'a AtomicBool,
         refusals: u64,
     ) -> DeskPort<'a, J, R>
         ensures { result ≡ new_port workers refusals pass }
@@ -106,6 +117,7 @@ impl<'a, J: Naming, R: Wait + Clock> DeskPort<'a, J, R> {
             before,
             refusals,
             workers,
+            stop,
         }
     }
 
@@ -146,6 +158,7 @@ impl<'a, J: Naming, R: Wait + Clock> DeskPort<'a, J, R> {
             before: _,
             refusals: _,
             workers: _,
+            stop: _,
         } = self;
         pass
     }
@@ -200,6 +213,7 @@ impl<'a, J: Naming, R: Wait + Clock> BookPort for DeskPort<'a, J, R> {
             &mut self.pass,
             self.before,
             self.refusals,
+            self.stop,
         );
     }
 }

@@ -11,6 +11,7 @@ use dd_wire::{LineAsked, read_request};
 use std::alloc::Global;
 use std::marker::Brand;
 use std::sync::Wait;
+use std::sync::atomic::AtomicBool;
 use std::test::Fail;
 use std::time::Clock;
 
@@ -57,7 +58,8 @@ fn left<J: Naming, R: Wait + Clock>(
     let mut other = desk.enrol(rt).ok()?;
     submit(rt, alloc, &desk, &mut other);
     let pass = desk.enrol(rt).ok()?;
-    let mut port = DeskPort::new(rt, &desk, pass, 4);
+    let stop = AtomicBool::new(false);
+    let mut port = DeskPort::new(rt, &desk, pass, 4, &stop);
     let _ = serve_port(alloc, client, &mut port);
     let pass = port.into_pass();
     let mut jobs = Vec::new(alloc);
@@ -82,6 +84,8 @@ fn left_at_a_row<R: Wait + Clock>(
     left::<Brand, R>(rt, alloc, row, client)
 }
 
+// `rt try --test --fail-alloc N` refuses the Nth growth; `rt test` refuses none. With N from 96 to 103 it is one of a cancel at the
+// end, which is made again.
 #[test]
 fn a_session_that_ends_cancels_its_open_jobs_and_no_others(rt: HostRuntime) -> Result<(), Fail> {
     let client = client(rt.alloc(), LINES)?;

@@ -10,6 +10,7 @@ use request_tests::devices::{Pieces, Taker};
 use std::alloc::Global;
 use std::marker::Brand;
 use std::sync::Wait;
+use std::sync::atomic::AtomicBool;
 use std::time::Clock;
 use tungstenite::Duplex;
 
@@ -98,7 +99,8 @@ fn serve_row<J: Naming, R: Wait + Clock>(
 {
     let desk = Desk::<J>::new(row);
     let pass = desk.enrol(rt).ok()?;
-    let mut port = DeskPort::new(rt, &desk, pass, 4);
+    let stop = AtomicBool::new(false);
+    let mut port = DeskPort::new(rt, &desk, pass, 4, &stop);
     let (end, written) = serve_port(alloc, client, &mut port);
     let mut passes = Vec::new(alloc);
     passes.push(port.into_pass()).ok()?;
