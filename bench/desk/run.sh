@@ -1,8 +1,8 @@
 #!/usr/bin/env bash
 # One desk beside a job book of plain Rust at -O3 behind a Mutex, with its journal: calls a second by 1, 2 and 4 threads, a
 # million calls in all, least time of several runs taken in turns; and the memory of a row of 1,048,576 events with none and
-# with all of them made. A round is four calls: submit, claim, finish, fetch. The program `desk` is proved and built in a copy
-# of the crates. Words: the number of runs (5).
+# with all but four of them made, of which one is kept for a shut. A round is four calls: submit, claim, finish, fetch. The
+# program `desk` is proved and built in a copy of the crates. Words: the number of runs (5).
 set -eu
 here=$(cd -- "$(dirname -- "$0")" && pwd)
 top=$(cd -- "$here/../.." && pwd)
@@ -33,8 +33,8 @@ import subprocess
 import sys
 
 runs, desk, plain = int(sys.argv[1]), sys.argv[2], sys.argv[3]
-# Rounds after which the journal is full.
-FULL = 262_144
+# Rounds after which the journal has no room for another: four events are left, of which one is kept for a shut.
+FULL = 262_143
 
 
 # What the program wrote, and the most memory that it was seen to have, in bytes. (What the system counts for a child that

@@ -1,10 +1,10 @@
 """64 honest clients where runs are short: each connects, asks for a table of five cards a hand with a wait, and at 15 connects
 anew and asks again, for 20 seconds with runs of at most 1,024, 2,048 and 4,096 events. Words: which of these numbers.
 
-What is printed: how often a client was told 15 by two new connections in a row, how often at all, how many jobs were taken and
-never told since no event was left, and how long a table took until it was told. Who connects anew at 15 is to be served: two in a
-row are none too few, and no job that was taken is lost. That is known not to be so as long as jobs that are open don't have their
-events put by, so `hostile.sh` runs this only where it is asked for. What the answers are is asked elsewhere."""
+Who connects anew at 15 is served: no client is told 15 by two new connections in a row. No job that was taken is told 15, since its
+events are put by. Less than one submit in a thousand is told 18, that the server is closing: the first of a connection, if it meets
+the very end of its run. What is printed besides: how often a client was told 15 at all, how many jobs ended with their run, which
+older runs do where a fourth is to begin, and how long a table took until it was told. What the answers are is asked elsewhere."""
 import random
 import re
 import statistics
@@ -14,9 +14,9 @@ import time
 from client import CLOSING, STOP, Server, check, deal, fetch, is_open, waiting
 
 CLIENTS, SECONDS, WORKERS, CARDS = 64, 20, 4, 5
-# The seconds that a client rests when a new connection has told it 15.
-REST = 0.1
-USED = '{"fault":15}'
+# The seconds that a client rests when a new connection has told it 15, and those of a wait, less a little.
+REST, WAIT = 0.1, 59
+USED, CLOSES = '{"fault":15}', '{"fault":18}'
 
 
 class Tally:
@@ -24,7 +24,7 @@ class Tally:
 
     def __init__(self):
         self.lock, self.times, self.failed = threading.Lock(), [], []
-        self.used = self.twice = self.longest = self.lost = 0
+        self.used = self.twice = self.longest = self.lost = self.cut = self.closes = 0
         self.random = random.Random(50)
 
     def table(self):
@@ -54,28 +54,52 @@ class Client:
         time.sleep(REST if is_new else 0)
 
     def lost(self):
-        """A job was taken, and its result can't be fetched."""
+        """A job was taken, and is told 15."""
         with self.tally.lock:
             self.tally.lost += 1
         self.connects_anew()
+
+    def closes(self):
+        """Told 18 in place of a job."""
+        with self.tally.lock:
+            self.tally.closes += 1
+        self.connects_anew()
+
+    def cut(self):
+        """The run of the job has ended."""
+        with self.tally.lock:
+            self.tally.cut += 1
+        self.connects_anew()
+
+    def is_over(self, job):
+        """Whether the run of the job has ended: it reads no more lines."""
+        try:
+            return self.connection.ask(fetch(job)) is None
+        except ConnectionError:
+            return True
 
     def once(self, request):
         """Asks once: the reply when the job has ended, or none where it has to ask again."""
         is_new = self.connection is None
         if is_new:
             self.connection = self.server.connect(150)
-        reply = self.connection.ask(waiting(request))
+        since, reply = time.monotonic(), self.connection.ask(waiting(request))
         if reply == USED:
             return self.refused(is_new)
+        if reply == CLOSES:
+            return self.closes()
         self.row = 0
         found = re.search(r'"job":(\d+)', reply or "")
         job = int(found[1]) if found else 0
         # Where only the fetch was refused the number of the job is told.
         while reply and (is_open(reply, job) or reply == f'{{"job":{job}}}'):
-            reply = self.connection.ask(waiting(fetch(job)))
-        if reply is None or reply == USED:
+            if time.monotonic() - since < WAIT:
+                # Its run has ended, or its fetch was told 15.
+                return self.cut() if is_open(reply, job) or self.is_over(job) else self.lost()
+            since, reply = time.monotonic(), self.connection.ask(waiting(fetch(job)))
+        if reply == USED:
             return self.lost()
-        return reply
+        return reply or self.cut()
 
     def ask(self, request, until):
         since = time.monotonic()
@@ -101,7 +125,7 @@ def work(server, tally, until):
 
 
 def short_runs(events):
-    """How often two in a row were told 15, and how many jobs were lost."""
+    """How often two in a row were told 15, and how many jobs that were taken; and how many submits were told 18."""
     server, tally, until = Server("--allow-stop", "--events", str(events), workers=WORKERS), Tally(), time.monotonic() + SECONDS
     threads = [threading.Thread(target=work, args=[server, tally, until], daemon=True) for _ in range(CLIENTS)]
     for thread in threads:
@@ -110,14 +134,13 @@ def short_runs(events):
         thread.join()
     check("the clients", tally.failed, [])
     with server.connect() as client:
-        told = client.ask(STOP)
-        check(f"a stop: {told}", told in (CLOSING, USED), True)
+        check("a stop", client.ask(STOP), CLOSING)
     runs, status, said = server.end_of_runs()
     check("the end", (max(runs) <= events, status, said), (True, 0, ""))
     times = f"{statistics.median(tally.times):.2f} s by the median, {max(tally.times):.2f} s at most" if tally.times else "none was told"
-    print(f"anew: {CLIENTS} clients, runs of {events} events: two new connections in a row told a client 15 {tally.twice} times, {tally.longest} in a row at most; {tally.used} were told 15 in all, and {tally.lost} jobs were lost; {len(tally.times)} tables: {times}; {len(runs)} runs", flush=True)
-    return tally.twice, tally.lost
+    print(f"anew: {CLIENTS} clients, runs of {events} events: two new connections in a row told a client 15 {tally.twice} times, {tally.longest} in a row at most; {tally.used} were told 15 in all, {tally.lost} jobs that were taken were, and {tally.cut} ended with their run; {tally.closes} were told 18; {len(tally.times)} tables: {times}; {len(runs)} runs", flush=True)
+    return tally.twice, tally.lost, 1_000 * tally.closes >= len(tally.times)
 
 
 odd = [short_runs(int(events)) for events in sys.argv[1:] or (1_024, 2_048, 4_096)]
-check("two in a row that were told 15, and jobs that were lost", odd, [(0, 0)] * len(odd))
+check("two in a row that were told 15, jobs that were, and whether many submits were told 18", odd, [(0, 0, False)] * len(odd))

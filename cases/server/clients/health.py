@@ -12,9 +12,11 @@ THREADS = 8
 # Each so many plain connections one asks.
 ASKS_EACH = 100
 SILENT = 500
-EVENTS = 1_024
+# Enough for a table of each of 64 connections that have asked nothing, beside the last quarter.
+EVENTS = 4_096
 WORN = EVENTS - EVENTS // 4
-TABLES = 40
+# Each has 42 events put by, which leaves the others of three quarters free.
+TABLES = 24
 
 
 def health(events_left, jobs, workers):
@@ -72,8 +74,8 @@ def of_its_run():
     first = server.connect()
     for _ in range(TABLES):
         number_of(first.ask(table(drawn)))
-    for _ in range(WORN):
-        check("a fetch", first.ask(fetch(0)), '{"fault":16}')
+    first.send(*[fetch(0)] * WORN)
+    check("the fetches", {first.line() for _ in range(WORN)}, {'{"fault":16}'})
     told = json.loads(first.ask(HEALTH))
     check(f"open jobs of the first run: {told}", 0 < told["jobs"] <= TABLES, True)
     check(f"its events: {told}", told["events_left"] <= EVENTS - WORN - TABLES, True)

@@ -2,7 +2,7 @@
 import sys
 import threading
 import time
-from client import STOP, ONE_CARD, Server, check, fetch, more_descriptors
+from client import CLOSING, STOP, ONE_CARD, ONE_CARD_REPLY, Server, check, done, fetch, more_descriptors, number_of
 
 PASSES = 65_536
 EVENTS = 1_048_576
@@ -45,11 +45,15 @@ def passes():
 
 
 def events():
-    """A full journal: each line of the book's is refused, the workers leave; the next connection begins the next run."""
+    """A journal without a free event: the fetch of a job that has ended, and a stop, have theirs, and each other line of the book's
+    is refused; the workers leave; the next connection begins the next run."""
     server = Server("--allow-stop", workers=WORKERS)
     with server.connect() as client:
         check("a submit", client.ask(ONE_CARD), '{"job":1}')
         client.until_done(1)
+    # Its job ends, and it is not told so before the journal is full.
+    late = server.connect()
+    job = number_of(late.ask(ONE_CARD))
     since = time.monotonic()
     full = [0] * 8
     clients = [server.connect() for _ in range(8)]
@@ -71,17 +75,19 @@ def events():
     taken = time.monotonic() - since
     resident = server.resident()
     client = clients[0]
-    for line in (ONE_CARD, fetch(0), '{"do":"cancel","job":1}'):
+    check("a job that has ended", late.ask(fetch(job)), done(ONE_CARD_REPLY, job))
+    for line in (ONE_CARD, fetch(0), fetch(job), f'{{"do":"cancel","job":{job}}}'):
         check(line, client.ask(line), '{"fault":15}')
+        check(line, late.ask(line), '{"fault":15}')
     check("a bad line", client.ask("{}"), '{"fault":3}')
     with server.connect() as other:
         check("the next run", other.ask(ONE_CARD), '{"job":1}')
         other.until_done(1)
-    check("a stop", client.ask(STOP), '{"fault":15}')
+    check("a stop", client.ask(STOP), CLOSING)
     since = time.monotonic()
     runs, status, said = server.end_of_runs()
     check("the end", (len(runs), max(runs), status, said), (2, EVENTS, 0, ""))
-    print(f"events: a journal of {EVENTS} is full after {taken:.0f} s, with {resident:.0f} MB; each call is refused, another run takes new clients, and a stop ends the program within {time.monotonic() - since:.2f} s")
+    print(f"events: a journal of {EVENTS} has no free event after {taken:.0f} s, with {resident:.0f} MB; a job that has ended is told once, each other call is refused, another run takes new clients, and a stop ends the program within {time.monotonic() - since:.2f} s")
 
 
 more_descriptors()

@@ -5,8 +5,8 @@ The clients are in Rust (`long.rs`). Each answer is compared. A client that is r
 One whose run ends asks again for what it wasn't told. At the end each run's number of events is accounted for. Connections are
 made one after the other, so the runs part them in this order; a run's jobs have the numbers from 1 on, each once, and with a
 number that stands already the next run begins. A run has the events that its clients were replied, the claims and finishes of
-their jobs, a shut, and a last claim of each worker. What became of a job that was left open is known within bounds alone: one in
-each run, and those whose run ended first.
+their jobs, a shut, and a last claim of each worker, unless it left since no event was free. What became of a job that was left
+open is known within bounds alone: one in each run, and those whose run ended first.
 
 The program's memory is looked at meanwhile. It has as many descriptors and threads at the end as at the start."""
 import json
@@ -19,6 +19,8 @@ import time
 from client import CLOSING, STOP, Server, check, fetch, full_deal, more_descriptors, recorded
 
 CLIENTS = 64
+# The most jobs that one of them has open.
+BURST = 6
 WORKERS = 4
 # A run of more events lasts for some seconds, so that a table may be done in it.
 MUCH = 10_000
@@ -94,8 +96,9 @@ def account(told, runs, events):
     for run in runs:
         least = sum(visit.events for visit in run) + 1 + WORKERS
         most = least + sum(visit.loose for visit in run)
-        # A full journal has no room for a shut.
-        left.append((most, least if most < events else least - 1 - WORKERS))
+        # Where no event is free the workers leave without a last claim. Of those that were put by for the ends of jobs some may
+        # never be made.
+        left.append((most, least if most + CLIENTS * BURST < events else least - WORKERS))
     if len(told) == len(runs) + 1:
         # The last run was used up, and the stop's connection began another.
         left.append((1 + WORKERS, 1 + WORKERS))

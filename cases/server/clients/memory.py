@@ -1,7 +1,7 @@
 """Memory that is refused to a server, by `cases/tools/refuse.c`, which is built here (a C compiler is needed). Words: which of
 `once`, `start`, `worker`, `stop`, `away`, `lost` and `idle` (all).
 
-Each of the first 300 allocations is refused once: a client's job is done, or the client is told (19, the number of a job whose
+Each of the first 320 allocations is refused once: a client's job is done, or the client is told (19, the number of a job whose
 fetch was refused, or the end of its connection) and asks anew; a stop ends the program; and a program that can't go on says so,
 with status 1. Each ends within 15 seconds. Memory that stays out from the start, or for a worker, ends the program with status 1.
 Where no list can grow any more, a client that is told 19 stops the program all the same.
@@ -27,7 +27,7 @@ import tempfile
 import time
 from client import CASES, CLOSING, ONE_CARD, ONE_CARD_REPLY, PROGRAM, STOP, Lines, Messages, check, done, fetch, is_event, is_open, number_of, recorded, waiting
 
-ALLOCATIONS, STARTS = 300, 150
+ALLOCATIONS, STARTS = 320, 170
 # For how many seconds memory is away, and within how many a program ends after a stop, a signal, or when memory is lost.
 AWAY, SOON = 10, 15
 # So many tables are open when memory goes, of one who stays and of one who leaves; and the events of a table that is searched whole.

@@ -103,24 +103,29 @@ def table(drawn):
 
 
 def filled():
-    """The event that fills the journal wakes who waits. No fetch has room, so the submit's reply is told."""
-    events, drawn = 1_024, random.Random(3)
-    server = Server("--allow-stop", "--events", str(events), workers=1)
-    clients, filler = [server.connect() for _ in range(20)], server.connect()
-    for client in clients:
-        client.send(waiting(table(drawn)))
+    """Another uses up all that is free. Who waits is told the end of its job, whose events were put by when it was taken."""
+    events, drawn, crowd = 2_048, random.Random(3), 20
+    server = Server("--allow-stop", "--events", str(events), workers=4)
+    clients, filler = [server.connect() for _ in range(crowd)], server.connect()
+    jobs = [number_of(client.ask(table(drawn))) for client in clients]
+    for client, job in zip(clients, jobs):
+        client.send(waiting(fetch(job)))
     time.sleep(0.1)
     since = time.monotonic()
     filler.send(*[fetch(0)] * events)
-    check("the last fetch", [filler.line() for _ in range(events)][-1], '{"fault":15}')
-    for client in clients:
+    # A table has 42 events, and a stop has one.
+    free = events - 42 * crowd - 1
+    replies = [filler.line() for _ in range(events)]
+    check("what is free, as the filler finds it", replies.count('{"fault":16}'), free)
+    check("the filler's replies", replies == ['{"fault":16}'] * free + ['{"fault":15}'] * (events - free), True)
+    for client, job in zip(clients, jobs):
         told = client.line()
-        check("who waited", number_of(told) > 0 if told.startswith('{"job"') else '"done"' in told, True)
+        check(f"who waited: {told}", told.startswith(f'{{"job":{job},"state":"done","table":[['), True)
     taken = time.monotonic() - since
-    check(f"a full journal wakes all within {taken:.2f} s", taken < 5, True)
-    check("a stop", filler.ask(STOP), '{"fault":15}')
+    check("what was told once", clients[0].ask(fetch(jobs[0])), '{"fault":15}')
+    check("a stop", filler.ask(STOP), CLOSING)
     check("the end", server.end(), (events, 0, ""))
-    print(f"a full journal wakes {len(clients)} clients that wait, {taken:.2f} s after it began to be filled")
+    print(f"{crowd} clients that wait for a table are told its end, {taken:.2f} s after another began to use up all that was free")
 
 
 def hangs():

@@ -53,7 +53,8 @@ member, and a fault has its field and a text beside its number, as with
 Runs and limits:
 
 A run has at most --events events: a submit and a fetch are one each, and a
-search two. When three quarters are used the next connection begins a new run.
+search two. Those of a job are kept free when it is taken. When three quarters
+are used or kept so the next connection begins a new run.
 
 A connection of lines has 4096 bytes a line. Nothing asks who a client is:
 listen at an address of this machine's own, or behind a proxy."

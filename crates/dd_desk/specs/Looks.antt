@@ -13,6 +13,7 @@ use Rattle.dd_desk.specs.Events.{EventOf, IsLegal, replay}
 use Rattle.dd_desk.specs.Faults.{IsOfCall}
 use Rattle.dd_desk.specs.Receipts.{PassOf}
 use Rattle.dd_desk.specs.Replies.{IsAnswered}
+use Rattle.dd_desk.specs.Reserve.{IsRefused}
 
 -- a worker has a part under this claim or has none, as this tells, at a desk of these limits after a journal that one thread could
 -- have made
@@ -56,4 +57,5 @@ abbrev pub IsToldIfOpen : LimitsOf → PassOf → ℕ → Result (Option Reply) 
 IsToldIfOpen limits before job (Ok None) after = SeesEnd limits before.number job × (after ≡ before)
 IsToldIfOpen limits before job (Ok (Some reply)) after =
     IsAnswered limits before (Cancel before.number job) reply after × FindsNoEnd job reply
-IsToldIfOpen limits before job (Err fault) after = IsOfCall fault × (after ≡ before)
+IsToldIfOpen limits before job (Err fault) after =
+    IsOfCall fault × (after ≡ before) × IsRefused limits before.number (Cancel before.number job) fault

@@ -3,6 +3,7 @@ ghost use Rattle.std.specs.Prelude.{◌≡◌, ◌+◌, ◌<◌, ◌≤◌, true
 ghost use Rattle.dd_book.specs.Calls.{IsIdle};
 ghost use Rattle.dd_book.specs.Jobs.{is_open_job, open_in, own_job};
 ghost use Rattle.dd_desk.specs.Looks.{SeesOpen, SeesRunning, SeesTally};
+ghost use Rattle.dd_desk.specs.Reserve.{SeesFree, reserved};
 ghost use Rattle.dd_desk.specs.Receipts.{below};
 
 use crate::bells::{Concerns, Rings};
@@ -50,12 +51,14 @@ impl<J: Naming> LockedState<J> {
         alloc: Global,
         limits: Limits,
         journal: Vec<Event>,
+        told: Vec<bool>,
         marks: Vec<Note<Event>>,
         count: Blank,
         sum: Blank,
     ) -> LockedState<J>
         requires journal { (journal.items ≡ []) × (vec_len journal ≡ 0)
             × (limits.events ≤ vec_capacity journal) }
+        requires told { (told.items ≡ []) × (limits.jobs ≤ vec_capacity told) }
         requires marks { (marks.items ≡ []) × (vec_len marks ≡ 0)
             × (limits.events ≤ vec_capacity marks) }
         requires limits { limits ≡ J.limits }
@@ -67,7 +70,7 @@ impl<J: Naming> LockedState<J> {
         let (count, spare_count) = count.open::<ReceiptCounts<J>>();
         let (sum, spare_sum) = sum.open::<PlaceSums<J>>();
         LockedState {
-            history: History::new(alloc, limits, journal),
+            history: History::new(alloc, limits, journal, told),
             marks,
             given: 0,
             count,
@@ -106,18 +109,15 @@ impl<J: Naming> LockedState<J> {
         Ok(CountedLog { log, count, sum })
     }
 
-    /// Must a fetch of this job wait? It must exactly while the job is the caller's and open, nobody shut and the journal has
-    /// room.
+    /// Must a fetch of this job wait? It must exactly while the job is the caller's and open, and nobody shut.
     pub(crate) fn keeps_fetch_waiting(&self, caller: u64, job: u64) -> bool
         ensures { MatchBool result
             ((is_open_job (own_job self.now.history.book.jobs caller job) ≡ true)
-            × (self.now.history.book.shut ≡ false)
-            × (vec_len self.now.history.journal < self.now.history.limits.events))
+            × (self.now.history.book.shut ≡ false))
             ((is_open_job (own_job self.now.history.book.jobs caller job) ≡ false)
-            ⊎ (self.now.history.book.shut ≡ true)
-            ⊎ (vec_len self.now.history.journal ≡ self.now.history.limits.events)) }
+            ⊎ (self.now.history.book.shut ≡ true)) }
     {
-        !self.history.is_full() && !self.history.is_shut() && self.history.is_open(caller, job)
+        !self.history.is_shut() && self.history.is_open(caller, job)
     }
 
     /// Has the caller an open job?
@@ -149,9 +149,6 @@ impl<J: Naming> LockedState<J> {
         if !answered {
             return Rings::Nobody;
         }
-        if self.history.is_full() {
-            return Rings::Everybody(self.given);
-        }
         match told {
             Concerns::Nobody => Rings::Nobody,
             Concerns::OwnerOf(job) => match self.history.owner_of_ended(job) {
@@ -162,14 +159,29 @@ impl<J: Naming> LockedState<J> {
         }
     }
 
-    /// Must a claim wait? It must exactly while nothing waits, nobody shut and the journal has room.
+    /// How many events are neither made nor reserved.
+    pub(crate) fn free(&self) -> u64
+        ensures free { length self.now.history.journal.items
+            + reserved self.now.history.limits self.now.history.journal.items + result
+            ≡ self.now.history.limits.events }
+        ensures sees { SeesFree J.limits result }
+    {
+        self.history.free()
+    }
+
+    /// Must a claim wait? It must exactly while nothing waits, nobody shut, and some job is open or some event free: else no
+    /// part will ever wait again.
     pub(crate) fn keeps_waiting(&self) -> bool
         ensures { MatchBool result
             (IsIdle self.now.history.book
-            × (vec_len self.now.history.journal < self.now.history.limits.events))
+            × ((length self.now.history.journal.items
+            + reserved self.now.history.limits self.now.history.journal.items
+            < self.now.history.limits.events) ⊎ (1 ≤ open_in self.now.history.book.jobs)))
             ((IsIdle self.now.history.book → ⊥)
-            ⊎ (vec_len self.now.history.journal ≡ self.now.history.limits.events)) }
+            ⊎ ((self.now.history.limits.events ≤ length self.now.history.journal.items
+            + reserved self.now.history.limits self.now.history.journal.items)
+            × (open_in self.now.history.book.jobs ≡ 0))) }
     {
-        !self.history.is_full() && self.history.is_idle()
+        self.history.is_idle() && (self.history.free() > 0 || self.history.has_open_jobs())
     }
 }

@@ -3,6 +3,7 @@ use Rattle.std.specs.Prelude.{◌≡◌, ℕ, ◌+◌, ◌-◌, ◌/◌, Bool, t
 use Rattle.dd_book.specs.Limits.{LimitsOf}
 use Rattle.dd_desk.specs.declared.tally.Tally.{Tally}
 use Rattle.dd_desk.specs.Looks.{SeesTally}
+use Rattle.dd_desk.specs.Reserve.{SeesFree}
 use Rattle.dd_wire.specs.declared.want.Want.{Want}
 use Rattle.dd_wire.specs.declared.want.Want.TheVariants.{Submit, Cancel, Fetch, Stop}
 use Rattle.dd_server.specs.declared.roster.TheConstants.{MOST_RUNS}
@@ -27,6 +28,13 @@ pub record SeesUsedUp (limits : LimitsOf) (used_up : Bool) : Type 0 where
   pub few : Bool
   pub seen : SeesFewLeft limits few
   pub sees : few ≡ true → used_up ≡ true
+
+-- nor does a run take more connections whose desk has no more than that free for new jobs, beside what is reserved for those
+-- that it has
+pub record SeesFewFree (limits : LimitsOf) (used_up : Bool) : Type 0 where
+  pub free : ℕ
+  pub seen : SeesFree limits free
+  pub sees : are_few_left limits free ≡ true → used_up ≡ true
 
 -- fifteen sixteenths of the passes that a run may give were given
 abbrev pub are_passes_used : LimitsOf → ℕ → Bool

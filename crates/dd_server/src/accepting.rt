@@ -140,7 +140,9 @@ where
         serve_connection(rt, state, &stream);
         state.stop.streams().lock(rt).remove(key)
     };
+    state.note_silent();
     if scope.spawn(serve).is_err() {
+        state.note_not_silent();
         state.stop.streams().lock(rt).remove(key);
     }
 }

@@ -33,9 +33,15 @@ pub(crate) fn serve_connection<J: Naming, R: Wait + Clock>(
     match state.blank_pass(rt) {
         Ok(blank) => match serve_session(rt, state, stream, blank) {
             Some(pass) => state.take_back(rt, pass),
-            None => state.expect_one_less(rt),
+            None => {
+                state.note_not_silent();
+                state.expect_one_less(rt)
+            }
         },
-        Err(_) => refuse(state, stream),
+        Err(_) => {
+            state.note_not_silent();
+            refuse(state, stream)
+        }
     }
 }
 

@@ -18,7 +18,7 @@ use dd_desk::{Closed, Desk, Naming, Pass, Row};
 use dd_work::Gate;
 use std::marker::Brand;
 use std::net::TcpStream;
-use std::sync::atomic::AtomicBool;
+use std::sync::atomic::{AtomicBool, AtomicU64};
 use std::sync::{Mutex, Wait};
 use std::thread;
 use std::thread::{Scope, Threads};
@@ -92,6 +92,10 @@ fn serve_row<
         returned: Mutex::new(Returned::new(server.alloc)),
         stop: RunStop::new(server.alloc),
         worn: AtomicBool::new(false),
+        over: AtomicBool::new(false),
+        submits: AtomicU64::new(0),
+        sure: AtomicU64::new(0),
+        silent: AtomicU64::new(0),
         lacks_memory: AtomicBool::new(false),
     };
     let ended = keep_open(rt, &state, runs, stream, gate);
@@ -103,6 +107,10 @@ fn serve_row<
         returned,
         stop: _,
         worn: _,
+        over: _,
+        submits: _,
+        sure: _,
+        silent: _,
         lacks_memory,
     } = state;
     let closed = close(desk, returned.into_inner().into_passes())?;
@@ -175,6 +183,10 @@ where
     accept_connections(rt, scope, state, runs, own, stream)?;
     wait_for_sessions(rt, state, runs);
     if !state.stop.is_ended() {
+        // The server goes on: who still submits here is to connect anew, and not told that it is closing.
+        if !state.server.stop.is_stopped() {
+            state.note_over();
+        }
         let _ = own.shut(rt, state);
     }
     Ok(())

@@ -15,8 +15,8 @@ use std::cell::Cell;
 use std::sync::Wait;
 use std::time::Clock;
 
-/// A port whose stop ends the run and the server, and which takes no submit once the run is worn. It has no pass before a call
-/// needs one.
+/// A port whose stop ends the run and the server, and which takes no submit but the first once the run is worn. It has no pass
+/// before a call needs one.
 pub(crate) struct RunPort<'a, J: Naming, R: Wait + Clock> {
     port: LatePort<'a, J, R>,
     rt: &'a R,
@@ -58,14 +58,15 @@ impl<'a, J: Naming, R: Wait + Clock> RunPort<'a, J, R> {
         port.into_pass()
     }
 
-    // Does the run take no submit? It may be another session that saw that first.
+    // Does the run take no submit of this session? It may be another one that saw that first. Who has had no event yet came while
+    // the run had room for it: that is the desk's to say, until the run ends.
     fn is_worn(&self) -> bool
         ensures { KnowsWorn self.now.limits (option_and_then last_place self.now.port.port)
             → IsTrue result }
     {
         match self.port.last_place() {
-            Some(place) if are_events_used(self.limits, place) => true,
-            _ => self.state.is_worn(),
+            Some(place) => are_events_used(self.limits, place) || self.state.takes_no_more(self.rt),
+            None => self.state.is_over(),
         }
     }
 
@@ -81,6 +82,7 @@ impl<'a, J: Naming, R: Wait + Clock> RunPort<'a, J, R> {
 
     fn note_pass(&self, number: Option<u64>) {
         if let Some(number) = number {
+            self.state.note_not_silent();
             self.state.note_passes(number);
             self.caller.set(Some(number));
         }

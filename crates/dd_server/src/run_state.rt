@@ -1,6 +1,6 @@
 //! What the threads of a run share.
 ghost use Rattle.std.specs.Prelude.{◌≡◌, [], IfOk};
-ghost use Rattle.dd_server.specs.Worn.{SeesFewLeft, SeesUsedUp};
+ghost use Rattle.dd_server.specs.Worn.{SeesFewFree, SeesFewLeft, SeesUsedUp};
 
 use crate::returned::Returned;
 use crate::server_state::ServerState;
@@ -9,8 +9,20 @@ use crate::wear::{are_events_used, are_few_left, are_passes_used};
 use dd_book::Limits;
 use dd_desk::{BlankPass, Desk, DeskFault, Naming, Pass};
 use std::alloc::AllocError;
-use std::sync::atomic::{AtomicBool, Ordering};
+use std::sync::atomic::{AtomicBool, AtomicU64, Ordering};
 use std::sync::{Mutex, Wait};
+
+/// How many events a table takes: its submit, a claim and a finish of each of its twenty parts, and the fetch that tells it.
+const EVENTS_OF_TABLE: u64 = 42;
+
+/// How many events a play of 52 cards takes, the most that a job takes.
+const EVENTS_OF_PLAY: u64 = 106;
+
+/// For how many jobs at most the desk is asked once.
+const MOST_UNASKED: u64 = 64;
+
+/// Of how many connections that have asked nothing yet a table is expected.
+const MOST_EXPECTED: u64 = 64;
 
 /// What the threads of a run share.
 #[derive(Drop)]
@@ -22,8 +34,15 @@ pub(crate) struct RunState<'a, J: Naming> {
     pub(crate) desk: Desk<J>,
     pub(crate) returned: Mutex<Returned<J>>,
     pub(crate) stop: RunStop,
-    // The run is used up: it takes no more jobs, nor connections.
+    // The run is used up: it takes no more connections, nor jobs but the first of who was accepted before.
     pub(crate) worn: AtomicBool,
+    // The run ends, since another one follows it: it takes no job at all.
+    pub(crate) over: AtomicBool,
+    // How many submits of who has had an event there were, and up to which of them the run surely has room.
+    pub(crate) submits: AtomicU64,
+    pub(crate) sure: AtomicU64,
+    // How many connections have asked nothing yet that needs a pass.
+    pub(crate) silent: AtomicU64,
     // A worker of the run left since memory stays out.
     pub(crate) lacks_memory: AtomicBool,
     pub(crate) ghost same: { limits ≡ J.limits },
@@ -64,20 +83,71 @@ impl<'a, J: Naming> RunState<'a, J> {
         self.returned.lock(rt).take_back(pass);
     }
 
-    /// Whether it is known that the run takes no more jobs.
+    /// Whether it is known that the run is used up.
     pub(crate) fn is_worn(&self) -> bool {
         self.worn.load(Ordering::SeqCst)
     }
 
-    /// Is the run used up, by whomever? Its desk is asked, and from then on the run takes no more jobs.
+    /// Is the run to take no more connections? It is used up, by whomever. Its desk is asked, and a run that is used up takes no
+    /// more jobs from then on.
     pub(crate) fn is_used_up<R: Wait>(&self, rt: &R) -> bool
-        ensures { SeesUsedUp J.limits result }
+        ensures used_up { SeesUsedUp J.limits result }
+        ensures free { SeesFewFree J.limits result }
     {
-        let is_used_up = self.has_few_events(rt) || self.has_few_passes(rt);
+        let has_few_events = self.has_few_events(rt);
+        let has_few_free = self.has_few_free(rt);
+        let is_used_up = has_few_events
+            || has_few_free
+            || self.is_worn()
+            || self.has_few_passes(rt);
         if is_used_up {
             self.note_used_up();
         }
         is_used_up
+    }
+
+    /// Does the run take no more jobs from who has had an event? Its desk is asked once for as many jobs as it surely has room for.
+    pub(crate) fn takes_no_more<R: Wait>(&self, rt: &R) -> bool {
+        let number = self.submits.fetch_add(1, Ordering::SeqCst);
+        self.is_worn() || (self.sure.load(Ordering::SeqCst) <= number && self.has_few_free(rt))
+    }
+
+    // Are few events free, or would be if each connection that has asked nothing yet asked for a table? Then the run is used up.
+    fn has_few_free<R: Wait>(&self, rt: &R) -> bool
+        ensures { SeesFewFree J.limits result }
+    {
+        let free = self.desk.free(rt);
+        let beside = free.saturating_sub(self.expected_events());
+        let has_few = are_few_left(self.limits, free) || are_few_left(self.limits, beside);
+        if has_few {
+            self.note_used_up();
+        } else {
+            self.note_room(beside);
+        }
+        has_few
+    }
+
+    // So many events are free beside what is expected: the desk need not be asked for the next jobs.
+    fn note_room(&self, free: u64) {
+        let spare = free.saturating_sub(self.limits.events() / 4) / EVENTS_OF_PLAY;
+        let number = self.submits.load(Ordering::SeqCst);
+        let sure = number.saturating_add(spare.min(MOST_UNASKED));
+        self.sure.store(sure, Ordering::SeqCst);
+    }
+
+    // How many events are expected of connections that have asked nothing yet.
+    fn expected_events(&self) -> u64 {
+        self.silent.load(Ordering::SeqCst).min(MOST_EXPECTED) * EVENTS_OF_TABLE
+    }
+
+    /// A connection begins.
+    pub(crate) fn note_silent(&self) {
+        self.silent.fetch_add(1, Ordering::SeqCst);
+    }
+
+    /// It has asked for the first time what needs a pass, or has ended before.
+    pub(crate) fn note_not_silent(&self) {
+        self.silent.fetch_sub(1, Ordering::SeqCst);
     }
 
     // Is no more than the last quarter of the events left? Clients and workers made the others.
@@ -91,9 +161,20 @@ impl<'a, J: Naming> RunState<'a, J> {
         are_passes_used(self.limits, self.desk.given(rt))
     }
 
-    /// The run takes no more jobs.
+    /// The run is used up.
     pub(crate) fn note_used_up(&self) {
         self.worn.store(true, Ordering::SeqCst);
+    }
+
+    /// The run ends, since another one follows it.
+    pub(crate) fn note_over(&self) {
+        self.note_used_up();
+        self.over.store(true, Ordering::SeqCst);
+    }
+
+    /// Does the run end, so that it takes no job at all?
+    pub(crate) fn is_over(&self) -> bool {
+        self.over.load(Ordering::SeqCst)
     }
 
     /// An event stands at this place of the journal.

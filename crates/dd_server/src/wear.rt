@@ -4,7 +4,8 @@ ghost use Rattle.dd_server.specs.Worn.{are_events_used, are_few_left, are_passes
 
 use dd_book::Limits;
 
-/// Are three quarters of the events used, where one stands at this place? The last quarter is kept for fetches and cancels.
+/// Are three quarters of the events used, where one stands at this place? The last quarter is for
+/// fetches and cancels, and for the first jobs of who was accepted before.
 pub(crate) fn are_events_used(limits: Limits, place: u64) -> bool
     ensures { result ≡ are_events_used limits place }
 {

@@ -92,7 +92,7 @@ module _ {limits : LimitsOf} where
   -- one whose cancel was refused
   pub refuses-one : (before after : PassOf) (job count counted : ℕ) (fault : DeskFault) → IsToldIfOpen limits before job (Err fault) after → counted ≡ one_more count
       → GivesUpAt limits (job ∷ []) before count after counted
-  refuses-one before after job count counted fault (of_call, same) more =
+  refuses-one before after job count counted fault (of_call, same, refused) more =
       record {
         number = ap (λ (p : PassOf). p.number) same;
         gained = [];

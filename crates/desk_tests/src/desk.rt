@@ -1,5 +1,7 @@
 //! Tests of the desk.
 mod checked;
+mod reserved;
 mod rows;
 mod threads;
+mod waits;
 pub mod worked;

@@ -1,4 +1,8 @@
 //! Tests of the job book, and the plain forms of its calls and replies.
+#[cfg(test)]
+mod counted;
+#[cfg(test)]
+mod counts;
 pub mod drawn;
 pub mod made;
 #[cfg(test)]

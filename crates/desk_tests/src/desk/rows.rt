@@ -109,41 +109,54 @@ enrols: pass 2
     follow(&rt, rt.alloc(), ample(&rt), rows, "6 events: 3 3")
 }
 
+// A journal of one event has it for a shut; of five, four are the request's.
 #[test]
 fn a_full_journal_refuses_each_call(rt: HostRuntime) -> Result<(), AllocError> {
     let alloc = rt.alloc();
-    let two = "enrols: pass 1
-1 submits A: job 1
-1 submits A: job 2
-1 fetches 1: refused 15";
-    follow(&rt, alloc, limits(&rt, 64, 1_000, 8, 2), two, "2 events: 2")?;
-    let running = "enrols: pass 1
+    let one = "enrols: pass 1
 enrols: pass 2
-1 submits A: job 1
-2 waits: job 1 claim 1
+1 submits A: refused 15
+2 claims: refused 15
+2 waits: refused 15
 2 finishes 1 1 A: refused 15
-2 waits: refused 15
-1 shuts: refused 15";
+1 cancels 1: refused 15
+1 fetches 1: refused 15
+1 shuts: shut
+1 shuts: refused 15
+2 waits: refused 15";
     follow(
         &rt,
         alloc,
-        limits(&rt, 64, 1_000, 8, 2),
-        running,
-        "2 events: 1 1",
+        limits(&rt, 64, 1_000, 8, 1),
+        one,
+        "1 events: 1 0",
     )?;
-    let three = "enrols: pass 1
+    let five = "enrols: pass 1
 enrols: pass 2
 1 submits A: job 1
-2 waits: job 1 claim 1
+1 submits A: refused 15
+1 fetches 1: refused 15
+2 claims: job 1 claim 1
+2 claims: refused 15
+1 fetches 1: refused 15
+2 finishes 1 1 stopped: refused 15
 2 finishes 1 1 A: recorded
+2 finishes 1 1 A: refused 15
+2 claims: refused 15
 2 waits: refused 15
-1 fetches 1: refused 15";
+1 cancels 1: refused 15
+1 fetches 1: done with 1
+1 fetches 1: refused 15
+1 shuts: shut
+1 shuts: refused 15
+2 claims: refused 15
+2 waits: refused 15";
     follow(
         &rt,
         alloc,
-        limits(&rt, 64, 1_000, 8, 3),
-        three,
-        "3 events: 1 2",
+        limits(&rt, 64, 1_000, 8, 5),
+        five,
+        "5 events: 3 2",
     )
 }
 

@@ -65,6 +65,17 @@ fn ask_once<J: Naming, R: Wait + Abort>(
     ask(rt, desk, pass, call)
 }
 
+/// What a call was told, in words.
+pub fn in_words(alloc: Global, said: &Result<Reply, DeskFault>) -> Result<String, AllocError> {
+    match said {
+        Ok(reply) => told(alloc, reply),
+        Err(fault) => {
+            let number = fault.number();
+            format!(in alloc; "refused {number}")
+        }
+    }
+}
+
 // What these words are told; an enrolment is told the number of its pass.
 fn step<J: Naming, R: Wait + Abort>(
     rt: &R,
@@ -74,29 +85,42 @@ fn step<J: Naming, R: Wait + Abort>(
     words: &str,
     refusals: u8,
 ) -> Result<String, AllocError> {
-    let fault = if words == "enrols" {
-        match desk.enrol(rt) {
+    if words == "enrols" {
+        return match desk.enrol(rt) {
             Ok(pass) => {
                 let number = pass.number();
                 passes.push(pass)?;
-                return format!(in alloc; "pass {number}");
+                format!(in alloc; "pass {number}")
             }
-            Err(fault) => fault,
-        }
-    } else {
-        let who: usize = match words.split(' ').next() {
-            Some(word) => word.parse().unwrap_or(0),
-            None => 0,
+            Err(fault) => in_words(alloc, &Err(fault)),
         };
-        let place = who.saturating_sub(1);
-        let pass = passes.get_mut(place).expect(rt, "a pass of this number");
-        match ask_again(rt, desk, pass, words, refusals) {
-            Ok(reply) => return told(alloc, &reply),
-            Err(fault) => fault,
-        }
+    }
+    let who: usize = match words.split(' ').next() {
+        Some(word) => word.parse().unwrap_or(0),
+        None => 0,
     };
-    let number = fault.number();
-    format!(in alloc; "refused {number}")
+    let place = who.saturating_sub(1);
+    let pass = passes.get_mut(place).expect(rt, "a pass of this number");
+    in_words(alloc, &ask_again(rt, desk, pass, words, refusals))
+}
+
+/// Follows these rows: calls of the passes with what they are told, a row a line. Each call may be refused memory so often.
+pub fn follow_rows<J: Naming, R: Wait + Abort>(
+    rt: &R,
+    alloc: Global,
+    desk: &Desk<J>,
+    passes: &mut Vec<Pass<J>>,
+    rows: &str,
+    refusals: u8,
+) -> Result<(), AllocError> {
+    for row in rows.lines() {
+        let mut halves = row.split(": ");
+        let words = halves.next().expect(rt, "a call");
+        let wanted = halves.next().expect(rt, "what it is told");
+        let told = step(rt, alloc, desk, passes, words, refusals)?;
+        assert_eq!(rt; told.as_str(), wanted, "{words}");
+    }
+    Ok(())
 }
 
 // Without its passes a desk is not closed: the first of them is missing.
@@ -163,19 +187,20 @@ fn run<J: Naming, R: Wait + Abort>(
     let desk = Desk::<J>::new(row);
     let mut passes = Vec::new(alloc);
     let refusals = script.refusals;
-    for row in script.rows.lines() {
-        let mut halves = row.split(": ");
-        let words = halves.next().expect(rt, "a call");
-        let wanted = halves.next().expect(rt, "what it is told");
-        let told = step(rt, alloc, &desk, &mut passes, words, refusals)?;
-        assert_eq!(rt; told.as_str(), wanted, "{words}");
-    }
+    follow_rows(
+        rt,
+        alloc,
+        &desk,
+        &mut passes,
+        script.rows.as_str(),
+        refusals,
+    )?;
     assert_eq!(rt; desk.given(rt), passes.len() as u64);
     let desk = close_without(rt, alloc, desk);
     let Ok(closed) = close(desk, passes, refusals) else {
         return Err(AllocError);
     };
-    check(rt, alloc, script.limits, &closed)?;
+    let _ = check(rt, alloc, script.limits, &closed)?;
     let counted = counted(alloc, &closed)?;
     assert_eq!(rt; counted.as_str(), script.ending.as_str());
     Ok(())

@@ -204,6 +204,43 @@ struct Script {
     ending: String,
 }
 
+// Two workers at the desk until both have left: their passes.
+fn work_both<J: Naming + Send + Sync, R: Threads + Wait + Clock + Abort + Sync>(
+    rt: &R,
+    alloc: Global,
+    desk: &Desk<J>,
+    meeting: Meeting,
+) -> Result<(Pass<J>, Pass<J>), AllocError> {
+    let (first, second) = (enrol(rt, desk), enrol(rt, desk));
+    let table = SharedTable::new(alloc, 16, 4_096)?;
+    let signs = Signs::new();
+    let (learned, told) = (&table, &signs);
+    let both = join(
+        rt,
+        move || work(rt, desk, learned, told, meeting, first),
+        move || work(rt, desk, learned, told, meeting, second),
+    );
+    let held_in_vain = signs.late.load(Ordering::SeqCst);
+    assert!(rt; !held_in_vain);
+    let looked = signs.looked.load(Ordering::SeqCst);
+    assert_eq!(rt; looked, meeting == Meeting::Held);
+    Ok(both)
+}
+
+// The three passes of a meeting.
+fn gather<J: Naming>(
+    alloc: Global,
+    caller: Pass<J>,
+    first: Pass<J>,
+    second: Pass<J>,
+) -> Result<Vec<Pass<J>>, AllocError> {
+    let mut passes = Vec::new(alloc);
+    passes.push(caller)?;
+    passes.push(first)?;
+    passes.push(second)?;
+    Ok(passes)
+}
+
 fn meet<J: Naming + Send + Sync, R: Threads + Wait + Clock + Abort + Sync>(
     rt: &R,
     alloc: Global,
@@ -218,24 +255,9 @@ fn meet<J: Naming + Send + Sync, R: Threads + Wait + Clock + Abort + Sync>(
     let desk = Desk::<J>::new(row);
     let mut caller = enrol(rt, &desk);
     ask_all(rt, alloc, &desk, &mut caller, script.before.as_str())?;
-    let (first, second) = (enrol(rt, &desk), enrol(rt, &desk));
-    let table = SharedTable::new(alloc, 16, 4_096)?;
-    let signs = Signs::new();
-    let (shared, learned, told, meeting) = (&desk, &table, &signs, script.meeting);
-    let (first, second) = join(
-        rt,
-        move || work(rt, shared, learned, told, meeting, first),
-        move || work(rt, shared, learned, told, meeting, second),
-    );
+    let (first, second) = work_both(rt, alloc, &desk, script.meeting)?;
     ask_all(rt, alloc, &desk, &mut caller, script.after.as_str())?;
-    let held_in_vain = signs.late.load(Ordering::SeqCst);
-    assert!(rt; !held_in_vain);
-    let looked = signs.looked.load(Ordering::SeqCst);
-    assert_eq!(rt; looked, script.meeting == Meeting::Held);
-    let mut passes = Vec::new(alloc);
-    passes.push(caller)?;
-    passes.push(first)?;
-    passes.push(second)?;
+    let passes = gather(alloc, caller, first, second)?;
     let Ok(closed) = desk.close(passes) else {
         return Err(AllocError);
     };

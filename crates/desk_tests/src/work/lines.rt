@@ -3,10 +3,6 @@ use dd_book::{Call, JobState, Reply};
 use dd_wire::{LineAsked, read_request, write_answer, write_table, write_trace};
 use std::alloc::{AllocError, Global};
 
-/// One card each, and North's takes the trick.
-pub(crate) const ACE: &str =
-    r#"{"do":"solve","deal":"N:A... K... Q... J...","trump":4,"first":0,"solutions":3}"#;
-
 /// A king that is caught before ace and queen: North's side takes two tricks.
 pub(crate) const CAUGHT: &str =
     r#"{"do":"solve","deal":"N:32... K4... AQ... 65...","trump":4,"first":0,"solutions":3}"#;

@@ -1,7 +1,7 @@
 //! Worked rows of one worker.
 use crate::work::lines::{
-    ACE, CAUGHT, CAUGHT_ANSWER, LAST, LAST_ANSWER, PLAYED, PLAYED_ANSWER, RUFFED, RUFFED_ANSWER,
-    SUITS, SUITS_ANSWER,
+    CAUGHT, CAUGHT_ANSWER, LAST, LAST_ANSWER, PLAYED, PLAYED_ANSWER, RUFFED, RUFFED_ANSWER, SUITS,
+    SUITS_ANSWER,
 };
 use crate::work::worked::{Script, follow};
 use dd_book::Limits;
@@ -99,19 +99,39 @@ fn a_worker_takes_the_parts_of_a_play(rt: HostRuntime) -> Result<(), AllocError>
     follow(&rt, alloc, &script(&rt, 1_000, None, rows, ending))
 }
 
+// After its finish no event is free for a claim and no job is open; the fetch and the shut have theirs.
 #[test]
-fn a_worker_leaves_where_the_journal_is_full(rt: HostRuntime) -> Result<(), AllocError> {
+fn a_worker_leaves_where_no_event_is_free_and_no_job_open(
+    rt: HostRuntime,
+) -> Result<(), AllocError> {
     let alloc = rt.alloc();
-    let after_a_finish = format!(in alloc;
-        "submits {ACE} => job 1\nworks => 2 receipts\nfetches 1 => refused 15"
+    let rows = format!(in alloc;
+        "works => 0 receipts\nsubmits {LAST} => refused 15\nshuts => shut\nworks => 0 receipts"
     )?;
-    let ending = text(alloc, "3 events: 1 2")?;
-    follow(&rt, alloc, &script(&rt, 3, None, after_a_finish, ending))?;
-    let after_a_claim = format!(in alloc;
-        "submits {ACE} => job 1\nworks => 1 receipts\nfetches 1 => refused 15"
+    let ending = text(alloc, "1 events: 1 0")?;
+    follow(&rt, alloc, &script(&rt, 1, None, rows, ending))?;
+    let rows = format!(in alloc;
+        "submits {LAST} => job 1\nfetches 1 => refused 15\nworks => 2 receipts\nfetches 1 => {LAST_ANSWER}\n\
+         fetches 1 => refused 15\nshuts => shut\nworks => 2 receipts"
     )?;
-    let ending = text(alloc, "2 events: 1 1")?;
-    follow(&rt, alloc, &script(&rt, 2, None, after_a_claim, ending))
+    let ending = text(alloc, "5 events: 3 2")?;
+    follow(&rt, alloc, &script(&rt, 5, None, rows, ending))
+}
+
+// To wait again a part would need a claim and a finish more. It runs on, as its worker left, and its job can be cancelled.
+#[test]
+fn a_worker_that_is_stopped_where_no_event_is_free_leaves_with_its_part(
+    rt: HostRuntime,
+) -> Result<(), AllocError> {
+    let alloc = rt.alloc();
+    let rows = format!(in alloc;
+        "submits {CAUGHT} => job 1\nworks => 1 receipts\nfetches 1 => refused 15\ncancels 1 => cancelled 1\n\
+         fetches 1 => refused 15\nshuts => shut"
+    )?;
+    let ending = text(alloc, "4 events: 3 1")?;
+    let mut stopped = script(&rt, 5, Some(1_000), rows, ending);
+    stopped.stops = true;
+    follow(&rt, alloc, &stopped)
 }
 
 #[test]

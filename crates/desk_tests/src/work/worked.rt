@@ -57,6 +57,47 @@ pub(crate) fn ask<J: Naming, R: Wait + Abort>(
     }
 }
 
+// What these words are told, with the worker's pass: the worker works until it leaves, or the caller asks.
+fn step<J: Naming, R: Wait + Clock + Abort>(
+    rt: &R,
+    alloc: Global,
+    desk: &Desk<J>,
+    caller: &mut Pass<J>,
+    hand: Pass<J>,
+    words: &str,
+    script: &Script,
+) -> Result<(Pass<J>, String), AllocError> {
+    if words == "works" {
+        let stop = AtomicBool::new(script.stops);
+        let hand = worker(rt, desk, &mut NoTable, hand, &NoGate, script.budget, &stop);
+        let receipts = hand.receipts().len();
+        let told = format!(in alloc; "{receipts} receipts")?;
+        return Ok((hand, told));
+    }
+    let told = ask(rt, alloc, desk, caller, words)?;
+    Ok((hand, told))
+}
+
+// Follows the rows of the script, and gives the worker's pass back.
+fn follow_rows<J: Naming, R: Wait + Clock + Abort>(
+    rt: &R,
+    alloc: Global,
+    desk: &Desk<J>,
+    caller: &mut Pass<J>,
+    mut hand: Pass<J>,
+    script: &Script,
+) -> Result<Pass<J>, AllocError> {
+    for row in script.rows.lines() {
+        let mut halves = row.split(" => ");
+        let words = halves.next().expect(rt, "a call");
+        let wanted = halves.next().expect(rt, "what it is told");
+        let (worked, told) = step(rt, alloc, desk, caller, hand, words, script)?;
+        hand = worked;
+        assert_eq!(rt; told.as_str(), wanted, "{words}");
+    }
+    Ok(hand)
+}
+
 fn run<J: Naming, R: Wait + Clock + Abort>(
     rt: &R,
     alloc: Global,
@@ -70,21 +111,8 @@ fn run<J: Naming, R: Wait + Clock + Abort>(
 {
     let desk = Desk::<J>::new(row);
     let mut caller = enrol(rt, &desk);
-    let mut hand = enrol(rt, &desk);
-    let stop = AtomicBool::new(script.stops);
-    for row in script.rows.lines() {
-        let mut halves = row.split(" => ");
-        let words = halves.next().expect(rt, "a call");
-        let wanted = halves.next().expect(rt, "what it is told");
-        let told = if words == "works" {
-            hand = worker(rt, &desk, &mut NoTable, hand, &NoGate, script.budget, &stop);
-            let receipts = hand.receipts().len();
-            format!(in alloc; "{receipts} receipts")?
-        } else {
-            ask(rt, alloc, &desk, &mut caller, words)?
-        };
-        assert_eq!(rt; told.as_str(), wanted, "{words}");
-    }
+    let hand = enrol(rt, &desk);
+    let hand = follow_rows(rt, alloc, &desk, &mut caller, hand, script)?;
     let mut passes = Vec::new(alloc);
     passes.push(caller)?;
     passes.push(hand)?;

@@ -23,6 +23,8 @@ pub enum Asks {
     Target,
     /// A play of all the cards of `Pair`.
     Play,
+    /// A play of four of them, which leave a trick.
+    Trick,
 }
 
 /// How a part ends.
@@ -55,7 +57,7 @@ pub enum Shows {
     Done(u8),
     TableDone,
     TargetDone(u8),
-    /// With so many numbers, each of which is 0.
+    /// With so many numbers that are 0.
     PlayDone(usize),
     Cancelled,
     Spent,
@@ -88,6 +90,7 @@ pub struct Made {
     table: TableRequest,
     parts: Vec<SolvedPart>,
     play: PlayRequest,
+    trick: PlayRequest,
     numbers: Vec<PlayPart>,
 }
 
@@ -129,13 +132,13 @@ fn parts(alloc: Global, table: &TableRequest) -> Result<Vec<SolvedPart>, AllocEr
     Ok(parts)
 }
 
-// North leads the three, and East's king is caught.
-fn play() -> Option<PlayRequest> {
+// A play of these cards.
+fn play(ranks: &[u8]) -> Option<PlayRequest> {
     let hands = hands(&[3, 2, 13, 4, 14, 12, 6, 5], 2)?;
     let opening = Position::new(hands, Strain::Notrump, Seat::North, &[]).ok()?;
     let mut cards = ArrayVec::<Card, 8>::new();
-    for rank in [3u8, 4, 12, 5, 14, 6, 2, 13] {
-        let rank = Rank::from_code(rank)?;
+    for rank in ranks {
+        let rank = Rank::from_code(*rank)?;
         let suit = Suit::Spades;
         let _fits = cards.try_push(Card { suit, rank });
     }
@@ -174,17 +177,23 @@ pub fn make(alloc: Global) -> Result<Option<Made>, AllocError> {
         return Ok(None);
     };
     let parts = parts(alloc, &table)?;
-    let Some(play) = play() else {
+    // North leads the three, and East's king is caught.
+    let Some(whole) = play(&[3, 4, 12, 5, 14, 6, 2, 13]) else {
         return Ok(None);
     };
-    let numbers = numbers(alloc, &play)?;
+    // South plays the ace on East's four, where the queen would do.
+    let Some(trick) = play(&[2, 4, 14, 5]) else {
+        return Ok(None);
+    };
+    let numbers = numbers(alloc, &whole)?;
     Ok(Some(Made {
         ace,
         pair,
         target,
         table,
         parts,
-        play,
+        play: whole,
+        trick,
         numbers,
     }))
 }
@@ -197,6 +206,7 @@ impl Made {
             Asks::Table => Asked::Table(self.table.copy()),
             Asks::Target => Asked::Target(self.target.request().copy()),
             Asks::Play => Asked::Play(self.play.copy()),
+            Asks::Trick => Asked::Play(self.trick.copy()),
         }
     }
 
@@ -249,6 +259,15 @@ fn asks_of(request: &Request) -> Asks {
     }
 }
 
+// A play, told by its number of cards.
+fn asks_of_play(request: &PlayRequest) -> Asks {
+    if request.cards().len() == 8 {
+        Asks::Play
+    } else {
+        Asks::Trick
+    }
+}
+
 // How many cards of the play led to this position.
 fn played(position: &Position) -> u8 {
     8u8.saturating_sub(position.tricks_left().saturating_mul(4))
@@ -273,7 +292,7 @@ pub fn plain_call(call: &Call) -> Step {
             Asked::Solve(request) => Step::Submit(*caller, asks_of(request)),
             Asked::Table(_) => Step::Submit(*caller, Asks::Table),
             Asked::Target(_) => Step::Submit(*caller, Asks::Target),
-            Asked::Play(_) => Step::Submit(*caller, Asks::Play),
+            Asked::Play(request) => Step::Submit(*caller, asks_of_play(request)),
         },
         Call::Claim { worker } => Step::Claim(*worker),
         Call::Finish {

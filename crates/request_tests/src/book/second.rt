@@ -26,12 +26,15 @@ struct Job {
     // How many claims were given before it was submitted.
     claims_before: usize,
     parts: Vec<Part>,
+    // How many of them wait, and how many a worker has: counted anew when one changes.
+    counts: (u64, u64),
     ended: Option<Shows>,
 }
 
 impl Job {
     fn end(&mut self, shows: Shows) -> MadeReply {
         self.parts.clear();
+        self.recount();
         self.ended = Some(shows);
         MadeReply::Recorded
     }
@@ -48,12 +51,22 @@ impl Job {
         self.parts.iter().any(|part| *part == Part::Waiting)
     }
 
+    fn recount(&mut self) {
+        let parts = self.parts.iter();
+        let waiting = parts.filter(|part| **part == Part::Waiting).count();
+        let parts = self.parts.iter();
+        let running = parts
+            .filter(|part| matches!(**part, Part::Running(_, _)))
+            .count();
+        self.counts = (waiting as u64, running as u64);
+    }
+
     // Does a part wait that learns from none that a worker has? Of a table one of a strain without a worker, of a play any while
     // none of its parts runs.
     fn has_free(&self) -> bool {
         let mut parts = self.parts.iter();
         match self.asks {
-            Asks::Play => {
+            Asks::Play | Asks::Trick => {
                 self.waits() && !parts.any(|part| matches!(*part, Part::Running(_, _)))
             }
             Asks::Table => self.parts.chunks(4).any(is_free),
@@ -66,7 +79,7 @@ impl Job {
     fn next_part(&self) -> Option<usize> {
         let mut waiting = self.parts.iter();
         match self.asks {
-            Asks::Play => waiting.rposition(|part| *part == Part::Waiting),
+            Asks::Play | Asks::Trick => waiting.rposition(|part| *part == Part::Waiting),
             Asks::Table => match self.parts.chunks(4).position(is_free) {
                 Some(strain) => {
                     let ahead = strain * 4;
@@ -84,9 +97,11 @@ impl Job {
         if let Some(part) = self.parts.get_mut(place) {
             *part = state;
         }
+        self.recount();
         if self.parts.iter().all(|part| *part == Part::Ended) {
             let shows = match self.asks {
                 Asks::Play => Shows::PlayDone(9),
+                Asks::Trick => Shows::PlayDone(3),
                 _ => Shows::TableDone,
             };
             return self.end(shows);
@@ -114,6 +129,8 @@ pub struct Second {
     /// The claims in the order of their numbers 1, 2, ..
     pub given: Vec<Given>,
     shut: bool,
+    // So many jobs, or more, from the first on have ended.
+    ended: usize,
 }
 
 impl Second {
@@ -125,11 +142,32 @@ impl Second {
             jobs: Vec::new(alloc),
             given: Vec::new(alloc),
             shut: false,
+            ended: 0,
         }
     }
 
     pub fn len(&self) -> usize {
         self.jobs.len()
+    }
+
+    /// How many parts of open jobs wait, and how many a worker has.
+    pub fn counts(&mut self) -> (u64, u64) {
+        self.pass_ended();
+        let mut waiting = 0u64;
+        let mut running = 0u64;
+        for job in self.jobs.iter().skip(self.ended) {
+            let (waits, runs) = job.counts;
+            waiting = waiting.wrapping_add(waits);
+            running = running.wrapping_add(runs);
+        }
+        (waiting, running)
+    }
+
+    // No job that has ended is ever open again.
+    fn pass_ended(&mut self) {
+        let mut jobs = self.jobs.iter().skip(self.ended);
+        let more = jobs.position(|job| job.ended.is_none()).unwrap_or(0);
+        self.ended = self.ended.wrapping_add(more);
     }
 
     /// What the owner of the job of this number is shown.
@@ -186,8 +224,9 @@ impl Second {
         }
         let mut parts = Vec::new(self.alloc);
         let waiting = match asks {
-            Asks::Table => 20,
+            Asks::Table => 20u64,
             Asks::Play => 8,
+            Asks::Trick => 5,
             _ => 1,
         };
         for _ in 0..waiting {
@@ -203,6 +242,7 @@ impl Second {
             asks,
             claims_before: self.given.len(),
             parts,
+            counts: (waiting, 0),
             ended,
         })?;
         Ok(MadeReply::Job(self.jobs.len() as u64))
@@ -227,7 +267,7 @@ impl Second {
     fn due(&self) -> Option<usize> {
         let mut due = None;
         let mut most = 0;
-        for (place, job) in self.jobs.iter().enumerate() {
+        for (place, job) in self.jobs.iter().enumerate().skip(self.ended) {
             if job.waits() {
                 let ago = self.claims_ago(job.owner);
                 if due.is_none() || ago > most {
@@ -243,9 +283,11 @@ impl Second {
     fn next(&self) -> Option<usize> {
         let due = self.due()?;
         let owner = self.jobs.get(due)?.owner;
-        let mut jobs = self.jobs.iter();
-        let free = jobs.position(|job| job.owner == owner && job.has_free());
-        Some(free.unwrap_or(due))
+        let mut jobs = self.jobs.iter().skip(self.ended);
+        match jobs.position(|job| job.owner == owner && job.has_free()) {
+            Some(place) => Some(self.ended.wrapping_add(place)),
+            None => Some(due),
+        }
     }
 
     fn claim(&mut self, worker: u64) -> Result<MadeReply, AllocError> {
@@ -255,6 +297,7 @@ impl Second {
         } else {
             MadeReply::NothingWaits
         };
+        self.pass_ended();
         let Some(place) = self.next() else {
             return Ok(idle);
         };
@@ -277,7 +320,7 @@ impl Second {
         Ok(match asks {
             Asks::Table => MadeReply::ClaimedPart(job, part, claim),
             Asks::Target => MadeReply::ClaimedTarget(job, claim),
-            Asks::Play => MadeReply::ClaimedAfter(job, part, claim),
+            Asks::Play | Asks::Trick => MadeReply::ClaimedAfter(job, part, claim),
             _ => MadeReply::Claimed(job, claim),
         })
     }
@@ -299,7 +342,7 @@ impl Second {
             (Asks::Table, Ends::Part(number)) if number as usize == part => {
                 found.set(part, Part::Ended)
             }
-            (Asks::Play, Ends::After(count)) if count as usize == part => {
+            (Asks::Play | Asks::Trick, Ends::After(count)) if count as usize == part => {
                 found.set(part, Part::Ended)
             }
             _ => MadeReply::Stale,

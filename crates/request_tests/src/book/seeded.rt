@@ -1,4 +1,5 @@
 //! 100,000 calls from a fixed seed, through the book and through a second one.
+use crate::book::counted::Counted;
 use crate::book::drawn::draw;
 use crate::book::made::{Asks, Ends, Made, MadeReply, Shows, Step, make, plain};
 use crate::book::second::Second;
@@ -9,6 +10,8 @@ use std::process::Abort;
 const CALLS_A_BATCH: u64 = 500;
 
 const BATCHES: u64 = 200;
+
+const BATCHES_COUNTED: u64 = 40;
 
 // A book has eight batches.
 const BATCHES_A_BOOK: u64 = 8;
@@ -78,11 +81,12 @@ fn step(seed: &mut u64, second: &Second) -> Step {
     }
 }
 
-// The calls of a batch, and what the second book says to each.
+// The calls of a batch, what the second book says to each, and how many of its parts wait and run then.
 #[derive(Drop)]
 struct Batch {
     calls: Vec<Call>,
     wanted: Vec<MadeReply>,
+    counts: Vec<(u64, u64)>,
 }
 
 fn next_batch(
@@ -93,12 +97,18 @@ fn next_batch(
 ) -> Result<Batch, AllocError> {
     let mut calls = Vec::new(alloc);
     let mut wanted = Vec::new(alloc);
+    let mut counts = Vec::new(alloc);
     for _ in 0..CALLS_A_BATCH {
         let step = step(seed, second);
         calls.push(made.call(step))?;
         wanted.push(second.apply(step)?)?;
+        counts.push(second.counts())?;
     }
-    Ok(Batch { calls, wanted })
+    Ok(Batch {
+        calls,
+        wanted,
+        counts,
+    })
 }
 
 // The book after the batch, and how many replies showed a table that is done, and a play.
@@ -151,5 +161,34 @@ fn a_plain_list_gives_the_same_replies(rt: HostRuntime) -> Result<(), AllocError
     }
     assert!(&rt; tables > 4, "{tables}");
     assert!(&rt; plays > 4, "{plays}");
+    Ok(())
+}
+
+// The book after the batch.
+fn count_batch(rt: &impl Abort, counted: Counted, batch: &Batch) -> Result<Counted, AllocError> {
+    let mut counted = counted;
+    for (call, counts) in batch.calls.iter().zip(batch.counts.iter()) {
+        counted = counted.after(call)?;
+        assert_eq!(rt; counted.counts(), *counts);
+    }
+    Ok(counted)
+}
+
+#[test]
+fn a_plain_list_has_the_same_counts(rt: HostRuntime) -> Result<(), AllocError> {
+    let alloc = rt.alloc();
+    let limits = Limits::new(3, 400, 1, 1).expect(&rt, "limits in their ranges");
+    let made = make(alloc)?.expect(&rt, "hands in their forms");
+    let mut seed = 20_261_128;
+    let mut counted = Counted::new(alloc, limits);
+    let mut second = Second::new(alloc, 3, 400);
+    for number in 0..BATCHES_COUNTED {
+        if number % BATCHES_A_BOOK == 0 {
+            counted = Counted::new(alloc, limits);
+            second = Second::new(alloc, 3, 400);
+        }
+        let batch = next_batch(alloc, &mut seed, &mut second, &made)?;
+        counted = count_batch(&rt, counted, &batch)?;
+    }
     Ok(())
 }

@@ -9,10 +9,11 @@ use std::{io, thread};
 
 const HEALTH: &str = r#"{"do":"health"}"#;
 
-// One pass of the run, one of its worker, and one of a client.
+// One pass of the run, one of its worker, and one of a client. The events are enough for a table of each of 64 connections that have
+// asked nothing, beside the last quarter.
 const FEW: Run = Run {
     passes: 3,
-    events: 100,
+    events: 4_000,
     ..LINES
 };
 
@@ -73,7 +74,7 @@ fn who_asks_for_health_or_nothing_takes_no_pass_and_makes_no_event(
         let told = told.expect(&rt, "what the clients are told");
         assert_eq!(rt;
             told.as_str(),
-            "{\"events_left\":100,\"jobs\":0,\"workers\":1}\n{\"fault\":16}\n{\"events_left\":99,\"jobs\":0,\"workers\":1}\n{\"closing\":true}\n"
+            "{\"events_left\":4000,\"jobs\":0,\"workers\":1}\n{\"fault\":16}\n{\"events_left\":3999,\"jobs\":0,\"workers\":1}\n{\"closing\":true}\n"
         );
         // A fetch, the shut, and the last claim of the worker.
         assert!(rt; ended == Some(Ok(3)));

@@ -16,6 +16,10 @@ const THREE_CARDS: &str =
 const ANSWER: &str =
     r#"{"cards":[{"equals":0,"rank":13,"score":2,"suit":1},{"equals":0,"rank":14,"score":1,"suit":0},{"equals":0,"rank":2,"score":1,"suit":0}],"job":1,"state":"done"}"#;
 
+// Three cards are on the trick, and the ace is left: the search comes to one position.
+const LAST_CARD: &str =
+    r#"{"do":"solve","deal":"N:A... ... ... ...","trump":4,"first":1,"solutions":3,"played":[[0,13],[0,12],[0,11]],"wait":60000}"#;
+
 // What the client was told.
 #[derive(Drop)]
 struct Talk {
@@ -86,22 +90,48 @@ fn each_message_of_a_client_and_each_call_of_a_worker_is_an_event(
     Ok(())
 }
 
+// Asks for a job by a line that waits, and for more than the journal has room for; then stops the server.
+fn converse_to_the_last_event<R: Net<Stream = TcpStream>>(
+    rt: &R,
+    alloc: Global,
+    address: SocketAddr,
+) -> io::Result<String> {
+    let stream = TcpStream::connect(rt, address)?;
+    let mut client = Client::new(alloc, Way::Lines, &stream)?;
+    let mut told = String::new(alloc);
+    for line in [
+        LAST_CARD,
+        r#"{"do":"fetch","job":1}"#,
+        r#"{"do":"fetch","job":1,"wait":60000}"#,
+        r#"{"do":"cancel","job":1}"#,
+        LAST_CARD,
+        r#"{"do":"fetch","job":2}"#,
+        r#"{"do":"stop"}"#,
+    ] {
+        told.push_str(client.ask(line)?.as_str())?;
+        told.push_str("\n")?;
+    }
+    Ok(told)
+}
+
+// Of five events there are a submit, a claim, a finish, the fetch that tells the end, and the shut. The worker has left before it.
 #[test]
 fn a_full_journal_refuses_calls_and_a_stop_ends_the_server_all_the_same(
     rt: HostRuntime,
 ) -> Result<(), Fail> {
     let listener = TcpListener::bind(&rt, "127.0.0.1:0")?;
     let address = listener.local_addr()?;
-    let run = Run { events: 1, ..LINES };
-    let (ended, talk) = thread::join(
+    let run = Run { events: 5, ..LINES };
+    let (ended, told) = thread::join(
         &rt,
         || serve(&rt, rt.alloc(), listener, run, &NoGate),
-        || converse(&rt, rt.alloc(), address, Way::Lines).ok(),
+        || converse_to_the_last_event(&rt, rt.alloc(), address).ok(),
     );
-    let talk = talk.expect(&rt, "the client has its replies");
-    assert_eq!(rt; talk.submitted.as_str(), "{\"job\":1}");
-    assert_eq!(rt; talk.fetched.reply.as_str(), "{\"fault\":15}");
-    assert_eq!(rt; talk.stopped.as_str(), "{\"fault\":15}");
-    assert!(rt; ended == Some(Ok(1)));
+    let told = told.expect(&rt, "the client has its replies");
+    assert_eq!(rt;
+        told.as_str(),
+        "{\"cards\":[{\"equals\":0,\"rank\":14,\"score\":1,\"suit\":0}],\"job\":1,\"state\":\"done\"}\n{\"fault\":15}\n{\"fault\":15}\n{\"fault\":15}\n{\"fault\":15}\n{\"fault\":15}\n{\"closing\":true}\n"
+    );
+    assert!(rt; ended == Some(Ok(5)));
     Ok(())
 }

@@ -1,4 +1,4 @@
-//! Runs that follow one another. Each has twenty events, and is worn after fifteen.
+//! Runs that follow one another. Each has twenty events, and is worn after fifteen, or as many as a test says.
 use crate::server::client::{Client, MOST_FETCHES, Way};
 use crate::server::serving::{LINES, Run, Told, serve_runs};
 use dd_work::NoGate;
@@ -12,7 +12,13 @@ const SMALL: Run = Run {
     ..LINES
 };
 
-// How many events wear a run.
+// Room for a table and a shut.
+const OF_A_TABLE: Run = Run {
+    events: 43,
+    ..LINES
+};
+
+// How many events wear a run of twenty.
 const WEARS: u32 = 15;
 
 // Three cards are on the trick, and the ace is left: the search comes to one position.
@@ -21,6 +27,10 @@ const SOLVE: &str =
 
 const FETCH: &str = r#"{"do":"fetch","job":2}"#;
 
+const FETCH_FIRST: &str = r#"{"do":"fetch","job":1}"#;
+
+const FETCH_SECOND_AND_WAIT: &str = r#"{"do":"fetch","job":2,"wait":60000}"#;
+
 const STOP: &str = r#"{"do":"stop"}"#;
 
 const HEALTH: &str = r#"{"do":"health"}"#;
@@ -28,8 +38,18 @@ const HEALTH: &str = r#"{"do":"health"}"#;
 // Twenty parts, of which the worker makes two events each.
 const TABLE: &str = r#"{"do":"table","deal":"N:A... K... Q... J..."}"#;
 
-// How the run is once the worker has used up what the client left.
-const FULL: &str = r#"{"events_left":0,"jobs":1,"workers":1}"#;
+// North and South win the one trick, whoever declares.
+const TABLE_DONE: &str =
+    r#"{"job":1,"state":"done","table":[[1,0,1,0],[1,0,1,0],[1,0,1,0],[1,0,1,0],[1,0,1,0]]}"#;
+
+const SECOND_TABLE_DONE: &str =
+    r#"{"job":2,"state":"done","table":[[1,0,1,0],[1,0,1,0],[1,0,1,0],[1,0,1,0],[1,0,1,0]]}"#;
+
+const ACE_DONE: &str =
+    r#"{"cards":[{"equals":0,"rank":14,"score":1,"suit":0}],"job":1,"state":"done"}"#;
+
+// How the run is once the worker has used up what the client left: but for a fetch and a shut.
+const USED: &str = r#"{"events_left":2,"jobs":0,"workers":1}"#;
 
 // Writes a reply down, in a line.
 fn note(told: &mut String, reply: &str) -> io::Result<()> {
@@ -96,7 +116,8 @@ fn a_worn_run_takes_no_submit_and_the_next_connection_begins_the_next_run(
     Ok(())
 }
 
-// One client makes a single event, and the worker uses up the run. Another is served by the next run, and stops both.
+// One client makes a single event, and the worker uses up the run. Another is served by the next run, and stops both. The first
+// is told the end of its job, once.
 fn converse_beside_a_worker<R: Net<Stream = TcpStream>>(
     rt: &R,
     alloc: Global,
@@ -106,20 +127,23 @@ fn converse_beside_a_worker<R: Net<Stream = TcpStream>>(
     let stream = TcpStream::connect(rt, address)?;
     let mut first = Client::new(alloc, Way::Lines, &stream)?;
     note(&mut told, first.ask(TABLE)?.as_str())?;
-    note(&mut told, health_when_full(&mut first)?.as_str())?;
+    note(&mut told, health_when_used(&mut first)?.as_str())?;
     let next = TcpStream::connect(rt, address)?;
     let mut second = Client::new(alloc, Way::Lines, &next)?;
     note(&mut told, second.ask(SOLVE)?.as_str())?;
+    note(&mut told, first.ask(SOLVE)?.as_str())?;
     note(&mut told, first.ask(FETCH)?.as_str())?;
+    note(&mut told, first.ask(FETCH_FIRST)?.as_str())?;
+    note(&mut told, first.ask(FETCH_FIRST)?.as_str())?;
     note(&mut told, second.ask(STOP)?.as_str())?;
     Ok(told)
 }
 
-// Asks how the run is until its journal is full.
-fn health_when_full(client: &mut Client<'_>) -> io::Result<String> {
+// Asks how the run is until its worker has used it up.
+fn health_when_used(client: &mut Client<'_>) -> io::Result<String> {
     let mut told = client.ask(HEALTH)?;
     for _ in 0..MOST_FETCHES {
-        if told.as_str() == FULL {
+        if told.as_str() == USED {
             break;
         }
         told = client.ask(HEALTH)?;
@@ -127,31 +151,126 @@ fn health_when_full(client: &mut Client<'_>) -> io::Result<String> {
     Ok(told)
 }
 
-// The first run has a submit and what the worker made, as many events as there is room for. The second has a submit, a fetch, the
-// stop, a claim, a finish and the last claim.
+// The first run has as many events as there is room for: a submit, what the worker made, a fetch, and a shut. The second has a
+// submit, a fetch, the stop, a claim, a finish and the last claim.
 #[test]
 fn a_run_that_its_worker_used_up_is_followed_by_another(rt: HostRuntime) -> Result<(), Fail> {
+    let alloc = rt.alloc();
     let listener = TcpListener::bind(&rt, "127.0.0.1:0")?;
     let address = listener.local_addr()?;
     let (served, told) = thread::join(
         &rt,
-        || serve_runs(&rt, rt.alloc(), listener, SMALL, &NoGate),
-        || converse_beside_a_worker(&rt, rt.alloc(), address).ok(),
+        || serve_runs(&rt, alloc, listener, OF_A_TABLE, &NoGate),
+        || converse_beside_a_worker(&rt, alloc, address).ok(),
     );
     let told = told.expect(&rt, "the clients have their replies");
-    let wanted =
-        "{\"job\":1}\n{\"events_left\":0,\"jobs\":1,\"workers\":1}\n{\"cards\":[{\"equals\":0,\"rank\":14,\"score\":1,\"suit\":0}],\"job\":1,\"state\":\"done\"}\n{\"fault\":15}\n{\"closing\":true}\n";
-    assert_eq!(rt; told.as_str(), wanted);
+    let fault = "{\"fault\":15}";
+    let wanted = format!(in alloc;
+        "{{\"job\":1}}\n{USED}\n{ACE_DONE}\n{fault}\n{fault}\n{TABLE_DONE}\n{fault}\n{{\"closing\":true}}\n"
+    )?;
+    assert_eq!(rt; told.as_str(), wanted.as_str());
     assert!(rt;
         served
             == Some((
                 Told {
                     runs: 2,
-                    events: 26
+                    events: 49
                 },
                 Ok(())
             ))
     );
+    Ok(())
+}
+
+// A hundred events, of which 25 are the last quarter. Beside two connections that have asked nothing there is no room for a third:
+// 99 are free, and a table of each would leave 15. So the third is served by the next run, and the two have a job each in this, and
+// no more, though that had room for it.
+fn converse_after_silence<R: Net<Stream = TcpStream>>(
+    rt: &R,
+    alloc: Global,
+    address: SocketAddr,
+) -> io::Result<String> {
+    let mut told = String::new(alloc);
+    let one = TcpStream::connect(rt, address)?;
+    let two = TcpStream::connect(rt, address)?;
+    let three = TcpStream::connect(rt, address)?;
+    let mut first = Client::new(alloc, Way::Lines, &one)?;
+    let mut second = Client::new(alloc, Way::Lines, &two)?;
+    let mut third = Client::new(alloc, Way::Lines, &three)?;
+    note(&mut told, third.ask(SOLVE)?.as_str())?;
+    note(&mut told, first.ask(SOLVE)?.as_str())?;
+    note(&mut told, second.ask(TABLE)?.as_str())?;
+    note(&mut told, first.ask(SOLVE)?.as_str())?;
+    note(&mut told, second.ask(FETCH_SECOND_AND_WAIT)?.as_str())?;
+    note(&mut told, third.ask(STOP)?.as_str())?;
+    Ok(told)
+}
+
+const HUNDRED: Run = Run {
+    events: 100,
+    ..LINES
+};
+
+#[test]
+fn a_run_is_left_for_the_next_without_room_for_who_has_asked_nothing(
+    rt: HostRuntime,
+) -> Result<(), Fail> {
+    let alloc = rt.alloc();
+    let listener = TcpListener::bind(&rt, "127.0.0.1:0")?;
+    let address = listener.local_addr()?;
+    let (served, told) = thread::join(
+        &rt,
+        || serve_runs(&rt, alloc, listener, HUNDRED, &NoGate),
+        || converse_after_silence(&rt, alloc, address).ok(),
+    );
+    let told = told.expect(&rt, "the clients have their replies");
+    let wanted = format!(in alloc;
+        "{ACE_DONE}\n{ACE_DONE}\n{{\"job\":2}}\n{{\"fault\":15}}\n{SECOND_TABLE_DONE}\n{{\"closing\":true}}\n"
+    )?;
+    assert_eq!(rt; told.as_str(), wanted.as_str());
+    assert!(rt; matches!(served, Some((Told { runs: 2, .. }, Ok(())))));
+    Ok(())
+}
+
+// The first has asked, so that no table of it is expected: the third is served by the same run, which has its jobs numbered after
+// those of the first. Who has asked is told 15 where a table of each other one would leave no more than a quarter.
+fn converse_after_a_fetch<R: Net<Stream = TcpStream>>(
+    rt: &R,
+    alloc: Global,
+    address: SocketAddr,
+) -> io::Result<String> {
+    let mut told = String::new(alloc);
+    let one = TcpStream::connect(rt, address)?;
+    let mut first = Client::new(alloc, Way::Lines, &one)?;
+    note(&mut told, first.ask(FETCH)?.as_str())?;
+    let two = TcpStream::connect(rt, address)?;
+    let mut second = Client::new(alloc, Way::Lines, &two)?;
+    note(&mut told, first.ask(SOLVE)?.as_str())?;
+    let three = TcpStream::connect(rt, address)?;
+    let mut third = Client::new(alloc, Way::Lines, &three)?;
+    note(&mut told, third.ask(FETCH)?.as_str())?;
+    note(&mut told, third.ask(TABLE)?.as_str())?;
+    note(&mut told, first.ask(SOLVE)?.as_str())?;
+    note(&mut told, second.ask(STOP)?.as_str())?;
+    Ok(told)
+}
+
+#[test]
+fn who_has_asked_is_expected_to_ask_no_table(rt: HostRuntime) -> Result<(), Fail> {
+    let alloc = rt.alloc();
+    let listener = TcpListener::bind(&rt, "127.0.0.1:0")?;
+    let address = listener.local_addr()?;
+    let (served, told) = thread::join(
+        &rt,
+        || serve_runs(&rt, alloc, listener, HUNDRED, &NoGate),
+        || converse_after_a_fetch(&rt, alloc, address).ok(),
+    );
+    let told = told.expect(&rt, "the clients have their replies");
+    let wanted = format!(in alloc;
+        "{{\"fault\":16}}\n{ACE_DONE}\n{{\"fault\":16}}\n{{\"job\":2}}\n{{\"fault\":15}}\n{{\"closing\":true}}\n"
+    )?;
+    assert_eq!(rt; told.as_str(), wanted.as_str());
+    assert!(rt; matches!(served, Some((Told { runs: 1, .. }, Ok(())))));
     Ok(())
 }
 

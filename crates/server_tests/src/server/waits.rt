@@ -166,55 +166,59 @@ fn a_stop_wakes_who_waits(rt: HostRuntime) -> Result<(), Fail> {
     Ok(())
 }
 
-// One client waits for its job, which is held, and another makes the last event that the journal has room for.
-fn fill_the_journal<R: Net<Stream = TcpStream> + Clock>(
-    rt: &R,
-    alloc: Global,
-    address: SocketAddr,
-) -> io::Result<(String, String)> {
-    let streams = (
-        TcpStream::connect(rt, address)?,
-        TcpStream::connect(rt, address)?,
-    );
-    let mut first = Client::new(alloc, Way::Lines, &streams.0)?;
-    let mut second = Client::new(alloc, Way::Lines, &streams.1)?;
-    send_ahead(rt, &streams.0, WAITS)?;
-    let last = second.ask(FETCH)?;
-    let told = first.hear()?;
-    second.ask(STOP)?;
-    Ok((told, last))
-}
-
-// The same, and then the job is searched.
-fn fill_and_release<R: Net<Stream = TcpStream> + Clock>(
+// One client waits for its job, which is held until another has made each event that was free: what the one is told, what the
+// other, and the reply to a stop.
+fn use_up_what_is_free<R: Net<Stream = TcpStream> + Clock>(
     rt: &R,
     alloc: Global,
     address: SocketAddr,
     released: &AtomicBool,
-) -> Option<(String, String)> {
-    let told = fill_the_journal(rt, alloc, address);
+) -> io::Result<String> {
+    let one = TcpStream::connect(rt, address)?;
+    let mut first = Client::new(alloc, Way::Lines, &one)?;
+    let submitted = first.ask(SUBMIT)?;
+    let two = TcpStream::connect(rt, address)?;
+    let mut second = Client::new(alloc, Way::Lines, &two)?;
+    send_ahead(rt, &one, FETCH_AND_WAIT)?;
+    let others = (second.ask(FETCH)?, second.ask(FETCH)?, second.ask(FETCH)?);
+    released.store(true, Ordering::SeqCst);
+    let told = first.hear()?;
+    let stopped = second.ask(STOP)?;
+    let (submitted, told, stopped) = (submitted.as_str(), told.as_str(), stopped.as_str());
+    let (other, next, last) = (others.0.as_str(), others.1.as_str(), others.2.as_str());
+    Ok(format!(in alloc; "{submitted}\n{other}\n{next}\n{last}\n{told}\n{stopped}\n")?)
+}
+
+// The same, and the job is searched whatever was told.
+fn use_up_and_release<R: Net<Stream = TcpStream> + Clock>(
+    rt: &R,
+    alloc: Global,
+    address: SocketAddr,
+    released: &AtomicBool,
+) -> Option<String> {
+    let told = use_up_what_is_free(rt, alloc, address, released);
     released.store(true, Ordering::SeqCst);
     told.ok()
 }
 
-// The submit, the claim and the other client's fetch: so the fetch that waits is refused, and its client is told of its job.
+// Of seven events a claim, a finish, the fetch that waits and a shut are put by at the submit, and two are free.
 #[test]
-fn the_last_event_of_the_journal_wakes_who_waits(rt: HostRuntime) -> Result<(), Fail> {
+fn who_waits_is_told_the_end_where_no_event_is_free(rt: HostRuntime) -> Result<(), Fail> {
     let listener = TcpListener::bind(&rt, "127.0.0.1:0")?;
     let address = listener.local_addr()?;
     let released = AtomicBool::new(false);
-    let run = Run { events: 3, ..LINES };
+    let run = Run { events: 7, ..LINES };
     let (ended, told) = thread::join(
         &rt,
         || serve_held(&rt, rt.alloc(), listener, run, &released),
-        || fill_and_release(&rt, rt.alloc(), address, &released),
+        || use_up_and_release(&rt, rt.alloc(), address, &released),
     );
-    let (told, last) = told.expect(&rt, "the clients have their replies");
-    assert_eq!(rt;
-        (told.as_str(), last.as_str()),
-        ("{\"job\":1}", "{\"fault\":16}")
-    );
-    assert!(rt; ended == Some(Ok(3)));
+    let told = told.expect(&rt, "the clients have their replies");
+    let wanted = format!(in rt.alloc();
+        "{{\"job\":1}}\n{{\"fault\":16}}\n{{\"fault\":16}}\n{{\"fault\":15}}\n{DONE}\n{{\"closing\":true}}\n"
+    )?;
+    assert_eq!(rt; told.as_str(), wanted.as_str());
+    assert!(rt; ended == Some(Ok(7)));
     Ok(())
 }
 

@@ -79,7 +79,7 @@ fn left_at_a_row<R: Wait + Clock>(
     alloc: Global,
     client: &Client,
 ) -> Option<(Vec<u64>, bool)> {
-    let limits = Limits::new(64, 1_000, 2, 100)?;
+    let limits = Limits::new(64, 1_000, 2, 1_000)?;
     let row = Row::new(alloc, limits).ok()?;
     left::<Brand, R>(rt, alloc, row, client)
 }

@@ -103,24 +103,25 @@ fn after_a_shut_nothing_is_waited_for(rt: HostRuntime) -> Result<(), Fail> {
     Ok(())
 }
 
-// Over a journal that the submit fills the fetch is refused: the client is told of its job.
+// The submit leaves no event free. When its time is over the job is open, and the fetch is refused: the client is told of its job.
+// The cancel at the end has an event.
 #[test]
 fn a_job_whose_fetch_is_refused_is_not_lost(rt: HostRuntime) -> Result<(), Fail> {
-    let lines = br#"{"do":"table","deal":"N:A... K... Q... J...","wait":60000}
+    let lines = br#"{"do":"table","deal":"N:A... K... Q... J...","wait":50}
 {"do":"table","deal":"N:A... K... Q... J...","wait":60000}
-{"do":"fetch","job":1,"wait":60000}
+{"do":"fetch","job":1,"wait":50}
 "#;
     let mut client = client(rt.alloc(), lines)?;
-    client.events = 1;
+    client.events = 43;
     let served = serve(&rt, rt.alloc(), &client);
-    assert!(rt; has_served(&served, b"{\"job\":1}\n{\"fault\":15}\n{\"fault\":15}\n", 1));
+    assert!(rt; has_served(&served, b"{\"job\":1}\n{\"fault\":15}\n{\"fault\":15}\n", 2));
     Ok(())
 }
 
-// So many submits, and one more that waits.
+// So many submits, and one more that waits, with events for all.
 fn full_hands(alloc: Global) -> Result<Client, AllocError> {
     let mut client = client(alloc, b"")?;
-    client.events = 1_000;
+    client.events = 3_000;
     for _ in 0..64 {
         client
             .sent

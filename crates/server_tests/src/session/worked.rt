@@ -174,17 +174,50 @@ fn nothing_is_submitted_after_a_stop(rt: HostRuntime) -> Result<(), Fail> {
     Ok(())
 }
 
+// A table and a shut have 43 events. The cancel at the end takes that of the fetch.
 #[test]
 fn a_full_journal_is_told(rt: HostRuntime) -> Result<(), Fail> {
     let lines = br#"{"do":"table","deal":"N:A... K... Q... J..."}
+{"do":"fetch","job":1}
+{"do":"table","deal":"N:A... K... Q... J..."}
+{"do":"stop"}
 {"do":"stop"}
 {"do":"fetch","job":1}
 {"do":"fetch"}
 "#;
     let mut client = client(rt.alloc(), lines)?;
-    client.events = 1;
+    client.events = 43;
     let served = serve(&rt, rt.alloc(), &client);
-    let replies = b"{\"job\":1}\n{\"fault\":15}\n{\"fault\":15}\n{\"fault\":3}\n";
-    assert!(rt; has_served(&served, replies, 1));
+    let replies =
+        b"{\"job\":1}\n{\"fault\":15}\n{\"fault\":15}\n{\"closing\":true}\n{\"fault\":15}\n{\"fault\":15}\n{\"fault\":3}\n";
+    assert!(rt; has_served(&served, replies, 3));
+    client.events = 42;
+    let served = serve(&rt, rt.alloc(), &client);
+    let replies =
+        b"{\"fault\":15}\n{\"fault\":16}\n{\"fault\":15}\n{\"closing\":true}\n{\"closing\":true}\n{\"fault\":16}\n{\"fault\":3}\n";
+    assert!(rt; has_served(&served, replies, 4));
+    Ok(())
+}
+
+#[test]
+fn a_job_is_cancelled_and_told_where_no_event_is_free(rt: HostRuntime) -> Result<(), Fail> {
+    let lines = br#"{"do":"solve","deal":"N:A... K... Q... J...","trump":4,"first":0,"solutions":3}
+{"do":"fetch","job":1}
+{"do":"cancel","job":1}
+{"do":"fetch","job":1}
+{"do":"fetch","job":1}
+{"do":"fetch","job":1}
+"#;
+    let mut client = client(rt.alloc(), lines)?;
+    client.events = 5;
+    let served = serve(&rt, rt.alloc(), &client);
+    let replies = br#"{"job":1}
+{"fault":15}
+{"job":1,"state":"cancelled"}
+{"job":1,"state":"cancelled"}
+{"job":1,"state":"cancelled"}
+{"fault":15}
+"#;
+    assert!(rt; has_served(&served, replies, 4));
     Ok(())
 }
