@@ -10,7 +10,6 @@ use Rattle.dd_solve.specs.declared.asked.Asked.{Asked}
 use Rattle.dd_solve.specs.declared.asked.Asked.TheVariants.{Solve, Table, Target, Play}
 use Rattle.dd_book.specs.declared.call.Call.{Call}
 use Rattle.dd_book.specs.declared.call.Call.TheVariants as call
-use Rattle.dd_book.specs.declared.call.Outcome.{Outcome}
 use Rattle.dd_book.specs.declared.call.Refusal.TheVariants.{BookFull, JobEnded, OpenJobs, ShuttingDown}
 use Rattle.dd_book.specs.declared.call.Reply.{Reply}
 use Rattle.dd_book.specs.declared.call.Reply.TheVariants.{Submitted, NothingWaits, Closing, Recorded, Stale, Cancelled, Fault}

@@ -281,3 +281,30 @@ enrols: pass 2
 1 fetches 1: done with 1";
     follow(&rt, rt.alloc(), few(&rt, 5), rows, "5 events: 2 3")
 }
+
+// Of ten events one is kept for a shut. A request takes one and keeps three: its claim, its finish and its fetch. A part that was
+// stopped keeps two again, which its cancel gives back.
+#[test]
+fn free_are_the_events_that_are_neither_made_nor_kept(rt: HostRuntime) -> Result<(), AllocError> {
+    let rows = "looks: 9 free
+enrols: pass 1
+enrols: pass 2
+looks: 9 free
+1 submits A: job 1
+looks: 5 free
+1 submits T: refused 15
+looks: 5 free
+2 claims: job 1 claim 1
+looks: 5 free
+1 fetches 1: running
+looks: 4 free
+2 finishes 1 1 stopped: recorded
+looks: 2 free
+1 cancels 1: cancelled 1
+looks: 4 free
+2 shuts: shut
+looks: 4 free
+1 submits A: fault 18
+looks: 3 free";
+    follow(&rt, rt.alloc(), few(&rt, 10), rows, "7 events: 4 3")
+}

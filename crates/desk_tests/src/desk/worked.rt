@@ -76,7 +76,7 @@ pub fn in_words(alloc: Global, said: &Result<Reply, DeskFault>) -> Result<String
     }
 }
 
-// What these words are told; an enrolment is told the number of its pass.
+// What these words are told; an enrolment is told the number of its pass, and a look how many events are free.
 fn step<J: Naming, R: Wait + Abort>(
     rt: &R,
     alloc: Global,
@@ -94,6 +94,10 @@ fn step<J: Naming, R: Wait + Abort>(
             }
             Err(fault) => in_words(alloc, &Err(fault)),
         };
+    }
+    if words == "looks" {
+        let free = desk.free(rt);
+        return format!(in alloc; "{free} free");
     }
     let who: usize = match words.split(' ').next() {
         Some(word) => word.parse().unwrap_or(0),

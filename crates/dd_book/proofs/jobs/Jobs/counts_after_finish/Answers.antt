@@ -5,7 +5,7 @@ use Rattle.dd_book.specs.declared.call.Outcome.TheVariants.{Spent, Stopped}
 use Rattle.dd_book.specs.declared.part_counts.PartCounts.{PartCounts}
 use Rattle.dd_book.specs.Counts.{counts_in, running_in, waiting_in}
 use Rattle.dd_book.specs.Parts.{is_running, is_waiting, runs_by}
-use Rattle.dd_book.specs.Jobs.{job_at, parts_of, stage_after}
+use Rattle.dd_book.specs.Jobs.{parts_of, stage_after}
 use Rattle.dd_book.proofs.Counting.{counts-are, finish-ended, finish-spent, finish-stopped, finished, stage-there}
 use Rattle.dd_book.proofs.jobs.Jobs.counts_after_finish.Goals as goal
 use Rattle.dd_book.proofs.jobs.Jobs.counts_after_finish.Goals.{After-records}
