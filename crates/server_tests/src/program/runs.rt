@@ -20,7 +20,7 @@ fn ace_reply() -> &'static str {
     "{\"cards\":[{\"equals\":0,\"rank\":14,\"score\":1,\"suit\":0}]}\n"
 }
 
-// The last card of a trick: the search comes to one position.
+// The last card of a trick: the search visits one position.
 fn last_card() -> &'static str {
     "{\"do\":\"solve\",\"deal\":\"N:A... ... ... ...\",\"trump\":4,\"first\":1,\"played\":[[0,13],[0,12],[0,11]],\"solutions\":3}\n"
 }

@@ -15,7 +15,7 @@ use std::{io, thread};
 // The most turns, of about a millisecond, that the address is waited for.
 const TURNS: u32 = 60_000;
 
-// Three cards are on the trick, and the ace is left: the search comes to one position.
+// Three cards are on the trick, and the ace is left: the search visits one position.
 const LAST_CARD: &str =
     r#"{"do":"solve","deal":"N:A... ... ... ...","trump":4,"first":1,"solutions":3,"played":[[0,13],[0,12],[0,11]]}"#;
 

@@ -21,7 +21,7 @@ const PATIENCE: u64 = 20;
 // The most turns, of about a millisecond, that a worker is held.
 const TURNS: u32 = 10_000;
 
-// Three cards are on the trick, and the ace is left: the search comes to one position.
+// Three cards are on the trick, and the ace is left: the search visits one position.
 const SUBMIT: &str =
     r#"{"do":"solve","deal":"N:A... ... ... ...","trump":4,"first":1,"played":[[0,13],[0,12],[0,11]],"solutions":3}"#;
 

@@ -16,7 +16,7 @@ const THREE_CARDS: &str =
 const ANSWER: &str =
     r#"{"cards":[{"equals":0,"rank":13,"score":2,"suit":1},{"equals":0,"rank":14,"score":1,"suit":0},{"equals":0,"rank":2,"score":1,"suit":0}],"job":1,"state":"done"}"#;
 
-// Three cards are on the trick, and the ace is left: the search comes to one position.
+// Three cards are on the trick, and the ace is left: the search visits one position.
 const LAST_CARD: &str =
     r#"{"do":"solve","deal":"N:A... ... ... ...","trump":4,"first":1,"solutions":3,"played":[[0,13],[0,12],[0,11]],"wait":60000}"#;
 

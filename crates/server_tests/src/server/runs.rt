@@ -21,7 +21,7 @@ const OF_A_TABLE: Run = Run {
 // How many events wear a run of twenty.
 const WEARS: u32 = 15;
 
-// Three cards are on the trick, and the ace is left: the search comes to one position.
+// Three cards are on the trick, and the ace is left: the search visits one position.
 const SOLVE: &str =
     r#"{"do":"solve","deal":"N:A... ... ... ...","trump":4,"first":1,"solutions":3,"played":[[0,13],[0,12],[0,11]],"wait":60000}"#;
 

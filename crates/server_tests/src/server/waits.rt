@@ -19,7 +19,7 @@ const TURNS: u32 = 10_000;
 // How many milliseconds a line that waits has to come to its wait.
 const COMES: u64 = 50;
 
-// Three cards are on the trick, and the ace is left: the search comes to one position.
+// Three cards are on the trick, and the ace is left: the search visits one position.
 const WAITS: &str =
     r#"{"do":"solve","deal":"N:A... ... ... ...","trump":4,"first":1,"solutions":3,"played":[[0,13],[0,12],[0,11]],"wait":60000}"#;
 
