@@ -8,9 +8,10 @@ use Rattle.dd_command.specs.declared.command_line.Args.TheVariants.{Fill, Serve}
 use Rattle.dd_server.specs.declared.args.ServeFault.{ServeFault}
 use Rattle.dd_server.specs.declared.args.ServeFault.TheVariants.{Listen, OutOfMemory as NoMemoryLeft}
 use Rattle.dd_server.specs.Runs.{AreTold}
+use Rattle.dd_server.specs.declared.terms.Terms.{Terms}
 use Rattle.dd_program.specs.declared.ending.Ending.{Ending}
 use Rattle.dd_program.specs.declared.ending.Ending.TheVariants.{WriteFailed}
-use Rattle.dd_program.specs.Endings.{AnswersUntil, AreRuns, Device, EndsSo, FillsUntil, ServesUntil, Streams, TellingOf, TellsNext, TellsRun, TellsText, Writes, WritesAll, WritesBeginning, closed_text, closed_texts, line_of, listening_text, streams}
+use Rattle.dd_program.specs.Endings.{AnswersUntil, AreRuns, Device, EndsSo, FillsUntil, ServesUntil, Streams, TellingOf, TellsNext, TellsRun, TellsText, Writes, WritesAll, WritesBeginning, closed_text, closed_texts, line_of, listening_text, streams, terms_for}
 
 -- ---- texts, one after another
 
@@ -89,32 +90,33 @@ as-writes text false old new told = inl told
 as-writes text true old new told = inr told
 
 -- so the serving ends, after the address was told
-pub ends-so : (events : ℕ) (address runs : List ℕ) (input before output output2 errors errors2 : Device) (result : Result (Unit {0}) ServeFault) (failed : Bool) (ending : Ending)
-    → WritesAll (listening_text address) before output → AreRuns events runs → (IsOk result → 0 < length runs) → TellsText (closed_texts runs) failed output output2
-    → EndsSo result failed errors errors2 ending → ServesUntil events (streams input before errors) (streams input output2 errors2) ending
-ends-so events address runs input before output output2 errors errors2 (Ok done) false ending listens are_runs some told (is, same) =
-    subst (ServesUntil events (streams input before errors) (streams input output2 errors2)) (sym is)
+pub ends-so : (terms : Terms) (events : ℕ) (address runs : List ℕ) (input before output output2 errors errors2 : Device) (result : Result (Unit {0}) ServeFault) (failed : Bool) (ending : Ending)
+    → WritesAll (listening_text address) before output → AreRuns terms events runs → (IsOk result → 0 < length runs) → TellsText (closed_texts runs) failed output output2
+    → EndsSo result failed errors errors2 ending → ServesUntil terms events (streams input before errors) (streams input output2 errors2) ending
+ends-so terms events address runs input before output output2 errors errors2 (Ok done) false ending listens are_runs some told (is, same) =
+    subst (ServesUntil terms events (streams input before errors) (streams input output2 errors2)) (sym is)
     (record { input = refl; address = address; between = output; listens = listens; runs = runs; are_runs = are_runs; some = some refl; closes = told; errors = same })
-ends-so events address runs input before output output2 errors errors2 (Ok done) true ending listens are_runs some told (is, said) =
-    subst (ServesUntil events (streams input before errors) (streams input output2 errors2)) (sym is)
+ends-so terms events address runs input before output output2 errors errors2 (Ok done) true ending listens are_runs some told (is, said) =
+    subst (ServesUntil terms events (streams input before errors) (streams input output2 errors2)) (sym is)
     (record { input = refl; output = inr (address, output, listens, runs, are_runs, told); said = said })
-ends-so events address runs input before output output2 errors errors2 (Err Listen) failed ending listens are_runs some told (is, said) =
-    subst (ServesUntil events (streams input before errors) (streams input output2 errors2)) (sym is)
+ends-so terms events address runs input before output output2 errors errors2 (Err Listen) failed ending listens are_runs some told (is, said) =
+    subst (ServesUntil terms events (streams input before errors) (streams input output2 errors2)) (sym is)
     (record { input = refl; output = inr (address, output, listens, runs, are_runs, as-writes (closed_texts runs) failed output output2 told); said = said })
-ends-so events address runs input before output output2 errors errors2 (Err NoMemoryLeft) failed ending listens are_runs some told (is, said) =
-    subst (ServesUntil events (streams input before errors) (streams input output2 errors2)) (sym is)
+ends-so terms events address runs input before output output2 errors errors2 (Err NoMemoryLeft) failed ending listens are_runs some told (is, said) =
+    subst (ServesUntil terms events (streams input before errors) (streams input output2 errors2)) (sym is)
     (record { input = refl; output = inr (address, output, listens, runs, are_runs, as-writes (closed_texts runs) failed output output2 told); said = said })
 
 -- the address could not be told whole
-pub untold-start : (events : ℕ) (address line : List ℕ) (input before output errors errors2 : Device) (ending : Ending) → line ≡ listening_text address → ending ≡ WriteFailed
-    → WritesBeginning line before output → Writes (line_of WriteFailed) errors errors2 → ServesUntil events (streams input before errors) (streams input output errors2) ending
-untold-start events address line input before output errors errors2 ending line-is ending-is begins said =
-    subst (ServesUntil events (streams input before errors) (streams input output errors2)) (sym ending-is)
+pub untold-start : (terms : Terms) (events : ℕ) (address line : List ℕ) (input before output errors errors2 : Device) (ending : Ending) → line ≡ listening_text address → ending ≡ WriteFailed
+    → WritesBeginning line before output → Writes (line_of WriteFailed) errors errors2 → ServesUntil terms events (streams input before errors) (streams input output errors2) ending
+untold-start terms events address line input before output errors errors2 ending line-is ending-is begins said =
+    subst (ServesUntil terms events (streams input before errors) (streams input output errors2)) (sym ending-is)
     (record { input = refl; output = inl (address, subst (λ l. WritesBeginning l before output) line-is begins); said = said })
 
 -- so what arguments of `serve` ask for is done
 pub as-serve : (args : Args) (listen : String Global) (workers shards entries : ℕ) (budget : Option ℕ) (events : ℕ) (idle : Option ℕ) (websocket allow_stop explain : Bool) (old new : Streams) (ending : Ending)
-    → args ≡ Serve listen workers shards entries budget events idle websocket allow_stop explain → ServesUntil events old new ending → AnswersUntil args old new ending
+    → args ≡ Serve listen workers shards entries budget events idle websocket allow_stop explain
+    → ServesUntil (terms_for budget allow_stop explain) events old new ending → AnswersUntil args old new ending
 as-serve args listen workers shards entries budget events idle websocket allow_stop explain old new ending is serves = subst (λ a. AnswersUntil a old new ending) (sym is) serves
 
 -- and what those of `pbn` do

@@ -27,6 +27,7 @@ use Rattle.dd_file.specs.declared.wanted.Wanted.{Wanted}
 use Rattle.dd_fill.specs.Told.{IsTold, MaySpend}
 use Rattle.dd_server.specs.Histories.{IsLengthOfHistory}
 use Rattle.dd_server.specs.declared.args.ServeFault.{ServeFault}
+use Rattle.dd_server.specs.declared.terms.Terms.{Terms}
 use Rattle.dd_server.specs.declared.args.ServeFault.TheVariants.{Listen, OutOfMemory as NoMemoryLeft}
 use Rattle.dd_book.specs.Limits.{LimitsOf, limits_of}
 use Rattle.dd_limits.specs.declared.limits.TheConstants.{MOST_OPEN_JOBS, MOST_JOBS, MOST_PASSES}
@@ -203,35 +204,39 @@ TellsNext false run before after = TellsText (closed_text run) after.has_failed 
 abbrev pub TellsRun : TellingOf → ℕ → TellingOf → Type 0
 TellsRun before run after = (after.reference ≡ before.reference) × TellsNext before.has_failed run before after
 
--- runs with so many events at most, each with the number of events of a history of its own
-abbrev pub AreRuns : ℕ → List ℕ → Type 0
-AreRuns events runs = All (IsLengthOfHistory (limits_for events)) runs
+-- what each run of the server is asked for by these options: how its sessions answer, and the budget of a search
+abbrev pub terms_for : Option ℕ → Bool → Bool → Terms
+terms_for budget allow_stop explain = record { manner = record { allow_stop = allow_stop; explain = explain }; budget = budget }
+
+-- runs that were asked for so, with so many events at most, each with the number of events of a history of its own
+abbrev pub AreRuns : Terms → ℕ → List ℕ → Type 0
+AreRuns terms events runs = All (IsLengthOfHistory (limits_for events) terms) runs
 
 -- the address was told, and of each run, at its end, how many events its journal has: of one at least
-pub record Serves (events : ℕ) (old new : Streams) : Type 0 where
+pub record Serves (terms : Terms) (events : ℕ) (old new : Streams) : Type 0 where
   pub input : new.input ≡ old.input
   pub address : List ℕ
   pub between : Device
   pub listens : WritesAll (listening_text address) old.output between
   pub runs : List ℕ
-  pub are_runs : AreRuns events runs
+  pub are_runs : AreRuns terms events runs
   pub some : 0 < length runs
   pub closes : WritesAll (closed_texts runs) between new.output
   pub errors : new.errors ≡ old.errors
 
 -- one of these could not be told whole, and none after it was told
-pub record FailsToTell (events : ℕ) (old new : Streams) : Type 0 where
+pub record FailsToTell (terms : Terms) (events : ℕ) (old new : Streams) : Type 0 where
   pub input : new.input ≡ old.input
   pub output : ((address : List ℕ) × WritesBeginning (listening_text address) old.output new.output)
       ⊎ ((address : List ℕ) × (between : Device) × WritesAll (listening_text address) old.output between
-      × (runs : List ℕ) × AreRuns events runs × WritesBeginning (closed_texts runs) between new.output)
+      × (runs : List ℕ) × AreRuns terms events runs × WritesBeginning (closed_texts runs) between new.output)
   pub said : Writes (line_of WriteFailed) old.errors new.errors
 
 -- it ended badly, perhaps after the address and runs were told, these as far as the device took them, and that was said
-pub record FailsToServe (events : ℕ) (ending : Ending) (old new : Streams) : Type 0 where
+pub record FailsToServe (terms : Terms) (events : ℕ) (ending : Ending) (old new : Streams) : Type 0 where
   pub input : new.input ≡ old.input
   pub output : (new.output ≡ old.output) ⊎ ((address : List ℕ) × (between : Device) × WritesAll (listening_text address) old.output between
-      × (runs : List ℕ) × AreRuns events runs × Writes (closed_texts runs) between new.output)
+      × (runs : List ℕ) × AreRuns terms events runs × Writes (closed_texts runs) between new.output)
   pub said : Writes (line_of ending) old.errors new.errors
 
 -- the address can't be listened at: nothing was told, and that was said
@@ -240,14 +245,14 @@ pub record FailsToListen (fault : ListenFault) (old new : Streams) : Type 0 wher
   pub output : new.output ≡ old.output
   pub said : Writes (line_of_fault fault) old.errors new.errors
 
--- clients are served by runs of so many events, up to this ending
-abbrev pub ServesUntil : ℕ → Streams → Streams → Ending → Type 0
-ServesUntil events old new Closed = Serves events old new
-ServesUntil events old new WriteFailed = FailsToTell events old new
-ServesUntil events old new (CannotListen fault) = FailsToListen fault old new
-ServesUntil events old new ListenFailed = FailsToServe events ListenFailed old new
-ServesUntil events old new OutOfMemory = FailsToServe events OutOfMemory old new
-ServesUntil events old new _ = ⊥
+-- clients are served by runs that are asked for so, of so many events, up to this ending
+abbrev pub ServesUntil : Terms → ℕ → Streams → Streams → Ending → Type 0
+ServesUntil terms events old new Closed = Serves terms events old new
+ServesUntil terms events old new WriteFailed = FailsToTell terms events old new
+ServesUntil terms events old new (CannotListen fault) = FailsToListen fault old new
+ServesUntil terms events old new ListenFailed = FailsToServe terms events ListenFailed old new
+ServesUntil terms events old new OutOfMemory = FailsToServe terms events OutOfMemory old new
+ServesUntil terms events old new _ = ⊥
 
 -- how it ends where the server ended so, and where telling of its runs failed or not; a failure is said
 abbrev pub EndsSo : Result (Unit {0}) ServeFault → Bool → Device → Device → Ending → Type 0
@@ -331,7 +336,8 @@ FillsUntil tags budget old new ending = FillsWanted (wanted_by tags) budget old 
 -- what the arguments ask for is done, up to this ending
 abbrev pub AnswersUntil : Args → Streams → Streams → Ending → Type 0
 AnswersUntil (Solve budget entries workers explain) old new ending = SolvesUntil (IsReplyAs explain budget) old new ending
-AnswersUntil (Serve listen workers shards entries budget events idle websocket allow_stop explain) old new ending = ServesUntil events old new ending
+AnswersUntil (Serve listen workers shards entries budget events idle websocket allow_stop explain) old new ending =
+    ServesUntil (terms_for budget allow_stop explain) events old new ending
 AnswersUntil (Fill tags budget entries workers) old new ending = FillsUntil (string_bytes tags) budget old new ending
 
 -- ---- an error is shown

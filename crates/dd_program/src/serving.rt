@@ -3,7 +3,7 @@ ghost use Rattle.std.specs.Prelude.{◌≡◌, ◌<◌, ◌≤◌, ℕ, List, Al
 ghost use Rattle.dd_command.specs.CommandLine.{IsEventCount};
 ghost use Rattle.dd_program.specs.Endings.{EndsSo, limits_for, listening_text, state_of, streams, Device, ServesUntil, WritesAll, WritesBeginning};
 ghost use Rattle.dd_command.specs.declared.command_line.TheConstants.{MOST_WORKERS};
-ghost use Rattle.dd_server.specs.ServeArgs.{HasTableSize};
+ghost use Rattle.dd_server.specs.ServeArgs.{HasTableSize, terms_by};
 
 use crate::ending::Ending;
 use crate::listen_fault::ListenFault;
@@ -38,7 +38,7 @@ pub(crate) fn serve<
     requires events { IsEventCount events }
     requires workers { args.workers ≤ MOST_WORKERS }
     requires table { HasTableSize args }
-    ensures { (input : Device) → ServesUntil events
+    ensures { (input : Device) → ServesUntil (terms_by args) events
         (streams input (state_of O.contents output.old) (state_of E.contents errors.old))
         (streams input (state_of O.contents output.new) (state_of E.contents errors.new)) result }
 {
@@ -78,7 +78,7 @@ fn attend<
     requires table { HasTableSize args }
     ensures { (input before : Device) (address : List ℕ)
         → WritesAll (listening_text address) before (state_of O.contents output.old)
-        → ServesUntil events
+        → ServesUntil (terms_by args) events
         (streams input before (state_of E.contents errors.old))
         (streams input (state_of O.contents output.new) (state_of E.contents errors.new)) result }
 {

@@ -3,7 +3,7 @@ ghost use Rattle.std.specs.Prelude.{◌≡◌, ◌<◌, ◌≤◌, ℕ, List, Al
 ghost use Rattle.dd_book.specs.Limits.{LimitsOf};
 ghost use Rattle.dd_program.specs.Endings.{closed_text, closed_texts, state_of, TellsText, WritesAll, WritesBeginning};
 ghost use Rattle.dd_server.specs.Histories.{IsLengthOfHistory};
-ghost use Rattle.dd_server.specs.ServeArgs.{HasTableSize};
+ghost use Rattle.dd_server.specs.ServeArgs.{HasTableSize, terms_by};
 
 use arrayvec::ArrayString;
 use dd_book::Limits;
@@ -92,7 +92,7 @@ pub(crate) fn serve_told<'a, W: Threads + Wait + Clock + Eprint + Sync, O: Write
     requires table { HasTableSize args }
     requires fresh { telling.has_failed ≡ false }
     ensures same_reference { result.output.ghost_name ≡ telling.entry.output.ghost_name }
-    ensures told { (runs : List ℕ) × All (IsLengthOfHistory limits) runs
+    ensures told { (runs : List ℕ) × All (IsLengthOfHistory limits (terms_by args)) runs
         × (IsOk result.served → 0 < length runs)
         × TellsText (closed_texts runs) result.has_failed
         (state_of O.contents telling.entry.output.now)

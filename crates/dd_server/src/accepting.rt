@@ -6,7 +6,7 @@ use crate::roster::Opening;
 use crate::run_end::RunLimits;
 use crate::run_state::RunState;
 use crate::runs::Runs;
-use dd_desk::Naming;
+use crate::terms::RunNaming;
 use std::io::Error;
 use std::net::TcpStream;
 use std::sync::{Arc, Wait};
@@ -33,7 +33,7 @@ pub(crate) fn accept_connections<'s, E, J, L, R>(
     first: Option<TcpStream>,
 ) -> Result<(), ServeFault>
 where
-    J: Naming + Send + Sync,
+    J: RunNaming + Send + Sync,
     L: RunLimits + Send + Sync,
     R: Threads + Wait + Clock + Eprint + Sync,
 {
@@ -65,7 +65,7 @@ where
 
 // The next run begins with this connection, unless the server was stopped meanwhile. Where there is no room for it in time, or no
 // memory for its row, the connection comes back: this run tells it 15.
-fn hand_over<J: Naming, L: RunLimits, R: Wait + Clock>(
+fn hand_over<J: RunNaming, L: RunLimits, R: Wait + Clock>(
     rt: &R,
     state: &RunState<'_, J>,
     runs: &Runs<L>,
@@ -86,7 +86,7 @@ fn hand_over<J: Naming, L: RunLimits, R: Wait + Clock>(
 }
 
 /// Waits until no session of the run is open, its time is over, or it is to end at once.
-pub(crate) fn wait_for_sessions<J: Naming, L: RunLimits, R: Wait + Clock>(
+pub(crate) fn wait_for_sessions<J: RunNaming, L: RunLimits, R: Wait + Clock>(
     rt: &R,
     state: &RunState<'_, J>,
     runs: &Runs<L>,
@@ -108,7 +108,7 @@ fn passes(error: &Error) -> bool {
 }
 
 // May an accept that lacked something find it later? A session may end meanwhile, of this run or of another.
-fn may_do_better<J: Naming, L: RunLimits, R: Wait>(
+fn may_do_better<J: RunNaming, L: RunLimits, R: Wait>(
     rt: &R,
     state: &RunState<'_, J>,
     runs: &Runs<L>,
@@ -124,7 +124,7 @@ fn start_connection<'s, E, J, R>(
     stream: TcpStream,
 )
 where
-    J: Naming + Send + Sync,
+    J: RunNaming + Send + Sync,
     R: Threads + Wait + Clock + Eprint + Sync,
 {
     let Ok(stream) = Arc::new(state.server.alloc, stream) else {

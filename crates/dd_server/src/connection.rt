@@ -1,6 +1,6 @@
 //! One connection.
-ghost use Rattle.std.specs.Prelude.{◌≡◌, false};
-ghost use Rattle.dd_server.specs.ServeArgs.{manner_by};
+ghost use Rattle.std.specs.Prelude.{◌≡◌, IfSome, false};
+ghost use Rattle.dd_server.specs.Callers.{IsClients};
 ghost use Rattle.dd_session.specs.Leaving.{ThenLeaves};
 ghost use Rattle.dd_session.specs.Ports.{AsksNoStop, port_of};
 ghost use Rattle.dd_session.specs.Sockets.{ServesMessages};
@@ -12,7 +12,8 @@ use crate::run_port::RunPort;
 use crate::run_state::RunState;
 use crate::session_stream::SessionStream;
 use crate::socket_stream::SocketStream;
-use dd_desk::{BlankPass, DeskFault, Naming, Pass};
+use crate::terms::RunNaming;
+use dd_desk::{BlankPass, DeskFault, Pass};
 use dd_lines::{CountedDevice, write_whole};
 use dd_session::{BookPort, serve_lines, serve_socket, write_refusal};
 use std::cell::Cell;
@@ -22,7 +23,7 @@ use std::time::{Clock, Duration};
 
 /// Serves a connection to its end, by a pass of its own, which it has once it needs one. Where there is no memory for one the
 /// client is told so, unless it is to shake hands first.
-pub(crate) fn serve_connection<J: Naming, R: Wait + Clock>(
+pub(crate) fn serve_connection<J: RunNaming, R: Wait + Clock>(
     rt: &R,
     state: &RunState<'_, J>,
     stream: &TcpStream,
@@ -46,12 +47,14 @@ pub(crate) fn serve_connection<J: Naming, R: Wait + Clock>(
 }
 
 // The session of a pass, which comes back, if there is one by then.
-fn serve_session<J: Naming, R: Wait + Clock>(
+fn serve_session<J: RunNaming, R: Wait + Clock>(
     rt: &R,
     state: &RunState<'_, J>,
     stream: &TcpStream,
     blank: BlankPass,
-) -> Option<Pass<J>> {
+) -> Option<Pass<J>>
+    ensures { IfSome result (IsClients J.limits J.terms) }
+{
     let caller = Cell::new(None);
     let mut port = RunPort::new(rt, state, blank, &caller);
     serve_port(rt, state, stream, &caller, &mut port);
@@ -60,7 +63,7 @@ fn serve_session<J: Naming, R: Wait + Clock>(
 
 // The session over the port of a caller, whose number is told here once it has a pass, as the run was asked for: by lines or by
 // messages, with leave to stop or without, explained or not.
-fn serve_port<J: Naming, R: Wait + Clock, P: BookPort>(
+fn serve_port<J: RunNaming, R: Wait + Clock, P: BookPort>(
     rt: &R,
     state: &RunState<'_, J>,
     stream: &TcpStream,
@@ -68,16 +71,15 @@ fn serve_port<J: Naming, R: Wait + Clock, P: BookPort>(
     port: &mut P,
 )
     // Whatever came, the port was asked for just what some lines want that were answered in the manner that was asked for, and left.
-    ensures asked { ThenLeaves (λ between. ServesMessages (manner_by state.now.server.now.args)
+    ensures asked { ThenLeaves (λ between. ServesMessages J.terms.manner
         (port_of (P.told port.old) (P.refusals port.old)) between)
         (P.ended port.new) (port_of (P.told port.new) (P.refusals port.new)) }
-    ensures leave { state.now.server.now.args.allow_stop ≡ false
+    ensures leave { J.terms.manner.allow_stop ≡ false
         → AsksNoStop (P.told port.old) (P.told port.new) }
 {
     let alloc = state.server.alloc;
-    let args = state.server.args;
-    let manner = args.manner();
-    if args.websocket {
+    let manner = state.terms.manner;
+    if state.server.args.websocket {
         let socket = SocketStream::new(rt, state, stream, caller);
         let end = serve_socket(alloc, socket, port, manner);
         part(rt, stream, &state.stop, end);
@@ -92,9 +94,9 @@ fn serve_port<J: Naming, R: Wait + Clock, P: BookPort>(
 }
 
 // The one line of a connection for whose pass there is no memory.
-fn refuse<J: Naming>(state: &RunState<'_, J>, stream: &TcpStream) {
+fn refuse<J: RunNaming>(state: &RunState<'_, J>, stream: &TcpStream) {
     if !state.server.args.websocket {
-        let mut line = write_refusal(DeskFault::OutOfMemory, state.server.args.explain);
+        let mut line = write_refusal(DeskFault::OutOfMemory, state.terms.manner.explain);
         line.push_str("\n");
         let _ = write_whole(&mut CountedDevice::new(stream), line.as_bytes());
     }

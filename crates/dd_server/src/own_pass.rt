@@ -3,32 +3,38 @@ ghost use Rattle.std.specs.Prelude.{◌≡◌, [], false, None, Err};
 ghost use Rattle.std.specs.Option.{ForSome};
 ghost use Rattle.dd_desk.specs.declared.fault.DeskFault.TheVariants.{OutOfMemory};
 ghost use Rattle.dd_desk.specs.Receipts.{has_shut};
+ghost use Rattle.dd_server.specs.Callers.{AreShuts};
 
+use crate::new_pass::NewPass;
 use crate::run_state::RunState;
 use crate::stop_flag::FlagIsSet;
+use crate::terms::RunNaming;
 use dd_book::Reply;
-use dd_desk::{DeskFault, Naming, Pass};
+use dd_desk::{DeskFault, Pass};
 use std::sync::Wait;
 
 /// A run's own pass, by which it shuts its book, once.
 #[derive(Drop)]
-pub(crate) struct OwnPass<J: Naming> {
+pub(crate) struct OwnPass<J: RunNaming> {
     pass: Pass<J>,
     // What the shut was told, if there was one.
     told: Option<Result<Reply, DeskFault>>,
     ghost fresh: { told ≡ None → has_shut pass.receipts ≡ false },
+    ghost alone: { AreShuts pass.receipts },
     ghost had_memory: { ForSome told (λ said. said ≡ Err OutOfMemory → ⊥) },
 }
 
-impl<J: Naming> OwnPass<J> {
+impl<J: RunNaming> OwnPass<J> {
     /// A pass that has told nothing.
-    pub(crate) fn new(pass: Pass<J>) -> OwnPass<J>
-        requires { pass.receipts ≡ [] }
-    {
-        OwnPass { pass, told: None }
+    pub(crate) fn new(pass: NewPass<J>) -> OwnPass<J> {
+        OwnPass {
+            pass: pass.into_pass(),
+            told: None,
+        }
     }
 
     /// Shuts the book, where this pass has not, and ends the run.
+    #[tactic(auto, using(crate::proofs::Callers::shuts_more))]
     pub(crate) fn shut<R: Wait>(&mut self, rt: &R, state: &RunState<'_, J>) -> FlagIsSet {
         let OwnPass { pass, told } = self;
         match told {
@@ -43,7 +49,9 @@ impl<J: Naming> OwnPass<J> {
     }
 
     /// The pass within.
-    pub(crate) fn into_pass(self) -> Pass<J> {
+    pub(crate) fn into_pass(self) -> Pass<J>
+        ensures { AreShuts result.receipts }
+    {
         let OwnPass { pass, told: _ } = self;
         pass
     }

@@ -1,6 +1,7 @@
 //! One run: a desk of its own, its workers and its connections.
-ghost use Rattle.std.specs.Prelude.{◌≡◌, map, IfOk};
+ghost use Rattle.std.specs.Prelude.{◌≡◌, All, map, IfOk};
 ghost use Rattle.once_cell.specs.Once.{cell_name};
+ghost use Rattle.dd_server.specs.Callers.{IsCallers};
 ghost use Rattle.dd_server.specs.Histories.{IsHistory};
 
 use crate::accepting::{accept_connections, wait_for_sessions};
@@ -13,8 +14,9 @@ use crate::run_state::RunState;
 use crate::runs::Runs;
 use crate::server_state::ServerState;
 use crate::stop::RunStop;
+use crate::terms::RunNaming;
 use crate::working::start_workers;
-use dd_desk::{Closed, Desk, Naming, Pass, Row};
+use dd_desk::{Closed, Desk, Pass, Row};
 use dd_work::Gate;
 use std::marker::Brand;
 use std::net::TcpStream;
@@ -40,7 +42,7 @@ pub(crate) fn run<
 
 // The same at a desk on this row: how it ended.
 fn end_of_run<
-    J: Naming + Send + Sync,
+    J: RunNaming + Send + Sync,
     L: RunLimits + Send + Sync,
     R: Threads + Wait + Clock + Eprint + Sync,
     G: Gate + Sync,
@@ -55,6 +57,7 @@ fn end_of_run<
 ) -> Result<RunEnd<L>, ServeFault>
     requires cells { (map cell_name row.cells.items ≡ J.cells) × (J.all ≡ J.parts) }
     requires limits { (row.limits ≡ J.limits) × (J.limits ≡ L.limits) }
+    requires terms { J.terms ≡ L.terms }
     requires count { (row.count.name ≡ J.counts) × (row.count.parts ≡ J.parts) }
     requires sum { (row.sum.name ≡ J.places) × (row.sum.parts ≡ J.parts) }
 {
@@ -64,7 +67,7 @@ fn end_of_run<
 
 // The desk of the run when it is closed, with the passes of the run, of its workers and of its clients.
 fn serve_row<
-    J: Naming + Send + Sync,
+    J: RunNaming + Send + Sync,
     L: RunLimits + Send + Sync,
     R: Threads + Wait + Clock + Eprint + Sync,
     G: Gate + Sync,
@@ -79,15 +82,19 @@ fn serve_row<
 ) -> Result<Closed<J>, ServeFault>
     requires cells { (map cell_name row.cells.items ≡ J.cells) × (J.all ≡ J.parts) }
     requires limits { (row.limits ≡ J.limits) × (J.limits ≡ L.limits) }
+    requires terms { J.terms ≡ L.terms }
     requires count { (row.count.name ≡ J.counts) × (row.count.parts ≡ J.parts) }
     requires sum { (row.sum.name ≡ J.places) × (row.sum.parts ≡ J.parts) }
     ensures history { IfOk result (λ closed.
         IsHistory J.limits closed.history.journal.items closed.passes.items) }
+    ensures callers { IfOk result (λ closed.
+        All (IsCallers J.limits J.terms) closed.passes.items) }
 {
     let state = RunState {
         server,
         number,
         limits: runs.limits(),
+        terms: runs.terms(),
         desk: Desk::<J>::new(row),
         returned: Mutex::new(Returned::new(server.alloc)),
         stop: RunStop::new(server.alloc),
@@ -103,6 +110,7 @@ fn serve_row<
         server: _,
         number: _,
         limits: _,
+        terms: _,
         desk,
         returned,
         stop: _,
@@ -122,10 +130,13 @@ fn serve_row<
 }
 
 // The desk is closed, and its passes are compared with its journal.
-fn close<J: Naming>(desk: Desk<J>, passes: Vec<Pass<J>>) -> Result<Closed<J>, ServeFault>
-    requires { J.all ≡ J.parts }
+fn close<J: RunNaming>(desk: Desk<J>, passes: Vec<Pass<J>>) -> Result<Closed<J>, ServeFault>
+    requires whole { J.all ≡ J.parts }
+    requires callers { All (IsCallers J.limits J.terms) passes.items }
     ensures history { IfOk result (λ closed.
         IsHistory J.limits closed.history.journal.items closed.passes.items) }
+    ensures callers { IfOk result (λ closed.
+        All (IsCallers J.limits J.terms) closed.passes.items) }
 {
     match desk.close(passes) {
         Ok(closed) => Ok(closed),
@@ -135,7 +146,7 @@ fn close<J: Naming>(desk: Desk<J>, passes: Vec<Pass<J>>) -> Result<Closed<J>, Se
 
 // Workers and connections, until all have ended.
 fn keep_open<
-    J: Naming + Send + Sync,
+    J: RunNaming + Send + Sync,
     L: RunLimits + Send + Sync,
     R: Threads + Wait + Clock + Eprint + Sync,
     G: Gate + Sync,
@@ -174,7 +185,7 @@ fn serve_clients<'s, E, J, L, R, G>(
     gate: &'s G,
 ) -> Result<(), ServeFault>
 where
-    J: Naming + Send + Sync,
+    J: RunNaming + Send + Sync,
     L: RunLimits + Send + Sync,
     R: Threads + Wait + Clock + Eprint + Sync,
     G: Gate + Sync,

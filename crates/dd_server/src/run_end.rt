@@ -1,25 +1,33 @@
 //! How a run ended.
-ghost use Rattle.std.specs.Prelude.{◌≡◌, length};
+ghost use Rattle.std.specs.Prelude.{◌≡◌, All, length};
+ghost use Rattle.dd_server.specs.Callers.{IsCallers};
 ghost use Rattle.dd_server.specs.Histories.{IsHistory, IsLengthOfHistory};
 
 use crate::telling::TellsRuns;
-use dd_desk::{Closed, Naming};
+use crate::terms::RunNaming;
+use dd_desk::Closed;
 use std::marker::{Brand, Model, PhantomData};
 
-/// Names the limits that the runs of a server have.
+/// Names the limits and the terms that the runs of a server have.
 pub trait RunLimits {
     ghost use Rattle.dd_book.specs.Limits.{LimitsOf};
+    ghost use Rattle.dd_server.specs.declared.terms.Terms.{Terms};
 
     ghost limits: { LimitsOf };
+
+    ghost terms: { Terms };
 }
 
 impl RunLimits for Brand {
     ghost use Rattle.dd_book.specs.Limits.{limits_of};
+    ghost use Rattle.dd_server.specs.ServeArgs.{no_terms};
 
     ghost limits = { limits_of 0 0 0 0 };
+
+    ghost terms = { no_terms };
 }
 
-/// How a run of these limits ended: so many events had the journal of its desk when this was closed. Nothing else gives one, and
+/// How a run of these limits and terms ended: so many events had the journal of its desk when this was closed. Nothing else gives one, and
 /// it can't be copied.
 #[derive(Drop)]
 pub struct RunEnd<L: RunLimits> {
@@ -35,15 +43,17 @@ impl<L: RunLimits> Model for RunEnd<L> {
 
     ghost view = { λ e. e.events };
 
-    ghost invariant = { λ e. IsLengthOfHistory L.limits e.events };
+    ghost invariant = { λ e. IsLengthOfHistory L.limits L.terms e.events };
 }
 
 impl<L: RunLimits> RunEnd<L> {
     /// That of a run whose desk was closed so.
-    pub(crate) fn of<J: Naming>(closed: &Closed<J>) -> RunEnd<L>
+    pub(crate) fn of<J: RunNaming>(closed: &Closed<J>) -> RunEnd<L>
         requires limits { J.limits ≡ L.limits }
+        requires terms { J.terms ≡ L.terms }
         requires history { IsHistory J.limits closed.now.history.journal.items
             closed.now.passes.items }
+        requires callers { All (IsCallers J.limits J.terms) closed.now.passes.items }
         ensures { result ≡ length closed.now.history.journal.items }
     {
         RunEnd {
@@ -55,7 +65,7 @@ impl<L: RunLimits> RunEnd<L> {
     /// Lets it be told.
     pub(crate) fn tell_to<T: TellsRuns>(self, teller: &mut T)
         ensures said { T.way (T.state teller.old) self (T.state teller.new) }
-        ensures length { IsLengthOfHistory L.limits self }
+        ensures length { IsLengthOfHistory L.limits L.terms self }
     {
         let _ = &self.events;
         teller.tell(self);

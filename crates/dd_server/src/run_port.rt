@@ -1,14 +1,15 @@
 //! The port of a run.
-ghost use Rattle.std.specs.Prelude.{◌≡◌, true, Err, IsTrue, ◌↔◌, option_and_then};
+ghost use Rattle.std.specs.Prelude.{◌≡◌, true, Err, IfSome, IsTrue, ◌↔◌, option_and_then};
 ghost use Rattle.dd_wire.specs.declared.want.Want.TheVariants.{Stop as StopWant};
 ghost use Rattle.dd_desk.specs.Receipts.{has_shut};
-ghost use Rattle.dd_session.specs.Ports.{Tells, last_place, new_late_port, port_of, receipts_by, refusals_by, told_by};
+ghost use Rattle.dd_session.specs.Ports.{AreClients, Tells, last_place, new_late_port, pass_by, port_of, receipts_by, refusals_by, told_by, told_in};
 ghost use Rattle.dd_server.specs.Worn.{KnowsWorn, is_submit};
 
 use crate::run_state::RunState;
+use crate::terms::RunNaming;
 use crate::wear::are_events_used;
 use dd_book::{Limits, Reply};
-use dd_desk::{BlankPass, DeskFault, Naming, Pass};
+use dd_desk::{BlankPass, DeskFault, Pass};
 use dd_session::{BookPort, LatePort};
 use dd_wire::{Health, Want};
 use std::cell::Cell;
@@ -17,7 +18,7 @@ use std::time::Clock;
 
 /// A port whose stop ends the run and the server, and which takes no submit but the first once the run is worn. It has no pass
 /// before a call needs one.
-pub(crate) struct RunPort<'a, J: Naming, R: Wait + Clock> {
+pub(crate) struct RunPort<'a, J: RunNaming, R: Wait + Clock> {
     port: LatePort<'a, J, R>,
     rt: &'a R,
     state: &'a RunState<'a, J>,
@@ -26,7 +27,7 @@ pub(crate) struct RunPort<'a, J: Naming, R: Wait + Clock> {
     caller: &'a Cell<Option<u64>>,
 }
 
-impl<'a, J: Naming, R: Wait + Clock> RunPort<'a, J, R> {
+impl<'a, J: RunNaming, R: Wait + Clock> RunPort<'a, J, R> {
     pub(crate) fn new(
         rt: &'a R,
         state: &'a RunState<'a, J>,
@@ -47,7 +48,12 @@ impl<'a, J: Naming, R: Wait + Clock> RunPort<'a, J, R> {
     }
 
     /// The pass within, if there is one.
-    pub(crate) fn into_pass(self) -> Option<Pass<J>> {
+    pub(crate) fn into_pass(self) -> Option<Pass<J>>
+        ensures pass { result ≡ pass_by self.entry.port.port }
+        ensures told { IfSome result (λ pass.
+            told_in pass.receipts ≡ told_by self.entry.port.port) }
+        ensures clients { IfSome result (λ pass. AreClients pass.receipts) }
+    {
         let RunPort {
             port,
             rt: _,
@@ -116,7 +122,7 @@ impl<'a, J: Naming, R: Wait + Clock> RunPort<'a, J, R> {
     }
 }
 
-impl<'a, J: Naming, R: Wait + Clock> BookPort for RunPort<'a, J, R> {
+impl<'a, J: RunNaming, R: Wait + Clock> BookPort for RunPort<'a, J, R> {
     ghost use Rattle.dd_session.specs.Healths.{IsHealth};
     ghost use Rattle.dd_session.specs.Ports.{HasEndedBy, refusals_by, told_by};
 

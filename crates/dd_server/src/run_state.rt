@@ -1,13 +1,16 @@
 //! What the threads of a run share.
-ghost use Rattle.std.specs.Prelude.{◌≡◌, [], IfOk};
+ghost use Rattle.std.specs.Prelude.{◌≡◌};
+ghost use Rattle.dd_server.specs.Callers.{IsCallers};
 ghost use Rattle.dd_server.specs.Worn.{SeesFewFree, SeesFewLeft, SeesUsedUp};
 
+use crate::new_pass::NewPass;
 use crate::returned::Returned;
 use crate::server_state::ServerState;
 use crate::stop::RunStop;
+use crate::terms::{RunNaming, Terms};
 use crate::wear::{are_events_used, are_few_left, are_passes_used};
 use dd_book::Limits;
-use dd_desk::{BlankPass, Desk, DeskFault, Naming, Pass};
+use dd_desk::{BlankPass, Desk, DeskFault, Pass};
 use std::alloc::AllocError;
 use std::sync::atomic::{AtomicBool, AtomicU64, Ordering};
 use std::sync::{Mutex, Wait};
@@ -26,11 +29,13 @@ const MOST_EXPECTED: u64 = 64;
 
 /// What the threads of a run share.
 #[derive(Drop)]
-pub(crate) struct RunState<'a, J: Naming> {
+pub(crate) struct RunState<'a, J: RunNaming> {
     pub(crate) server: &'a ServerState,
     pub(crate) number: u64,
     // Those of its desk.
     pub(crate) limits: Limits,
+    // As the run was asked for.
+    pub(crate) terms: Terms,
     pub(crate) desk: Desk<J>,
     pub(crate) returned: Mutex<Returned<J>>,
     pub(crate) stop: RunStop,
@@ -46,21 +51,22 @@ pub(crate) struct RunState<'a, J: Naming> {
     // A worker of the run left since memory stays out.
     pub(crate) lacks_memory: AtomicBool,
     pub(crate) ghost same: { limits ≡ J.limits },
+    pub(crate) ghost asked: { terms ≡ J.terms },
 }
 
-impl<'a, J: Naming> RunState<'a, J> {
+impl<'a, J: RunNaming> RunState<'a, J> {
     /// A pass, with room kept for its return.
-    pub(crate) fn enrol<R: Wait>(&self, rt: &R) -> Result<Pass<J>, DeskFault>
-        ensures { IfOk result (λ pass. pass.receipts ≡ []) }
-    {
+    pub(crate) fn enrol<R: Wait>(&self, rt: &R) -> Result<NewPass<J>, DeskFault> {
         if self.returned.lock(rt).expect_one().is_err() {
             return Err(DeskFault::OutOfMemory);
         }
-        let pass = self.desk.enrol(rt);
-        if pass.is_err() {
-            self.expect_one_less(rt);
+        match self.desk.enrol(rt) {
+            Ok(pass) => Ok(NewPass::new(pass)),
+            Err(fault) => {
+                self.expect_one_less(rt);
+                Err(fault)
+            }
         }
-        pass
     }
 
     /// What a pass needs, with room kept for its return.
@@ -79,7 +85,9 @@ impl<'a, J: Naming> RunState<'a, J> {
     }
 
     /// The pass comes back.
-    pub(crate) fn take_back<R: Wait>(&self, rt: &R, pass: Pass<J>) {
+    pub(crate) fn take_back<R: Wait>(&self, rt: &R, pass: Pass<J>)
+        requires { IsCallers J.limits J.terms pass }
+    {
         self.returned.lock(rt).take_back(pass);
     }
 

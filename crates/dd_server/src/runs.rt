@@ -4,6 +4,7 @@ ghost use Rattle.std.specs.Prelude.{◌≡◌, IfOk};
 use crate::args::ServeFault;
 use crate::roster::{Begun, News, Opening, Roster};
 use crate::run_end::{RunEnd, RunLimits};
+use crate::terms::Terms;
 use dd_book::Limits;
 use dd_desk::Row;
 use std::alloc::{AllocError, Global};
@@ -13,25 +14,29 @@ use std::time::{Clock, Duration};
 /// How many milliseconds a connection waits for room for its run.
 const MOST_WAIT: u64 = 1_000;
 
-/// The runs of a server under a lock, and the limits that each of them has.
+/// The runs of a server under a lock, and the limits and the terms that each of them has.
 #[derive(Drop)]
 pub(crate) struct Runs<L: RunLimits> {
     alloc: Global,
     limits: Limits,
+    terms: Terms,
     roster: Mutex<Roster<L>>,
     // A run has ended, or the next one is to begin.
     changed: Condvar,
     ghost same: { limits ≡ L.limits },
+    ghost asked: { terms ≡ L.terms },
 }
 
 impl<L: RunLimits> Runs<L> {
     /// No run has begun.
-    pub(crate) fn new(alloc: Global, limits: Limits) -> Runs<L>
-        requires { limits ≡ L.limits }
+    pub(crate) fn new(alloc: Global, limits: Limits, terms: Terms) -> Runs<L>
+        requires limits { limits ≡ L.limits }
+        requires terms { terms ≡ L.terms }
     {
         Runs {
             alloc,
             limits,
+            terms,
             roster: Mutex::new(Roster::new(alloc)),
             changed: Condvar::new(),
         }
@@ -42,6 +47,13 @@ impl<L: RunLimits> Runs<L> {
         ensures { result ≡ L.limits }
     {
         self.limits
+    }
+
+    /// The terms of each run.
+    pub(crate) fn terms(&self) -> Terms
+        ensures { result ≡ L.terms }
+    {
+        self.terms
     }
 
     /// A row for the desk of a run.
@@ -121,6 +133,7 @@ impl<L: RunLimits> Runs<L> {
         let Runs {
             alloc: _,
             limits: _,
+            terms: _,
             roster,
             changed: _,
         } = self;

@@ -1,7 +1,7 @@
 //! The server over a bound listener: runs that follow one another.
 ghost use Rattle.std.specs.Prelude.{◌≡◌, ◌<◌, IsOk, IsTrue};
 ghost use Rattle.dd_server.specs.Runs.{TellsEach};
-ghost use Rattle.dd_server.specs.ServeArgs.{HasTableSize};
+ghost use Rattle.dd_server.specs.ServeArgs.{HasTableSize, terms_by};
 
 use crate::args::{ServeArgs, ServeFault};
 use crate::roster::{News, Opening};
@@ -10,6 +10,7 @@ use crate::run_end::RunLimits;
 use crate::runs::Runs;
 use crate::server_state::ServerState;
 use crate::telling::TellsRuns;
+use crate::terms::Terms;
 use dd_book::Limits;
 use dd_work::Gate;
 use std::alloc::Global;
@@ -33,7 +34,8 @@ pub fn run_server<T: TellsRuns + Drop, R: Threads + Wait + Clock + Eprint + Sync
 ) -> (T, Result<(), ServeFault>)
     requires passes { args.workers < limits.passes }
     requires table { HasTableSize args }
-    ensures { TellsEach limits T.way (T.state teller) (T.state result.0) (IsOk result.1) }
+    ensures { TellsEach limits (terms_by args) T.way (T.state teller) (T.state result.0)
+        (IsOk result.1) }
 {
     match ServerState::new(alloc, listener, limits, args) {
         Ok(state) => serve_runs::<Brand, T, R, G>(rt, &state, gate, teller),
@@ -41,7 +43,7 @@ pub fn run_server<T: TellsRuns + Drop, R: Threads + Wait + Clock + Eprint + Sync
     }
 }
 
-// The same by runs whose limits have this name.
+// The same by runs whose limits and terms have this name.
 fn serve_runs<
     L: RunLimits + Send + Sync,
     T: TellsRuns + Drop,
@@ -49,9 +51,10 @@ fn serve_runs<
     G: Gate + Sync,
 >(rt: &R, server: &ServerState, gate: &G, teller: T) -> (T, Result<(), ServeFault>)
     requires limits { server.now.limits ≡ L.limits }
-    ensures { TellsEach L.limits T.way (T.state teller) (T.state result.0) (IsOk result.1) }
+    requires terms { terms_by server.now.args ≡ L.terms }
+    ensures { TellsEach L.limits L.terms T.way (T.state teller) (T.state result.0) (IsOk result.1) }
 {
-    let runs = Runs::<L>::new(server.alloc, server.limits);
+    let runs = Runs::<L>::new(server.alloc, server.limits, Terms::of(&server.args));
     let Ok(row) = runs.row() else {
         return (teller, Err(ServeFault::OutOfMemory));
     };
@@ -71,13 +74,13 @@ fn keep_serving<
     R: Threads + Wait + Clock + Eprint + Sync,
     G: Gate + Sync,
 >(rt: &R, server: &ServerState, runs: &Runs<L>, first: Opening<L>, gate: &G, teller: T) -> (T, bool)
-    ensures { TellsEach L.limits T.way (T.state teller) (T.state result.0) (IsTrue result.1) }
+    ensures { TellsEach L.limits L.terms T.way (T.state teller) (T.state result.0) (IsTrue result.1) }
 {
     thread::scope(
         thread::scope_env(),
         rt,
         move |scope| -> (T, bool)
-            ensures { TellsEach L.limits T.way (T.state teller) (T.state result.0)
+            ensures { TellsEach L.limits L.terms T.way (T.state teller) (T.state result.0)
                 (IsTrue result.1) }
         {
             start_run(rt, scope, server, runs, first, gate);
@@ -100,7 +103,7 @@ where
     T: TellsRuns + Drop,
     R: Threads + Wait + Clock + Eprint + Sync,
     G: Gate + Sync,
-    ensures { TellsEach L.limits T.way (T.state teller) (T.state result.0) (IsTrue result.1) }
+    ensures { TellsEach L.limits L.terms T.way (T.state teller) (T.state result.0) (IsTrue result.1) }
 {
     let mut teller = teller;
     let mut some = false;

@@ -4,7 +4,7 @@ ghost use Rattle.std.specs.Io.{ReadsAtMost};
 ghost use Rattle.dd_desk.specs.Looks.{SeesOpen};
 
 use crate::run_state::RunState;
-use dd_desk::Naming;
+use crate::terms::RunNaming;
 use std::cell::Cell;
 use std::io;
 use std::io::{Error, ErrorKind, Read};
@@ -19,7 +19,7 @@ const READ_AFTER_STOP: usize = 16_777_216;
 /// A stream that ends soon after its run, whatever its client still sends, and where its client is idle: it sends nothing and has
 /// no open job.
 #[derive(Drop)]
-pub(crate) struct SessionStream<'a, J: Naming, R> {
+pub(crate) struct SessionStream<'a, J: RunNaming, R> {
     rt: &'a R,
     state: &'a RunState<'a, J>,
     stream: &'a TcpStream,
@@ -29,7 +29,7 @@ pub(crate) struct SessionStream<'a, J: Naming, R> {
     left: usize,
 }
 
-impl<'a, J: Naming, R> SessionStream<'a, J, R> {
+impl<'a, J: RunNaming, R> SessionStream<'a, J, R> {
     pub(crate) fn new(
         rt: &'a R,
         state: &'a RunState<'a, J>,
@@ -63,7 +63,7 @@ impl<'a, J: Naming, R> SessionStream<'a, J, R> {
     }
 }
 
-impl<J: Naming, R: Wait> SessionStream<'_, J, R> {
+impl<J: RunNaming, R: Wait> SessionStream<'_, J, R> {
     // May the session be silent still?
     fn has_open_job(&self) -> bool {
         self.is_open(self.caller.get())
@@ -80,7 +80,7 @@ impl<J: Naming, R: Wait> SessionStream<'_, J, R> {
     }
 }
 
-impl<J: Naming, R: Wait> Read for SessionStream<'_, J, R> {
+impl<J: RunNaming, R: Wait> Read for SessionStream<'_, J, R> {
     fn read(&mut self, buf: &mut [u8]) -> io::Result<usize> {
         for _ in 0..u64::MAX {
             match self.read_once(buf) {

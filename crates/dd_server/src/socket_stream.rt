@@ -2,7 +2,7 @@
 use crate::reply_stream::ReplyStream;
 use crate::run_state::RunState;
 use crate::session_stream::SessionStream;
-use dd_desk::Naming;
+use crate::terms::RunNaming;
 use std::cell::Cell;
 use std::io;
 use std::io::{Error, ErrorKind, Read, Write};
@@ -15,7 +15,7 @@ const HANDSHAKE_WAIT: u64 = 10;
 
 /// A stream whose client has some time to shake hands, and for each reply.
 #[derive(Drop)]
-pub(crate) struct SocketStream<'a, J: Naming, R> {
+pub(crate) struct SocketStream<'a, J: RunNaming, R> {
     rt: &'a R,
     stream: &'a TcpStream,
     reads: SessionStream<'a, J, R>,
@@ -24,7 +24,7 @@ pub(crate) struct SocketStream<'a, J: Naming, R> {
     left: Option<Duration>,
 }
 
-impl<'a, J: Naming, R> SocketStream<'a, J, R> {
+impl<'a, J: RunNaming, R> SocketStream<'a, J, R> {
     pub(crate) fn new(
         rt: &'a R,
         state: &'a RunState<'a, J>,
@@ -41,7 +41,7 @@ impl<'a, J: Naming, R> SocketStream<'a, J, R> {
     }
 }
 
-impl<J: Naming, R: Wait + Clock> Read for SocketStream<'_, J, R> {
+impl<J: RunNaming, R: Wait + Clock> Read for SocketStream<'_, J, R> {
     fn read(&mut self, buf: &mut [u8]) -> io::Result<usize> {
         let Some(left) = self.left else {
             return self.reads.read(buf);
@@ -58,7 +58,7 @@ impl<J: Naming, R: Wait + Clock> Read for SocketStream<'_, J, R> {
     }
 }
 
-impl<J: Naming, R: Wait + Clock> Write for SocketStream<'_, J, R> {
+impl<J: RunNaming, R: Wait + Clock> Write for SocketStream<'_, J, R> {
     // What is written first answers the handshake.
     fn write(&mut self, buf: &[u8]) -> io::Result<usize> {
         if self.left.take().is_some() {

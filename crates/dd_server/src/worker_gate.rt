@@ -1,19 +1,19 @@
 //! What a run does when memory is short for its workers.
 use crate::args::ServeFault;
 use crate::run_state::RunState;
-use dd_desk::Naming;
+use crate::terms::RunNaming;
 use dd_work::Gate;
 use std::sync::atomic::Ordering;
 
 /// A worker's gate, which says once that memory is short, and stops the server where it stays out.
 #[derive(Drop)]
-pub(crate) struct WorkerGate<'a, J: Naming, R, G> {
+pub(crate) struct WorkerGate<'a, J: RunNaming, R, G> {
     pub(crate) rt: &'a R,
     pub(crate) state: &'a RunState<'a, J>,
     pub(crate) gate: &'a G,
 }
 
-impl<J: Naming, R: Eprint, G: Gate> Gate for WorkerGate<'_, J, R, G> {
+impl<J: RunNaming, R: Eprint, G: Gate> Gate for WorkerGate<'_, J, R, G> {
     fn before(&self, job: u64) {
         self.gate.before(job)
     }

@@ -1,12 +1,14 @@
 //! The workers of a run.
-ghost use Rattle.dd_work.specs.Rounds.{Works};
+ghost use Rattle.dd_work.specs.Rounds.{AreRounds};
 
 use crate::args::ServeFault;
+use crate::new_pass::NewPass;
 use crate::own_pass::OwnPass;
 use crate::run_state::RunState;
+use crate::terms::RunNaming;
 use crate::worker_gate::WorkerGate;
 use dd_cache::Cache;
-use dd_desk::{Naming, Pass};
+use dd_desk::Pass;
 use dd_search::Bounds;
 use dd_table::View;
 use dd_work::{Gate, worker};
@@ -23,7 +25,7 @@ pub(crate) fn start_workers<'s, E, J, R, G>(
     gate: &'s G,
 ) -> Result<(), ServeFault>
 where
-    J: Naming + Send + Sync,
+    J: RunNaming + Send + Sync,
     R: Threads + Wait + Clock + Eprint + Sync,
     G: Gate + Sync,
 {
@@ -45,7 +47,7 @@ fn start_worker<'s, E, J, R, G>(
     gate: &'s G,
 ) -> Result<(), ServeFault>
 where
-    J: Naming + Send + Sync,
+    J: RunNaming + Send + Sync,
     R: Threads + Wait + Clock + Eprint + Sync,
     G: Gate + Sync,
 {
@@ -65,11 +67,11 @@ where
 }
 
 // The rounds of a worker, until it leaves and its pass comes back.
-fn work<J: Naming, R: Wait + Clock + Eprint, G: Gate>(
+fn work<J: RunNaming, R: Wait + Clock + Eprint, G: Gate>(
     rt: &R,
     state: &RunState<'_, J>,
     mut cache: Cache<View<'_, R>>,
-    pass: Pass<J>,
+    pass: NewPass<J>,
     gate: &G,
 ) {
     let gate = WorkerGate { rt, state, gate };
@@ -77,17 +79,18 @@ fn work<J: Naming, R: Wait + Clock + Eprint, G: Gate>(
     state.take_back(rt, pass)
 }
 
-// The same, and the pass with what it gained, within the budget of the run.
-fn rounds<J: Naming, R: Wait + Clock, B: Bounds, G: Gate>(
+// The same: what the pass gained, within the budget of the run.
+#[tactic(auto, using(crate::proofs::Callers::works_alone))]
+fn rounds<J: RunNaming, R: Wait + Clock, B: Bounds, G: Gate>(
     rt: &R,
     state: &RunState<'_, J>,
     table: &mut B,
-    pass: Pass<J>,
+    pass: NewPass<J>,
     gate: &G,
 ) -> Pass<J>
-    ensures { Works state.now.server.now.args.budget pass result }
+    ensures { AreRounds J.terms.budget result.number result.receipts }
 {
-    let budget = state.server.args.budget;
+    let budget = state.terms.budget;
     let stop = state.stop.flag();
-    worker(rt, &state.desk, table, pass, gate, budget, stop)
+    worker(rt, &state.desk, table, pass.into_pass(), gate, budget, stop)
 }

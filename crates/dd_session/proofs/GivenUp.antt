@@ -1,5 +1,5 @@
 -- The jobs of a pass are given up, one after the other.
-use Rattle.std.proofs.Common.{◌≡◌, ℕ, zero, suc, ◌+◌, ◌<◌, ◌≤◌, List, [], ◌∷◌, ◌++◌, length, drop, Option, None, Some, Ok, Err, inl, inr, refl, sym, ap, ◌∙◌, subst, arith, append_assoc, append-nil}
+use Rattle.std.proofs.Common.{◌≡◌, ℕ, zero, suc, ◌+◌, ◌<◌, ◌≤◌, List, [], ◌∷◌, ◌++◌, length, length-append, drop, Option, None, Some, Ok, Err, inl, inr, refl, sym, ap, ◌∙◌, subst, arith, append_assoc, append-nil}
 use Rattle.std.specs.Prelude.{MatchOption, slice_get}
 use Rattle.std.proofs.lemmas.List.{drop-append-le}
 use Rattle.dd_book.specs.declared.call.Call.TheVariants as call
@@ -11,9 +11,9 @@ use Rattle.dd_desk.specs.Receipts.{PassOf, ReceiptOf, receipt}
 use Rattle.dd_lines.specs.CountedDevices.{one_more}
 use Rattle.dd_session.specs.GivingUp.{GivesUpAt}
 use Rattle.dd_session.specs.Leaving.{GivesUp, Leaves, made_by, own_jobs}
-use Rattle.dd_session.specs.Ports.{Exchange, port_of, count_more, told_in, told_of}
+use Rattle.dd_session.specs.Ports.{AreClients, Exchange, port_of, count_more, told_in, told_of}
 use Rattle.dd_session.proofs.Gaining.{count_more-add}
-use Rattle.dd_session.proofs.Telling.{told_in-append}
+use Rattle.dd_session.proofs.Telling.{AreClients-append, told_in-append}
 
 -- ---- the jobs that calls made
 
@@ -66,7 +66,7 @@ module _ {limits : LimitsOf} where
   -- no job
   pub gives-none : (pass : PassOf) (count : ℕ) → GivesUpAt limits [] pass count pass count
   gives-none pass count =
-      record { number = refl; gained = []; receipts = sym (append-nil pass.receipts); refused = 0; gives_up = (refl, refl); counts = refl }
+      record { number = refl; gained = []; receipts = sym (append-nil pass.receipts); clients = tt; refused = 0; gives_up = (refl, refl); counts = refl }
 
   -- one job that has ended, or whose cancel was told
   pub gives-one : (before after : PassOf) (job count : ℕ) (told : Option Reply) → IsToldIfOpen limits before job (Ok told) after → GivesUpAt limits (job ∷ []) before count after count
@@ -75,6 +75,7 @@ module _ {limits : LimitsOf} where
         number = ap (λ (p : PassOf). p.number) same;
         gained = [];
         receipts = ap (λ (p : PassOf). p.receipts) same ∙ sym (append-nil before.receipts);
+        clients = tt;
         refused = 0;
         gives_up = inl (ends, (refl, refl));
         counts = refl;
@@ -84,6 +85,7 @@ module _ {limits : LimitsOf} where
         number = ap (λ (p : PassOf). p.number) answered.gained;
         gained = receipt (length answered.journal) (call.Cancel before.number job) reply ∷ [];
         receipts = ap (λ (p : PassOf). p.receipts) answered.gained;
+        clients = (refl, tt);
         refused = 0;
         gives_up = inr (inl (reply, [], finds, refl, (refl, refl)));
         counts = refl;
@@ -97,6 +99,7 @@ module _ {limits : LimitsOf} where
         number = ap (λ (p : PassOf). p.number) same;
         gained = [];
         receipts = ap (λ (p : PassOf). p.receipts) same ∙ sym (append-nil before.receipts);
+        clients = tt;
         refused = 1;
         gives_up = inr (inr (0, refl, (refl, refl)));
         counts = more;
@@ -110,6 +113,7 @@ module _ {limits : LimitsOf} where
         number = then.number ∙ first.number;
         gained = first.gained ++ then.gained;
         receipts = then.receipts ∙ ap (λ (l : List ReceiptOf). l ++ then.gained) first.receipts ∙ append_assoc before.receipts first.gained then.gained;
+        clients = AreClients-append first.gained then.gained first.clients then.clients;
         refused = first.refused + then.refused;
         gives_up = subst (λ (t : List Exchange). GivesUp (SeesEnd limits before.number) (jobs ++ more) t (first.refused + then.refused)) (sym (told_in-append first.gained then.gained))
             (gives-up-more (SeesEnd limits before.number) jobs more (told_in first.gained) (told_in then.gained) first.refused then.refused first.gives_up
@@ -165,6 +169,20 @@ module _ {limits : LimitsOf} where
         ∙ told_in-append (drop n before.receipts) gives.gained)
         ∙ ap (λ (k : ℕ). port_of (told_in (drop n before.receipts) ++ told_in gives.gained) k) gives.counts,
   )
+
+-- a pass that gives up jobs gains clients' calls alone
+pub clients-given-up : {limits : LimitsOf} (before after : PassOf) (n count counted : ℕ) (jobs : List ℕ) → n ≤ length before.receipts → AreClients (drop n before.receipts)
+    → GivesUpAt limits jobs before count after counted → AreClients (drop n after.receipts)
+clients-given-up before after n count counted jobs within clients gives =
+    subst AreClients (sym (ap (λ (rs : List ReceiptOf). drop n rs) gives.receipts ∙ drop-append-le n before.receipts gives.gained within))
+    (AreClients-append (drop n before.receipts) gives.gained clients gives.clients)
+
+-- and the invariant of its port stays
+pub keeps_given_up : {limits : LimitsOf} (before after : PassOf) (n count counted : ℕ) (jobs : List ℕ) → n ≤ length before.receipts → AreClients (drop n before.receipts)
+    → GivesUpAt limits jobs before count after counted → (n ≤ length after.receipts) × AreClients (drop n after.receipts)
+keeps_given_up before after n count counted jobs within clients gives =
+    let longer : length after.receipts ≡ length before.receipts + length gives.gained = ap (λ (rs : List ReceiptOf). length rs) gives.receipts ∙ length-append before.receipts gives.gained in
+    (omega (arith, within, longer), clients-given-up before after n count counted jobs within clients gives)
 
 -- a receipt that made none
 pub gives-nothing : (limits : LimitsOf) (found : Option ReceiptOf) (pass : PassOf) (count : ℕ) → MatchOption found ⊥ (λ r. own_jobs (told_of r.call r.reply) ≡ [])

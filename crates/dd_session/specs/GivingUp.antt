@@ -4,13 +4,14 @@ use Rattle.dd_book.specs.Limits.{LimitsOf}
 use Rattle.dd_desk.specs.Looks.{SeesEnd}
 use Rattle.dd_desk.specs.Receipts.{PassOf, ReceiptOf}
 use Rattle.dd_session.specs.Leaving.{GivesUp}
-use Rattle.dd_session.specs.Ports.{count_more, told_in}
+use Rattle.dd_session.specs.Ports.{AreClients, count_more, told_in}
 
 -- a pass of a desk of these limits gives up these jobs: what its new receipts tell, and a count of refusals before and after
 pub record GivesUpAt (limits : LimitsOf) (jobs : List ℕ) (before : PassOf) (count : ℕ) (after : PassOf) (counted : ℕ) : Type 0 where
   pub number : after.number ≡ before.number
   pub gained : List ReceiptOf
   pub receipts : after.receipts ≡ before.receipts ++ gained
+  pub clients : AreClients gained
   pub refused : ℕ
   pub gives_up : GivesUp (SeesEnd limits before.number) jobs (told_in gained) refused
   pub counts : counted ≡ count_more count refused

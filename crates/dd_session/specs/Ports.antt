@@ -1,5 +1,5 @@
 -- To be believed: what a port tells of the book behind it.
-use Rattle.std.specs.Prelude.{◌≡◌, ℕ, zero, suc, List, [], ◌∷◌, ◌++◌, length, drop, ◌-◌, Option, None, Some, option_map, slice_get, Result, Ok, Err}
+use Rattle.std.specs.Prelude.{◌≡◌, ℕ, zero, suc, Bool, true, false, List, [], ◌∷◌, ◌++◌, length, drop, ◌-◌, Option, None, Some, option_map, slice_get, Result, Ok, Err}
 use Rattle.dd_book.specs.declared.call.Call.{Call}
 use Rattle.dd_book.specs.declared.call.Reply.{Reply}
 use Rattle.dd_book.specs.Limits.{LimitsOf}
@@ -73,6 +73,20 @@ abbrev pub told_in : List ReceiptOf → List Exchange
 told_in [] = []
 told_in (r ∷ rs) = told_of r.call r.reply ++ told_in rs
 
+-- a client's call: it makes a want known
+abbrev pub is_clients : Call → Bool
+is_clients (Call.Submit caller asked) = true
+is_clients (Call.Claim worker) = false
+is_clients (Call.Finish worker job claim outcome) = false
+is_clients (Call.Cancel caller job) = true
+is_clients (Call.Fetch caller job) = true
+is_clients Call.Shut = true
+
+-- receipts of clients' calls, and of no worker's
+abbrev pub AreClients : List ReceiptOf → Type 0
+AreClients [] = Unit {0}
+AreClients (r ∷ rs) = (is_clients r.call ≡ true) × AreClients rs
+
 -- a port over a desk: its pass, how many receipts this had when the port was made, how many calls were refused, and how many
 -- workers the desk has
 pub record DeskPortOf : Type 0 where
@@ -128,6 +142,15 @@ receipts_by (Some port) = port.pass.receipts
 abbrev pub HasEndedBy : LimitsOf → Option DeskPortOf → ℕ → Type 0
 HasEndedBy limits None job = ⊥
 HasEndedBy limits (Some port) job = SeesEnd limits port.pass.number job
+
+-- how many receipts its pass had when it was made
+abbrev pub before_by : Option DeskPortOf → ℕ
+before_by None = 0
+before_by (Some port) = port.before
+
+-- its pass, if there is one
+abbrev pub pass_by : Option DeskPortOf → Option PassOf
+pass_by port = option_map (λ (p : DeskPortOf). p.pass) port
 
 -- the number of its pass
 abbrev pub number_of : Option DeskPortOf → Option ℕ

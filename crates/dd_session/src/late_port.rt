@@ -1,10 +1,10 @@
 //! The job book as a session sees it that has no pass before it needs one.
-ghost use Rattle.std.specs.Prelude.{◌≡◌, Err, None, Some, true, ℕ, option_and_then};
+ghost use Rattle.std.specs.Prelude.{◌≡◌, Err, IfSome, None, Some, true, ℕ, option_and_then};
 ghost use Rattle.dd_desk.specs.Receipts.{has_shut};
 ghost use Rattle.dd_desk.specs.declared.fault.DeskFault.TheVariants.{JournalFull, OutOfMemory};
 ghost use Rattle.dd_lines.specs.CountedDevices.{one_more};
 ghost use Rattle.dd_session.specs.Leaving.{Leaves};
-ghost use Rattle.dd_session.specs.Ports.{HasEndedBy, Tells, last_place, new_late_port, number_of, port_of, receipts_by, refusals_by, told_by};
+ghost use Rattle.dd_session.specs.Ports.{AreClients, HasEndedBy, Tells, before_by, last_place, new_late_port, number_of, pass_by, port_of, receipts_by, refusals_by, told_by, told_in};
 ghost use Rattle.dd_wire.specs.declared.want.Want.TheVariants.{Fetch, Stop as StopWant};
 
 use crate::port::{BookPort, DeskPort, health_of, one_more};
@@ -33,11 +33,14 @@ pub struct LatePort<'a, J: Naming, R: Wait + Clock> {
 }
 
 impl<'a, J: Naming, R: Wait + Clock> Model for LatePort<'a, J, R> {
-    ghost use Rattle.dd_session.specs.Ports.{LatePortOf};
+    ghost use Rattle.std.specs.Prelude.{◌≡◌};
+    ghost use Rattle.dd_session.specs.Ports.{LatePortOf, before_by};
 
     ghost Value = { LatePortOf };
 
     ghost view = { λ p. record { port = p.port; refused = p.refused; workers = p.workers } };
+
+    ghost invariant = { λ p. before_by p.port ≡ 0 };
 }
 
 impl<'a, J: Naming, R: Wait + Clock> LatePort<'a, J, R> {
@@ -92,7 +95,11 @@ impl<'a, J: Naming, R: Wait + Clock> LatePort<'a, J, R> {
     }
 
     /// The pass, if there is one, with a receipt for each call that was made.
-    pub fn into_pass(self) -> Option<Pass<J>> {
+    pub fn into_pass(self) -> Option<Pass<J>>
+        ensures pass { result ≡ pass_by self.entry.port }
+        ensures told { IfSome result (λ pass. told_in pass.receipts ≡ told_by self.entry.port) }
+        ensures clients { IfSome result (λ pass. AreClients pass.receipts) }
+    {
         let LatePort {
             rt: _,
             desk: _,
@@ -178,6 +185,7 @@ fn enrol_at<'a, J: Naming, R: Wait + Clock>(
     ensures told { told_by port.new ≡ told_by port.old }
     ensures refusals { refusals_by refused port.new ≡ refusals_by refused port.old }
     ensures receipts { receipts_by port.new ≡ receipts_by port.old }
+    ensures before { before_by port.new ≡ before_by port.old }
 {
     if port.is_some() {
         return;
@@ -200,6 +208,7 @@ fn refuse_at<J: Naming, R: Wait + Clock>(
     ensures told { told_by port.new ≡ told_by port.old }
     ensures counted { refusals_by refused.new port.new ≡ one_more (refusals_by refused.old port.old) }
     ensures receipts { receipts_by port.new ≡ receipts_by port.old }
+    ensures before { before_by port.new ≡ before_by port.old }
 {
     match port {
         Some(port) => port.refuse(),
@@ -220,6 +229,7 @@ fn ask_at<J: Naming, R: Wait + Clock>(
         (port_of (told_by port.new) (refusals_by refused.new port.new)) }
     ensures stop { want ≡ StopWant → result ≡ Err OutOfMemory
         → has_shut (receipts_by port.old) ≡ true }
+    ensures before { before_by port.new ≡ before_by port.old }
 {
     match port {
         Some(port) => port.ask(want),
@@ -234,8 +244,9 @@ fn fetch_at<J: Naming, R: Wait + Clock>(
     job: u64,
     wait: u64,
 ) -> Result<Reply, DeskFault>
-    ensures { Tells (port_of (told_by port.old) (refusals_by refused.old port.old)) (Fetch job) result
+    ensures told { Tells (port_of (told_by port.old) (refusals_by refused.old port.old)) (Fetch job) result
         (port_of (told_by port.new) (refusals_by refused.new port.new)) }
+    ensures before { before_by port.new ≡ before_by port.old }
 {
     match port {
         Some(port) => port.fetch_within(job, wait),
@@ -249,6 +260,7 @@ fn leave_at<J: Naming, R: Wait + Clock>(port: &mut Option<DeskPort<'_, J, R>>)
     ensures leaves { (refused : ℕ) → Leaves (HasEndedBy J.limits port.new)
         (port_of (told_by port.old) (refusals_by refused port.old))
         (port_of (told_by port.new) (refusals_by refused port.new)) }
+    ensures before { before_by port.new ≡ before_by port.old }
 {
     match port {
         Some(port) => port.leave(),

@@ -7,7 +7,9 @@ ghost use Rattle.dd_desk.specs.declared.fault.DeskFault.TheVariants.{JournalFull
 ghost use Rattle.dd_lines.specs.CountedDevices.{one_more};
 ghost use Rattle.dd_session.specs.Healths.{IsHealth};
 ghost use Rattle.dd_session.specs.Ports.{Tells, call_by, last_place, new_port, port_of, refused, told_at};
-ghost use Rattle.dd_wire.specs.declared.want.Want.TheVariants.{Stop as StopWant};
+ghost use Rattle.dd_session.specs.Leaving.{Leaves};
+ghost use Rattle.dd_desk.specs.Looks.{SeesEnd};
+ghost use Rattle.dd_wire.specs.declared.want.Want.TheVariants.{Fetch as FetchWant, Stop as StopWant};
 
 use crate::leaving::give_up_jobs;
 use dd_book::Reply;
@@ -73,14 +75,15 @@ pub struct DeskPort<'a, J: Naming, R: Wait + Clock> {
 }
 
 impl<'a, J: Naming, R: Wait + Clock> Model for DeskPort<'a, J, R> {
-    ghost use Rattle.std.specs.Prelude.{◌≤◌, length};
-    ghost use Rattle.dd_session.specs.Ports.{DeskPortOf};
+    ghost use Rattle.std.specs.Prelude.{◌≤◌, drop, length};
+    ghost use Rattle.dd_session.specs.Ports.{AreClients, DeskPortOf};
 
     ghost Value = { DeskPortOf };
 
     ghost view = { λ p. record { pass = p.pass; before = p.before; refusals = p.refusals; workers = p.workers } };
 
-    ghost invariant = { λ p. p.before ≤ length p.pass.receipts };
+    ghost invariant = { λ p. (p.before ≤ length p.pass.receipts)
+        × AreClients (drop p.before p.pass.receipts) };
 }
 
 impl<'a, J: Naming, R: Wait + Clock> DeskPort<'a, J, R> {
@@ -182,6 +185,7 @@ impl<'a, J: Naming, R: Wait + Clock> BookPort for DeskPort<'a, J, R> {
             (port_of (told_at self.new) self.new.refusals) }
         ensures stop { want ≡ StopWant → result ≡ Err OutOfMemory
             → has_shut self.old.pass.receipts ≡ true }
+        ensures before { self.new.before ≡ self.old.before }
     {
         match call(self.rt, self.desk, &mut self.pass, want) {
             Ok(reply) => Ok(reply),
@@ -192,7 +196,11 @@ impl<'a, J: Naming, R: Wait + Clock> BookPort for DeskPort<'a, J, R> {
         }
     }
 
-    fn fetch_within(&mut self, job: u64, wait: u64) -> Result<Reply, DeskFault> {
+    fn fetch_within(&mut self, job: u64, wait: u64) -> Result<Reply, DeskFault>
+        ensures told { Tells (port_of (told_at self.old) self.old.refusals) (FetchWant job) result
+            (port_of (told_at self.new) self.new.refusals) }
+        ensures before { self.new.before ≡ self.old.before }
+    {
         match fetch_within(self.rt, self.desk, &mut self.pass, job, wait) {
             Ok(reply) => Ok(reply),
             Err(fault) => {
@@ -206,7 +214,12 @@ impl<'a, J: Naming, R: Wait + Clock> BookPort for DeskPort<'a, J, R> {
         health_of(self.rt, self.desk, self.workers)
     }
 
-    fn leave(&mut self) {
+    fn leave(&mut self)
+        ensures leaves { Leaves (SeesEnd J.limits self.new.pass.number)
+            (port_of (told_at self.old) self.old.refusals)
+            (port_of (told_at self.new) self.new.refusals) }
+        ensures before { self.new.before ≡ self.old.before }
+    {
         self.refusals = give_up_jobs(
             self.rt,
             self.desk,

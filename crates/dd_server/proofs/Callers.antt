@@ -1,0 +1,80 @@
+-- Whose pass it is.
+use Rattle.std.proofs.Common.{◌≡◌, ◌∙◌, ℕ, List, [], ◌∷◌, ◌++◌, length, Option, None, Some, Ok, Err, Bool, false, refl, sym, ap, subst}
+use Rattle.std.specs.Prelude.{All, IfSome, Result, ◌&&◌}
+use Rattle.std.specs.List.{list_all}
+use Rattle.std.proofs.lemmas.List.Elements.{All-append, All-cons, All-nil}
+use Rattle.std.proofs.lemmas.List.Folds.{list_all-append}
+use Rattle.dd_book.specs.declared.call.Call.TheVariants.{Shut}
+use Rattle.dd_book.specs.declared.call.Reply.{Reply}
+use Rattle.dd_book.specs.Limits.{LimitsOf}
+use Rattle.dd_desk.specs.declared.fault.DeskFault.{DeskFault}
+use Rattle.dd_desk.specs.Receipts.{PassOf, ReceiptOf, is_shut, receipt}
+use Rattle.dd_desk.specs.Replies.{IsTold}
+use Rattle.dd_session.specs.Leaving.{ThenLeaves}
+use Rattle.dd_session.specs.Ports.{AreClients, AsksNoStop, DeskPortOf, HasEndedBy, LatePortOf, new_late_port, pass_by, port_of, refusals_by, told_by, told_in}
+use Rattle.dd_session.specs.Sockets.{ServesMessages}
+use Rattle.dd_work.specs.Rounds.{AreRounds, Works}
+use Rattle.dd_server.specs.Callers.{AreShuts, IsCallers, IsClients}
+use Rattle.dd_server.specs.declared.terms.Terms.{Terms}
+
+-- ---- the run's own
+
+-- shuts, and more of them
+AreShuts-append : (rs more : List ReceiptOf) → AreShuts rs → AreShuts more → AreShuts (rs ++ more)
+AreShuts-append rs more shuts others =
+    list_all-append (λ (r : ReceiptOf). is_shut r.call) rs more
+    ∙ ap (λ (b : Bool). b && list_all (λ (r : ReceiptOf). is_shut r.call) more) shuts ∙ others
+
+-- a pass that shut the book once more
+pub shuts_more : (limits : LimitsOf) (before after : PassOf) (said : Result Reply DeskFault) → AreShuts before.receipts → IsTold limits before Shut said after → AreShuts after.receipts
+shuts_more limits before after (Ok reply) shuts answered =
+    subst (λ (p : PassOf). AreShuts p.receipts) (sym answered.gained)
+    (AreShuts-append before.receipts (receipt (length answered.journal) Shut reply ∷ []) shuts refl)
+shuts_more limits before after (Err fault) shuts (of_call, same, refused) = subst (λ (p : PassOf). AreShuts p.receipts) (sym same) shuts
+
+-- ---- a worker's
+
+-- all receipts of a worker whose pass had none are rounds
+pub works_alone : (budget : Option ℕ) (before after : PassOf) → before.receipts ≡ [] → Works budget before after → AreRounds budget after.number after.receipts
+works_alone budget before after none works =
+    subst (λ n. AreRounds budget n after.receipts) (sym works.number)
+    (subst (AreRounds budget before.number) (sym (works.receipts ∙ ap (λ (l : List ReceiptOf). l ++ works.gained) none)) works.rounds)
+
+-- ---- a client's
+
+-- the pass of a port that was just made, when some lines were served over it and it was left
+clients-of : (limits : LimitsOf) (terms : Terms) (port : Option DeskPortOf) (refused : ℕ) (pass : Option PassOf) → pass ≡ pass_by port
+    → IfSome pass (λ p. told_in p.receipts ≡ told_by port) → IfSome pass (λ p. AreClients p.receipts)
+    → ThenLeaves (ServesMessages terms.manner (port_of [] 0)) (HasEndedBy limits port) (port_of (told_by port) (refusals_by refused port))
+    → (terms.manner.allow_stop ≡ false → AsksNoStop [] (told_by port)) → IfSome pass (IsClients limits terms)
+clients-of limits terms None refused None is told calls asked leave = tt
+clients-of limits terms None refused (Some p) is told calls asked leave = cc
+clients-of limits terms (Some port) refused None is told calls asked leave = cc
+clients-of limits terms (Some port) refused (Some p) is told calls asked leave =
+    let same : port.pass ≡ p = cc in
+    record {
+      calls = calls;
+      refusals = port.refusals;
+      asked = subst (λ (q : PassOf). ThenLeaves (ServesMessages terms.manner (port_of [] 0)) (HasEndedBy limits (Some (record port { pass = q }))) (port_of (told_in p.receipts) port.refusals)) same
+          (subst (λ l. ThenLeaves (ServesMessages terms.manner (port_of [] 0)) (HasEndedBy limits (Some port)) (port_of l port.refusals)) (sym told) asked);
+      leave = λ none. subst (AsksNoStop []) (sym told) (leave none);
+    }
+
+pub clients_pass : (limits : LimitsOf) (terms : Terms) (workers : ℕ) (start after : LatePortOf) (pass : Option PassOf) → start ≡ new_late_port workers → pass ≡ pass_by after.port
+    → IfSome pass (λ p. told_in p.receipts ≡ told_by after.port) → IfSome pass (λ p. AreClients p.receipts)
+    → ThenLeaves (λ between. ServesMessages terms.manner (port_of (told_by start.port) (refusals_by start.refused start.port)) between) (HasEndedBy limits after.port)
+    (port_of (told_by after.port) (refusals_by after.refused after.port))
+    → (terms.manner.allow_stop ≡ false → AsksNoStop (told_by start.port) (told_by after.port)) → IfSome pass (IsClients limits terms)
+clients_pass limits terms workers start after pass fresh is told calls asked leave =
+    clients-of limits terms after.port after.refused pass is told calls
+    (subst (λ (s : LatePortOf). ThenLeaves (λ between. ServesMessages terms.manner (port_of (told_by s.port) (refusals_by s.refused s.port)) between) (HasEndedBy limits after.port)
+    (port_of (told_by after.port) (refusals_by after.refused after.port))) fresh asked)
+    (λ none. subst (λ (s : LatePortOf). AsksNoStop (told_by s.port) (told_by after.port)) fresh (leave none))
+
+-- ---- all passes
+
+-- one pass more comes back
+pub callers_more : (limits : LimitsOf) (terms : Terms) (passes : List PassOf) (pass : PassOf) → All (IsCallers limits terms) passes → IsCallers limits terms pass
+    → All (IsCallers limits terms) (passes ++ pass ∷ [])
+callers_more limits terms passes pass each here =
+    All-append (IsCallers limits terms) passes (pass ∷ []) each (All-cons (IsCallers limits terms) pass [] here (All-nil (IsCallers limits terms)))

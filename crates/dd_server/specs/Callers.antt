@@ -1,0 +1,30 @@
+-- To be believed: whose calls stand in the journal of a run.
+use Rattle.std.specs.Prelude.{◌≡◌, ◌⊎◌, ℕ, List, [], true, false}
+use Rattle.std.specs.List.{list_all}
+use Rattle.dd_book.specs.Limits.{LimitsOf}
+use Rattle.dd_desk.specs.Looks.{SeesEnd}
+use Rattle.dd_desk.specs.Receipts.{PassOf, ReceiptOf, is_shut}
+use Rattle.dd_session.specs.Leaving.{ThenLeaves}
+use Rattle.dd_session.specs.Ports.{AreClients, AsksNoStop, port_of, told_in}
+use Rattle.dd_session.specs.Sockets.{ServesMessages}
+use Rattle.dd_work.specs.Rounds.{AreRounds}
+use Rattle.dd_server.specs.declared.terms.Terms.{Terms}
+
+-- receipts of shuts, and of nothing else
+abbrev pub AreShuts : List ReceiptOf → Type 0
+AreShuts receipts = list_all (λ (r : ReceiptOf). is_shut r.call) receipts ≡ true
+
+-- The pass of a client. Its calls are those that some lines want, or messages, in order and with nothing between; each reply to
+-- them stands in the reply to its line, in the manner that was asked for; and then the jobs that it made were given up. Without
+-- leave it asked for no stop.
+pub record IsClients (limits : LimitsOf) (terms : Terms) (pass : PassOf) : Type 0 where
+  pub calls : AreClients pass.receipts
+  pub refusals : ℕ
+  pub asked : ThenLeaves (ServesMessages terms.manner (port_of [] 0)) (SeesEnd limits pass.number) (port_of (told_in pass.receipts) refusals)
+  pub leave : terms.manner.allow_stop ≡ false → AsksNoStop [] (told_in pass.receipts)
+
+-- Whose pass it is: the run's own, by which it shut the book; a worker's, with rounds of a claim and its finish, within the
+-- budget; or a client's.
+abbrev pub IsCallers : LimitsOf → Terms → PassOf → Type 0
+IsCallers limits terms pass =
+    AreShuts pass.receipts ⊎ (AreRounds terms.budget pass.number pass.receipts ⊎ IsClients limits terms pass)
