@@ -17,11 +17,8 @@ use Rattle.dd_desk.specs.Events.{EventOf, event, replay}
 use Rattle.dd_desk.specs.Reserve.{HasReserve, HasRoom, finishes_in, is_finish, journal_after, reserved, reserved_in, untold}
 use Rattle.dd_desk.proofs.Effects.{claim-quiet, with_event}
 use Rattle.dd_desk.proofs.Histories.{replay-more}
+use Rattle.dd_desk.proofs.Marks.{length-push}
 use Rattle.dd_desk.proofs.Untold.{untold-kept}
-
-length-push : {X : Type 0} (xs : List X) (y : X) → length (xs ++ y ∷ []) ≡ length xs + 1
-length-push [] y = refl
-length-push (x ∷ xs) y = let rest = length-push xs y in omega (arith, rest)
 
 -- ---- what is counted
 

@@ -9,6 +9,7 @@ use Rattle.dd_book.specs.declared.call.Reply.TheVariants.{Cancelled, State}
 use Rattle.dd_desk.specs.Counted.{AreFlags, TellsOfJobs}
 use Rattle.dd_desk.specs.Events.{EventOf}
 use Rattle.dd_desk.specs.Reserve.{has_ended, is_told, tells_end, untold}
+use Rattle.dd_desk.proofs.Marks.{length-push}
 
 or-false : (b : Bool) → (b || false) ≡ b
 or-false true = refl
@@ -117,18 +118,14 @@ get-set_other (x ∷ xs) zero (suc k) y h = refl
 get-set_other (x ∷ xs) (suc i) zero y h = refl
 get-set_other (x ∷ xs) (suc i) (suc k) y h = get-set_other xs i k y (λ e. h (ap suc e))
 
-get-push_here : {X : Type 0} (xs : List X) (y : X) → slice_get (xs ++ y ∷ []) (length xs) ≡ Some y
+pub get-push_here : {X : Type 0} (xs : List X) (y : X) → slice_get (xs ++ y ∷ []) (length xs) ≡ Some y
 get-push_here [] y = refl
 get-push_here (x ∷ xs) y = get-push_here xs y
 
-get-push_before : {X : Type 0} (xs : List X) (k : ℕ) (y : X) → k < length xs → slice_get (xs ++ y ∷ []) k ≡ slice_get xs k
+pub get-push_before : {X : Type 0} (xs : List X) (k : ℕ) (y : X) → k < length xs → slice_get (xs ++ y ∷ []) k ≡ slice_get xs k
 get-push_before [] k y h = absurd (omega (arith, h))
 get-push_before (x ∷ xs) zero y h = refl
 get-push_before (x ∷ xs) (suc k) y h = get-push_before xs k y (omega (arith, h))
-
-length-push : {X : Type 0} (xs : List X) (y : X) → length (xs ++ y ∷ []) ≡ length xs + 1
-length-push [] y = refl
-length-push (x ∷ xs) y = let rest = length-push xs y in omega (arith, rest)
 
 length-set_at : {X : Type 0} (xs : List X) (i : ℕ) (y : X) → length (slice_set xs i y) ≡ length xs
 length-set_at [] i y = refl

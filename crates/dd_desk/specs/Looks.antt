@@ -1,5 +1,5 @@
 -- To be believed: what a look at the desk sees, which makes no event, and what a cancel tells that may need none.
-use Rattle.std.specs.Prelude.{◌≡◌, ◌⊎◌, ℕ, ◌+◌, length, Bool, true, false, not, Option, None, Some, Result, Ok, Err, List, nat_le}
+use Rattle.std.specs.Prelude.{◌≡◌, ◌⊎◌, ℕ, ◌+◌, length, take, Bool, true, false, not, Option, None, Some, Result, Ok, Err, List, nat_le}
 use Rattle.dd_book.specs.declared.call.Call.TheVariants.{Cancel}
 use Rattle.dd_book.specs.declared.call.Refusal.TheVariants.{UnknownJob}
 use Rattle.dd_book.specs.declared.call.Reply.{Reply}
@@ -11,16 +11,29 @@ use Rattle.dd_desk.specs.declared.fault.DeskFault.{DeskFault}
 use Rattle.dd_desk.specs.declared.tally.Tally.{Tally}
 use Rattle.dd_desk.specs.Events.{EventOf, IsLegal, replay}
 use Rattle.dd_desk.specs.Faults.{IsOfCall}
-use Rattle.dd_desk.specs.Receipts.{PassOf}
+use Rattle.dd_desk.specs.Receipts.{HasReceipts, PassOf}
 use Rattle.dd_desk.specs.Replies.{IsAnswered}
 use Rattle.dd_desk.specs.Reserve.{IsRefused}
 
+-- what a pass has seen of its desk: its number, and a journal
+pub record SeenOf : Type 0 where
+  pub number : ℕ
+  pub journal : List EventOf
+
+abbrev pub seen_of : ℕ → List EventOf → SeenOf
+seen_of number journal = record { number = number; journal = journal }
+
+-- the journal goes on from the one that was seen
+abbrev pub GoesOn : List EventOf → List EventOf → Type 0
+GoesOn seen journal = take (length seen) journal ≡ seen
+
 -- a worker has a part under this claim or has none, as this tells, at a desk of these limits after a journal that one thread could
--- have made
-pub record SeesRunning (limits : LimitsOf) (worker job claim : ℕ) (runs : Bool) : Type 0 where
+-- have made, and that goes on from the one that the worker has seen
+pub record SeesRunning (limits : LimitsOf) (seen : SeenOf) (job claim : ℕ) (runs : Bool) : Type 0 where
   pub journal : List EventOf
   pub legal : IsLegal limits journal
-  pub sees : runs ≡ runs_at (replay limits journal).jobs worker job claim
+  pub goes_on : GoesOn seen.journal journal
+  pub sees : runs ≡ runs_at (replay limits journal).jobs seen.number job claim
 
 -- the caller has an open job or has none, as this tells, at a desk of these limits after a journal that one thread could have made
 pub record SeesOpen (limits : LimitsOf) (caller : ℕ) (has : Bool) : Type 0 where
@@ -41,11 +54,13 @@ abbrev pub is_ended_job : Option JobOf → Bool
 is_ended_job None = false
 is_ended_job (Some job) = not (is_open job)
 
--- this caller's job of this number has ended, at a desk of these limits after a journal that one thread could have made
-pub record SeesEnd (limits : LimitsOf) (caller job : ℕ) : Type 0 where
+-- the pass's job of this number has ended, at a desk of these limits after a journal that one thread could have made, and in
+-- which all receipts of the pass stand
+pub record SeesEnd (limits : LimitsOf) (pass : PassOf) (job : ℕ) : Type 0 where
   pub journal : List EventOf
   pub legal : IsLegal limits journal
-  pub sees : is_ended_job (own_job (replay limits journal).jobs caller job) ≡ true
+  pub has : HasReceipts journal pass
+  pub sees : is_ended_job (own_job (replay limits journal).jobs pass.number job) ≡ true
 
 -- what a cancel is told that finds no job which has ended: it is cancelled, or is none of the caller's
 abbrev pub FindsNoEnd : ℕ → Reply → Type 0
@@ -54,8 +69,8 @@ FindsNoEnd job reply = (reply ≡ Cancelled job) ⊎ (reply ≡ Fault UnknownJob
 -- The pass before and after a job of its is cancelled if need be: the job has ended, and the pass is as it was; or the cancel
 -- is answered, by one receipt; or it is refused, and the pass is as it was.
 abbrev pub IsToldIfOpen : LimitsOf → PassOf → ℕ → Result (Option Reply) DeskFault → PassOf → Type 0
-IsToldIfOpen limits before job (Ok None) after = SeesEnd limits before.number job × (after ≡ before)
+IsToldIfOpen limits before job (Ok None) after = SeesEnd limits before job × (after ≡ before)
 IsToldIfOpen limits before job (Ok (Some reply)) after =
     IsAnswered limits before (Cancel before.number job) reply after × FindsNoEnd job reply
 IsToldIfOpen limits before job (Err fault) after =
-    IsOfCall fault × (after ≡ before) × IsRefused limits before.number (Cancel before.number job) fault
+    IsOfCall fault × (after ≡ before) × IsRefused limits before (Cancel before.number job) fault

@@ -1,7 +1,8 @@
 //! A pass before it is given.
 ghost use Rattle.std.specs.Prelude.{◌≡◌, ◌≤◌, [], vec_len, vec_capacity};
 
-use crate::event::{Event, Receipt, blank};
+use crate::entry::{Entry, blank};
+use crate::event::Receipt;
 use once_cell::race::Note;
 use std::alloc::{AllocError, Global};
 
@@ -9,8 +10,8 @@ use std::alloc::{AllocError, Global};
 #[derive(Drop)]
 pub struct BlankPass {
     pub(crate) receipts: Vec<Receipt>,
-    pub(crate) marks: Vec<Note<Event>>,
-    pub(crate) spare: Box<Event>,
+    pub(crate) marks: Vec<Note<Entry>>,
+    pub(crate) spare: Box<Entry>,
     pub ghost empty: { (receipts.items ≡ []) × (vec_len receipts ≡ 0)
         × (marks.items ≡ []) × (vec_len marks ≡ 0) },
     pub ghost room: { (1 ≤ vec_capacity receipts) × (1 ≤ vec_capacity marks) },

@@ -5,26 +5,32 @@ ghost use Rattle.dd_book.specs.Jobs.{is_open_job, open_in, own_job};
 ghost use Rattle.dd_desk.specs.Looks.{SeesOpen, SeesRunning, SeesTally};
 ghost use Rattle.dd_desk.specs.Reserve.{SeesFree, reserved};
 ghost use Rattle.dd_desk.specs.Receipts.{below};
+ghost use Rattle.dd_desk.specs.Entries.{AreBeginnings, event_in, journal_in};
 
 use crate::bells::{Concerns, Rings};
 use crate::blank_pass::BlankPass;
+use crate::entry::Entry;
 use crate::event::Event;
 use crate::history::History;
 use crate::names::{Naming, PlaceSums, ReceiptCounts};
+use crate::past::Past;
 use crate::receipt_log::{CountedLog, ReceiptLog};
+use crate::seen::{Seen, follow};
 use crate::tally::Tally;
 use dd_book::Limits;
 use once_cell::race::Note;
 use std::alloc::Global;
-use std::sync::ledger;
 use std::sync::ledger::{Blank, Share};
+use std::sync::{Wait, ledger};
 
-/// The book with its journal, a note of the cell of each place, which knows the event there, the
-/// books of both ledgers, and the parts of the passes that were not given yet.
+/// The book with its journal, a note of the cell of each place, which knows the event there and the
+/// journal up to it, the books of both ledgers, and the parts of the passes that were not given yet.
 #[derive(Drop)]
 pub struct LockedState<J: Naming> {
     pub(crate) history: History,
-    pub(crate) marks: Vec<Note<Event>>,
+    pub(crate) marks: Vec<Note<Entry>>,
+    // The journal again, for the next event.
+    pub(crate) past: Past,
     pub(crate) given: u64,
     pub(crate) count: ledger::Book<ReceiptCounts<J>>,
     pub(crate) sum: ledger::Book<PlaceSums<J>>,
@@ -33,7 +39,11 @@ pub struct LockedState<J: Naming> {
     pub ghost within: { history.limits.events ≤ length J.cells },
     pub ghost marked: { map (λ n. n.cell) marks.items
         ≡ take (vec_len history.journal) J.cells },
-    pub ghost knows: { map (λ n. n.known) marks.items ≡ map Some history.journal.items },
+    pub ghost knows: { map (λ n. event_in n.known) marks.items
+        ≡ map Some history.journal.items },
+    pub ghost beginnings: { AreBeginnings (map (λ n. journal_in n.known) marks.items)
+        history.journal.items },
+    pub ghost remembered: { past.events ≡ history.journal.items },
     pub ghost room: { (vec_len marks ≡ vec_len history.journal)
         × (history.limits.events ≤ vec_capacity marks) },
     pub ghost counted: { count.total ≡ vec_len history.journal },
@@ -52,7 +62,7 @@ impl<J: Naming> LockedState<J> {
         limits: Limits,
         journal: Vec<Event>,
         told: Vec<bool>,
-        marks: Vec<Note<Event>>,
+        marks: Vec<Note<Entry>>,
         count: Blank,
         sum: Blank,
     ) -> LockedState<J>
@@ -72,6 +82,7 @@ impl<J: Naming> LockedState<J> {
         LockedState {
             history: History::new(alloc, limits, journal, told),
             marks,
+            past: Past::empty(),
             given: 0,
             count,
             sum,
@@ -93,6 +104,7 @@ impl<J: Naming> LockedState<J> {
         let LockedState {
             history,
             marks: _,
+            past: _,
             given,
             count: _,
             sum: _,
@@ -137,11 +149,19 @@ impl<J: Naming> LockedState<J> {
         self.history.tally()
     }
 
-    /// Has this worker a part of the job of this number under this claim number?
-    pub(crate) fn still_runs(&self, worker: u64, job: u64, claim: u64) -> bool
-        ensures { SeesRunning J.limits worker job claim result }
+    /// Has the worker that has seen this a part of the job of this number under this claim number?
+    pub(crate) fn still_runs<R: Wait>(
+        &mut self,
+        rt: &R,
+        seen: &mut Seen<J>,
+        job: u64,
+        claim: u64,
+    ) -> bool
+        ensures seen { seen.new ≡ seen.old }
+        ensures sees { SeesRunning J.limits seen.old job claim result }
     {
-        self.history.runs(worker, job, claim)
+        follow(rt, self, seen);
+        self.history.runs(seen.number(), job, claim)
     }
 
     /// Whose bells are to ring after a call.

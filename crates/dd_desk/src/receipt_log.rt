@@ -1,33 +1,38 @@
 //! The receipts of one caller.
 ghost use Rattle.std.specs.Prelude.{◌≡◌, ◌<◌, ◌≤◌, ◌+◌, [], map, true, false, vec_len, vec_capacity, Some, slice_index_or, IsOk, OnOk, OnErr};
-ghost use Rattle.dd_desk.specs.Receipts.{has_shut, told_by, rises, next_of};
+ghost use Rattle.dd_desk.specs.Receipts.{has_shut, pass_of, told_by, rises, next_of};
+ghost use Rattle.dd_desk.specs.Entries.{LastHas, event_in, journal_in};
 ghost use Rattle.dd_desk.specs.Ready.{IsReady};
 ghost use Rattle.dd_desk.specs.Closing.{sum_of_places};
 
 use crate::blank_pass::BlankPass;
-use crate::event::{Event, Receipt, blank};
+use crate::entry::{Entry, blank};
+use crate::event::Receipt;
 use crate::names::{Naming, PlaceSums, ReceiptCounts};
 use once_cell::race::Note;
 use std::alloc::{AllocError, Global};
 use std::marker::PhantomData;
 use std::sync::ledger::Share;
 
-/// The receipts of one caller, with a note of the cell of each one's place, which knows the event.
+/// The receipts of one caller, with a note of the cell of each one's place, which knows the event. That of the last one knows
+/// a journal in which all of them stand.
 #[derive(Drop)]
 pub(crate) struct ReceiptLog<J: Naming> {
     pub(crate) number: u64,
     pub(crate) receipts: Vec<Receipt>,
-    pub(crate) marks: Vec<Note<Event>>,
+    pub(crate) marks: Vec<Note<Entry>>,
     // Room for the event of a shut.
-    pub(crate) spare: Option<Box<Event>>,
+    pub(crate) spare: Option<Box<Entry>>,
     // The place after the last one, and the sum of the places.
     pub(crate) next: u64,
     pub(crate) places: u64,
     pub(crate) of: PhantomData<J>,
     pub ghost marked: { map (λ n. n.cell) marks.items
         ≡ map (λ r. slice_index_or J.cells r.place 0) receipts.items },
-    pub ghost knows: { map (λ n. n.known) marks.items
+    pub ghost knows: { map (λ n. event_in n.known) marks.items
         ≡ map (λ r. Some (told_by number r)) receipts.items },
+    pub ghost last: { LastHas (map (λ n. journal_in n.known) marks.items)
+        (pass_of number receipts.items) },
     pub ghost rising: { rises 0 receipts.items ≡ true },
     pub ghost next_is: { next ≡ next_of 0 receipts.items },
     pub ghost places_is: { places ≡ sum_of_places receipts.items },
@@ -63,10 +68,10 @@ impl<J: Naming> ReceiptLog<J> {
 pub(crate) fn room_for(
     alloc: Global,
     receipts: &mut Vec<Receipt>,
-    marks: &mut Vec<Note<Event>>,
-    spare: &mut Option<Box<Event>>,
+    marks: &mut Vec<Note<Entry>>,
+    spare: &mut Option<Box<Entry>>,
     shuts: bool,
-) -> Result<Box<Event>, AllocError>
+) -> Result<Box<Entry>, AllocError>
     ensures receipts { (receipts.new.items ≡ receipts.old.items)
         × (vec_len receipts.new ≡ vec_len receipts.old)
         × (vec_capacity receipts.old ≤ vec_capacity receipts.new) }

@@ -2,7 +2,7 @@
 ghost use Rattle.std.specs.Prelude.{◌≡◌, true, Err, IfSome, IsTrue, ◌↔◌, option_and_then};
 ghost use Rattle.dd_wire.specs.declared.want.Want.TheVariants.{Stop as StopWant};
 ghost use Rattle.dd_desk.specs.Receipts.{has_shut};
-ghost use Rattle.dd_session.specs.Ports.{AreClients, Tells, last_place, new_late_port, pass_by, port_of, receipts_by, refusals_by, told_by, told_in};
+ghost use Rattle.dd_session.specs.Ports.{AreClients, Tells, before_by, last_place, new_late_port, pass_by, port_of, receipts_by, refusals_by, told_by, told_in};
 ghost use Rattle.dd_server.specs.Worn.{KnowsWorn, is_submit};
 
 use crate::run_state::RunState;
@@ -53,6 +53,7 @@ impl<'a, J: RunNaming, R: Wait + Clock> RunPort<'a, J, R> {
         ensures told { IfSome result (λ pass.
             told_in pass.receipts ≡ told_by self.entry.port.port) }
         ensures clients { IfSome result (λ pass. AreClients pass.receipts) }
+        ensures begun { before_by self.entry.port.port ≡ 0 }
     {
         let RunPort {
             port,
@@ -124,7 +125,8 @@ impl<'a, J: RunNaming, R: Wait + Clock> RunPort<'a, J, R> {
 
 impl<'a, J: RunNaming, R: Wait + Clock> BookPort for RunPort<'a, J, R> {
     ghost use Rattle.dd_session.specs.Healths.{IsHealth};
-    ghost use Rattle.dd_session.specs.Ports.{HasEndedBy, refusals_by, told_by};
+    ghost use Rattle.dd_session.specs.Leaving.{HasEndedBy};
+    ghost use Rattle.dd_session.specs.Ports.{refusals_by, told_by};
 
     ghost told = { λ s. told_by s.port.port };
 

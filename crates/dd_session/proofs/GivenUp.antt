@@ -1,16 +1,18 @@
 -- The jobs of a pass are given up, one after the other.
-use Rattle.std.proofs.Common.{◌≡◌, ℕ, zero, suc, ◌+◌, ◌<◌, ◌≤◌, List, [], ◌∷◌, ◌++◌, length, length-append, drop, Option, None, Some, Ok, Err, inl, inr, refl, sym, ap, ◌∙◌, subst, arith, append_assoc, append-nil}
-use Rattle.std.specs.Prelude.{MatchOption, slice_get}
+use Rattle.std.proofs.Common.{◌≡◌, ℕ, zero, suc, ◌+◌, ◌<◌, ◌≤◌, List, [], ◌∷◌, ◌++◌, length, length-append, drop, Option, None, Some, Ok, Err, inl, inr, refl, sym, ap, ◌∙◌, subst, arith, append_assoc, append-nil, true}
+use Rattle.std.specs.Prelude.{Contains, MatchOption, map, slice_get}
 use Rattle.std.proofs.lemmas.List.{drop-append-le}
 use Rattle.dd_book.specs.declared.call.Call.TheVariants as call
 use Rattle.dd_book.specs.declared.call.Reply.{Reply}
 use Rattle.dd_book.specs.Limits.{LimitsOf}
+use Rattle.dd_book.specs.Jobs.{own_job}
 use Rattle.dd_desk.specs.declared.fault.DeskFault.{DeskFault}
-use Rattle.dd_desk.specs.Looks.{IsToldIfOpen, SeesEnd}
-use Rattle.dd_desk.specs.Receipts.{PassOf, ReceiptOf, receipt}
+use Rattle.dd_desk.specs.Looks.{IsToldIfOpen, SeesEnd, is_ended_job}
+use Rattle.dd_desk.specs.Events.{EventOf, replay}
+use Rattle.dd_desk.specs.Receipts.{HasReceipts, PassOf, ReceiptOf, pass_of, receipt}
 use Rattle.dd_lines.specs.CountedDevices.{one_more}
 use Rattle.dd_session.specs.GivingUp.{GivesUpAt}
-use Rattle.dd_session.specs.Leaving.{GivesUp, Leaves, made_by, own_jobs}
+use Rattle.dd_session.specs.Leaving.{GivesUp, Leaves, SawEnd, made_by, own_jobs}
 use Rattle.dd_session.specs.Ports.{AreClients, Exchange, port_of, count_more, told_in, told_of}
 use Rattle.dd_session.proofs.Gaining.{count_more-add}
 use Rattle.dd_session.proofs.Telling.{AreClients-append, told_in-append}
@@ -33,6 +35,10 @@ splits-at (r ∷ rs) gained (suc place) within = splits-at rs gained place (omeg
 
 -- ---- over a port
 
+-- an element of the rest of a list
+in-tail : (x : ℕ) (xs : List ℕ) (y : ℕ) → Contains xs y → Contains (x ∷ xs) y
+in-tail x xs y (place, within, is) = (suc place, omega (arith, within), is)
+
 -- some jobs are given up, and then more
 gives-up-more : (ended : ℕ → Type 0) (jobs more : List ℕ) (news later : List Exchange) (refused others : ℕ) → GivesUp ended jobs news refused → GivesUp ended more later others
     → GivesUp ended (jobs ++ more) (news ++ later) (refused + others)
@@ -45,6 +51,17 @@ gives-up-more ended (job ∷ jobs) more news later refused others (inr (inl (rep
     inr (inl (reply, after ++ later, finds, ap (λ (l : List Exchange). l ++ later) told, gives-up-more ended jobs more after later refused others gives rest))
 gives-up-more ended (job ∷ jobs) more news later refused others (inr (inr (fewer, count, gives))) rest =
     inr (inr (fewer + others, omega (arith, count), gives-up-more ended jobs more news later fewer others gives rest))
+
+-- what is known of the jobs that have ended may be told otherwise
+gives-up-as : (ended others : ℕ → Type 0) (jobs : List ℕ) (news : List Exchange) (refused : ℕ) → ((job : ℕ) → Contains jobs job → ended job → others job)
+    → GivesUp ended jobs news refused → GivesUp others jobs news refused
+gives-up-as ended others [] news refused turn gives = gives
+gives-up-as ended others (job ∷ jobs) news refused turn (inl (has, gives)) =
+    inl (turn job (0, omega arith, refl) has, gives-up-as ended others jobs news refused (λ j in'. turn j (in-tail job jobs j in')) gives)
+gives-up-as ended others (job ∷ jobs) news refused turn (inr (inl (reply, after, finds, told, gives))) =
+    inr (inl (reply, after, finds, told, gives-up-as ended others jobs after refused (λ j in'. turn j (in-tail job jobs j in')) gives))
+gives-up-as ended others (job ∷ jobs) news refused turn (inr (inr (fewer, count, gives))) =
+    inr (inr (fewer, count, gives-up-as ended others jobs news fewer (λ j in'. turn j (in-tail job jobs j in')) gives))
 
 -- the jobs of the receipts before this place are given up: whatever gives up the others, gives up all from the first on
 pub record GoesOver (limits : LimitsOf) (start : PassOf) (first count place : ℕ) (now : PassOf) (counted : ℕ) : Type 0 where
@@ -59,6 +76,29 @@ drop-whole [] zero is = refl
 drop-whole [] (suc n) is = absurd (omega (arith, is))
 drop-whole (r ∷ rs) zero is = absurd (omega (arith, is))
 drop-whole (r ∷ rs) (suc n) is = drop-whole rs n (omega (arith, is))
+
+-- ---- what a desk showed
+
+-- two lists that are one have one head and one tail
+cons-parts : {A : Type 0} (x y : A) (xs ys : List A) → x ∷ xs ≡ y ∷ ys → (x ≡ y) × (xs ≡ ys)
+cons-parts x y xs ys e = (cc, cc)
+
+-- of the receipts that stand in a journal the first ones do
+has-first : (journal : List EventOf) (number : ℕ) (rs more : List ReceiptOf) → HasReceipts journal (pass_of number (rs ++ more)) → HasReceipts journal (pass_of number rs)
+has-first journal number [] more has = refl
+has-first journal number (r ∷ rs) more has =
+    let p = cons-parts _ _ _ _ has in
+    λ i. p.0 i ∷ has-first journal number rs more p.1 i
+
+-- what it showed to a pass it showed to the pass as it was before
+sees-first : (limits : LimitsOf) (before mid : PassOf) (gained : List ReceiptOf) (job : ℕ) → mid.number ≡ before.number → mid.receipts ≡ before.receipts ++ gained → SeesEnd limits mid job → SeesEnd limits before job
+sees-first limits before mid gained job number receipts s =
+    record {
+      journal = s.journal;
+      legal = s.legal;
+      has = has-first s.journal before.number before.receipts gained (subst (HasReceipts s.journal) (λ i. pass_of (number i) (receipts i)) s.has);
+      sees = subst (λ (n : ℕ). is_ended_job (own_job (replay limits s.journal).jobs n job) ≡ true) number s.sees;
+    }
 
 -- ---- by a pass
 
@@ -115,9 +155,9 @@ module _ {limits : LimitsOf} where
         receipts = then.receipts ∙ ap (λ (l : List ReceiptOf). l ++ then.gained) first.receipts ∙ append_assoc before.receipts first.gained then.gained;
         clients = AreClients-append first.gained then.gained first.clients then.clients;
         refused = first.refused + then.refused;
-        gives_up = subst (λ (t : List Exchange). GivesUp (SeesEnd limits before.number) (jobs ++ more) t (first.refused + then.refused)) (sym (told_in-append first.gained then.gained))
-            (gives-up-more (SeesEnd limits before.number) jobs more (told_in first.gained) (told_in then.gained) first.refused then.refused first.gives_up
-            (subst (λ (n : ℕ). GivesUp (SeesEnd limits n) more (told_in then.gained) then.refused) first.number then.gives_up));
+        gives_up = subst (λ (t : List Exchange). GivesUp (SeesEnd limits before) (jobs ++ more) t (first.refused + then.refused)) (sym (told_in-append first.gained then.gained))
+            (gives-up-more (SeesEnd limits before) jobs more (told_in first.gained) (told_in then.gained) first.refused then.refused first.gives_up
+            (gives-up-as (SeesEnd limits mid) (SeesEnd limits before) more (told_in then.gained) then.refused (λ job in'. sees-first limits before mid first.gained job first.number first.receipts) then.gives_up));
         counts = then.counts ∙ ap (λ (n : ℕ). count_more n then.refused) first.counts ∙ count_more-add count first.refused then.refused;
       }
 
@@ -158,11 +198,12 @@ module _ {limits : LimitsOf} where
   -- ---- and what the port then tells
 
   pub Leaves-desk : (before after : PassOf) (n count counted : ℕ) → n ≤ length before.receipts → GivesUpAt limits (own_jobs (told_in (drop n before.receipts))) before count after counted
-      → Leaves (SeesEnd limits after.number) (port_of (told_in (drop n before.receipts)) count) (port_of (told_in (drop n after.receipts)) counted)
+      → Leaves (SawEnd limits n after) (port_of (told_in (drop n before.receipts)) count) (port_of (told_in (drop n after.receipts)) counted)
   Leaves-desk before after n count counted within gives = (
     told_in gives.gained,
     gives.refused,
-    subst (λ (k : ℕ). GivesUp (SeesEnd limits k) (own_jobs (told_in (drop n before.receipts))) (told_in gives.gained) gives.refused) (sym gives.number) gives.gives_up,
+    gives-up-as (SeesEnd limits before) (SawEnd limits n after) (own_jobs (told_in (drop n before.receipts))) (told_in gives.gained) gives.refused
+        (λ job in' sees. record { seen = before; later = gives.gained; same = λ i. pass_of (gives.number i) (gives.receipts i); made = in'; sees = sees }) gives.gives_up,
     ap (λ (l : List Exchange). port_of l counted)
         (ap (λ (rs : List ReceiptOf). told_in (drop n rs)) gives.receipts
         ∙ ap told_in (drop-append-le n before.receipts gives.gained within)

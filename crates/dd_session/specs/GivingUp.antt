@@ -13,5 +13,5 @@ pub record GivesUpAt (limits : LimitsOf) (jobs : List ℕ) (before : PassOf) (co
   pub receipts : after.receipts ≡ before.receipts ++ gained
   pub clients : AreClients gained
   pub refused : ℕ
-  pub gives_up : GivesUp (SeesEnd limits before.number) jobs (told_in gained) refused
+  pub gives_up : GivesUp (SeesEnd limits before) jobs (told_in gained) refused
   pub counts : counted ≡ count_more count refused

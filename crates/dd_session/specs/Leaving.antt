@@ -1,10 +1,12 @@
 -- To be believed: what a session that ends leaves behind: no job of its own that is still worked on.
-use Rattle.std.specs.Prelude.{◌≡◌, ◌⊎◌, ℕ, suc, List, [], ◌∷◌, ◌++◌, Option, None, Some}
+use Rattle.std.specs.Prelude.{◌≡◌, ◌⊎◌, ℕ, suc, List, [], ◌∷◌, ◌++◌, Option, None, Some, Contains, drop}
 use Rattle.dd_book.specs.declared.call.Reply.{Reply}
-use Rattle.dd_desk.specs.Looks.{FindsNoEnd}
+use Rattle.dd_book.specs.Limits.{LimitsOf}
+use Rattle.dd_desk.specs.Looks.{FindsNoEnd, SeesEnd}
+use Rattle.dd_desk.specs.Receipts.{PassOf, ReceiptOf, pass_of}
 use Rattle.dd_wire.specs.declared.want.Want.{Want}
 use Rattle.dd_wire.specs.declared.want.Want.TheVariants.{Submit, Cancel, Fetch, Stop}
-use Rattle.dd_session.specs.Ports.{Exchange, PortOf, Gains}
+use Rattle.dd_session.specs.Ports.{DeskPortOf, Exchange, PortOf, Gains, told_in}
 use Rattle.dd_session.specs.Serving.{new_job}
 
 -- a job that may be there, as a list
@@ -41,3 +43,19 @@ Leaves ended before after =
 -- the port comes to a state of which this holds, and then the session leaves
 abbrev pub ThenLeaves : (PortOf → Type 0) → (ℕ → Type 0) → PortOf → Type 0
 ThenLeaves serves ended after = (between : PortOf) × serves between × Leaves ended between after
+
+-- ---- over a desk
+
+-- A desk of these limits showed to this pass that its job has ended, when it had the first so many of its receipts: in the journal
+-- these stood, and one of them, from this place on, is that of the job.
+pub record SawEnd (limits : LimitsOf) (from : ℕ) (pass : PassOf) (job : ℕ) : Type 0 where
+  pub seen : PassOf
+  pub later : List ReceiptOf
+  pub same : pass ≡ pass_of seen.number (seen.receipts ++ later)
+  pub made : Contains (own_jobs (told_in (drop from seen.receipts))) job
+  pub sees : SeesEnd limits seen job
+
+-- what a port has seen, at a desk of these limits, of a job that it made: the job has ended
+abbrev pub HasEndedBy : LimitsOf → Option DeskPortOf → ℕ → Type 0
+HasEndedBy limits None job = ⊥
+HasEndedBy limits (Some port) job = SawEnd limits port.before port.pass job

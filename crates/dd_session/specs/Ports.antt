@@ -2,10 +2,8 @@
 use Rattle.std.specs.Prelude.{◌≡◌, ℕ, zero, suc, Bool, true, false, List, [], ◌∷◌, ◌++◌, length, drop, ◌-◌, Option, None, Some, option_map, slice_get, Result, Ok, Err}
 use Rattle.dd_book.specs.declared.call.Call.{Call}
 use Rattle.dd_book.specs.declared.call.Reply.{Reply}
-use Rattle.dd_book.specs.Limits.{LimitsOf}
 use Rattle.dd_desk.specs.declared.fault.DeskFault.{DeskFault}
 use Rattle.dd_desk.specs.Faults.{IsOfCall}
-use Rattle.dd_desk.specs.Looks.{SeesEnd}
 use Rattle.dd_desk.specs.Receipts.{ReceiptOf, PassOf}
 use Rattle.dd_lines.specs.CountedDevices.{one_more}
 use Rattle.dd_wire.specs.declared.want.Want.{Want}
@@ -137,11 +135,6 @@ refusals_by before (Some port) = port.refusals
 abbrev pub receipts_by : Option DeskPortOf → List ReceiptOf
 receipts_by None = []
 receipts_by (Some port) = port.pass.receipts
-
--- what it has seen, at a desk of these limits, of a job that it made: the job has ended
-abbrev pub HasEndedBy : LimitsOf → Option DeskPortOf → ℕ → Type 0
-HasEndedBy limits None job = ⊥
-HasEndedBy limits (Some port) job = SeesEnd limits port.pass.number job
 
 -- how many receipts its pass had when it was made
 abbrev pub before_by : Option DeskPortOf → ℕ

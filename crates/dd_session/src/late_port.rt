@@ -3,8 +3,8 @@ ghost use Rattle.std.specs.Prelude.{◌≡◌, Err, IfSome, None, Some, true, �
 ghost use Rattle.dd_desk.specs.Receipts.{has_shut};
 ghost use Rattle.dd_desk.specs.declared.fault.DeskFault.TheVariants.{JournalFull, OutOfMemory};
 ghost use Rattle.dd_lines.specs.CountedDevices.{one_more};
-ghost use Rattle.dd_session.specs.Leaving.{Leaves};
-ghost use Rattle.dd_session.specs.Ports.{AreClients, HasEndedBy, Tells, before_by, last_place, new_late_port, number_of, pass_by, port_of, receipts_by, refusals_by, told_by, told_in};
+ghost use Rattle.dd_session.specs.Leaving.{HasEndedBy, Leaves};
+ghost use Rattle.dd_session.specs.Ports.{AreClients, Tells, before_by, last_place, new_late_port, number_of, pass_by, port_of, receipts_by, refusals_by, told_by, told_in};
 ghost use Rattle.dd_wire.specs.declared.want.Want.TheVariants.{Fetch, Stop as StopWant};
 
 use crate::port::{BookPort, DeskPort, health_of, one_more};
@@ -99,6 +99,7 @@ impl<'a, J: Naming, R: Wait + Clock> LatePort<'a, J, R> {
         ensures pass { result ≡ pass_by self.entry.port }
         ensures told { IfSome result (λ pass. told_in pass.receipts ≡ told_by self.entry.port) }
         ensures clients { IfSome result (λ pass. AreClients pass.receipts) }
+        ensures begun { before_by self.entry.port ≡ 0 }
     {
         let LatePort {
             rt: _,
@@ -115,7 +116,8 @@ impl<'a, J: Naming, R: Wait + Clock> LatePort<'a, J, R> {
 
 impl<'a, J: Naming, R: Wait + Clock> BookPort for LatePort<'a, J, R> {
     ghost use Rattle.dd_session.specs.Healths.{IsHealth};
-    ghost use Rattle.dd_session.specs.Ports.{HasEndedBy, refusals_by, told_by};
+    ghost use Rattle.dd_session.specs.Leaving.{HasEndedBy};
+    ghost use Rattle.dd_session.specs.Ports.{refusals_by, told_by};
 
     ghost told = { λ p. told_by p.port };
 

@@ -7,8 +7,7 @@ ghost use Rattle.dd_desk.specs.declared.fault.DeskFault.TheVariants.{JournalFull
 ghost use Rattle.dd_lines.specs.CountedDevices.{one_more};
 ghost use Rattle.dd_session.specs.Healths.{IsHealth};
 ghost use Rattle.dd_session.specs.Ports.{Tells, call_by, last_place, new_port, port_of, refused, told_at};
-ghost use Rattle.dd_session.specs.Leaving.{Leaves};
-ghost use Rattle.dd_desk.specs.Looks.{SeesEnd};
+ghost use Rattle.dd_session.specs.Leaving.{Leaves, SawEnd};
 ghost use Rattle.dd_wire.specs.declared.want.Want.TheVariants.{Fetch as FetchWant, Stop as StopWant};
 
 use crate::leaving::give_up_jobs;
@@ -168,15 +167,15 @@ impl<'a, J: Naming, R: Wait + Clock> DeskPort<'a, J, R> {
 }
 
 impl<'a, J: Naming, R: Wait + Clock> BookPort for DeskPort<'a, J, R> {
-    ghost use Rattle.dd_desk.specs.Looks.{SeesEnd};
     ghost use Rattle.dd_session.specs.Healths.{IsHealth};
+    ghost use Rattle.dd_session.specs.Leaving.{SawEnd};
     ghost use Rattle.dd_session.specs.Ports.{told_at};
 
     ghost told = { λ p. told_at p };
 
     ghost refusals = { λ p. p.refusals };
 
-    ghost ended = { λ p job. SeesEnd J.limits p.pass.number job };
+    ghost ended = { λ p job. SawEnd J.limits p.before p.pass job };
 
     ghost shows = { λ p health. IsHealth J.limits p.workers health };
 
@@ -215,7 +214,7 @@ impl<'a, J: Naming, R: Wait + Clock> BookPort for DeskPort<'a, J, R> {
     }
 
     fn leave(&mut self)
-        ensures leaves { Leaves (SeesEnd J.limits self.new.pass.number)
+        ensures leaves { Leaves (SawEnd J.limits self.new.before self.new.pass)
             (port_of (told_at self.old) self.old.refusals)
             (port_of (told_at self.new) self.new.refusals) }
         ensures before { self.new.before ≡ self.old.before }

@@ -133,28 +133,57 @@ fn looks<J: Naming, R: Wait + Abort>(rt: &R, alloc: Global, row: Row) -> Result<
     let submits = format!(in alloc; "submits {CAUGHT}")?;
     let _ = ask(rt, alloc, &desk, &mut caller, submits.as_str())?;
     let _ = desk.try_claim(rt, &mut hand);
-    let (owner, worker) = (caller.number(), hand.number());
+    let words = looked(rt, &desk, &mut caller, &mut hand);
+    joined(alloc, &words, caller.receipts().len())
+}
+
+// What each of these is told, one after the other.
+fn looked<J: Naming, R: Wait>(
+    rt: &R,
+    desk: &Desk<J>,
+    caller: &mut Pass<J>,
+    hand: &mut Pass<J>,
+) -> [&'static str; 8] {
+    [
+        still_runs(rt, desk, hand, 1, 1),
+        still_runs(rt, desk, hand, 1, 2),
+        still_runs(rt, desk, hand, 2, 1),
+        still_runs(rt, desk, caller, 1, 1),
+        cancelled(rt, desk, hand, 1),
+        cancelled(rt, desk, caller, 1),
+        still_runs(rt, desk, hand, 1, 1),
+        cancelled(rt, desk, caller, 1),
+    ]
+}
+
+// These words, and the number.
+fn joined(alloc: Global, words: &[&'static str], receipts: usize) -> Result<String, AllocError> {
     let mut told = String::new(alloc);
-    for (number, job, claim) in [
-        (worker, 1, 1),
-        (worker, 1, 2),
-        (worker, 2, 1),
-        (owner, 1, 1),
-    ] {
-        told.push_str(yes_or_no(desk.still_runs(rt, number, job, claim)))?;
+    for word in words {
+        told.push_str(*word)?;
     }
-    told.push_str(cancelled(rt, &desk, &mut hand, 1))?;
-    told.push_str(cancelled(rt, &desk, &mut caller, 1))?;
-    told.push_str(yes_or_no(desk.still_runs(rt, worker, 1, 1)))?;
-    told.push_str(cancelled(rt, &desk, &mut caller, 1))?;
-    let receipts = caller.receipts().len();
     let count = format!(in alloc; "{receipts}")?;
     told.push_str(count.as_str())?;
     Ok(told)
 }
 
-fn yes_or_no(runs: bool) -> &'static str {
-    if runs { "yes " } else { "no " }
+// Whether a part of this pass runs, as far as the desk tells it by what the pass has seen. Who has seen nothing has none.
+fn still_runs<J: Naming, R: Wait>(
+    rt: &R,
+    desk: &Desk<J>,
+    pass: &mut Pass<J>,
+    job: u64,
+    claim: u64,
+) -> &'static str {
+    if pass.receipts().is_empty() {
+        return "no ";
+    }
+    let mut seen = pass.seen();
+    if desk.still_runs(rt, &mut seen, job, claim) {
+        "yes "
+    } else {
+        "no "
+    }
 }
 
 // What a cancel is told that is made if need be.

@@ -1,8 +1,8 @@
 use Rattle.std.proofs.Common.{◌≡◌, ℕ, [], Some, None, refl}
 use Rattle.std.specs.Prelude.{Option}
 use Rattle.dd_book.specs.Limits.{LimitsOf}
-use Rattle.dd_session.specs.Leaving.{Leaves}
-use Rattle.dd_session.specs.Ports.{DeskPortOf, HasEndedBy, port_of, refusals_by, told_by}
+use Rattle.dd_session.specs.Leaving.{HasEndedBy, Leaves}
+use Rattle.dd_session.specs.Ports.{DeskPortOf, port_of, refusals_by, told_by}
 use Rattle.dd_session.proofs.late_port.leave_at.Goals as goal
 
 -- who has no pass has no job to give up

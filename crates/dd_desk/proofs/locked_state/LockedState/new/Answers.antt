@@ -1,4 +1,5 @@
-use Rattle.std.proofs.Common.{◌≡◌, [], map, take, vec_len, Some, sym, ap, ◌∙◌, arith, rules}
+use Rattle.std.proofs.Common.{◌≡◌, [], length, map, take, vec_len, Some, sym, ap, ◌∙◌, arith, rules}
+use Rattle.dd_desk.specs.Entries.{event_in}
 use Rattle.dd_desk.specs.Events.{EventOf}
 use Rattle.dd_desk.specs.Receipts.{below}
 use Rattle.dd_desk.proofs.locked_state.LockedState.new.Goals as goal
@@ -15,7 +16,9 @@ invariant_of-result g c =
     record {
       within = omega (arith, ap (λ l. l.events) c.new.ensures.limits, c.requires.events);
       marked = ap (map (λ n. n.cell)) marks ∙ sym (ap (λ k. take k g.J.Naming.cells) none ∙ search rules);
-      knows = ap (map (λ n. n.known)) marks ∙ sym (ap (map {A = EventOf} Some) journal);
+      knows = ap (map (λ n. event_in n.known)) marks ∙ sym (ap (map {A = EventOf} Some) journal);
+      beginnings = λ place within. absurd (omega (arith, within, ap length journal));
+      remembered = c.empty.ensures ∙ sym journal;
       room = (omega (arith, c.requires.marks.1, none), omega (arith, ap (λ l. l.events) c.new.ensures.limits, c.requires.marks.2));
       counted = c.open-count.ensures.total ∙ sym none;
       placed = c.open-sum.ensures.total ∙ sym (ap below none);
