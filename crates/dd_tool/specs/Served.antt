@@ -1,11 +1,14 @@
 -- To be believed: what the line tool has served of the lines of a stream. The budget is that of each line.
-use Rattle.std.specs.Prelude.{◌≡◌, ℕ, List, [], ◌∷◌, ◌++◌, Bool, true, false, Option}
+use Rattle.std.specs.Prelude.{◌≡◌, ◌⊎◌, ℕ, List, [], ◌∷◌, ◌++◌, Bool, true, false, Option, None}
 use Rattle.std.specs.Io.KnownBytes.{Consumes, Appends, IsAtEnd}
 use Rattle.dd_lines.specs.CountedDevices.{bytes_of}
 use Rattle.dd_lines.specs.declared.counted_device.CountedDevice.{CountedDevice}
 use Rattle.dd_lines.specs.Lines.{line_feed, lines}
+use Rattle.dd_wire.specs.declared.fault.Fault.TheVariants.{OutOfMemory}
 use Rattle.dd_wire.specs.Explained.{IsExplained}
+use Rattle.dd_wire.specs.FaultWords.{fault_told}
 use Rattle.dd_wire.specs.LineReplies.{IsReply}
+use Rattle.dd_wire.specs.Replies.{fault_text}
 
 -- the reply to a line: as it always is, or with its id told again and its fault explained
 abbrev pub IsReplyAs : Bool → Option ℕ → List ℕ → List ℕ → Type 0
@@ -76,3 +79,22 @@ ServesAll remaining contents budget = TellsAll remaining contents (IsReply budge
 abbrev pub ServesBeginning : {R W : Type 0} → (R → Option (List ℕ)) → (W → Option (List ℕ)) → Option ℕ
     → CountedDevice R → CountedDevice R → CountedDevice W → CountedDevice W → Type 0
 ServesBeginning remaining contents budget = TellsBeginning remaining contents (IsReply budget)
+
+-- ---- two outputs for the same lines
+
+-- the reply that says that memory ran out
+abbrev pub memory_text : Bool → List ℕ
+memory_text false = fault_text OutOfMemory
+memory_text true = fault_told OutOfMemory None
+
+-- the bytes are replies of this kind to these lines, and one of them is this text
+abbrev pub AreToldWith : List ℕ → (List ℕ → List ℕ → Type 0) → List (List ℕ) → List ℕ → Type 0
+AreToldWith said Reply [] bytes = ⊥
+AreToldWith said Reply (line ∷ rest) bytes =
+    (text : List ℕ) × (more : List ℕ) × Reply line text × AreTold Reply rest more × (bytes ≡ text ++ line_feed ∷ more)
+    × ((text ≡ said) ⊎ AreToldWith said Reply rest more)
+
+-- the bytes are the same, or one of the replies of one of them says that memory ran out
+abbrev pub AreSameBut : Bool → List (List ℕ) → List ℕ → List ℕ → Type 0
+AreSameBut explain all a b =
+    (a ≡ b) ⊎ AreToldWith (memory_text explain) (IsReplyAs explain None) all a ⊎ AreToldWith (memory_text explain) (IsReplyAs explain None) all b

@@ -2,11 +2,13 @@
 #![tactic(auto)]
 
 mod answered;
+mod laws;
 mod line_queue;
 mod pool;
 mod solver;
 mod workers;
 
+pub use laws::one_output;
 pub use pool::{Pool, answer_ahead};
 pub use solver::{solve_lines, tell_lines};
 pub use workers::{solve_lines_ahead, solve_lines_on, tell_lines_ahead, tell_lines_on};

@@ -9,6 +9,7 @@ pub mod Meanings
 pub mod NoStops
 pub mod Objects
 pub mod OneMeaning
+pub mod OneReply
 pub mod Pairs
 pub mod ParCodes
 pub mod ParMeanings

@@ -43,7 +43,7 @@ some-meaning line =
     by-option (wait_at members) _ _ (Err WrongField, refl) (λ wait _. some-members members)))
 
 -- ---- and one
-one-members : (members : Members) → AtMostOne (MeansMembers members)
+pub one-members : (members : Members) → AtMostOne (MeansMembers members)
 one-members members =
     one-by-option (par_fields members) _ _ (one-way Cards (MeansAsked members) (one-taken members)) (λ fields. one-given fields.given fields)
 

@@ -48,3 +48,7 @@ IsReply budget line text =
     ((meaning : Result LineAsked Fault) × Means line meaning × IsReplyTo meaning text)
     ⊎ ((0 < length line) × (length line ≤ longest_line) × (text ≡ fault_text OutOfMemory))
     ⊎ ((asked : LineAsked) × Means line (Ok asked) × IsSearched asked × IsSome budget × (text ≡ spent_text))
+
+-- two texts are one, or one of them is this
+abbrev pub AreOneBut : List ℕ → List ℕ → List ℕ → Type 0
+AreOneBut text a b = (a ≡ b) ⊎ (a ≡ text) ⊎ (b ≡ text)
