@@ -12,6 +12,7 @@ pub mod AgainTagLines
 pub mod AgainTags
 pub mod Calm
 pub mod Going
+pub mod Heard
 pub mod Joined
 pub mod Noted
 pub mod Passed

@@ -9,8 +9,9 @@ use Rattle.dd_file.specs.Games.{ends, has_name, told}
 use Rattle.dd_file.specs.KnownTags.{known_number}
 use Rattle.dd_file.specs.Marked.{begins_within}
 use Rattle.dd_file.specs.Marks.{Begins, tag}
-use Rattle.dd_file.specs.Notes.{AsksAtEnd, Notes, NotesFirst, TextsOf, board_here, board_of, board_told, number_here, texts_here, texts_told, unknown_of}
+use Rattle.dd_file.specs.Notes.{AsksAtEnd, Notes, NotesFirst, board_of, unknown_of}
 use Rattle.dd_file.specs.Quiet.{BeginsShort, IsPlace, required_number}
+use Rattle.dd_file.specs.Told.{TextsOf, board_here, board_told, number_here, texts_here, texts_told}
 use Rattle.dd_file.specs.Values.{unescaped}
 use Rattle.dd_file.proofs.Calm.{calm-unescaped}
 use Rattle.dd_file.proofs.ShortTags.{short-begins, short-ends}
@@ -59,11 +60,13 @@ module _ (old : Filler) (is_first here : Bool) (text name quoted rest : List ℕ
   begins : (more : List ℕ) → begins_within old.left old.mode (text ++ more) ≡ tag is_first count name quoted
   begins = short-begins old.left old.mode is_first text name quoted rest count outside place short counted few
 
+  pub Notes-short : (new : Filler) → Noted old new here number quoted → Notes old new (tag is_first count name quoted)
+  Notes-short new noted =
+      Notes-tag old new is_first here name quoted count number known (calm-unescaped quoted short.calm) (tag-ends old (tag is_first count name quoted) is_first here name quoted count number refl known ends_here)
+      noted
+
   pub NotesFirst-tag : (new : Filler) (taken : ℕ) → Noted old new here number quoted → NotesFirst old new text taken
-  NotesFirst-tag new taken noted some more =
-      subst (Notes old new) (sym (begins more))
-      (Notes-tag old new is_first here name quoted count number known (calm-unescaped quoted short.calm) (tag-ends old (tag is_first count name quoted) is_first here name quoted count number refl known ends_here)
-      noted)
+  NotesFirst-tag new taken noted some more = subst (Notes old new) (sym (begins more)) (Notes-short new noted)
 
   pub AsksAtEnd-tag : {A : Type 0} (analyst_old analyst_new : A) → (here ≡ false → analyst_new ≡ analyst_old) → AsksAtEnd old text analyst_old analyst_new
   AsksAtEnd-tag analyst_old analyst_new silent more none =

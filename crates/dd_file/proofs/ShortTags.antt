@@ -1,5 +1,5 @@
 -- Tags that stand on one line are read at once, and what stands outside behind them.
-use Rattle.std.proofs.Common.{◌≡◌, ◌∙◌, ℕ, suc, ◌==◌, ◌+◌, ◌-◌, ◌≤◌, ◌<◌, Bool, true, false, List, [], ◌∷◌, ◌++◌, length, take, drop, refl, sym, ap, subst, arith, append_assoc, append-nil, length-append, take_all, take-append-drop, true≢false, eqb-true, inl, inr, Option, Result, Ok, Err}
+use Rattle.std.proofs.Common.{◌≡◌, ◌∙◌, ℕ, suc, ◌==◌, ◌+◌, ◌-◌, ◌^◌, ◌≤◌, ◌<◌, min, Bool, true, false, List, [], ◌∷◌, ◌++◌, length, take, drop, refl, sym, ap, subst, arith, append_assoc, append-nil, length-append, take_all, take-append-drop, true≢false, eqb-true, inl, inr, Option, Result, Ok, Err}
 use Rattle.std.specs.Prelude.{◌&&◌, if◌then◌else◌}
 use Rattle.std.proofs.lemmas.Bool.{and_parts, not-true}
 use Rattle.std.proofs.lemmas.List.{length-take-le}
@@ -13,24 +13,28 @@ use Rattle.dd_file.specs.declared.mode.Mode.TheVariants.{Head, Mark1, Mark2, Sta
 use Rattle.dd_file.specs.declared.tag_reader.Miss.{Miss}
 use Rattle.dd_file.specs.declared.tag_reader.Miss.TheVariants.{NoTag}
 use Rattle.dd_file.specs.declared.wanted.Wanted.{Wanted}
-use Rattle.dd_file.specs.Filled.{Found, AreAnswers, answers_after, ask_at, asked_here, asks_from, filled_from, state_here, text_here}
+use Rattle.dd_file.specs.Filled.{Found, AreAnswers, answers_after, ask_at, asked_here, asks_from, filled_from, first_of, state_here, text_here}
 use Rattle.dd_file.specs.Games.{ends, has_name, is_required, told, with_byte, with_mark, with_tag}
 use Rattle.dd_file.specs.KnownTags.{known_number}
 use Rattle.dd_file.specs.Marked.{begins, begins_within, marked}
-use Rattle.dd_file.specs.Marks.{tag, line_mark, mark_read}
+use Rattle.dd_file.specs.Marks.{Begins, tag, line_mark, mark_read}
 use Rattle.dd_file.specs.Modes.{next_mode, outside_mode}
+use Rattle.dd_file.specs.Notes.{Notes, notes_of}
+use Rattle.dd_file.specs.Notices.{Notice, Hears, HearsSome}
 use Rattle.dd_file.specs.Passing.{EndsBefore, EndsHere}
-use Rattle.dd_file.specs.Quiet.{BeginsShort, IsPlace, PassesSome, PassesTag, Stays, Takes, after_calm, are_calm, are_names, is_calm, required_number, short_tag, with_line_bytes}
+use Rattle.dd_file.specs.Quiet.{BeginsShort, IsPlace, PassesSome, PassesTag, Stays, Takes, after_calm, are_calm, are_names, is_calm, later, required_number, short_tag, with_line_bytes}
 use Rattle.dd_file.specs.Tags.{◌>>=◌, after_gap, after_name, after_string, byte_at, front_of, is_gap, is_name, tag_at}
-use Rattle.dd_file.specs.Windows.{Passed, PassesFront, Point, marked_at, point_of}
+use Rattle.dd_file.specs.Told.{GameNotes, next_notes, told_from, told_here}
+use Rattle.dd_file.specs.Windows.{Passed, PassesFront, Place, Point, marked_at, place_of, point_of}
 use Rattle.dd_file.proofs.AgainMarks.{blank-stop, is_all, line-begins, line-read, plain-begins, take-over}
 use Rattle.dd_file.proofs.AgainMiss.{gap-step, gap-stop, name-step, name-stop, read-first, read_end, read_name, read_string, read_value, tag-steps}
 use Rattle.dd_file.proofs.AgainOver.{is_quiet, modes, modes-append, quiet-append, quiet-first, quiet-rest}
 use Rattle.dd_file.proofs.AgainTags.{as_tag, byte-found, front-is}
 use Rattle.dd_file.proofs.Calm.{calm-front, calm-unescaped, front-count, front-taken, quoted-stays, quoted-step, take-front}
-use Rattle.dd_file.proofs.Going.{Passed-more, Passed-none, Passed-then, PassesFront-then, asks-byte, filled-byte, takes}
+use Rattle.dd_file.proofs.Going.{Passed-more, Passed-none, Passed-then, PassesFront-then, asks-byte, filled-byte, takes, told-byte}
+use Rattle.dd_file.proofs.Heard.{HearsSome-then}
 use Rattle.dd_file.proofs.Passed.{EndsHere-before}
-use Rattle.dd_file.proofs.Staying.{Stays-none, Stays-then, behind, byte-stays, same-point, take-of-take}
+use Rattle.dd_file.proofs.Staying.{Stays-none, Stays-then, behind, byte-stays, later-bytes, later-then, same-notes, same-point, take-of-take}
 
 -- ---- reading
 pub name-run : (name : List ℕ) (t : List ℕ) → are_names name ≡ true → after_name (name ++ 32 ∷ t) ≡ 32 ∷ t
@@ -229,18 +233,20 @@ tag-stays (b ∷ p) state left mode size quiet =
     subst (λ (n : ℕ). Stays (record { state = state; left = n; mode = mode }) goal (b ∷ p)) (sym more) whole
 
 -- ---- a tag is passed on
-tag-passed : (gives : FourHands → Option (List (List ℕ)) → Type 0) (wanted : Wanted) (state : FillState) (mode : Mode) (is_first : Bool) (p name quoted : List ℕ) (answers : List (Option Found))
-    → IsPlace mode is_first → ((r : List ℕ) → tag_at (91 ∷ (p ++ r)) ≡ as_tag name quoted r) → length p ≤ 65535 → is_quiet p ≡ true → modes Plain p ≡ Plain
+tag-passed : {S : Type 0} (gives : FourHands → Option (List (List ℕ)) → Type 0) (way : S → Notice → S → Type 0) (wanted : Wanted) (state : FillState) (notes : GameNotes) (s t : S) (mode : Mode) (is_first : Bool) (p name quoted : List ℕ)
+    (answers : List (Option Found)) → IsPlace mode is_first → ((r : List ℕ) → tag_at (91 ∷ (p ++ r)) ≡ as_tag name quoted r) → length p ≤ 65535 → is_quiet p ≡ true → modes Plain p ≡ Plain
     → (let mark = tag is_first (suc (length p)) name quoted in
-    AreAnswers gives (asked_here (ends state mark) (ask_at is_first wanted state)) answers
-    → Passed gives false wanted (record { state = state; left = 0; mode = mode })
-    (record { state = with_line_bytes (91 ∷ p) (with_mark mark (state_here (ends state mark) state)); left = 0; mode = Plain }) (91 ∷ p) []
-    (text_here (ends state mark) wanted state answers ++ 91 ∷ p))
-tag-passed gives wanted state mode is_first p name quoted answers place reads few quiet plain right =
+    AreAnswers gives (asked_here (ends state mark) (ask_at is_first wanted state)) answers → Hears way s (told_here (ends state mark) is_first wanted state notes (first_of answers)) t
+    → Passed gives way false wanted (record { point = record { state = state; left = 0; mode = mode }; notes = notes; heard = s })
+    (record { point = record { state = with_line_bytes (91 ∷ p) (with_mark mark (state_here (ends state mark) state)); left = 0; mode = Plain }; notes = later p (next_notes state mark notes); heard = t })
+    (91 ∷ p) [] (text_here (ends state mark) wanted state answers ++ 91 ∷ p))
+tag-passed gives way wanted state notes from to mode is_first p name quoted answers place reads few quiet plain right hears =
     let mark = tag is_first (suc (length p)) name quoted in
     let here = ends state mark in
     let text = text_here here wanted state answers in
+    let says = told_here here is_first wanted state notes (first_of answers) in
     let s : FillState = with_byte 91 (with_mark mark (state_here here state)) in
+    let n : GameNotes = next_notes state mark notes in
     let left : ℕ = suc (length p) - 1 in
     let q : Point = record { state = with_line_bytes p s; left = 0; mode = Plain } in
     let inner : Stays (record { state = s; left = left; mode = Plain }) q p =
@@ -248,7 +254,9 @@ tag-passed gives wanted state mode is_first p name quoted answers place reads fe
     record {
       answers = answers;
       asked = asked_here here (ask_at is_first wanted state);
+      notices = says;
       right = right;
+      hears = hears;
       fills = λ more rest follows.
           (let some = takes gives here (ask_at is_first wanted state) wanted state answers more right in
           filled-byte wanted (answers ++ more) state 0 mode 91 (p ++ rest) mark (place-begins mode is_first p name quoted place reads few rest)
@@ -261,6 +269,13 @@ tag-passed gives wanted state mode is_first p name quoted answers place reads fe
           asks-byte wanted state 0 mode 91 (p ++ rest) mark (place-begins mode is_first p name quoted place reads few rest)
           ∙ ap (λ (m : Mode). asked_here here (ask_at is_first wanted state) ++ asks_from wanted s (marked left m (p ++ rest))) (place-next mode is_first place)
           ∙ ap (λ l. asked_here here (ask_at is_first wanted state) ++ l) (inner.asks wanted rest);
+      tells = λ more rest follows.
+          (let some = takes gives here (ask_at is_first wanted state) wanted state answers more right in
+          told-byte wanted (answers ++ more) state notes 0 mode 91 (p ++ rest) mark (place-begins mode is_first p name quoted place reads few rest)
+          ∙ ap (λ l. l ++ told_from wanted (answers_after here (answers ++ more)) s n (marked left (next_mode mode 91) (p ++ rest))) (some.told is_first notes)
+          ∙ ap (λ a. says ++ told_from wanted a s n (marked left (next_mode mode 91) (p ++ rest))) some.after
+          ∙ ap (λ (m : Mode). says ++ told_from wanted more s n (marked left m (p ++ rest))) (place-next mode is_first place)
+          ∙ ap (λ l. says ++ l) (inner.tells wanted more n rest));
     }
 
 -- what begins at such a tag, whatever follows
@@ -276,39 +291,47 @@ short-begins left mode is_first text name quoted rest count outside place short 
     ∙ place-begins mode is_first p name quoted place (λ r. inside-read name quoted r short.some short.names short.calm) fits (rest ++ more)
     ∙ ap (λ (n : ℕ). tag is_first n name quoted) (sym (size ∙ long))
 
-pub PassesTag-none : (gives : FourHands → Option (List (List ℕ)) → Type 0) (old : Filler) (text out : List ℕ) → PassesTag gives old old text 0 out out
-PassesTag-none gives old text out = record { within = omega arith; wanted = refl; added = []; appended = sym (append-nil out); passed = Passed-none gives old.wanted false (point_of old) [] }
+pub PassesTag-none : {S : Type 0} (gives : FourHands → Option (List (List ℕ)) → Type 0) (way : S → Notice → S → Type 0) (old : Filler) (s : S) (text out : List ℕ) → PassesTag gives way old old (notes_of old) s s text 0 out out
+PassesTag-none gives way old s text out =
+    record { within = omega arith; wanted = refl; added = []; appended = sym (append-nil out); passed = Passed-none gives way old.wanted false (place_of old s) [] }
 
-PassesTag-short : (gives : FourHands → Option (List (List ℕ)) → Type 0) (old ended new : Filler) (is_first : Bool) (text name quoted rest : List ℕ) (count : ℕ) (o0 o1 o2 : List ℕ) → old.left ≡ 0
-    → IsPlace old.mode is_first → BeginsShort text name quoted rest → count ≡ length text - length rest → count ≤ NEAR → EndsBefore gives old ended (tag is_first count name quoted) o0 o1
+PassesTag-short : {S : Type 0} (gives : FourHands → Option (List (List ℕ)) → Type 0) (way : S → Notice → S → Type 0) (old ended new : Filler) (s t : S) (is_first : Bool) (text name quoted rest : List ℕ) (count : ℕ) (o0 o1 o2 : List ℕ) → old.left ≡ 0
+    → IsPlace old.mode is_first → BeginsShort text name quoted rest → count ≡ length text - length rest → count ≤ NEAR
+    → EndsBefore gives way old ended s t (tag is_first count name quoted) o0 o1
     → new.state ≡ with_line_bytes (take count text) (with_mark (tag is_first count name quoted) ended.state) → new.mode ≡ Plain → new.left ≡ ended.left → new.wanted ≡ ended.wanted
-    → o2 ≡ o1 ++ take count text → PassesTag gives old new text count o0 o2
-PassesTag-short gives old ended new is_first text name quoted rest count o0 o1 o2 outside place short counted few ends_before states modes_new lefts wanted appended =
+    → o2 ≡ o1 ++ take count text
+    → PassesTag gives way old new (later (inside name quoted) (next_notes old.state (tag is_first count name quoted) (notes_of old))) s t text count o0 o2
+PassesTag-short {S} gives way old ended new s t is_first text name quoted rest count o0 o1 o2 outside place short counted few ends_before states modes_new lefts wanted appended =
     let p : List ℕ = inside name quoted in
     let mark = tag is_first (suc (length p)) name quoted in
     let here = ends old.state mark in
+    let n : GameNotes = later p (next_notes old.state mark (notes_of old)) in
     let added : List ℕ = text_here here old.wanted old.state ends_before.answers ++ 91 ∷ p in
     let size : count ≡ length (91 ∷ p) = counted ∙ front-count text (91 ∷ p) rest short.spelled in
     let long : length (91 ∷ p) ≡ suc (length p) = omega arith in
     let fits : length p ≤ 65535 = omega (arith, size, few, long) in
     let bytes : take count text ≡ 91 ∷ p = ap (λ (n : ℕ). take n text) counted ∙ front-taken text (91 ∷ p) rest short.spelled in
     let q : Point = record { state = with_line_bytes (91 ∷ p) (with_mark mark (state_here here old.state)); left = 0; mode = Plain } in
-    let passed : Passed gives false old.wanted (record { state = old.state; left = 0; mode = old.mode }) q (91 ∷ p) [] added =
-    tag-passed gives old.wanted old.state old.mode is_first p name quoted ends_before.answers place (λ r. inside-read name quoted r short.some short.names short.calm) fits
-    (inside-quiet name quoted short.names short.calm) (inside-modes name quoted short.names short.calm) ends_before.right in
-    let begun : Passed gives false old.wanted (point_of old) q (91 ∷ p) [] added =
-    subst (λ (n : ℕ). Passed gives false old.wanted (record { state = old.state; left = n; mode = old.mode }) q (91 ∷ p) [] added) (sym outside) passed in
+    let there : Place S = record { point = q; notes = n; heard = t } in
+    let passed : Passed gives way false old.wanted (record { point = record { state = old.state; left = 0; mode = old.mode }; notes = notes_of old; heard = s }) there (91 ∷ p) [] added =
+    tag-passed gives way old.wanted old.state (notes_of old) s t old.mode is_first p name quoted ends_before.answers place (λ r. inside-read name quoted r short.some short.names short.calm) fits
+    (inside-quiet name quoted short.names short.calm) (inside-modes name quoted short.names short.calm) ends_before.right ends_before.hears in
+    let begun : Passed gives way false old.wanted (place_of old s) there (91 ∷ p) [] added =
+    subst (λ (k : ℕ). Passed gives way false old.wanted (record { point = record { state = old.state; left = k; mode = old.mode }; notes = notes_of old; heard = s }) there (91 ∷ p) [] added) (sym outside) passed in
     let arrived : point_of new ≡ q =
     same-point q new
     (states ∙ ap (λ l. with_line_bytes l (with_mark mark ended.state)) bytes ∙ ap (λ (s : FillState). with_line_bytes (91 ∷ p) (with_mark mark s)) ends_before.state)
     (lefts ∙ ends_before.place.left ∙ outside) modes_new in
+    let noted : later p (next_notes old.state (tag is_first count name quoted) (notes_of old)) ≡ n =
+    ap (λ (k : ℕ). later p (next_notes old.state (tag is_first k name quoted) (notes_of old))) (size ∙ long) in
     record {
       within = omega (arith, counted);
       wanted = wanted ∙ ends_before.place.wanted;
       added = added;
       appended = appended ∙ ap (λ l. o1 ++ l) bytes ∙ ap (λ l. l ++ 91 ∷ p) ends_before.text ∙ append_assoc o0 (text_here here old.wanted old.state ends_before.answers) (91 ∷ p);
-      passed = subst (λ (l : List ℕ). Passed gives false old.wanted (point_of old) (point_of new) l [] added) (sym bytes)
-          (subst (λ (r : Point). Passed gives false old.wanted (point_of old) r (91 ∷ p) [] added) (sym arrived) begun);
+      passed = subst (λ (k : GameNotes). Passed gives way false old.wanted (place_of old s) (record { point = point_of new; notes = k; heard = t }) (take count text) [] added) (sym noted)
+          (subst (λ (l : List ℕ). Passed gives way false old.wanted (place_of old s) (record { point = point_of new; notes = n; heard = t }) l [] added) (sym bytes)
+          (subst (λ (r : Point). Passed gives way false old.wanted (place_of old s) (record { point = r; notes = n; heard = t }) (91 ∷ p) [] added) (sym arrived) begun));
     }
 
 -- ---- by its name's number, and with its string as it stands
@@ -321,87 +344,134 @@ unfolding with_tag
 short-told number name quoted state is calm =
     ap (λ (n : Option ℕ). told n quoted state) is ∙ ap (λ (l : List ℕ). told (known_number name) l state) (calm-unescaped quoted calm)
 
-pub PassesTag-told : (gives : FourHands → Option (List (List ℕ)) → Type 0) (old ended new : Filler) (is_first : Bool) (text name quoted rest : List ℕ) (count : ℕ) (number : Option ℕ) (here : Bool)
+pub PassesTag-told : {S : Type 0} (gives : FourHands → Option (List (List ℕ)) → Type 0) (way : S → Notice → S → Type 0) (old ended new : Filler) (s t : S) (is_first : Bool) (text name quoted rest : List ℕ) (count : ℕ) (number : Option ℕ) (here : Bool)
     (o0 o1 o2 : List ℕ) → old.left ≡ 0 → IsPlace old.mode is_first → BeginsShort text name quoted rest → count ≡ length text - length rest → count ≤ NEAR → number ≡ known_number name
-    → here ≡ (old.state.begun && has_name (required_number number) old.state.names) → EndsHere gives old ended here is_first o0 o1
+    → here ≡ (old.state.begun && has_name (required_number number) old.state.names) → EndsHere gives way old ended s t here is_first o0 o1
     → new.state ≡ with_line_bytes (take count text) (told number quoted ended.state) → new.mode ≡ Plain → new.left ≡ ended.left → new.wanted ≡ ended.wanted → o2 ≡ o1 ++ take count text
-    → PassesTag gives old new text count o0 o2
-PassesTag-told gives old ended new is_first text name quoted rest count number here o0 o1 o2 outside place short counted few is ends_here ended_here states modes_new lefts wanted appended =
+    → PassesTag gives way old new (later (inside name quoted) (next_notes old.state (tag is_first count name quoted) (notes_of old))) s t text count o0 o2
+PassesTag-told gives way old ended new s t is_first text name quoted rest count number here o0 o1 o2 outside place short counted few is ends_here ended_here states modes_new lefts wanted appended =
     let mark = tag is_first count name quoted in
-    PassesTag-short gives old ended new is_first text name quoted rest count o0 o1 o2 outside place short counted few
-    (EndsHere-before gives old ended mark here is_first o0 o1 (ends_here ∙ short-ends number name old.state is) refl ended_here)
+    PassesTag-short gives way old ended new s t is_first text name quoted rest count o0 o1 o2 outside place short counted few
+    (EndsHere-before gives way old ended s t mark here is_first o0 o1 (ends_here ∙ short-ends number name old.state is) refl ended_here)
     (states ∙ ap (λ (s : FillState). with_line_bytes (take count text) s) (short-told number name quoted ended.state is short.calm)) modes_new lefts wanted appended
 
 -- ---- and what comes out alone behind it
-Passed-stays : (gives : FourHands → Option (List (List ℕ)) → Type 0) (wanted : Wanted) (p q : Point) (bytes : List ℕ) → Stays p q bytes → Passed gives false wanted p q bytes [] bytes
-Passed-stays gives wanted p q bytes stays =
-    record { answers = []; asked = []; right = tt; fills = λ more rest follows. stays.fills wanted more rest; asks = λ rest follows. stays.asks wanted rest }
+Passed-stays : {S : Type 0} (gives : FourHands → Option (List (List ℕ)) → Type 0) (way : S → Notice → S → Type 0) (wanted : Wanted) (p q : Point) (notes : GameNotes) (s : S) (bytes : List ℕ) → Stays p q bytes
+    → Passed gives way false wanted (record { point = p; notes = notes; heard = s }) (record { point = q; notes = later bytes notes; heard = s }) bytes [] bytes
+Passed-stays gives way wanted p q notes s bytes stays =
+    record {
+      answers = [];
+      asked = [];
+      notices = [];
+      right = tt;
+      hears = refl;
+      fills = λ more rest follows. stays.fills wanted more rest;
+      asks = λ rest follows. stays.asks wanted rest;
+      tells = λ more rest follows. stays.tells wanted more notes rest;
+    }
 
-pub PassesTag-more : (gives : FourHands → Option (List (List ℕ)) → Type 0) (old mid taken new : Filler) (text name quoted rest behind : List ℕ) (count more : ℕ) (o0 o1 o2 : List ℕ)
-    → PassesTag gives old mid text count o0 (o1 ++ take count text) → BeginsShort text name quoted rest → count ≡ length text - length rest → Takes mid taken rest behind
-    → more ≡ length text - length behind → new.wanted ≡ taken.wanted → point_of new ≡ point_of taken → o2 ≡ o1 ++ take more text → PassesTag gives old new text more o0 o2
-PassesTag-more gives old mid taken new text name quoted rest behind count more o0 o1 o2 passes short counted takes all wanted arrived appended =
-    let p : Point = point_of old in
-    let m : Point = point_of mid in
-    let q : Point = point_of new in
+PassesTag-behind : {S : Type 0} (gives : FourHands → Option (List (List ℕ)) → Type 0) (way : S → Notice → S → Type 0) (old mid taken new : Filler) (notes : GameNotes) (s t : S) (text name quoted rest behind : List ℕ) (count more : ℕ) (o0 o1 o2 : List ℕ)
+    → PassesTag gives way old mid notes s t text count o0 (o1 ++ take count text) → BeginsShort text name quoted rest → count ≡ length text - length rest → (takes : Takes mid taken rest behind)
+    → more ≡ length text - length behind → new.wanted ≡ taken.wanted → point_of new ≡ point_of taken → o2 ≡ o1 ++ take more text
+    → PassesTag gives way old new (later takes.bytes notes) s t text more o0 o2
+PassesTag-behind {S} gives way old mid taken new notes s t text name quoted rest behind count more o0 o1 o2 passes short counted takes all wanted arrived appended =
+    let p : Place S = place_of old s in
+    let m : Place S = record { point = point_of mid; notes = notes; heard = t } in
+    let q : Place S = record { point = point_of new; notes = later takes.bytes notes; heard = t } in
     let whole : List ℕ = short_tag name quoted in
     let first : take count text ≡ whole = ap (λ (n : ℕ). take n text) counted ∙ front-taken text whole rest short.spelled in
     let split : text ≡ (whole ++ takes.bytes) ++ behind = short.spelled ∙ ap (λ l. whole ++ l) takes.split ∙ sym (append_assoc whole takes.bytes behind) in
     let bytes : take more text ≡ whole ++ takes.bytes = ap (λ (n : ℕ). take n text) all ∙ front-taken text (whole ++ takes.bytes) behind split in
-    let stays : Stays m q takes.bytes = subst (λ (r : Point). Stays m r takes.bytes) (sym arrived) takes.stays in
-    let begun : Passed gives false old.wanted p m whole [] passes.added = subst (λ (l : List ℕ). Passed gives false old.wanted p m l [] passes.added) first passes.passed in
-    let passed : Passed gives false old.wanted p q (whole ++ takes.bytes) [] (passes.added ++ takes.bytes) =
-    Passed-then gives old.wanted false p m q (whole ++ takes.bytes) takes.bytes [] passes.added takes.bytes
-    (Passed-more gives old.wanted p m whole [] takes.bytes passes.added begun) (Passed-stays gives old.wanted m q takes.bytes stays) in
+    let stays : Stays (point_of mid) (point_of new) takes.bytes = subst (λ (r : Point). Stays (point_of mid) r takes.bytes) (sym arrived) takes.stays in
+    let begun : Passed gives way false old.wanted p m whole [] passes.added = subst (λ (l : List ℕ). Passed gives way false old.wanted p m l [] passes.added) first passes.passed in
+    let passed : Passed gives way false old.wanted p q (whole ++ takes.bytes) [] (passes.added ++ takes.bytes) =
+    Passed-then gives way old.wanted false p m q (whole ++ takes.bytes) takes.bytes [] passes.added takes.bytes
+    (Passed-more gives way old.wanted p m whole [] takes.bytes passes.added begun) (Passed-stays gives way old.wanted (point_of mid) (point_of new) notes t takes.bytes stays) in
     record {
       within = omega (arith, all);
       wanted = wanted ∙ takes.wanted ∙ passes.wanted;
       added = passes.added ++ takes.bytes;
       appended = appended ∙ ap (λ l. o1 ++ l) (bytes ∙ ap (λ l. l ++ takes.bytes) (sym first)) ∙ sym (append_assoc o1 (take count text) takes.bytes) ∙ ap (λ l. l ++ takes.bytes) passes.appended
           ∙ append_assoc o0 passes.added takes.bytes;
-      passed = subst (λ (l : List ℕ). Passed gives false old.wanted p q l [] (passes.added ++ takes.bytes)) (sym bytes) passed;
+      passed = subst (λ (l : List ℕ). Passed gives way false old.wanted p q l [] (passes.added ++ takes.bytes)) (sym bytes) passed;
     }
 
--- ---- where nothing has to follow, something may
-Passed-any : (gives : FourHands → Option (List (List ℕ)) → Type 0) (is_all : Bool) (wanted : Wanted) (p q : Point) (before after text : List ℕ) → Passed gives false wanted p q before after text
-    → Passed gives is_all wanted p q before after text
-Passed-any gives is_all wanted p q before after text passed =
-    record { answers = passed.answers; asked = passed.asked; right = passed.right; fills = λ more rest follows. passed.fills more rest tt; asks = λ rest follows. passed.asks rest tt }
+-- what is noted behind the tag and these bytes
+noted-behind : (old new : Filler) (mark : Begins) (inner bytes : List ℕ) (count : ℕ) → Notes old new mark → count ≡ length (91 ∷ (inner ++ bytes)) → new.passed ≡ min (old.passed + count) (2 ^ 64 - 1)
+    → notes_of new ≡ later bytes (later inner (next_notes old.state mark (notes_of old)))
+noted-behind old new mark inner bytes count notes size passed =
+    let next : GameNotes = next_notes old.state mark (notes_of old) in
+    let long : 1 + length (inner ++ bytes) ≡ length (91 ∷ (inner ++ bytes)) = omega arith in
+    same-notes new _ notes.number notes.board notes.texts (passed ∙ ap (λ (n : ℕ). min (old.passed + n) (2 ^ 64 - 1)) (size ∙ sym long))
+    ∙ sym (later-bytes (inner ++ bytes) next.number next.board next.texts old.passed) ∙ later-then inner bytes next
 
-PassesFront-tag : (gives : FourHands → Option (List (List ℕ)) → Type 0) (is_all : Bool) (old new : Filler) (rest : List ℕ) (most count : ℕ) (o0 o1 : List ℕ) → count ≤ most
-    → PassesTag gives old new (take most rest) count o0 o1 → PassesFront gives is_all old new rest (drop count rest) o0 o1
-PassesFront-tag gives is_all old new rest most count o0 o1 few passes =
+pub PassesTag-more : {S : Type 0} (gives : FourHands → Option (List (List ℕ)) → Type 0) (way : S → Notice → S → Type 0) (old mid taken new : Filler) (s t : S) (is_first : Bool) (text name quoted rest behind : List ℕ) (count more : ℕ) (o0 o1 o2 : List ℕ)
+    → PassesTag gives way old mid (later (inside name quoted) (next_notes old.state (tag is_first count name quoted) (notes_of old))) s t text count o0 (o1 ++ take count text)
+    → BeginsShort text name quoted rest → count ≡ length text - length rest → Takes mid taken rest behind
+    → more ≡ length text - length behind → new.wanted ≡ taken.wanted → point_of new ≡ point_of taken → o2 ≡ o1 ++ take more text
+    → Notes old new (tag is_first count name quoted) → new.passed ≡ min (old.passed + more) (2 ^ 64 - 1) → PassesTag gives way old new (notes_of new) s t text more o0 o2
+PassesTag-more gives way old mid taken new s t is_first text name quoted rest behind count more o0 o1 o2 passes short counted takes all wanted arrived appended notes passed =
+    let whole : List ℕ = short_tag name quoted in
+    let split : text ≡ (whole ++ takes.bytes) ++ behind = short.spelled ∙ ap (λ l. whole ++ l) takes.split ∙ sym (append_assoc whole takes.bytes behind) in
+    let size : more ≡ length (whole ++ takes.bytes) = all ∙ front-count text (whole ++ takes.bytes) behind split in
+    subst (λ (n : GameNotes). PassesTag gives way old new n s t text more o0 o2) (sym (noted-behind old new (tag is_first count name quoted) (inside name quoted) takes.bytes more notes size passed))
+    (PassesTag-behind gives way old mid taken new _ s t text name quoted rest behind count more o0 o1 o2 passes short counted takes all wanted arrived appended)
+
+-- ---- where nothing has to follow, something may
+Passed-any : {S : Type 0} (gives : FourHands → Option (List (List ℕ)) → Type 0) (way : S → Notice → S → Type 0) (is_all : Bool) (wanted : Wanted) (p q : Place S) (before after text : List ℕ) → Passed gives way false wanted p q before after text
+    → Passed gives way is_all wanted p q before after text
+Passed-any gives way is_all wanted p q before after text passed =
+    record {
+      answers = passed.answers;
+      asked = passed.asked;
+      notices = passed.notices;
+      right = passed.right;
+      hears = passed.hears;
+      fills = λ more rest follows. passed.fills more rest tt;
+      asks = λ rest follows. passed.asks rest tt;
+      tells = λ more rest follows. passed.tells more rest tt;
+    }
+
+PassesFront-tag : {S : Type 0} (gives : FourHands → Option (List (List ℕ)) → Type 0) (way : S → Notice → S → Type 0) (is_all : Bool) (old new : Filler) (s t : S) (rest : List ℕ) (most count : ℕ) (o0 o1 : List ℕ) → count ≤ most
+    → PassesTag gives way old new (notes_of new) s t (take most rest) count o0 o1 → PassesFront gives way is_all old new s t rest (drop count rest) o0 o1
+PassesFront-tag gives way is_all old new s t rest most count o0 o1 few passes =
     let bytes : List ℕ = take count (take most rest) in
     let whole : bytes ++ drop count rest ≡ rest = ap (λ l. l ++ drop count rest) (take-of-take count most rest few) ∙ take-append-drop count rest in
     record {
       wanted = passes.wanted;
       text = passes.added;
       appended = passes.appended;
-      passed = Passed-any gives is_all old.wanted (point_of old) (point_of new) rest (drop count rest) passes.added
-          (subst (λ (l : List ℕ). Passed gives false old.wanted (point_of old) (point_of new) l (drop count rest) passes.added) whole
-          (Passed-more gives old.wanted (point_of old) (point_of new) bytes [] (drop count rest) passes.added passes.passed));
+      passed = Passed-any gives way is_all old.wanted (place_of old s) (place_of new t) rest (drop count rest) passes.added
+          (subst (λ (l : List ℕ). Passed gives way false old.wanted (place_of old s) (place_of new t) l (drop count rest) passes.added) whole
+          (Passed-more gives way old.wanted (place_of old s) (place_of new t) bytes [] (drop count rest) passes.added passes.passed));
     }
 
-pub PassesSome-tag : (gives : FourHands → Option (List (List ℕ)) → Type 0) (is_all : Bool) (old new : Filler) (rest : List ℕ) (most count : ℕ) (o0 o1 : List ℕ) → most ≤ length rest
-    → PassesTag gives old new (take most rest) count o0 o1 → 0 < count → PassesSome gives is_all old new rest most count o0 o1
-PassesSome-tag gives is_all old new rest most count o0 o1 room passes some =
+pub PassesSome-tag : {S : Type 0} (gives : FourHands → Option (List (List ℕ)) → Type 0) (way : S → Notice → S → Type 0) (is_all : Bool) (old new : Filler) (s t : S) (rest : List ℕ) (most count : ℕ) (o0 o1 : List ℕ) → most ≤ length rest
+    → PassesTag gives way old new (notes_of new) s t (take most rest) count o0 o1 → 0 < count → PassesSome gives way is_all old new s t rest most count o0 o1
+PassesSome-tag gives way is_all old new s t rest most count o0 o1 room passes some =
     let size : length (take most rest) ≡ most = length-take-le most rest room in
     let within : count ≤ length (take most rest) = passes.within in
     let few : count ≤ most = omega arith in
-    record { some = some; within = few; front = PassesFront-tag gives is_all old new rest most count o0 o1 few passes }
+    record { some = some; within = few; front = PassesFront-tag gives way is_all old new s t rest most count o0 o1 few passes }
 
 -- a byte behind none
-pub PassesSome-byte : (gives : FourHands → Option (List (List ℕ)) → Type 0) (is_all : Bool) (old mid new : Filler) (rest : List ℕ) (most count : ℕ) (o0 o1 o2 : List ℕ) → 0 < most → most ≤ length rest
-    → PassesTag gives old mid (take most rest) count o0 o1 → count ≤ 0 → PassesFront gives is_all mid new rest (drop 1 rest) o1 o2 → PassesSome gives is_all old new rest most 1 o0 o2
-PassesSome-byte gives is_all old mid new rest most count o0 o1 o2 some room passes none first =
+pub PassesSome-byte : {S : Type 0} (gives : FourHands → Option (List (List ℕ)) → Type 0) (way : S → Notice → S → Type 0) (is_all : Bool) (old mid new : Filler) (s t u : S) (rest : List ℕ) (most count : ℕ) (o0 o1 o2 : List ℕ) → 0 < most → most ≤ length rest
+    → PassesTag gives way old mid (notes_of mid) s t (take most rest) count o0 o1 → count ≤ 0 → PassesFront gives way is_all mid new t u rest (drop 1 rest) o1 o2
+    → PassesSome gives way is_all old new s u rest most 1 o0 o2
+PassesSome-byte gives way is_all old mid new s t u rest most count o0 o1 o2 some room passes none first =
     let zero_count : count ≡ 0 = omega arith in
     let few : count ≤ most = omega arith in
     record {
       some = omega arith;
       within = omega arith;
-      front = PassesFront-then gives is_all old mid new rest rest (drop 1 rest) o0 o1 o2
-          (subst (λ (n : ℕ). PassesFront gives is_all old mid rest (drop n rest) o0 o1) zero_count (PassesFront-tag gives is_all old mid rest most count o0 o1 few passes)) first;
+      front = PassesFront-then gives way is_all old mid new s t u rest rest (drop 1 rest) o0 o1 o2
+          (subst (λ (n : ℕ). PassesFront gives way is_all old mid s t rest (drop n rest) o0 o1) zero_count (PassesFront-tag gives way is_all old mid s t rest most count o0 o1 few passes)) first;
     }
+
+-- what was heard up to a tag, and then
+pub tag-then-some : {S : Type 0} (gives : FourHands → Option (List (List ℕ)) → Type 0) (way : S → Notice → S → Type 0) (old new : Filler) (notes : GameNotes) (s t u : S) (text : List ℕ) (count : ℕ) (o0 o1 : List ℕ)
+    → PassesTag gives way old new notes s t text count o0 o1 → HearsSome way t u → HearsSome way s u
+tag-then-some gives way old new notes s t u text count o0 o1 passes some = HearsSome-then way s t u passes.passed.notices passes.passed.hears some
 
 -- ---- what the reader finds
 front-whole : (text bytes after : List ℕ) → text ≡ bytes ++ after → front_of text after 0 ≡ bytes

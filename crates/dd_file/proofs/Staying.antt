@@ -1,5 +1,5 @@
 -- Bytes at which nothing begins come out as they are.
-use Rattle.std.proofs.Common.{◌≡◌, ◌∙◌, ℕ, zero, suc, ◌==◌, ◌+◌, ◌-◌, ◌<◌, ◌≤◌, Bool, true, false, List, [], ◌∷◌, ◌++◌, length, get_or, take, drop, refl, sym, ap, subst, arith, inl, inr, ◌⊎◌, true≢false, eqb-true, append_assoc, length-append, length-drop, take_all, take-append-drop, Option}
+use Rattle.std.proofs.Common.{◌≡◌, ◌∙◌, ℕ, zero, suc, ◌==◌, ◌+◌, ◌-◌, ◌^◌, ◌<◌, ◌≤◌, min, Bool, true, false, List, [], ◌∷◌, ◌++◌, length, get_or, take, drop, refl, sym, ap, subst, arith, inl, inr, ◌⊎◌, true≢false, eqb-true, append_assoc, length-append, length-drop, take_all, take-append-drop, Option}
 use Rattle.std.specs.Prelude.{◌&&◌, ◌||◌, if◌then◌else◌}
 use Rattle.std.proofs.lemmas.Bool.{and_parts, not-true, or_cases}
 use Rattle.std.proofs.lemmas.List.{drop-drop, length-take-le}
@@ -8,19 +8,23 @@ use Rattle.dd_cards.specs.Hands.{FourHands}
 use Rattle.dd_file.specs.declared.fill_state.FillState.{FillState}
 use Rattle.dd_file.specs.declared.filler.Filler.{Filler}
 use Rattle.dd_file.specs.declared.mode.Mode.{Mode}
+use Rattle.dd_file.specs.declared.told_texts.TheConstants.{TOLD_BYTES}
 use Rattle.dd_file.specs.declared.mode.Mode.TheVariants.{Head, Mark1, Mark2, Start, Plain, Escaped, Remark, Braced, Quoted, Backslash}
-use Rattle.dd_file.specs.Filled.{answers_after, ask_at, asked_here, asks_from, filled_from, state_here, text_here}
+use Rattle.dd_file.specs.Filled.{answers_after, ask_at, asked_here, asks_from, filled_from, first_of, state_here, text_here}
 use Rattle.dd_file.specs.Games.{next_state, with_byte}
 use Rattle.dd_file.specs.Marked.{begins_within, left_within, marked}
 use Rattle.dd_file.specs.Marks.{nothing, empty_line, line_mark, mark_at, mark_read}
 use Rattle.dd_file.specs.Modes.{is_blank, next_mode}
-use Rattle.dd_file.specs.Quiet.{KeepsCounts, PassesQuiet, PassesSome, Stays, Takes, after_calm, are_calm, is_alone, is_calm, is_idle, is_quiet, is_quiet_within, with_line_bytes}
+use Rattle.dd_file.specs.Quiet.{Counts, KeepsCounts, PassesQuiet, PassesSome, Stays, Takes, after_calm, are_calm, is_alone, is_calm, is_idle, is_quiet, is_quiet_within, later, with_line_bytes}
 use Rattle.dd_file.specs.Tags.{tag_at}
-use Rattle.dd_file.specs.Windows.{PassesFront, Point, marked_at, point_of}
+use Rattle.dd_file.specs.Notes.{board_of, notes_of, texts_of, unknown_of}
+use Rattle.dd_file.specs.Notices.{Notice}
+use Rattle.dd_file.specs.Told.{GameNotes, TextsOf, notes_behind, one_more, told_from, told_here}
+use Rattle.dd_file.specs.Windows.{Passed, PassesFront, Point, Place, marked_at, place_of, point_of}
 use Rattle.dd_file.proofs.AgainMarks.{blank-stop, is_all, line-begins, line-read, no-tag}
 use Rattle.dd_file.proofs.AgainOver.{plain-nothing}
 use Rattle.dd_file.proofs.Calm.{calm-front, front-taken}
-use Rattle.dd_file.proofs.Going.{PassesFront-then, asks-byte, filled-byte}
+use Rattle.dd_file.proofs.Going.{PassesFront-then, asks-byte, filled-byte, told-byte}
 use Rattle.dd_file.proofs.Steps.{tail-is}
 
 -- ---- one byte
@@ -61,6 +65,7 @@ byte-stays p b quiet =
     record {
       fills = λ wanted answers rest. filled-byte wanted answers p.state p.left p.mode b rest nothing (quiet-nothing p.left p.mode b quiet rest);
       asks = λ wanted rest. asks-byte wanted p.state p.left p.mode b rest nothing (quiet-nothing p.left p.mode b quiet rest);
+      tells = λ wanted answers notes rest. told-byte wanted answers p.state notes p.left p.mode b rest nothing (quiet-nothing p.left p.mode b quiet rest);
     }
 
 empty-begins : (b : ℕ) (r : List ℕ) → b ≡ 10 → begins_within 0 Start (b ∷ r) ≡ empty_line
@@ -81,6 +86,10 @@ idle-stays state false zero Start b none idle =
       asks = λ wanted rest.
           asks-byte wanted state 0 Start b rest empty_line (starts rest)
           ∙ ap (λ (t : Bool). asked_here t (ask_at true wanted state) ++ asks_from wanted (next_state (state_here t state) empty_line b) (marked 0 (next_mode Start b) rest)) none;
+      tells = λ wanted answers notes rest.
+          told-byte wanted answers state notes 0 Start b rest empty_line (starts rest)
+          ∙ ap (λ (t : Bool). told_here t true wanted state notes (first_of answers)
+          ++ told_from wanted (answers_after t answers) (next_state (state_here t state) empty_line b) (notes_behind t state empty_line notes) (marked 0 (next_mode Start b) rest)) none;
     }
 idle-stays state true left mode b none idle = absurd (true≢false (sym idle))
 idle-stays state false (suc more) mode b none idle = absurd (true≢false (sym idle))
@@ -103,7 +112,12 @@ alone-stays p b alone = go (or_cases (is_quiet_within p.left p.mode b) (is_idle 
 
 -- ---- bytes behind bytes
 pub Stays-none : (p : Point) → Stays p p []
-Stays-none p = record { fills = λ wanted answers rest. refl; asks = λ wanted rest. refl }
+Stays-none p = record { fills = λ wanted answers rest. refl; asks = λ wanted rest. refl; tells = λ wanted answers notes rest. refl }
+
+-- what is noted behind bytes and bytes behind them
+pub later-then : (a b : List ℕ) (notes : GameNotes) → later (a ++ b) notes ≡ later b (later a notes)
+later-then [] b notes = refl
+later-then (byte ∷ a) b notes = later-then a b (later (byte ∷ []) notes)
 
 pub Stays-then : (p q r : Point) (a b : List ℕ) → Stays p q a → Stays q r b → Stays p r (a ++ b)
 Stays-then p q r a b first second =
@@ -113,6 +127,9 @@ Stays-then p q r a b first second =
           ∙ ap (λ l. a ++ l) (second.fills wanted answers rest) ∙ sym (append_assoc a b (filled_from wanted answers r.state (marked_at r rest)));
       asks = λ wanted rest.
           ap (λ l. asks_from wanted p.state (marked_at p l)) (append_assoc a b rest) ∙ first.asks wanted (b ++ rest) ∙ second.asks wanted rest;
+      tells = λ wanted answers notes rest.
+          ap (λ l. told_from wanted answers p.state notes (marked_at p l)) (append_assoc a b rest) ∙ first.tells wanted answers notes (b ++ rest)
+          ∙ second.tells wanted answers (later a notes) rest ∙ ap (λ n. told_from wanted answers r.state n (marked_at r rest)) (sym (later-then a b notes));
     }
 
 -- ---- calm bytes
@@ -281,53 +298,102 @@ take-of-take (suc n) zero l few = absurd (omega arith)
 take-of-take (suc n) (suc m) [] few = refl
 take-of-take (suc n) (suc m) (x ∷ l) few = (let less : n ≤ m = omega arith in ap (λ k. x ∷ k) (take-of-take n m l less))
 
-pub PassesFront-quiet : (gives : FourHands → Option (List (List ℕ)) → Type 0) (is_all : Bool) (old new : Filler) (rest : List ℕ) (most count : ℕ) (out_old out_new : List ℕ) → most ≤ length rest
-    → PassesQuiet old new (take most rest) count out_old out_new → count ≤ most → PassesFront gives is_all old new rest (drop count rest) out_old out_new
-PassesFront-quiet gives is_all old new rest most count out_old out_new room passes few =
+-- ---- what is noted behind so many bytes
+-- a count of up to the most goes up by as many
+counted-more : (n k : ℕ) → min (min (n + 1) (2 ^ 64 - 1) + k) (2 ^ 64 - 1) ≡ min (n + (1 + k)) (2 ^ 64 - 1)
+counted-more n k = grind (arith)
+
+pub later-bytes : (bytes : List ℕ) (number : ℕ) (board : List ℕ) (texts : TextsOf) (count : ℕ)
+    → later bytes (record { number = number; board = board; texts = texts; bytes = one_more count })
+    ≡ record { number = number; board = board; texts = texts; bytes = min (count + (1 + length bytes)) (2 ^ 64 - 1) }
+later-bytes [] number board texts count = ap (λ (n : ℕ). (let g : GameNotes = record { number = number; board = board; texts = texts; bytes = n } in g)) refl
+later-bytes (byte ∷ bytes) number board texts count =
+    let long : 1 + length bytes ≡ length (byte ∷ bytes) = omega arith in
+    later-bytes bytes number board texts (one_more count)
+    ∙ ap (λ (n : ℕ). (let g : GameNotes = record { number = number; board = board; texts = texts; bytes = n } in g))
+    (counted-more count (1 + length bytes) ∙ ap (λ (n : ℕ). min (count + (1 + n)) (2 ^ 64 - 1)) long)
+
+-- where nothing of the game is told by them
+pub later-some : (bytes : List ℕ) (notes : GameNotes) → 0 < length bytes
+    → later bytes notes ≡ record { number = notes.number; board = notes.board; texts = notes.texts; bytes = min (notes.bytes + length bytes) (2 ^ 64 - 1) }
+later-some [] notes some = absurd (omega arith)
+later-some (byte ∷ bytes) notes some =
+    let long : 1 + length bytes ≡ length (byte ∷ bytes) = omega arith in
+    later-bytes bytes notes.number notes.board notes.texts notes.bytes
+    ∙ ap (λ (n : ℕ). (let g : GameNotes = record { number = notes.number; board = notes.board; texts = notes.texts; bytes = min (notes.bytes + n) (2 ^ 64 - 1) } in g)) long
+
+pub same-notes : (new : Filler) (notes : GameNotes) → new.number ≡ notes.number → board_of new ≡ notes.board → unknown_of new ≡ notes.texts → new.passed ≡ notes.bytes → notes_of new ≡ notes
+same-notes new notes numbers boards texts bytes =
+    ap (λ (n : ℕ). (let g : GameNotes = record { number = n; board = board_of new; texts = unknown_of new; bytes = new.passed } in g)) numbers
+    ∙ ap (λ (l : List ℕ). (let g : GameNotes = record { number = notes.number; board = l; texts = unknown_of new; bytes = new.passed } in g)) boards
+    ∙ ap (λ (t : TextsOf). (let g : GameNotes = record { number = notes.number; board = notes.board; texts = t; bytes = new.passed } in g)) texts
+    ∙ ap (λ (n : ℕ). (let g : GameNotes = record { number = notes.number; board = notes.board; texts = notes.texts; bytes = n } in g)) bytes
+
+later-counts : (old new : Filler) (count : ℕ) (bytes : List ℕ) → length bytes ≡ count → Counts old new count → notes_of new ≡ later bytes (notes_of old)
+later-counts old new count [] long counts =
+    let none : count ≡ 0 = omega (arith, long) in
+    same-notes new (notes_of old) counts.number (ap (λ b. take TOLD_BYTES b.items) counts.board) (ap (λ t. texts_of t) counts.unknown) (counts.none none)
+later-counts old new count (byte ∷ bytes) long counts =
+    let some : 0 < count = omega (arith, long) in
+    let has : 0 < length (byte ∷ bytes) = omega arith in
+    same-notes new _ counts.number (ap (λ b. take TOLD_BYTES b.items) counts.board) (ap (λ t. texts_of t) counts.unknown)
+    (counts.some some ∙ ap (λ (n : ℕ). min (old.passed + n) (2 ^ 64 - 1)) (sym long)) ∙ sym (later-some (byte ∷ bytes) (notes_of old) has)
+
+pub PassesFront-quiet : {S : Type 0} (gives : FourHands → Option (List (List ℕ)) → Type 0) (way : S → Notice → S → Type 0) (is_all : Bool) (old new : Filler) (s : S) (rest : List ℕ) (most count : ℕ) (out_old out_new : List ℕ) → most ≤ length rest
+    → PassesQuiet old new (take most rest) count out_old out_new → Counts old new count → count ≤ most → PassesFront gives way is_all old new s s rest (drop count rest) out_old out_new
+PassesFront-quiet {S} gives way is_all old new s rest most count out_old out_new room passes counts few =
     let bytes : List ℕ = take count (take most rest) in
     let whole : bytes ++ drop count rest ≡ rest = ap (λ l. l ++ drop count rest) (take-of-take count most rest few) ∙ take-append-drop count rest in
+    let long : length bytes ≡ count = length-take-le count (take most rest) passes.within in
     let p : Point = point_of old in
     let q : Point = point_of new in
+    let goes : Passed gives way is_all old.wanted (place_of old s) (record { point = q; notes = later bytes (notes_of old); heard = s }) rest (drop count rest) bytes = record {
+      answers = [];
+      asked = [];
+      notices = [];
+      right = tt;
+      hears = refl;
+      fills = λ more behind follows.
+          ap (λ l. filled_from old.wanted more p.state (marked_at p l)) (ap (λ l. l ++ behind) (sym whole) ∙ append_assoc bytes (drop count rest) behind)
+          ∙ passes.stays.fills old.wanted more (drop count rest ++ behind);
+      asks = λ behind follows.
+          ap (λ l. asks_from old.wanted p.state (marked_at p l)) (ap (λ l. l ++ behind) (sym whole) ∙ append_assoc bytes (drop count rest) behind)
+          ∙ passes.stays.asks old.wanted (drop count rest ++ behind);
+      tells = λ more behind follows.
+          ap (λ l. told_from old.wanted more p.state (notes_of old) (marked_at p l)) (ap (λ l. l ++ behind) (sym whole) ∙ append_assoc bytes (drop count rest) behind)
+          ∙ passes.stays.tells old.wanted more (notes_of old) (drop count rest ++ behind);
+    } in
     record {
       wanted = passes.wanted;
       text = bytes;
       appended = passes.appended;
-      passed = record {
-        answers = [];
-        asked = [];
-        right = tt;
-        fills = λ more behind follows.
-            ap (λ l. filled_from old.wanted more p.state (marked_at p l)) (ap (λ l. l ++ behind) (sym whole) ∙ append_assoc bytes (drop count rest) behind)
-            ∙ passes.stays.fills old.wanted more (drop count rest ++ behind);
-        asks = λ behind follows.
-            ap (λ l. asks_from old.wanted p.state (marked_at p l)) (ap (λ l. l ++ behind) (sym whole) ∙ append_assoc bytes (drop count rest) behind)
-            ∙ passes.stays.asks old.wanted (drop count rest ++ behind);
-      };
+      passed = subst (λ (n : GameNotes). Passed gives way is_all old.wanted (place_of old s) (record { point = q; notes = n; heard = s }) rest (drop count rest) bytes)
+          (sym (later-counts old new count bytes long counts)) goes;
     }
 
 -- behind so many bytes of a window, so many more
-pub PassesFront-behind : (gives : FourHands → Option (List (List ℕ)) → Type 0) (is_all : Bool) (old new : Filler) (window : List ℕ) (at count : ℕ) (o0 o1 : List ℕ) → at ≤ length window
-    → PassesFront gives is_all old new (take (length window - at) (drop at window)) (drop count (take (length window - at) (drop at window))) o0 o1
-    → PassesFront gives is_all old new (drop at window) (drop (at + count) window) o0 o1
-PassesFront-behind gives is_all old new window at count o0 o1 within front =
+pub PassesFront-behind : {S : Type 0} (gives : FourHands → Option (List (List ℕ)) → Type 0) (way : S → Notice → S → Type 0) (is_all : Bool) (old new : Filler) (s t : S) (window : List ℕ) (at count : ℕ) (o0 o1 : List ℕ) → at ≤ length window
+    → PassesFront gives way is_all old new s t (take (length window - at) (drop at window)) (drop count (take (length window - at) (drop at window))) o0 o1
+    → PassesFront gives way is_all old new s t (drop at window) (drop (at + count) window) o0 o1
+PassesFront-behind gives way is_all old new s t window at count o0 o1 within front =
     let all : take (length window - at) (drop at window) ≡ drop at window = take_all (length window - at) (drop at window) (omega (arith, length-drop {A = ℕ})) in
-    let whole : PassesFront gives is_all old new (drop at window) (drop count (drop at window)) o0 o1 =
-    subst (λ (l : List ℕ). PassesFront gives is_all old new l (drop count l) o0 o1) all front in
-    subst (λ (l : List ℕ). PassesFront gives is_all old new (drop at window) l o0 o1) (drop-drop count at window) whole
+    let whole : PassesFront gives way is_all old new s t (drop at window) (drop count (drop at window)) o0 o1 =
+    subst (λ (l : List ℕ). PassesFront gives way is_all old new s t l (drop count l) o0 o1) all front in
+    subst (λ (l : List ℕ). PassesFront gives way is_all old new s t (drop at window) l o0 o1) (drop-drop count at window) whole
 
-pub PassesSome-quiet : (gives : FourHands → Option (List (List ℕ)) → Type 0) (is_all : Bool) (old new : Filler) (rest : List ℕ) (most count : ℕ) (o0 o1 : List ℕ) → 0 < most → most ≤ length rest
-    → PassesQuiet old new (take most rest) count o0 o1 → most ≤ count → PassesSome gives is_all old new rest most count o0 o1
-PassesSome-quiet gives is_all old new rest most count o0 o1 some room passes all =
+pub PassesSome-quiet : {S : Type 0} (gives : FourHands → Option (List (List ℕ)) → Type 0) (way : S → Notice → S → Type 0) (is_all : Bool) (old new : Filler) (s : S) (rest : List ℕ) (most count : ℕ) (o0 o1 : List ℕ) → 0 < most → most ≤ length rest
+    → PassesQuiet old new (take most rest) count o0 o1 → Counts old new count → most ≤ count → PassesSome gives way is_all old new s s rest most count o0 o1
+PassesSome-quiet gives way is_all old new s rest most count o0 o1 some room passes counts all =
     let size : length (take most rest) ≡ most = length-take-le most rest room in
     let within : count ≤ length (take most rest) = passes.within in
     let few : count ≤ most = omega arith in
-    record { some = omega arith; within = few; front = PassesFront-quiet gives is_all old new rest most count o0 o1 room passes few }
+    record { some = omega arith; within = few; front = PassesFront-quiet gives way is_all old new s rest most count o0 o1 room passes counts few }
 
 -- and more behind it
-pub PassesSome-then : (gives : FourHands → Option (List (List ℕ)) → Type 0) (is_all : Bool) (old mid new : Filler) (rest : List ℕ) (most count more : ℕ) (o0 o1 o2 : List ℕ) → most ≤ length rest
-    → PassesQuiet old mid (take most rest) count o0 o1 → count < most → PassesSome gives is_all mid new (take (length rest - count) (drop count rest)) (most - count) more o1 o2
-    → PassesSome gives is_all old new rest most (count + more) o0 o2
-PassesSome-then gives is_all old mid new rest most count more o0 o1 o2 room passes under next =
+pub PassesSome-then : {S : Type 0} (gives : FourHands → Option (List (List ℕ)) → Type 0) (way : S → Notice → S → Type 0) (is_all : Bool) (old mid new : Filler) (s t : S) (rest : List ℕ) (most count more : ℕ) (o0 o1 o2 : List ℕ) → most ≤ length rest
+    → PassesQuiet old mid (take most rest) count o0 o1 → Counts old mid count → count < most
+    → PassesSome gives way is_all mid new s t (take (length rest - count) (drop count rest)) (most - count) more o1 o2 → PassesSome gives way is_all old new s t rest most (count + more) o0 o2
+PassesSome-then gives way is_all old mid new s t rest most count more o0 o1 o2 room passes counts under next =
     let few : count ≤ most = omega arith in
     let reached : count ≤ length rest = omega arith in
     let some : 0 < more = next.some in
@@ -335,6 +401,6 @@ PassesSome-then gives is_all old mid new rest most count more o0 o1 o2 room pass
     record {
       some = omega arith;
       within = omega arith;
-      front = PassesFront-then gives is_all old mid new rest (drop count rest) (drop (count + more) rest) o0 o1 o2 (PassesFront-quiet gives is_all old mid rest most count o0 o1 room passes few)
-          (PassesFront-behind gives is_all mid new rest count more o1 o2 reached next.front);
+      front = PassesFront-then gives way is_all old mid new s s t rest (drop count rest) (drop (count + more) rest) o0 o1 o2
+          (PassesFront-quiet gives way is_all old mid s rest most count o0 o1 room passes counts few) (PassesFront-behind gives way is_all mid new s t rest count more o1 o2 reached next.front);
     }

@@ -1,9 +1,9 @@
 -- What was written of what comes out, and how a run goes on and ends.
-use Rattle.std.proofs.Common.{◌≡◌, ◌∙◌, ℕ, true, false, List, [], ◌++◌, refl, sym, ap, subst, append-nil, take, drop, Option, Result, Ok, Err}
+use Rattle.std.proofs.Common.{◌≡◌, ◌∙◌, ℕ, Bool, true, false, List, [], ◌∷◌, ◌++◌, refl, sym, ap, subst, append-nil, take, drop, Option, Result, Ok, Err}
 use Rattle.std.specs.Io.KnownBytes.{Consumes, Appends, Keeps, IsAtEnd}
 use Rattle.std.proofs.KnownBytes.{Appends-nil, Appends-trans, Consumes-nil, Consumes-trans, Consumes-kept}
 use Rattle.dd_cards.specs.Hands.{FourHands}
-use Rattle.std.specs.Prelude.{OnErr}
+use Rattle.std.specs.Prelude.{OnErr, OnOk}
 use Rattle.dd_lines.specs.CountedDevices.{FailedOnce, HasFailed, failures_of}
 use Rattle.dd_lines.specs.declared.counted_device.CountedDevice.{CountedDevice}
 use Rattle.dd_lines.specs.Served.{NoneFailed, WroteText}
@@ -15,135 +15,171 @@ use Rattle.dd_file.specs.declared.mode.Mode.{Mode}
 use Rattle.dd_file.specs.declared.mode.Mode.TheVariants.{Head}
 use Rattle.dd_file.specs.Games.{first_state}
 use Rattle.dd_file.specs.declared.wanted.Wanted.{Wanted}
-use Rattle.dd_file.specs.Filled.{AreAnswers, ask_of, asked_here, ends_last, text_here}
+use Rattle.dd_file.specs.Filled.{AreAnswers, ask_of, asked_here, ends_last, first_of, text_here}
 use Rattle.dd_file.specs.Marked.{is_closed}
+use Rattle.dd_file.specs.Notes.{board_of, games_of, notes_of, unknown_of}
+use Rattle.dd_file.specs.Notices.{Notice, Hears, HearsSome, games_in_all}
 use Rattle.dd_file.specs.Passing.{AddsLast}
-use Rattle.dd_file.specs.Served.{FilledAll, FilledBeginning, StopsAtFirstFailure, StopsAtWrite}
-use Rattle.dd_file.specs.Windows.{Point, point_of, first_point, Passed, Ended, Begun, PassesFront, WritesFront, WritesLast, WritesBegun}
+use Rattle.dd_file.specs.Served.{FilledAll, FilledBeginning, FilledTelling, StopsAtFirstFailure, StopsAtWrite}
+use Rattle.dd_file.specs.Told.{GameNotes, TextsOf, first_notes, no_texts, told_last, told_of_file}
+use Rattle.dd_file.specs.Windows.{Place, Point, point_of, place_of, first_place, first_point, Passed, Ended, Begun, PassesFront, WritesFront, WritesLast, WritesBegun}
+use Rattle.dd_file.proofs.Heard.{Hears-append, Hears-one, HearsSome-then}
 use Rattle.dd_file.proofs.Going.{Passed-none, Passed-then, Passed-more, Begun-part, Begun-then, Begun-ended, Ended-last, Ended-then}
 
-module _ (gives : FourHands → Option (List (List ℕ)) → Type 0) where
+module _ {S : Type 0} (gives : FourHands → Option (List (List ℕ)) → Type 0) (way : S → Notice → S → Type 0) where
   -- ---- one stretch
   -- nothing was written
-  pub WritesBegun-none : (old : Filler) (before : List ℕ) (w0 : Option (List ℕ)) → WritesBegun gives old before w0 w0
-  WritesBegun-none old before w0 =
+  pub WritesBegun-none : (old : Filler) (s : S) (before : List ℕ) (w0 : Option (List ℕ)) → WritesBegun gives old before w0 w0
+  WritesBegun-none old s before w0 =
       record {
         written = [];
         appended = Appends-nil w0;
-        begun = Begun-part gives old.wanted false (point_of old) (point_of old) before before [] [] [] (Passed-none gives old.wanted false (point_of old) before) refl;
+        begun = Begun-part gives way old.wanted false (place_of old s) (place_of old s) before before [] [] [] (Passed-none gives way old.wanted false (place_of old s) before) refl;
       }
 
   -- and nothing was to be
-  pub WritesFront-none : (old : Filler) (before : List ℕ) (w0 : Option (List ℕ)) → WritesFront gives old old before before w0 w0
-  WritesFront-none old before w0 = record { wanted = refl; text = []; written = Appends-nil w0; passed = Passed-none gives old.wanted false (point_of old) before }
+  pub WritesFront-none : (old : Filler) (s : S) (before : List ℕ) (w0 : Option (List ℕ)) → WritesFront gives way old old s s before before w0 w0
+  WritesFront-none old s before w0 = record { wanted = refl; text = []; written = Appends-nil w0; passed = Passed-none gives way old.wanted false (place_of old s) before }
 
   -- the text was written
-  pub WritesFront-wrote : (old new : Filler) (before after left text slice : List ℕ) (w0 w1 : Option (List ℕ)) → PassesFront gives false old new before after [] text → slice ≡ text → left ≡ after
-      → Appends w0 w1 slice → WritesFront gives old new before left w0 w1
-  WritesFront-wrote old new before after left text slice w0 w1 front is rest wrote =
+  pub WritesFront-wrote : (old new : Filler) (s t : S) (before after left text slice : List ℕ) (w0 w1 : Option (List ℕ)) → PassesFront gives way false old new s t before after [] text → slice ≡ text
+      → left ≡ after → Appends w0 w1 slice → WritesFront gives way old new s t before left w0 w1
+  WritesFront-wrote old new s t before after left text slice w0 w1 front is rest wrote =
       record {
         wanted = front.wanted;
         text = front.text;
         written = subst (Appends w0 w1) (is ∙ front.appended) wrote;
-        passed = subst (λ (l : List ℕ). Passed gives false old.wanted (point_of old) (point_of new) before l front.text) (sym rest) front.passed;
+        passed = subst (λ (l : List ℕ). Passed gives way false old.wanted (place_of old s) (place_of new t) before l front.text) (sym rest) front.passed;
       }
 
   -- a beginning of it was
-  pub WritesBegun-front : (old new : Filler) (before after text slice : List ℕ) (w0 w1 : Option (List ℕ)) → PassesFront gives false old new before after [] text → slice ≡ text → WroteText w0 w1 slice
-      → WritesBegun gives old before w0 w1
-  WritesBegun-front old new before after text slice w0 w1 front is wrote =
+  pub WritesBegun-front : (old new : Filler) (s t : S) (before after text slice : List ℕ) (w0 w1 : Option (List ℕ)) → PassesFront gives way false old new s t before after [] text → slice ≡ text
+      → WroteText w0 w1 slice → WritesBegun gives old before w0 w1
+  WritesBegun-front old new s t before after text slice w0 w1 front is wrote =
       record {
         written = wrote.written;
         appended = wrote.appended;
-        begun = Begun-part gives old.wanted false (point_of old) (point_of new) before after front.text wrote.written wrote.unwritten front.passed (sym (is ∙ front.appended) ∙ wrote.split);
+        begun = Begun-part gives way old.wanted false (place_of old s) (place_of new t) before after front.text wrote.written wrote.unwritten front.passed (sym (is ∙ front.appended) ∙ wrote.split);
       }
 
   -- all of it was, and then memory ran out
-  pub WritesBegun-whole : (old new : Filler) (before after text slice : List ℕ) (w0 w1 : Option (List ℕ)) → PassesFront gives false old new before after [] text → slice ≡ text → Appends w0 w1 slice
-      → WritesBegun gives old before w0 w1
-  WritesBegun-whole old new before after text slice w0 w1 front is wrote =
-      WritesBegun-front old new before after text slice w0 w1 front is (record { written = slice; unwritten = []; split = sym (append-nil slice); appended = wrote })
+  pub WritesBegun-whole : (old new : Filler) (s t : S) (before after text slice : List ℕ) (w0 w1 : Option (List ℕ)) → PassesFront gives way false old new s t before after [] text → slice ≡ text
+      → Appends w0 w1 slice → WritesBegun gives old before w0 w1
+  WritesBegun-whole old new s t before after text slice w0 w1 front is wrote =
+      WritesBegun-front old new s t before after text slice w0 w1 front is (record { written = slice; unwritten = []; split = sym (append-nil slice); appended = wrote })
 
   -- by the slice that the window is
-  pub front-of-window : (old new : Filler) (slice window : List ℕ) (count : ℕ) (text : List ℕ) → slice ≡ window → PassesFront gives false old new slice (drop count slice) [] text
-      → PassesFront gives false old new window (drop count window) [] text
-  front-of-window old new slice window count text is front = subst (λ (l : List ℕ). PassesFront gives false old new l (drop count l) [] text) is front
+  pub front-of-window : (old new : Filler) (s t : S) (slice window : List ℕ) (count : ℕ) (text : List ℕ) → slice ≡ window → PassesFront gives way false old new s t slice (drop count slice) [] text
+      → PassesFront gives way false old new s t window (drop count window) [] text
+  front-of-window old new s t slice window count text is front = subst (λ (l : List ℕ). PassesFront gives way false old new s t l (drop count l) [] text) is front
+
+  -- what was heard while it came out
+  pub front-some : (is_all : Bool) (old new : Filler) (s t : S) (before after o0 o1 : List ℕ) → PassesFront gives way is_all old new s t before after o0 o1 → HearsSome way s t
+  front-some is_all old new s t before after o0 o1 front = record { notices = front.passed.notices; hears = front.passed.hears }
+
+  pub front-then-some : (is_all : Bool) (old new : Filler) (s t u : S) (before after o0 o1 : List ℕ) → PassesFront gives way is_all old new s t before after o0 o1 → HearsSome way t u → HearsSome way s u
+  front-then-some is_all old new s t u before after o0 o1 front some = HearsSome-then way s t u front.passed.notices front.passed.hears some
+
+  -- from a state of the analyst that is the same
+  pub front-from : (is_all : Bool) (old new : Filler) (r s t : S) (before after o0 o1 : List ℕ) → r ≡ s → PassesFront gives way is_all old new r t before after o0 o1
+      → PassesFront gives way is_all old new s t before after o0 o1
+  front-from is_all old new r s t before after o0 o1 same front = subst (λ (x : S). PassesFront gives way is_all old new x t before after o0 o1) same front
+
+  pub ended-from : (wanted : Wanted) (old : Filler) (r s t : S) (games : ℕ) (before text : List ℕ) → r ≡ s → Ended gives way wanted (place_of old r) t games before text
+      → Ended gives way wanted (place_of old s) t games before text
+  ended-from wanted old r s t games before text same ended = subst (λ (x : S). Ended gives way wanted (place_of old x) t games before text) same ended
+
+  pub some-from : (r s t : S) → r ≡ s → HearsSome way r t → HearsSome way s t
+  some-from r s t same some = subst (λ (x : S). HearsSome way x t) same some
 
   -- ---- the last stretch
   -- the rest of the file, and the lines of a last game
-  pub Ended-front : (old mid : Filler) (window after o0 o1 o2 : List ℕ) → o0 ≡ [] → after ≡ [] → PassesFront gives true old mid window after o0 o1
-      → AddsLast gives (is_closed mid.left mid.mode) mid o1 o2 → Ended gives old.wanted (point_of old) window o2
-  Ended-front old mid window after o0 o1 o2 none all front last =
+  pub Ended-front : (old mid : Filler) (s t u : S) (window after o0 o1 o2 : List ℕ) → o0 ≡ [] → after ≡ [] → PassesFront gives way true old mid s t window after o0 o1
+      → AddsLast gives way (is_closed mid.left mid.mode) mid t u o1 o2 → Ended gives way old.wanted (place_of old s) u (games_of mid) window o2
+  Ended-front old mid s t u window after o0 o1 o2 none all front last =
       let closed = is_closed mid.left mid.mode in
       let right = subst (λ (w : Wanted). AreAnswers gives (asked_here (ends_last closed mid.state) (ask_of w mid.state)) last.answers) front.wanted last.right in
-      let passed = subst (λ (l : List ℕ). Passed gives true old.wanted (point_of old) (point_of mid) window l front.text) all front.passed in
+      let hears = subst (λ (w : Wanted). Hears way t (told_last closed w mid.state (notes_of mid) (first_of last.answers)) u) front.wanted last.hears in
+      let passed = subst (λ (l : List ℕ). Passed gives way true old.wanted (place_of old s) (place_of mid t) window l front.text) all front.passed in
       let same : o2 ≡ front.text ++ text_here (ends_last closed mid.state) old.wanted mid.state last.answers =
       last.text ∙ ap (λ o. o ++ text_here (ends_last closed mid.state) mid.wanted mid.state last.answers) (front.appended ∙ ap (λ o. o ++ front.text) none)
       ∙ ap (λ w. front.text ++ text_here (ends_last closed mid.state) w mid.state last.answers) front.wanted in
-      subst (λ (l : List ℕ). Ended gives old.wanted (point_of old) window l) (sym same)
-      (Ended-last gives old.wanted (point_of old) (point_of mid) window front.text last.answers passed right)
+      subst (λ (l : List ℕ). Ended gives way old.wanted (place_of old s) u (games_of mid) window l) (sym same)
+      (Ended-last gives way old.wanted (place_of old s) (place_of mid t) u window front.text last.answers passed right hears)
 
-  pub WritesLast-wrote : (old : Filler) (window text slice : List ℕ) (w0 w1 : Option (List ℕ)) → Ended gives old.wanted (point_of old) window text → slice ≡ text → Appends w0 w1 slice
-      → WritesLast gives old window w0 w1
-  WritesLast-wrote old window text slice w0 w1 ended is wrote = record { text = text; written = subst (Appends w0 w1) is wrote; ended = ended }
+  pub WritesLast-wrote : (old : Filler) (s t u : S) (games told : ℕ) (window text slice : List ℕ) (w0 w1 : Option (List ℕ)) → Ended gives way old.wanted (place_of old s) t games window text
+      → told ≡ games → way t (games_in_all told) u → slice ≡ text → Appends w0 w1 slice → WritesLast gives way old s u window w0 w1
+  WritesLast-wrote old s t u games told window text slice w0 w1 ended same counted is wrote =
+      record {
+        text = text;
+        games = games;
+        heard = t;
+        written = subst (Appends w0 w1) is wrote;
+        ended = ended;
+        counted = subst (λ (n : ℕ). way t (games_in_all n) u) same counted;
+      }
 
-  pub WritesBegun-last : (old : Filler) (window text slice : List ℕ) (w0 w1 : Option (List ℕ)) → Ended gives old.wanted (point_of old) window text → slice ≡ text → WroteText w0 w1 slice
-      → WritesBegun gives old window w0 w1
-  WritesBegun-last old window text slice w0 w1 ended is wrote =
+  pub WritesBegun-last : (old : Filler) (s t : S) (games : ℕ) (window text slice : List ℕ) (w0 w1 : Option (List ℕ)) → Ended gives way old.wanted (place_of old s) t games window text → slice ≡ text
+      → WroteText w0 w1 slice → WritesBegun gives old window w0 w1
+  WritesBegun-last old s t games window text slice w0 w1 ended is wrote =
       record {
         written = wrote.written;
         appended = wrote.appended;
-        begun = Begun-ended gives old.wanted (point_of old) window text wrote.written wrote.unwritten ended (sym is ∙ wrote.split);
+        begun = Begun-ended gives way old.wanted (place_of old s) t games window text wrote.written wrote.unwritten ended (sym is ∙ wrote.split);
       }
+
+  pub last-some : (old : Filler) (s t u : S) (games told : ℕ) (window text : List ℕ) → Ended gives way old.wanted (place_of old s) t games window text → way t (games_in_all told) u → HearsSome way s u
+  last-some old s t u games told window text ended counted =
+      record { notices = ended.notices ++ games_in_all told ∷ []; hears = Hears-append way s t u ended.notices (games_in_all told ∷ []) ended.hears (Hears-one way t u _ counted) }
 
   -- ---- the run
   -- what was read has come out but for the window
-  pub record Filling (wanted : Wanted) (filler : Filler) (window : List ℕ) (r0 r1 w0 w1 : Option (List ℕ)) : Type 0 where
+  pub record Filling (wanted : Wanted) (filler : Filler) (s t : S) (window : List ℕ) (r0 r1 w0 w1 : Option (List ℕ)) : Type 0 where
     pub same : filler.wanted ≡ wanted
     pub input : List ℕ
     pub text : List ℕ
     pub consumed : Consumes r0 r1 input
     pub written : Appends w0 w1 text
-    pub passed : Passed gives false wanted first_point (point_of filler) input window text
+    pub passed : Passed gives way false wanted (first_place s) (place_of filler t) input window text
 
-  pub Filling-begun : (wanted : Wanted) (filler : Filler) (window : List ℕ) (r0 w0 : Option (List ℕ)) → filler.wanted ≡ wanted → point_of filler ≡ first_point → window ≡ []
-      → Filling wanted filler window r0 r0 w0 w0
-  Filling-begun wanted filler window r0 w0 same first none =
+  pub Filling-begun : (wanted : Wanted) (filler : Filler) (s : S) (window : List ℕ) (r0 w0 : Option (List ℕ)) → filler.wanted ≡ wanted → place_of filler s ≡ first_place s → window ≡ []
+      → Filling wanted filler s s window r0 r0 w0 w0
+  Filling-begun wanted filler s window r0 w0 same first none =
       record {
         same = same;
         input = [];
         text = [];
         consumed = Consumes-nil r0;
         written = Appends-nil w0;
-        passed = subst (λ (l : List ℕ). Passed gives false wanted first_point (point_of filler) [] l []) (sym none)
-            (subst (λ (p : Point). Passed gives false wanted first_point p [] [] []) (sym first) (Passed-none gives wanted false first_point []));
+        passed = subst (λ (l : List ℕ). Passed gives way false wanted (first_place s) (place_of filler s) [] l []) (sym none)
+            (subst (λ (p : Place S). Passed gives way false wanted (first_place s) p [] [] []) (sym first) (Passed-none gives way wanted false (first_place s) []));
       }
 
   -- with the piece that was read
-  further : (wanted : Wanted) (filler : Filler) (window piece : List ℕ) (r0 r1 w0 w1 : Option (List ℕ)) (before : Filling wanted filler window r0 r1 w0 w1)
-      → Passed gives false wanted first_point (point_of filler) (before.input ++ piece) (window ++ piece) before.text
-  further wanted filler window piece r0 r1 w0 w1 before = Passed-more gives wanted first_point (point_of filler) before.input window piece before.text before.passed
+  further : (wanted : Wanted) (filler : Filler) (s t : S) (window piece : List ℕ) (r0 r1 w0 w1 : Option (List ℕ)) (before : Filling wanted filler s t window r0 r1 w0 w1)
+      → Passed gives way false wanted (first_place s) (place_of filler t) (before.input ++ piece) (window ++ piece) before.text
+  further wanted filler s t window piece r0 r1 w0 w1 before = Passed-more gives way wanted (first_place s) (place_of filler t) before.input window piece before.text before.passed
 
-  pub Filling-further : (wanted : Wanted) (old new : Filler) (window piece after : List ℕ) (r0 r1 r2 w0 w1 w2 : Option (List ℕ)) → Filling wanted old window r0 r1 w0 w1 → Consumes r1 r2 piece
-      → WritesFront gives old new (window ++ piece) after w1 w2 → Filling wanted new after r0 r2 w0 w2
-  Filling-further wanted old new window piece after r0 r1 r2 w0 w1 w2 before read front =
+  pub Filling-further : (wanted : Wanted) (old new : Filler) (s t u : S) (window piece after : List ℕ) (r0 r1 r2 w0 w1 w2 : Option (List ℕ)) → Filling wanted old s t window r0 r1 w0 w1
+      → Consumes r1 r2 piece → WritesFront gives way old new t u (window ++ piece) after w1 w2 → Filling wanted new s u after r0 r2 w0 w2
+  Filling-further wanted old new s t u window piece after r0 r1 r2 w0 w1 w2 before read front =
       record {
         same = front.wanted ∙ before.same;
         input = before.input ++ piece;
         text = before.text ++ front.text;
         consumed = Consumes-trans r0 r1 r2 before.input piece before.consumed read;
         written = Appends-trans w0 w1 w2 before.text front.text before.written front.written;
-        passed = Passed-then gives wanted false first_point (point_of old) (point_of new) (before.input ++ piece) (window ++ piece) after before.text front.text
-            (further wanted old window piece r0 r1 w0 w1 before)
-            (subst (λ (w : Wanted). Passed gives false w (point_of old) (point_of new) (window ++ piece) after front.text) before.same front.passed);
+        passed = Passed-then gives way wanted false (first_place s) (place_of old t) (place_of new u) (before.input ++ piece) (window ++ piece) after before.text front.text
+            (further wanted old s t window piece r0 r1 w0 w1 before)
+            (subst (λ (w : Wanted). Passed gives way false w (place_of old t) (place_of new u) (window ++ piece) after front.text) before.same front.passed);
       }
 
-  pub Filling-ended : (wanted : Wanted) (filler : Filler) (window slice : List ℕ) (r0 r1 r2 w0 w1 w2 : Option (List ℕ)) → Filling wanted filler window r0 r1 w0 w1 → Consumes r1 r2 [] → IsAtEnd r2
-      → slice ≡ window → WritesLast gives filler slice w1 w2 → FilledAll gives wanted r0 r2 w0 w2
-  Filling-ended wanted filler window slice r0 r1 r2 w0 w1 w2 before read end is last =
-      let ended = Ended-then gives wanted first_point (point_of filler) before.input window before.text last.text before.passed
-      (subst (λ (w : Wanted). Ended gives w (point_of filler) window last.text) before.same
-      (subst (λ (l : List ℕ). Ended gives filler.wanted (point_of filler) l last.text) is last.ended)) in
+  pub Filling-ended : (wanted : Wanted) (filler : Filler) (s t u : S) (window slice : List ℕ) (r0 r1 r2 w0 w1 w2 : Option (List ℕ)) → Filling wanted filler s t window r0 r1 w0 w1 → Consumes r1 r2 []
+      → IsAtEnd r2 → slice ≡ window → WritesLast gives way filler t u slice w1 w2 → FilledTelling gives way wanted s u r0 r2 w0 w2
+  Filling-ended wanted filler s t u window slice r0 r1 r2 w0 w1 w2 before read end is last =
+      let ended = Ended-then gives way wanted (first_place s) (place_of filler t) last.heard last.games before.input window before.text last.text before.passed
+      (subst (λ (w : Wanted). Ended gives way w (place_of filler t) last.heard last.games window last.text) before.same
+      (subst (λ (l : List ℕ). Ended gives way filler.wanted (place_of filler t) last.heard last.games l last.text) is last.ended)) in
       record {
         input = before.input;
         answers = ended.answers;
@@ -151,7 +187,14 @@ module _ (gives : FourHands → Option (List (List ℕ)) → Type 0) where
         ended = end;
         answered = ended.right;
         written = subst (Appends w0 w2) (sym ended.fills) (Appends-trans w0 w1 w2 before.text last.text before.written last.written);
+        told = subst (λ (l : List Notice). Hears way s l u) (sym ended.tells)
+            (Hears-append way s last.heard u ended.notices (games_in_all last.games ∷ []) ended.hears (Hears-one way last.heard u _ last.counted));
       }
+
+  -- without what was told
+  pub filled-all : (wanted : Wanted) (s t : S) (r0 r1 w0 w1 : Option (List ℕ)) → FilledTelling gives way wanted s t r0 r1 w0 w1 → FilledAll gives wanted r0 r1 w0 w1
+  filled-all wanted s t r0 r1 w0 w1 all =
+      record { input = all.input; answers = all.answers; consumed = all.consumed; ended = all.ended; answered = all.answered; written = all.written }
 
   -- a beginning of what comes out for what was read
   beginning : (wanted : Wanted) (input written : List ℕ) (r0 r2 w0 w2 : Option (List ℕ)) → Consumes r0 r2 input → Appends w0 w2 written → Begun gives wanted first_point input written
@@ -171,29 +214,48 @@ module _ (gives : FourHands → Option (List (List ℕ)) → Type 0) where
         appended = wrote;
       }
 
-  pub Filling-piece_failed : (wanted : Wanted) (filler : Filler) (window piece : List ℕ) (r0 r1 r2 w0 w1 w2 : Option (List ℕ)) → Filling wanted filler window r0 r1 w0 w1 → Consumes r1 r2 piece
-      → WritesBegun gives filler (window ++ piece) w1 w2 → FilledBeginning gives wanted r0 r2 w0 w2
-  Filling-piece_failed wanted filler window piece r0 r1 r2 w0 w1 w2 before read wrote =
+  pub Filling-piece_failed : (wanted : Wanted) (filler : Filler) (s t : S) (window piece : List ℕ) (r0 r1 r2 w0 w1 w2 : Option (List ℕ)) → Filling wanted filler s t window r0 r1 w0 w1
+      → Consumes r1 r2 piece → WritesBegun gives filler (window ++ piece) w1 w2 → FilledBeginning gives wanted r0 r2 w0 w2
+  Filling-piece_failed wanted filler s t window piece r0 r1 r2 w0 w1 w2 before read wrote =
       beginning wanted (before.input ++ piece) (before.text ++ wrote.written) r0 r2 w0 w2 (Consumes-trans r0 r1 r2 before.input piece before.consumed read)
       (Appends-trans w0 w1 w2 before.text wrote.written before.written wrote.appended)
-      (Begun-then gives wanted first_point (point_of filler) (before.input ++ piece) (window ++ piece) before.text wrote.written (further wanted filler window piece r0 r1 w0 w1 before)
+      (Begun-then gives way wanted (first_place s) (place_of filler t) (before.input ++ piece) (window ++ piece) before.text wrote.written (further wanted filler s t window piece r0 r1 w0 w1 before)
       (subst (λ (w : Wanted). Begun gives w (point_of filler) (window ++ piece) wrote.written) before.same wrote.begun))
 
-  pub Filling-last_failed : (wanted : Wanted) (filler : Filler) (window slice : List ℕ) (r0 r1 r2 w0 w1 w2 : Option (List ℕ)) → Filling wanted filler window r0 r1 w0 w1 → Consumes r1 r2 []
-      → slice ≡ window → WritesBegun gives filler slice w1 w2 → FilledBeginning gives wanted r0 r2 w0 w2
-  Filling-last_failed wanted filler window slice r0 r1 r2 w0 w1 w2 before read is wrote =
+  pub Filling-last_failed : (wanted : Wanted) (filler : Filler) (s t : S) (window slice : List ℕ) (r0 r1 r2 w0 w1 w2 : Option (List ℕ)) → Filling wanted filler s t window r0 r1 w0 w1
+      → Consumes r1 r2 [] → slice ≡ window → WritesBegun gives filler slice w1 w2 → FilledBeginning gives wanted r0 r2 w0 w2
+  Filling-last_failed wanted filler s t window slice r0 r1 r2 w0 w1 w2 before read is wrote =
       beginning wanted before.input (before.text ++ wrote.written) r0 r2 w0 w2
       (subst (Consumes r0 r2) (append-nil before.input) (Consumes-trans r0 r1 r2 before.input [] before.consumed read))
       (Appends-trans w0 w1 w2 before.text wrote.written before.written wrote.appended)
-      (Begun-then gives wanted first_point (point_of filler) before.input window before.text wrote.written before.passed
+      (Begun-then gives way wanted (first_place s) (place_of filler t) before.input window before.text wrote.written before.passed
       (subst (λ (w : Wanted). Begun gives w (point_of filler) window wrote.written) before.same
       (subst (λ (l : List ℕ). Begun gives filler.wanted (point_of filler) l wrote.written) is wrote.begun)))
 
-  pub Filling-read_failed : (wanted : Wanted) (filler : Filler) (window : List ℕ) (r0 r1 r2 w0 w1 : Option (List ℕ)) → Filling wanted filler window r0 r1 w0 w1 → Keeps r1 r2
+  pub Filling-read_failed : (wanted : Wanted) (filler : Filler) (s t : S) (window : List ℕ) (r0 r1 r2 w0 w1 : Option (List ℕ)) → Filling wanted filler s t window r0 r1 w0 w1 → Keeps r1 r2
       → FilledBeginning gives wanted r0 r2 w0 w1
-  Filling-read_failed wanted filler window r0 r1 r2 w0 w1 before kept =
+  Filling-read_failed wanted filler s t window r0 r1 r2 w0 w1 before kept =
       beginning wanted before.input before.text r0 r2 w0 w1 (Consumes-kept r0 r1 r2 before.input before.consumed kept) before.written
-      (Begun-part gives wanted false first_point (point_of filler) before.input window before.text before.text [] before.passed (sym (append-nil before.text)))
+      (Begun-part gives way wanted false (first_place s) (place_of filler t) before.input window before.text before.text [] before.passed (sym (append-nil before.text)))
+
+  -- what was heard until it stopped
+  pub Filling-some : (wanted : Wanted) (filler : Filler) (s t : S) (window : List ℕ) (r0 r1 w0 w1 : Option (List ℕ)) → Filling wanted filler s t window r0 r1 w0 w1 → HearsSome way s t
+  Filling-some wanted filler s t window r0 r1 w0 w1 before = record { notices = before.passed.notices; hears = before.passed.hears }
+
+  pub Filling-then-some : (wanted : Wanted) (filler : Filler) (s t u : S) (window : List ℕ) (r0 r1 w0 w1 : Option (List ℕ)) → Filling wanted filler s t window r0 r1 w0 w1 → HearsSome way t u
+      → HearsSome way s u
+  Filling-then-some wanted filler s t u window r0 r1 w0 w1 before some = HearsSome-then way s t u before.passed.notices before.passed.hears some
+
+-- what was heard, whether all came out or memory ran out
+pub front-any : {S : Type 0} (gives : FourHands → Option (List (List ℕ)) → Type 0) (way : S → Notice → S → Type 0) (is_all : Bool) (old new : Filler) (s t : S) (before after o0 o1 : List ℕ)
+    {E : Type 0} (result : Result (Unit {0}) E) → OnOk result (PassesFront gives way is_all old new s t before after o0 o1) → OnErr result (HearsSome way s t) → HearsSome way s t
+front-any gives way is_all old new s t before after o0 o1 (Ok done) front some = record { notices = front.passed.notices; hears = front.passed.hears }
+front-any gives way is_all old new s t before after o0 o1 (Err fault) front some = some
+
+pub ended-any : {S : Type 0} (gives : FourHands → Option (List (List ℕ)) → Type 0) (way : S → Notice → S → Type 0) (wanted : Wanted) (old : Filler) (s t : S) (games : ℕ) (before text : List ℕ)
+    {E : Type 0} (result : Result (Unit {0}) E) → OnOk result (Ended gives way wanted (place_of old s) t games before text) → OnErr result (HearsSome way s t) → HearsSome way s t
+ended-any gives way wanted old s t games before text (Ok done) ended some = record { notices = ended.notices; hears = ended.hears }
+ended-any gives way wanted old s t games before text (Err fault) ended some = some
 
 -- where nothing came
 pub nothing_read : (old new : Option (List ℕ)) (count : ℕ) (buffer : List ℕ) → count ≡ 0 → Consumes old new (take count buffer) → Consumes old new []
@@ -205,6 +267,12 @@ first-point filler state left mode =
     ap (λ (m : Mode). (let p : Point = record { state = filler.state; left = filler.left; mode = m } in p)) mode
     ∙ ap (λ (n : ℕ). (let p : Point = record { state = filler.state; left = n; mode = Head } in p)) left
     ∙ ap (λ (s : FillState). (let p : Point = record { state = s; left = 0; mode = Head } in p)) state
+
+-- and nothing is noted yet
+pub first-place : {S : Type 0} (filler : Filler) (s : S) → point_of filler ≡ first_point → notes_of filler ≡ first_notes → place_of filler s ≡ first_place s
+first-place {S} filler s point notes =
+    ap (λ (p : Point). (let q : Place S = record { point = p; notes = notes_of filler; heard = s } in q)) point
+    ∙ ap (λ (n : GameNotes). (let q : Place S = record { point = first_point; notes = n; heard = s } in q)) notes
 
 -- what holds in any case holds at an error
 pub at-error : {A E P : Type 0} (result : Result A E) → P → OnErr result P

@@ -9,10 +9,12 @@ pub mod Marked
 pub mod Marks
 pub mod Modes
 pub mod Notes
+pub mod Notices
 pub mod Passing
 pub mod Quiet
 pub mod Served
 pub mod Tags
+pub mod Told
 pub mod Values
 pub mod Windows
 pub mod Woven

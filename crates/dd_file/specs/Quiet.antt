@@ -13,7 +13,9 @@ use Rattle.dd_file.specs.Filled.{Found, asks_from, filled_from}
 use Rattle.dd_file.specs.Games.{marked_name}
 use Rattle.dd_file.specs.Modes.{is_blank, next_mode}
 use Rattle.dd_file.specs.Tags.{is_name}
-use Rattle.dd_file.specs.Windows.{Passed, PassesFront, Point, point_of, marked_at}
+use Rattle.dd_file.specs.Notices.{Notice}
+use Rattle.dd_file.specs.Told.{GameNotes, one_more, told_from}
+use Rattle.dd_file.specs.Windows.{Passed, PassesFront, Point, Place, place_of, point_of, marked_at}
 
 -- does nothing begin at a byte that stands so, outside of tags, whatever follows?
 abbrev pub is_quiet : Mode → ℕ → Bool
@@ -132,11 +134,18 @@ noted number state = record state { begun = true; names = marked_name number sta
 abbrev pub required_number : Option ℕ → Option ℕ
 required_number known = option_and_then (λ number. if nat_lt number REQUIRED then Some number else None) known
 
+-- what is noted behind bytes that tell nothing of the game at hand
+abbrev pub later : List ℕ → GameNotes → GameNotes
+later [] notes = notes
+later (byte ∷ bytes) notes = later bytes (record { number = notes.number; board = notes.board; texts = notes.texts; bytes = one_more notes.bytes })
+
 -- From one place to another these bytes come out as they are, whatever is wanted, answered and follows, and no game ends.
 pub record Stays (p q : Point) (bytes : List ℕ) : Type 0 where
   pub fills : (wanted : Wanted) (answers : List (Option Found)) (rest : List ℕ)
       → filled_from wanted answers p.state (marked_at p (bytes ++ rest)) ≡ bytes ++ filled_from wanted answers q.state (marked_at q rest)
   pub asks : (wanted : Wanted) (rest : List ℕ) → asks_from wanted p.state (marked_at p (bytes ++ rest)) ≡ asks_from wanted q.state (marked_at q rest)
+  pub tells : (wanted : Wanted) (answers : List (Option Found)) (notes : GameNotes) (rest : List ℕ)
+      → told_from wanted answers p.state notes (marked_at p (bytes ++ rest)) ≡ told_from wanted answers q.state (later bytes notes) (marked_at q rest)
 
 -- the first bytes of a text were taken in so, and the rest is left
 pub record Takes (old new : Filler) (before after : List ℕ) : Type 0 where
@@ -168,10 +177,10 @@ pub record PassesQuiet (old new : Filler) (text : List ℕ) (count : ℕ) (out_o
   pub stays : Stays (point_of old) (point_of new) (take count text)
 
 -- the first bytes were passed on, at least one and so many at most
-pub record PassesSome (gives : FourHands → Option (List (List ℕ)) → Type 0) (is_all : Bool) (old new : Filler) (rest : List ℕ) (most count : ℕ) (out_old out_new : List ℕ) : Type 0 where
+pub record PassesSome {S : Type 0} (gives : FourHands → Option (List (List ℕ)) → Type 0) (way : S → Notice → S → Type 0) (is_all : Bool) (old new : Filler) (s t : S) (rest : List ℕ) (most count : ℕ) (out_old out_new : List ℕ) : Type 0 where
   pub some : 0 < count
   pub within : count ≤ most
-  pub front : PassesFront gives is_all old new rest (drop count rest) out_old out_new
+  pub front : PassesFront gives way is_all old new s t rest (drop count rest) out_old out_new
 
 -- ---- tags on one line
 
@@ -208,13 +217,14 @@ IsPlace Braced is_first = ⊥
 IsPlace Quoted is_first = ⊥
 IsPlace Backslash is_first = ⊥
 
--- The first so many bytes of a text were passed on, a tag or none, with the lines of a game that ends before it, whatever follows.
-pub record PassesTag (gives : FourHands → Option (List (List ℕ)) → Type 0) (old new : Filler) (text : List ℕ) (count : ℕ) (out_old out_new : List ℕ) : Type 0 where
+-- The first so many bytes of a text were passed on, a tag or none, with the lines of a game that ends before it, whatever follows. This is noted then.
+pub record PassesTag {S : Type 0} (gives : FourHands → Option (List (List ℕ)) → Type 0) (way : S → Notice → S → Type 0) (old new : Filler) (notes : GameNotes) (s t : S) (text : List ℕ) (count : ℕ)
+    (out_old out_new : List ℕ) : Type 0 where
   pub within : count ≤ length text
   pub wanted : new.wanted ≡ old.wanted
   pub added : List ℕ
   pub appended : out_new ≡ out_old ++ added
-  pub passed : Passed gives false old.wanted (point_of old) (point_of new) (take count text) [] added
+  pub passed : Passed gives way false old.wanted (place_of old s) (record { point = point_of new; notes = notes; heard = t }) (take count text) [] added
 
 -- is it a small letter?
 abbrev pub is_small : ℕ → Bool

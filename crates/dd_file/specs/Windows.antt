@@ -1,5 +1,5 @@
 -- What was passed on of a file, whatever follows.
-use Rattle.std.specs.Prelude.{◌≡◌, ℕ, Bool, true, false, List, [], ◌++◌, Option}
+use Rattle.std.specs.Prelude.{◌≡◌, ℕ, Bool, true, false, List, [], ◌∷◌, ◌++◌, Option}
 use Rattle.std.specs.Io.KnownBytes.{Appends}
 use Rattle.dd_cards.specs.Hands.{FourHands}
 use Rattle.dd_file.specs.declared.fill_state.FillState.{FillState}
@@ -10,6 +10,9 @@ use Rattle.dd_file.specs.declared.wanted.Wanted.{Wanted}
 use Rattle.dd_file.specs.Filled.{Ask, Found, AreAnswers, asks_from, filled_from}
 use Rattle.dd_file.specs.Games.{first_state}
 use Rattle.dd_file.specs.Marked.{Marked, marked}
+use Rattle.dd_file.specs.Notes.{notes_of}
+use Rattle.dd_file.specs.Notices.{Notice, Hears, games_in_all}
+use Rattle.dd_file.specs.Told.{GameNotes, first_notes, told_from}
 
 -- a place in a file: the game at hand, what is left of a tag, and how the next byte stands
 pub record Point : Type 0 where
@@ -24,6 +27,18 @@ point_of filler = record { state = filler.state; left = filler.left; mode = fill
 abbrev pub first_point : Point
 first_point = record { state = first_state; left = 0; mode = Head }
 
+-- the same with what is noted of the game at hand, and what is known of the analyst
+pub record Place (S : Type 0) : Type 0 where
+  pub point : Point
+  pub notes : GameNotes
+  pub heard : S
+
+abbrev pub place_of : {S : Type 0} → Filler → S → Place S
+place_of filler heard = record { point = point_of filler; notes = notes_of filler; heard = heard }
+
+abbrev pub first_place : {S : Type 0} → S → Place S
+first_place heard = record { point = first_point; notes = first_notes; heard = heard }
+
 -- these bytes, to the end of the file, marked
 abbrev pub marked_at : Point → List ℕ → Marked
 marked_at point bytes = marked point.left point.mode bytes
@@ -33,20 +48,31 @@ abbrev pub Follows : Bool → List ℕ → Type 0
 Follows true rest = rest ≡ []
 Follows false rest = Unit {0}
 
--- From one place to another this text comes out, whatever follows.
-pub record Passed (gives : FourHands → Option (List (List ℕ)) → Type 0) (is_all : Bool) (wanted : Wanted) (p q : Point) (before after text : List ℕ) : Type 0 where
+-- From one place to another this text comes out, and the analyst hears this, whatever follows.
+pub record Passed {S : Type 0} (gives : FourHands → Option (List (List ℕ)) → Type 0) (way : S → Notice → S → Type 0) (is_all : Bool) (wanted : Wanted) (p q : Place S)
+    (before after text : List ℕ) : Type 0 where
   pub answers : List (Option Found)
   pub asked : List (Option Ask)
+  pub notices : List Notice
   pub right : AreAnswers gives asked answers
+  pub hears : Hears way p.heard notices q.heard
   pub fills : (more : List (Option Found)) (rest : List ℕ) → Follows is_all rest
-      → filled_from wanted (answers ++ more) p.state (marked_at p (before ++ rest)) ≡ text ++ filled_from wanted more q.state (marked_at q (after ++ rest))
-  pub asks : (rest : List ℕ) → Follows is_all rest → asks_from wanted p.state (marked_at p (before ++ rest)) ≡ asked ++ asks_from wanted q.state (marked_at q (after ++ rest))
+      → filled_from wanted (answers ++ more) p.point.state (marked_at p.point (before ++ rest)) ≡ text ++ filled_from wanted more q.point.state (marked_at q.point (after ++ rest))
+  pub asks : (rest : List ℕ) → Follows is_all rest
+      → asks_from wanted p.point.state (marked_at p.point (before ++ rest)) ≡ asked ++ asks_from wanted q.point.state (marked_at q.point (after ++ rest))
+  pub tells : (more : List (Option Found)) (rest : List ℕ) → Follows is_all rest
+      → told_from wanted (answers ++ more) p.point.state p.notes (marked_at p.point (before ++ rest))
+      ≡ notices ++ told_from wanted more q.point.state q.notes (marked_at q.point (after ++ rest))
 
--- these bytes come out so, where nothing follows
-pub record Ended (gives : FourHands → Option (List (List ℕ)) → Type 0) (wanted : Wanted) (p : Point) (before text : List ℕ) : Type 0 where
+-- these bytes come out so, where nothing follows, and the analyst hears all but how many games there are
+pub record Ended {S : Type 0} (gives : FourHands → Option (List (List ℕ)) → Type 0) (way : S → Notice → S → Type 0) (wanted : Wanted) (p : Place S) (heard : S) (games : ℕ)
+    (before text : List ℕ) : Type 0 where
   pub answers : List (Option Found)
-  pub right : AreAnswers gives (asks_from wanted p.state (marked_at p before)) answers
-  pub fills : filled_from wanted answers p.state (marked_at p before) ≡ text
+  pub notices : List Notice
+  pub right : AreAnswers gives (asks_from wanted p.point.state (marked_at p.point before)) answers
+  pub hears : Hears way p.heard notices heard
+  pub fills : filled_from wanted answers p.point.state (marked_at p.point before) ≡ text
+  pub tells : told_from wanted answers p.point.state p.notes (marked_at p.point before) ≡ notices ++ games_in_all games ∷ []
 
 -- a beginning of what comes out for these bytes, where nothing follows
 pub record Begun (gives : FourHands → Option (List (List ℕ)) → Type 0) (wanted : Wanted) (p : Point) (before written : List ℕ) : Type 0 where
@@ -59,24 +85,30 @@ pub record Begun (gives : FourHands → Option (List (List ℕ)) → Type 0) (wa
   pub split : filled_from wanted answers p.state (marked_at p before) ≡ written ++ unwritten
 
 -- the text that comes out stands at the end
-pub record PassesFront (gives : FourHands → Option (List (List ℕ)) → Type 0) (is_all : Bool) (old new : Filler) (before after out_old out_new : List ℕ) : Type 0 where
+pub record PassesFront {S : Type 0} (gives : FourHands → Option (List (List ℕ)) → Type 0) (way : S → Notice → S → Type 0) (is_all : Bool) (old new : Filler) (s t : S)
+    (before after out_old out_new : List ℕ) : Type 0 where
   pub wanted : new.wanted ≡ old.wanted
   pub text : List ℕ
   pub appended : out_new ≡ out_old ++ text
-  pub passed : Passed gives is_all old.wanted (point_of old) (point_of new) before after text
+  pub passed : Passed gives way is_all old.wanted (place_of old s) (place_of new t) before after text
 
 -- the text that comes out was written
-pub record WritesFront (gives : FourHands → Option (List (List ℕ)) → Type 0) (old new : Filler) (before after : List ℕ) (write_old write_new : Option (List ℕ)) : Type 0 where
+pub record WritesFront {S : Type 0} (gives : FourHands → Option (List (List ℕ)) → Type 0) (way : S → Notice → S → Type 0) (old new : Filler) (s t : S) (before after : List ℕ)
+    (write_old write_new : Option (List ℕ)) : Type 0 where
   pub wanted : new.wanted ≡ old.wanted
   pub text : List ℕ
   pub written : Appends write_old write_new text
-  pub passed : Passed gives false old.wanted (point_of old) (point_of new) before after text
+  pub passed : Passed gives way false old.wanted (place_of old s) (place_of new t) before after text
 
--- all that comes out was written
-pub record WritesLast (gives : FourHands → Option (List (List ℕ)) → Type 0) (old : Filler) (before : List ℕ) (write_old write_new : Option (List ℕ)) : Type 0 where
+-- all that comes out was written, and the analyst heard all
+pub record WritesLast {S : Type 0} (gives : FourHands → Option (List (List ℕ)) → Type 0) (way : S → Notice → S → Type 0) (old : Filler) (s t : S) (before : List ℕ)
+    (write_old write_new : Option (List ℕ)) : Type 0 where
   pub text : List ℕ
+  pub games : ℕ
+  pub heard : S
   pub written : Appends write_old write_new text
-  pub ended : Ended gives old.wanted (point_of old) before text
+  pub ended : Ended gives way old.wanted (place_of old s) heard games before text
+  pub counted : way heard (games_in_all games) t
 
 -- a beginning of it was written
 pub record WritesBegun (gives : FourHands → Option (List (List ℕ)) → Type 0) (old : Filler) (before : List ℕ) (write_old write_new : Option (List ℕ)) : Type 0 where

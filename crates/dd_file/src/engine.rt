@@ -1,11 +1,13 @@
 //! A file in, the file with its lines out.
-ghost use Rattle.std.specs.Prelude.{◌≡◌, ◌+◌, ◌<◌, ◌≤◌, ◌++◌, ◌&&◌, [], drop, false, length, nat_le, take, OnOk, OnErr, IfErr, IfOk, IfSome};
+ghost use Rattle.std.specs.Prelude.{◌≡◌, ◌+◌, ◌<◌, ◌≤◌, ◌++◌, ◌&&◌, [], drop, false, length, nat_le, take, OnOk, OnErr, IfErr, IfNone, IfOk, IfSome};
 ghost use Rattle.std.specs.Io.KnownBytes.{Appends};
 ghost use Rattle.dd_lines.specs.CountedDevices.{HasFailed, bytes_of};
 ghost use Rattle.dd_lines.specs.Served.{WroteText};
+ghost use Rattle.dd_file.specs.Notes.{games_of};
+ghost use Rattle.dd_file.specs.Notices.{HearsSome};
 ghost use Rattle.dd_file.specs.Quiet.{PassesSome};
-ghost use Rattle.dd_file.specs.Served.{FillsAll, FillsBeginning, StopsAtFirstFailure, StopsAtWrite};
-ghost use Rattle.dd_file.specs.Windows.{Ended, PassesFront, WritesBegun, WritesFront, WritesLast, point_of};
+ghost use Rattle.dd_file.specs.Served.{FillsAll, FillsBeginning, FillsTelling, StopsAtFirstFailure, StopsAtWrite};
+ghost use Rattle.dd_file.specs.Windows.{Ended, PassesFront, WritesBegun, WritesFront, WritesLast, place_of};
 
 use crate::analyst::Analyst;
 use crate::filler::Filler;
@@ -50,9 +52,14 @@ pub fn fill_file<R: Read, W: Write, A: Analyst>(
     // All was read, and what was written is the file with its lines.
     ensures ok { OnOk result (FillsAll R.remaining W.contents A.gives wanted
         reader.old reader.new writer.old writer.new) }
+    // And by the same answers the analyst was told of its games, from state to state.
+    ensures told { OnOk result (FillsTelling R.remaining W.contents A.gives A.way wanted
+        (A.state analyst.old) (A.state analyst.new) reader.old reader.new writer.old writer.new) }
     // What was written is a beginning of that for what was read.
     ensures err { OnErr result (FillsBeginning R.remaining W.contents A.gives wanted
         reader.old reader.new writer.old writer.new) }
+    // The analyst was told something, or nothing.
+    ensures some { OnErr result (HearsSome A.way (A.state analyst.old) (A.state analyst.new)) }
     // No call failed before the one that ended the run.
     ensures first { StopsAtFirstFailure reader.old reader.new writer.old writer.new result }
     ensures read { result ≡ Err FileFault.Read → HasFailed reader.old reader.new }
@@ -86,12 +93,14 @@ fn take_piece<W: Write, A: Analyst>(
     writer: &mut CountedDevice<W>,
     analyst: &mut A,
 ) -> Result<(), FileFault>
-    ensures ok { OnOk result (WritesFront A.gives filler.old filler.new
+    ensures ok { OnOk result (WritesFront A.gives A.way filler.old filler.new
+        (A.state analyst.old) (A.state analyst.new)
         (window.old.items ++ piece.now) window.new.items
         (bytes_of W.contents writer.old) (bytes_of W.contents writer.new)) }
     ensures err { OnErr result (WritesBegun A.gives filler.old (window.old.items ++ piece.now)
         (bytes_of W.contents writer.old) (bytes_of W.contents writer.new)) }
     ensures fault { StopsAtWrite writer.old writer.new result }
+    ensures stops { OnErr result (HearsSome A.way (A.state analyst.old) (A.state analyst.new)) }
 {
     match window.extend_from_slice(piece) {
         Ok(()) => write_full(alloc, window, filler, writer, analyst),
@@ -107,12 +116,14 @@ fn write_full<W: Write, A: Analyst>(
     writer: &mut CountedDevice<W>,
     analyst: &mut A,
 ) -> Result<(), FileFault>
-    ensures ok { OnOk result (WritesFront A.gives filler.old filler.new
+    ensures ok { OnOk result (WritesFront A.gives A.way filler.old filler.new
+        (A.state analyst.old) (A.state analyst.new)
         window.old.items window.new.items
         (bytes_of W.contents writer.old) (bytes_of W.contents writer.new)) }
     ensures err { OnErr result (WritesBegun A.gives filler.old window.old.items
         (bytes_of W.contents writer.old) (bytes_of W.contents writer.new)) }
     ensures fault { StopsAtWrite writer.old writer.new result }
+    ensures stops { OnErr result (HearsSome A.way (A.state analyst.old) (A.state analyst.new)) }
 {
     if window.len() < WINDOW {
         return Ok(());
@@ -129,12 +140,14 @@ fn write_front<W: Write, A: Analyst>(
     analyst: &mut A,
 ) -> Result<(), FileFault>
     requires { NEAR ≤ length window.old.items }
-    ensures ok { OnOk result (WritesFront A.gives filler.old filler.new
+    ensures ok { OnOk result (WritesFront A.gives A.way filler.old filler.new
+        (A.state analyst.old) (A.state analyst.new)
         window.old.items window.new.items
         (bytes_of W.contents writer.old) (bytes_of W.contents writer.new)) }
     ensures err { OnErr result (WritesBegun A.gives filler.old window.old.items
         (bytes_of W.contents writer.old) (bytes_of W.contents writer.new)) }
     ensures fault { StopsAtWrite writer.old writer.new result }
+    ensures stops { OnErr result (HearsSome A.way (A.state analyst.old) (A.state analyst.new)) }
 {
     let count = window.len() - NEAR;
     let Some(text) = front_text(alloc, window.as_slice(), count, filler, analyst) else {
@@ -153,8 +166,9 @@ fn front_text<A: Analyst>(
     analyst: &mut A,
 ) -> Option<Vec<u8>>
     requires { count + NEAR ≤ length window.now }
-    ensures { IfSome result (λ text. PassesFront A.gives false filler.old filler.new
-        window.now (drop count window.now) [] text.items) }
+    ensures passes { IfSome result (λ text. PassesFront A.gives A.way false filler.old filler.new
+        (A.state analyst.old) (A.state analyst.new) window.now (drop count window.now) [] text.items) }
+    ensures stops { IfNone result (HearsSome A.way (A.state analyst.old) (A.state analyst.new)) }
 {
     foresee(alloc, window, count, false, filler, analyst);
     let mut text = Vec::new(alloc);
@@ -175,6 +189,7 @@ fn foresee<A: Analyst>(
 )
     requires within { count ≤ length window.now }
     requires room { is_all ≡ false → count + NEAR ≤ length window.now }
+    ensures { A.state analyst.new ≡ A.state analyst.old }
 {
     if !analyst.foresees() {
         return;
@@ -182,12 +197,46 @@ fn foresee<A: Analyst>(
     let Ok(mut ahead) = filler.copy() else {
         return;
     };
-    let mut foreseer = Foreseer { analyst };
+    let mut foreseer = Foreseer::new(analyst);
+    pass_by(alloc, window, count, is_all, &mut ahead, &mut foreseer);
+}
+
+// Passes the first bytes of the window on ahead, and tells of the deals that are asked for.
+fn pass_by<'a, A: Analyst>(
+    alloc: Global,
+    window: &[u8],
+    count: usize,
+    is_all: bool,
+    ahead: &mut Filler,
+    foreseer: &mut Foreseer<'a, A>,
+)
+    requires within { count ≤ length window.now }
+    requires room { is_all ≡ false → count + NEAR ≤ length window.now }
+    ensures same_reference { foreseer.new.analyst.ghost_name ≡ foreseer.old.analyst.ghost_name }
+    ensures state { A.state foreseer.new.analyst.now ≡ A.state foreseer.old.analyst.now }
+{
+    pass_ahead(alloc, window, count, is_all, ahead, foreseer);
+}
+
+// Passes on the first bytes of the window, or all of them as the rest of the file, whatever comes out.
+fn pass_ahead<A: Analyst>(
+    alloc: Global,
+    window: &[u8],
+    count: usize,
+    is_all: bool,
+    filler: &mut Filler,
+    analyst: &mut A,
+)
+    requires within { count ≤ length window.now }
+    requires room { is_all ≡ false → count + NEAR ≤ length window.now }
+    ensures { HearsSome A.way (A.state analyst.old) (A.state analyst.new) }
+{
     let mut text = Vec::new(alloc);
-    let passed = pass_front(window, count, is_all, &mut ahead, &mut foreseer, &mut text);
-    if is_all && passed.is_ok() {
-        let _ = ahead.add_last(&mut foreseer, &mut text);
+    if is_all {
+        let _ = add_rest(window, filler, analyst, &mut text);
+        return;
     }
+    let _ = pass_front(window, count, false, filler, analyst, &mut text);
 }
 
 // Takes the first bytes away.
@@ -213,11 +262,13 @@ fn write_last<W: Write, A: Analyst>(
     writer: &mut CountedDevice<W>,
     analyst: &mut A,
 ) -> Result<(), FileFault>
-    ensures ok { OnOk result (WritesLast A.gives filler.old window.now
+    ensures ok { OnOk result (WritesLast A.gives A.way filler.old
+        (A.state analyst.old) (A.state analyst.new) window.now
         (bytes_of W.contents writer.old) (bytes_of W.contents writer.new)) }
     ensures err { OnErr result (WritesBegun A.gives filler.old window.now
         (bytes_of W.contents writer.old) (bytes_of W.contents writer.new)) }
     ensures fault { StopsAtWrite writer.old writer.new result }
+    ensures stops { OnErr result (HearsSome A.way (A.state analyst.old) (A.state analyst.new)) }
 {
     let Some(text) = last_text(alloc, window, filler, analyst) else {
         return Err(FileFault::Memory);
@@ -233,8 +284,10 @@ fn last_text<A: Analyst>(
     filler: &mut Filler,
     analyst: &mut A,
 ) -> Option<Vec<u8>>
-    ensures { IfSome result (λ text. Ended A.gives filler.old.wanted (point_of filler.old)
+    ensures ended { IfSome result (λ text. Ended A.gives A.way filler.old.wanted
+        (place_of filler.old (A.state analyst.old)) (A.state analyst.new) (games_of filler.new)
         window.now text.items) }
+    ensures stops { IfNone result (HearsSome A.way (A.state analyst.old) (A.state analyst.new)) }
 {
     foresee(alloc, window, window.len(), true, filler, analyst);
     let mut text = Vec::new(alloc);
@@ -252,8 +305,10 @@ fn add_rest<A: Analyst>(
     text: &mut Vec<u8>,
 ) -> Result<(), AllocError>
     requires { text.old.items ≡ [] }
-    ensures { OnOk result (Ended A.gives filler.old.wanted (point_of filler.old)
+    ensures ended { OnOk result (Ended A.gives A.way filler.old.wanted
+        (place_of filler.old (A.state analyst.old)) (A.state analyst.new) (games_of filler.new)
         window.now text.new.items) }
+    ensures stops { OnErr result (HearsSome A.way (A.state analyst.old) (A.state analyst.new)) }
 {
     pass_front(window, window.len(), true, filler, analyst, text)?;
     filler.add_last(analyst, text)
@@ -271,8 +326,10 @@ fn pass_front<A: Analyst>(
 ) -> Result<(), AllocError>
     requires within { count ≤ length window.now }
     requires room { is_all ≡ false → count + NEAR ≤ length window.now }
-    ensures { OnOk result (PassesFront A.gives is_all filler.old filler.new
+    ensures passes { OnOk result (PassesFront A.gives A.way is_all filler.old filler.new
+        (A.state analyst.old) (A.state analyst.new)
         window.now (drop count window.now) out.old.items out.new.items) }
+    ensures stops { OnErr result (HearsSome A.way (A.state analyst.old) (A.state analyst.new)) }
 {
     let mut at = 0;
     while at < count {
@@ -293,8 +350,10 @@ fn pass_some<A: Analyst>(
     requires some { 0 < most }
     requires within { most ≤ length rest.now }
     requires room { is_all ≡ false → most + NEAR ≤ length rest.now }
-    ensures { IfOk result (λ count. PassesSome A.gives is_all filler.old filler.new
+    ensures passes { IfOk result (λ count. PassesSome A.gives A.way is_all filler.old filler.new
+        (A.state analyst.old) (A.state analyst.new)
         rest.now most count out.old.items out.new.items) }
+    ensures stops { OnErr result (HearsSome A.way (A.state analyst.old) (A.state analyst.new)) }
 {
     let count = filler.pass_quiet(&rest[..most], out)?;
     if count >= most {
@@ -316,8 +375,10 @@ fn pass_next<A: Analyst>(
     requires some { 0 < most }
     requires within { most ≤ length rest.now }
     requires room { is_all ≡ false → most + NEAR ≤ length rest.now }
-    ensures { IfOk result (λ count. PassesSome A.gives is_all filler.old filler.new
+    ensures passes { IfOk result (λ count. PassesSome A.gives A.way is_all filler.old filler.new
+        (A.state analyst.old) (A.state analyst.new)
         rest.now most count out.old.items out.new.items) }
+    ensures stops { OnErr result (HearsSome A.way (A.state analyst.old) (A.state analyst.new)) }
 {
     let count = filler.pass_tag(&rest[..most], analyst, out)?;
     if count > 0 {
@@ -337,8 +398,10 @@ fn pass_first<A: Analyst>(
 ) -> Result<(), AllocError>
     requires some { 0 < length rest.now }
     requires room { is_all ≡ false → NEAR < length rest.now }
-    ensures { OnOk result (PassesFront A.gives is_all filler.old filler.new
+    ensures passes { OnOk result (PassesFront A.gives A.way is_all filler.old filler.new
+        (A.state analyst.old) (A.state analyst.new)
         rest.now (drop 1 rest.now) out.old.items out.new.items) }
+    ensures stops { OnErr result (HearsSome A.way (A.state analyst.old) (A.state analyst.new)) }
 {
     filler.pass(near_of(rest), is_near(is_all, rest), analyst, out)
 }

@@ -1,22 +1,23 @@
 //! A file passed on by stretches, tags and single bytes, with the lines that its games lack.
-ghost use Rattle.std.specs.Prelude.{◌≡◌, ◌<◌, ◌+◌, ◌-◌, ◌^◌, ◌++◌, [], false, length, min, not, slice_index, take, true, IfOk, IfSome, OnOk};
+ghost use Rattle.std.specs.Prelude.{◌≡◌, ◌<◌, ◌+◌, ◌-◌, ◌^◌, ◌++◌, [], false, length, min, not, slice_index, take, true, IfOk, IfSome, OnErr, OnOk, Option, Some};
 ghost use Rattle.dd_cards.specs.Hands.{FourHands};
 ghost use Rattle.dd_file.specs.Deals.{IsThirteen};
-ghost use Rattle.dd_file.specs.Filled.{IsParFound, added_text, ask_at, ask_of, ask_with, asked_here, ends_last, has_place, needs, par_text, text_here, where_lacking};
+ghost use Rattle.dd_file.specs.Filled.{Found, ask_at, ask_of, ask_with, has_place, needs};
 ghost use Rattle.dd_file.specs.Games.{after_end, conditions_of, ends, first_state, lacks, line_ends, next_state, told, with_byte, with_mark};
-ghost use Rattle.dd_file.specs.Lines.{contract_line, line_with, score_line, table_text, tricks_line};
 ghost use Rattle.dd_file.specs.Marked.{is_closed, left_of, left_within};
 ghost use Rattle.dd_file.specs.Marks.{shown};
 ghost use Rattle.dd_file.specs.Modes.{next_mode};
-ghost use Rattle.dd_file.specs.Notes.{AsksAtEnd, Notes, NotesFirst, board_here, board_of, board_told, board_with, games_of, is_board, no_texts, number_here, texts_here, texts_told, texts_with, unknown_of};
-ghost use Rattle.dd_file.specs.Passing.{AddsAnswer, AddsFound, AddsLast, EndsBefore, EndsHere, KeepsPlace, PassesByte, begins_now, par_found};
+ghost use Rattle.dd_file.specs.Notes.{AsksAtEnd, Notes, NotesFirst, board_of, games_of, notes_of, unknown_of};
+ghost use Rattle.dd_file.specs.Notices.{Hears, HearsSome};
+ghost use Rattle.dd_file.specs.Passing.{AddsAnswer, AddsLast, EndsBefore, EndsHere, KeepsPlace, PassesByte, begins_now};
 ghost use Rattle.dd_file.specs.Quiet.{Counts, IsPlace, KeepsCounts, PassesQuiet, PassesTag, Takes, is_alone, is_quiet, with_line_bytes};
+ghost use Rattle.dd_file.specs.Told.{board_here, board_told, board_with, first_notes, is_board, left_of_game, no_texts, number_here, reason_of, texts_here, texts_told, texts_with, why_at, why_par, why_with, why};
 ghost use Rattle.dd_file.specs.Values.{unescaped};
 
 use crate::analyst::{Analyst, Reason};
-use crate::fill_state::{Conditions, FillState};
+use crate::fill_state::FillState;
+use crate::found_lines::push_found;
 use crate::known_tag::{BOARD, known_number};
-use crate::line_text::{LineEnds, push_contracts, push_score, push_table, push_tricks};
 use crate::mark::{Mark, NEAR, mark_at};
 use crate::mode::{CARRIAGE_RETURN, LINE_FEED, Mode};
 use crate::quiet::{after_calm, after_plain_lines, is_alone};
@@ -25,7 +26,6 @@ use crate::told_texts::{TOLD_BYTES, UnknownTexts, told_front};
 use crate::value::{Unfit, thirteen_in, unescaped};
 use crate::wanted::Wanted;
 use dd_cards::Hands;
-use dd_score::{Order, ParResult, Results, par};
 use std::alloc::{AllocError, Global};
 
 /// A file that is passed on.
@@ -54,6 +54,7 @@ impl Filler {
         ensures left { result.left ≡ 0 }
         ensures state { result.state ≡ first_state }
         ensures number { result.number ≡ 1 }
+        ensures notes { notes_of result ≡ first_notes }
     {
         Filler {
             wanted,
@@ -103,13 +104,15 @@ impl Filler {
         out: &mut Vec<u8>,
     ) -> Result<(), AllocError>
         requires { 0 < length near.now }
-        ensures passes { OnOk result (PassesByte A.gives self.old self.new
+        ensures passes { OnOk result (PassesByte A.gives A.way self.old self.new
+            (A.state analyst.old) (A.state analyst.new)
             (begins_now self.old.left self.old.mode is_all near.now) (slice_index near.now 0)
             out.old.items out.new.items) }
         ensures notes { OnOk result (Notes self.old self.new (begins_now self.old.left self.old.mode is_all near.now)) }
         ensures passed { OnOk result (self.new.passed ≡ min (self.old.passed + 1) (2 ^ 64 - 1)) }
         ensures asks { ends self.old.state (begins_now self.old.left self.old.mode is_all near.now) ≡ false
             → analyst.new ≡ analyst.old }
+        ensures stops { OnErr result (HearsSome A.way (A.state analyst.old) (A.state analyst.new)) }
     {
         let byte = near[0];
         let mark = self.mark(near, is_all);
@@ -151,11 +154,13 @@ impl Filler {
         analyst: &mut A,
         out: &mut Vec<u8>,
     ) -> Result<usize, AllocError>
-        ensures passes { IfOk result (λ count. PassesTag A.gives self.old self.new text.now count out.old.items out.new.items) }
+        ensures passes { IfOk result (λ count. PassesTag A.gives A.way self.old self.new (notes_of self.new)
+            (A.state analyst.old) (A.state analyst.new) text.now count out.old.items out.new.items) }
         ensures counts { IfOk result (λ count. (0 < count → self.new.passed ≡ min (self.old.passed + count) (2 ^ 64 - 1))
             × (count ≡ 0 → KeepsCounts self.old self.new)) }
         ensures notes { IfOk result (λ count. NotesFirst self.old self.new text.now count) }
         ensures asks { IfOk result (λ count. AsksAtEnd self.old text.now analyst.old analyst.new) }
+        ensures stops { OnErr result (HearsSome A.way (A.state analyst.old) (A.state analyst.new)) }
     {
         let Some(is_first) = tag_place(self.left, self.mode) else {
             return Ok(0);
@@ -336,13 +341,14 @@ impl Filler {
         analyst: &mut A,
         out: &mut Vec<u8>,
     ) -> Result<(), AllocError>
-        ensures ends { OnOk result (EndsBefore A.gives self.old self.new (shown mark.now)
-            out.old.items out.new.items) }
+        ensures ends { OnOk result (EndsBefore A.gives A.way self.old self.new
+            (A.state analyst.old) (A.state analyst.new) (shown mark.now) out.old.items out.new.items) }
         ensures passed { OnOk result (self.new.passed ≡ self.old.passed) }
         ensures number { OnOk result (self.new.number ≡ number_here (ends self.old.state (shown mark.now)) self.old.number) }
         ensures board { OnOk result (board_of self.new ≡ board_here (ends self.old.state (shown mark.now)) (board_of self.old)) }
         ensures texts { OnOk result (unknown_of self.new ≡ texts_here (ends self.old.state (shown mark.now)) (unknown_of self.old)) }
         ensures asks { ends self.old.state (shown mark.now) ≡ false → analyst.new ≡ analyst.old }
+        ensures stops { OnErr result (HearsSome A.way (A.state analyst.old) (A.state analyst.new)) }
     {
         let ends = self.state.ends(mark);
         self.end_here(ends, has_place(mark), analyst, out)
@@ -357,12 +363,14 @@ impl Filler {
         analyst: &mut A,
         out: &mut Vec<u8>,
     ) -> Result<(), AllocError>
-        ensures ends { OnOk result (EndsHere A.gives self.old self.new ends has_place out.old.items out.new.items) }
+        ensures ends { OnOk result (EndsHere A.gives A.way self.old self.new
+            (A.state analyst.old) (A.state analyst.new) ends has_place out.old.items out.new.items) }
         ensures passed { OnOk result (self.new.passed ≡ self.old.passed) }
         ensures number { OnOk result (self.new.number ≡ number_here ends self.old.number) }
         ensures board { OnOk result (board_of self.new ≡ board_here ends (board_of self.old)) }
         ensures texts { OnOk result (unknown_of self.new ≡ texts_here ends (unknown_of self.old)) }
         ensures asks { ends ≡ false → analyst.new ≡ analyst.old }
+        ensures stops { OnErr result (HearsSome A.way (A.state analyst.old) (A.state analyst.new)) }
     {
         if !ends {
             return Ok(());
@@ -468,15 +476,17 @@ impl Filler {
         analyst: &mut A,
         out: &mut Vec<u8>,
     ) -> Result<(), AllocError>
-        ensures { OnOk result (AddsAnswer A.gives (ask_at has_place self.now.wanted self.now.state)
-            self.now.wanted self.now.state out.old.items out.new.items) }
+        ensures adds { OnOk result (AddsAnswer A.gives A.way (ask_at has_place self.now.wanted self.now.state)
+            (why has_place self.now.wanted self.now.state (unknown_of self.now))
+            self.now.wanted self.now.state (notes_of self.now)
+            (A.state analyst.old) (A.state analyst.new) out.old.items out.new.items) }
+        ensures stops { OnErr result (HearsSome A.way (A.state analyst.old) (A.state analyst.new)) }
     {
         if has_place {
-            self.add_lines(analyst, out)
-        } else {
-            self.leave(analyst, Reason::NotClosed);
-            Ok(())
+            return self.add_lines(analyst, out);
         }
+        self.leave_open(analyst);
+        Ok(())
     }
 
     /// Adds the lines of a game that the end of the file ends, or tells that it has no end.
@@ -485,14 +495,15 @@ impl Filler {
         analyst: &mut A,
         out: &mut Vec<u8>,
     ) -> Result<(), AllocError>
-        ensures { OnOk result (AddsLast A.gives (is_closed self.now.left self.now.mode) self.now
-            out.old.items out.new.items) }
+        ensures adds { OnOk result (AddsLast A.gives A.way (is_closed self.now.left self.now.mode) self.now
+            (A.state analyst.old) (A.state analyst.new) out.old.items out.new.items) }
+        ensures stops { OnErr result (HearsSome A.way (A.state analyst.old) (A.state analyst.new)) }
     {
         if !self.state.begun {
             return Ok(());
         }
         if !is_closed(self.left, self.mode) {
-            self.leave(analyst, Reason::NotClosed);
+            self.leave_open(analyst);
             return Ok(());
         }
         self.add_lines(analyst, out)
@@ -500,8 +511,11 @@ impl Filler {
 
     // Adds the lines of the game at hand.
     fn add_lines<A: Analyst>(&self, analyst: &mut A, out: &mut Vec<u8>) -> Result<(), AllocError>
-        ensures { OnOk result (AddsAnswer A.gives (ask_of self.now.wanted self.now.state)
-            self.now.wanted self.now.state out.old.items out.new.items) }
+        ensures adds { OnOk result (AddsAnswer A.gives A.way (ask_of self.now.wanted self.now.state)
+            (why true self.now.wanted self.now.state (unknown_of self.now))
+            self.now.wanted self.now.state (notes_of self.now)
+            (A.state analyst.old) (A.state analyst.new) out.old.items out.new.items) }
+        ensures stops { OnErr result (HearsSome A.way (A.state analyst.old) (A.state analyst.new)) }
     {
         if lacks_none(self.state.lacks(self.wanted)) {
             return Ok(());
@@ -509,7 +523,7 @@ impl Filler {
         match thirteen_in(self.state.deal.value()) {
             Ok(deal) => self.add_lines_of(&deal, analyst, out),
             Err(unfit) => {
-                self.leave(analyst, reason_of(unfit));
+                self.leave(analyst, reason_of(unfit), b"");
                 Ok(())
             }
         }
@@ -523,9 +537,12 @@ impl Filler {
         out: &mut Vec<u8>,
     ) -> Result<(), AllocError>
         requires { IsThirteen deal.now }
-        ensures { OnOk result (AddsAnswer A.gives
+        ensures adds { OnOk result (AddsAnswer A.gives A.way
             (ask_with (Ok deal.now) (conditions_of self.now.state) (lacks self.now.wanted self.now.state))
-            self.now.wanted self.now.state out.old.items out.new.items) }
+            (why_with (Ok deal.now) (lacks self.now.wanted self.now.state) self.now.state (unknown_of self.now))
+            self.now.wanted self.now.state (notes_of self.now)
+            (A.state analyst.old) (A.state analyst.new) out.old.items out.new.items) }
+        ensures stops { OnErr result (HearsSome A.way (A.state analyst.old) (A.state analyst.new)) }
     {
         let lacking = self.state.lacks(self.wanted);
         let conditions = self.state.conditions();
@@ -539,21 +556,25 @@ impl Filler {
                 push_found(out, self.state.line_ends(), lacking, &results, conditions)
             }
             None => {
-                self.leave(analyst, Reason::Spent);
+                self.leave(analyst, Reason::Spent, b"");
                 Ok(())
             }
         }
     }
 
     // Tells why the lines of par are lacking, where they are and who calls first or which sides are vulnerable isn't known.
-    fn tell_unknown<A: Analyst>(&self, lacking: Wanted, analyst: &mut A) {
+    fn tell_unknown<A: Analyst>(&self, lacking: Wanted, analyst: &mut A)
+        ensures { Hears A.way (A.state analyst.old)
+            (left_of_game (notes_of self.now) (why_par lacking self.now.state (unknown_of self.now)))
+            (A.state analyst.new) }
+    {
         if !lacking.score && !lacking.contract {
             return;
         }
         if self.state.dealer.value().is_none() {
-            self.leave_unknown(analyst, Reason::NoDealer, self.unknown.dealer.as_slice());
+            self.leave(analyst, Reason::NoDealer, self.unknown.dealer.as_slice());
         } else if self.state.vulnerable.value().is_none() {
-            self.leave_unknown(
+            self.leave(
                 analyst,
                 Reason::NoVulnerable,
                 self.unknown.vulnerable.as_slice(),
@@ -561,18 +582,29 @@ impl Filler {
         }
     }
 
-    // Tells why the game at hand lacks a tag, where it lacks one.
-    fn leave<A: Analyst>(&self, analyst: &mut A, reason: Reason) {
-        self.leave_unknown(analyst, reason, b"");
+    // Tells that the game at hand has no end, or none at which a line can stand, where it lacks a tag.
+    fn leave_open<A: Analyst>(&self, analyst: &mut A)
+        ensures { (answer : Option Found) → Hears A.way (A.state analyst.old)
+            (left_of_game (notes_of self.now) (why false self.now.wanted self.now.state (unknown_of self.now) answer))
+            (A.state analyst.new) }
+    {
+        if !lacks_none(self.state.lacks(self.wanted)) {
+            self.leave(analyst, Reason::NotClosed, b"");
+        }
     }
 
-    // The same, with the text of a tag whose value isn't known.
-    fn leave_unknown<A: Analyst>(&self, analyst: &mut A, reason: Reason, unknown: &[u8]) {
-        let lacking = self.state.lacks(self.wanted);
-        if lacking.tricks || lacking.score || lacking.contract || lacking.table {
-            let board = told_front(self.board.as_slice());
-            analyst.left(self.number, board, reason, unknown);
-        }
+    // Tells why the game at hand lacks a tag, with the text of one whose value isn't known.
+    fn leave<A: Analyst>(&self, analyst: &mut A, reason: Reason, unknown: &[u8])
+        ensures { Hears A.way (A.state analyst.old)
+            (left_of_game (notes_of self.now) (Some record { reason = reason; text = unknown.now }))
+            (A.state analyst.new) }
+    {
+        analyst.left(
+            self.number,
+            told_front(self.board.as_slice()),
+            reason,
+            unknown,
+        );
     }
 }
 
@@ -599,7 +631,9 @@ fn is_board(number: Option<u8>) -> bool
     }
 }
 
-fn reason_of(unfit: Unfit) -> Reason {
+fn reason_of(unfit: Unfit) -> Reason
+    ensures { result ≡ reason_of unfit }
+{
     match unfit {
         Unfit::NoDeal => Reason::NoDeal,
         Unfit::Refused(fault) => Reason::Refused(fault),
@@ -660,129 +694,4 @@ fn needs(lacking: Wanted, has_par: bool) -> bool
     ensures { result ≡ needs lacking has_par }
 {
     (lacking.tricks || lacking.table) || (has_par && (lacking.score || lacking.contract))
-}
-
-// Adds the lines for these results.
-fn push_found(
-    out: &mut Vec<u8>,
-    ends: LineEnds,
-    lacking: Wanted,
-    results: &Results,
-    conditions: Option<Conditions>,
-) -> Result<(), AllocError>
-    ensures { OnOk result (AddsFound ends lacking results.now conditions out.old.items out.new.items) }
-{
-    let found = par_of(results, conditions);
-    push_lines(out, ends, lacking, results, &found)
-}
-
-// Par, where who calls first and which sides are vulnerable is known.
-fn par_of(results: &Results, conditions: Option<Conditions>) -> Option<ParResult>
-    ensures { IsParFound results.now conditions (par_found result) }
-{
-    match conditions {
-        Some(conditions) => Some(par(
-            results,
-            conditions.vulnerable,
-            Order::Dealer(conditions.dealer),
-        )),
-        None => None,
-    }
-}
-
-// Adds those lines that are lacking.
-#[tactic(auto, unfolding(crate::specs::Filled::added_text))]
-fn push_lines(
-    out: &mut Vec<u8>,
-    ends: LineEnds,
-    lacking: Wanted,
-    results: &Results,
-    found: &Option<ParResult>,
-) -> Result<(), AllocError>
-    ensures { OnOk result (out.new.items ≡ out.old.items
-        ++ added_text ends lacking (record { table = results.now; par = par_found found.now })) }
-{
-    push_lacking_tricks(out, ends, lacking, results)?;
-    push_lacking_par(out, ends, lacking, found)?;
-    push_lacking_table(out, ends, lacking, results)
-}
-
-fn push_lacking_tricks(
-    out: &mut Vec<u8>,
-    ends: LineEnds,
-    lacking: Wanted,
-    results: &Results,
-) -> Result<(), AllocError>
-    ensures { OnOk result (out.new.items ≡ out.old.items
-        ++ where_lacking lacking.tricks (line_with ends (tricks_line results.now))) }
-{
-    if lacking.tricks {
-        push_tricks(out, ends, results)
-    } else {
-        Ok(())
-    }
-}
-
-fn push_lacking_table(
-    out: &mut Vec<u8>,
-    ends: LineEnds,
-    lacking: Wanted,
-    results: &Results,
-) -> Result<(), AllocError>
-    ensures { OnOk result (out.new.items ≡ out.old.items
-        ++ where_lacking lacking.table (table_text ends results.now)) }
-{
-    if lacking.table {
-        push_table(out, ends, results)
-    } else {
-        Ok(())
-    }
-}
-
-fn push_lacking_par(
-    out: &mut Vec<u8>,
-    ends: LineEnds,
-    lacking: Wanted,
-    found: &Option<ParResult>,
-) -> Result<(), AllocError>
-    ensures { OnOk result (out.new.items ≡ out.old.items ++ par_text ends lacking (par_found found.now)) }
-{
-    match found {
-        Some(found) => push_par(out, ends, lacking, found),
-        None => Ok(()),
-    }
-}
-
-fn push_par(
-    out: &mut Vec<u8>,
-    ends: LineEnds,
-    lacking: Wanted,
-    found: &ParResult,
-) -> Result<(), AllocError>
-    ensures { OnOk result (out.new.items ≡ out.old.items
-        ++ (where_lacking lacking.score (line_with ends (score_line found.now.score))
-        ++ where_lacking lacking.contract (line_with ends (contract_line found.now.contracts.items)))) }
-{
-    push_lacking_score(out, ends, lacking, found.score)?;
-    if lacking.contract {
-        push_contracts(out, ends, found.contracts.as_slice())
-    } else {
-        Ok(())
-    }
-}
-
-fn push_lacking_score(
-    out: &mut Vec<u8>,
-    ends: LineEnds,
-    lacking: Wanted,
-    score: i16,
-) -> Result<(), AllocError>
-    ensures { OnOk result (out.new.items ≡ out.old.items
-        ++ where_lacking lacking.score (line_with ends (score_line score))) }
-{
-    if lacking.score {
-        push_score(out, ends, score)
-    } else {
-        Ok(())
-    }
 }

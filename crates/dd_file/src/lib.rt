@@ -6,6 +6,7 @@ mod engine;
 mod fill_state;
 mod filler;
 mod foreseer;
+mod found_lines;
 mod kept;
 mod known_tag;
 mod lanes;

@@ -1,6 +1,7 @@
 //! What is told of the tags of a game that is left: the first bytes of their texts.
 ghost use Rattle.std.specs.Prelude.{◌≡◌, ◌≤◌, false, length, take, OnOk};
-ghost use Rattle.dd_file.specs.Notes.{is_dealer, is_known, no_texts, texts_of, texts_told, unknown_text, with_text};
+ghost use Rattle.dd_file.specs.Notes.{texts_of};
+ghost use Rattle.dd_file.specs.Told.{is_dealer, is_known, no_texts, texts_told, unknown_text, with_text};
 ghost use Rattle.dd_file.specs.Values.{unescaped};
 
 use crate::fill_state::FillState;

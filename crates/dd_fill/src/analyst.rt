@@ -34,6 +34,13 @@ impl<'r, 'p, 't, 'e, W: Wait, B: Bounds, E: Write, L: Limit> Analyst
 
     ghost gives = { IsTold L.may_spend };
 
+    // What it says is in no clause.
+    ghost State = { Unit {0} };
+
+    ghost state = { λ _. tt };
+
+    ghost way = { λ _ _ _. Unit {0} };
+
     fn results(&mut self, deal: &Hands) -> Option<Results> {
         let budget = self.limit.positions();
         results_of(

@@ -20,9 +20,17 @@ struct Told {
 impl Analyst for Told {
     ghost gives = { λ _ _. Unit {0} };
 
+    ghost State = { Unit {0} };
+
+    ghost state = { λ _. tt };
+
+    ghost way = { λ _ _ _. Unit {0} };
+
     fn results(&mut self, _deal: &Hands) -> Option<Results> {
         None
     }
+
+    fn passed(&mut self, _games: u64, _bytes: u64) {}
 
     fn left(&mut self, _game: u64, board: &[u8], _reason: Reason, _unknown: &[u8]) {
         self.left = self.left.saturating_add(1);
@@ -31,6 +39,8 @@ impl Analyst for Told {
             let _ = self.board.try_push(*byte);
         }
     }
+
+    fn ended(&mut self, _games: u64) {}
 }
 
 // What is told of the file, which is read in pieces of so many bytes at most.

@@ -1,5 +1,5 @@
 //! How a file was passed on before its lines were passed on by stretches: byte by byte, as the program did it then. The contract of
-//! `fill_file` fixes what comes out, so that is left out here. What an analyst is asked and told, and in which order, is in no clause.
+//! `fill_file` fixes what comes out, so that is left out here. What an analyst is asked, and told ahead, and when, is in no clause.
 ghost use Rattle.std.specs.Prelude.{◌≤◌, length};
 
 mod fill_state;
@@ -89,10 +89,20 @@ struct Foreseer<'a, A> {
 impl<'a, A: Analyst> Analyst for Foreseer<'a, A> {
     ghost gives = { λ _ _. Unit {0} };
 
+    ghost State = { Unit {0} };
+
+    ghost state = { λ _. tt };
+
+    ghost way = { λ _ _ _. Unit {0} };
+
     fn results(&mut self, deal: &Hands) -> Option<Results> {
         self.analyst.foresee(deal);
         None
     }
 
+    fn passed(&mut self, _games: u64, _bytes: u64) {}
+
     fn left(&mut self, _game: u64, _board: &[u8], _reason: Reason, _unknown: &[u8]) {}
+
+    fn ended(&mut self, _games: u64) {}
 }

@@ -186,6 +186,12 @@ impl Mixes {
 impl Analyst for Mixes {
     ghost gives = { λ _ _. Unit {0} };
 
+    ghost State = { Unit {0} };
+
+    ghost state = { λ _. tt };
+
+    ghost way = { λ _ _ _. Unit {0} };
+
     fn results(&mut self, deal: &Hands) -> Option<Results> {
         self.add(1);
         self.add_deal(deal);
@@ -221,6 +227,8 @@ impl Analyst for Mixes {
             self.digest = mixed_bytes(self.digest, text.as_bytes());
         }
     }
+
+    fn ended(&mut self, _games: u64) {}
 }
 
 // What comes out for the file and is told of it, mixed into the number, where it is read in pieces of so many bytes at most.

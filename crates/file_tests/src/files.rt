@@ -48,6 +48,12 @@ impl Known {
 impl Analyst for Known {
     ghost gives = { λ _ _. Unit {0} };
 
+    ghost State = { Unit {0} };
+
+    ghost state = { λ _. tt };
+
+    ghost way = { λ _ _ _. Unit {0} };
+
     fn results(&mut self, _deal: &Hands) -> Option<Results> {
         self.asked = self.asked.saturating_add(1);
         if self.is_spent {
@@ -57,11 +63,15 @@ impl Analyst for Known {
         }
     }
 
+    fn passed(&mut self, _games: u64, _bytes: u64) {}
+
     fn left(&mut self, game: u64, _board: &[u8], reason: Reason, _unknown: &[u8]) {
         self.left = self.left.saturating_add(1);
         self.game = game;
         self.reason = Some(reason);
     }
+
+    fn ended(&mut self, _games: u64) {}
 }
 
 // What is written for the file, which is read in pieces of so many bytes at most.

@@ -50,6 +50,12 @@ fn mixed_deal(digest: u64, deal: &Hands) -> u64 {
 impl Analyst for Listener {
     ghost gives = { λ _ _. Unit {0} };
 
+    ghost State = { Unit {0} };
+
+    ghost state = { λ _. tt };
+
+    ghost way = { λ _ _ _. Unit {0} };
+
     fn results(&mut self, deal: &Hands) -> Option<Results> {
         self.told = mixed_deal(mixed(self.told, 1), deal);
         self.asked = self.asked.wrapping_add(1);

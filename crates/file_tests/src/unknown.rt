@@ -79,9 +79,17 @@ impl Notes {
 impl Analyst for Notes {
     ghost gives = { λ _ _. Unit {0} };
 
+    ghost State = { Unit {0} };
+
+    ghost state = { λ _. tt };
+
+    ghost way = { λ _ _ _. Unit {0} };
+
     fn results(&mut self, _deal: &Hands) -> Option<Results> {
         Results::new(RESULTS)
     }
+
+    fn passed(&mut self, _games: u64, _bytes: u64) {}
 
     fn left(&mut self, _game: u64, _board: &[u8], reason: Reason, unknown: &[u8]) {
         let why = match reason {

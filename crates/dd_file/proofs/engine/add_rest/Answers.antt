@@ -1,10 +1,14 @@
 use Rattle.std.proofs.Common.{◌≤◌, arith, drop_of_length-le, length}
-use Rattle.std.proofs.lemmas.Result.{on_ok_weaker}
-use Rattle.dd_file.proofs.Written.{Ended-front}
+use Rattle.std.proofs.lemmas.Result.{on_ok_weaker, on_err_weaker}
+use Rattle.dd_file.proofs.Written.{Ended-front, front-then-some}
 use Rattle.dd_file.proofs.engine.add_rest.Goals as goal
 
-pub returns : goal.returns
-returns g c =
+pub returns-clause-ended : goal.returns-clause-ended
+returns-clause-ended g c =
     let whole : length c.args.window.now ≤ length c.args.window.now = omega arith in
     on_ok_weaker c.add_last.result
-    (λ last. Ended-front g.A.Analyst.gives _ _ c.args.window.now _ _ _ _ c.requires (drop_of_length-le c.args.window.now whole) c.in_ok-pass_front.ensures last) c.add_last.ensures
+    (λ last. Ended-front g.A.Analyst.gives g.A.Analyst.way _ _ _ _ _ c.args.window.now _ _ _ _ c.requires (drop_of_length-le c.args.window.now whole) c.in_ok-pass_front.ensures.passes last) c.add_last.ensures.adds
+
+pub returns-clause-stops : goal.returns-clause-stops
+returns-clause-stops g c =
+    on_err_weaker c.add_last.result (λ some. front-then-some g.A.Analyst.gives g.A.Analyst.way _ _ _ _ _ _ _ _ _ _ c.in_ok-pass_front.ensures.passes some) c.add_last.ensures.stops

@@ -1,12 +1,13 @@
 use Rattle.std.proofs.Common.{◌<◌, ◌∙◌, length, refl, rules, arith}
 use Rattle.std.proofs.lemmas.Result.{on_ok_weaker, on_err_weaker, err_from_is_err_and}
-use Rattle.dd_file.proofs.Written.{Filling-begun, Filling-further, Filling-ended, Filling-last_failed, Filling-piece_failed, Filling-read_failed, first-point, nothing_read, stops-written, write-failed, no-read-failed}
+use Rattle.dd_file.proofs.Written.{Filling-begun, Filling-further, Filling-ended, Filling-last_failed, Filling-piece_failed, Filling-read_failed, Filling-some, Filling-then-some, filled-all, first-place, first-point, nothing_read, stops-written, write-failed, no-read-failed}
 use Rattle.dd_file.proofs.engine.fill_file.Goals as goal
 
 pub loop-init : goal.loop-init
 loop-init g c =
     record {
-      so_far = Filling-begun g.A.Analyst.gives _ _ _ _ _ c.new-filler.ensures.wanted (first-point c.new-filler.result c.new-filler.ensures.state c.new-filler.ensures.left c.new-filler.ensures.mode) c.new-window.ensures.items;
+      so_far = Filling-begun g.A.Analyst.gives g.A.Analyst.way _ _ _ _ _ _ c.new-filler.ensures.wanted
+          (first-place c.new-filler.result _ (first-point c.new-filler.result c.new-filler.ensures.state c.new-filler.ensures.left c.new-filler.ensures.mode) c.new-filler.ensures.notes) c.new-window.ensures.items;
       reads = refl;
       writes = refl;
       turns = omega arith;
@@ -14,17 +15,21 @@ loop-init g c =
       room = c.requires;
     }
 
-pub returns-in-Ok-eq0-clause-ok : goal.returns-in-Ok-eq0-clause-ok
-returns-in-Ok-eq0-clause-ok g c =
+pub returns-in-Ok-eq0-clause-told : goal.returns-in-Ok-eq0-clause-told
+returns-in-Ok-eq0-clause-told g c =
     let none = c.in-Ok-eq0.field-0-test in
     let read = c.in-Ok-eq0.ensures.bytes in
     let room : 0 < length c.read.new.buf = omega arith in
-    on_ok_weaker c.write_last.result (λ last. Filling-ended g.A.Analyst.gives _ _ _ _ _ _ _ _ _ _ c.loop.invariant.so_far (nothing_read _ _ _ _ none read.0) (read.1 none room) c.as_slice.ensures.value last) c.write_last.ensures.ok
+    on_ok_weaker c.write_last.result (λ last. Filling-ended g.A.Analyst.gives g.A.Analyst.way _ _ _ _ _ _ _ _ _ _ _ _ _ c.loop.invariant.so_far (nothing_read _ _ _ _ none read.0) (read.1 none room) c.as_slice.ensures.value last) c.write_last.ensures.ok
+
+pub returns-in-Ok-eq0-clause-ok : goal.returns-in-Ok-eq0-clause-ok
+returns-in-Ok-eq0-clause-ok g c =
+    on_ok_weaker c.write_last.result (λ all. filled-all g.A.Analyst.gives g.A.Analyst.way _ _ _ _ _ _ _ all) (returns-in-Ok-eq0-clause-told g c)
 
 pub returns-in-Ok-eq0-clause-err : goal.returns-in-Ok-eq0-clause-err
 returns-in-Ok-eq0-clause-err g c =
     let read = nothing_read _ _ _ _ c.in-Ok-eq0.field-0-test c.in-Ok-eq0.ensures.bytes.0 in
-    on_err_weaker c.write_last.result (λ wrote. Filling-last_failed g.A.Analyst.gives _ _ _ _ _ _ _ _ _ _ c.loop.invariant.so_far read c.as_slice.ensures.value wrote) c.write_last.ensures.err
+    on_err_weaker c.write_last.result (λ wrote. Filling-last_failed g.A.Analyst.gives g.A.Analyst.way _ _ _ _ _ _ _ _ _ _ _ _ c.loop.invariant.so_far read c.as_slice.ensures.value wrote) c.write_last.ensures.err
 
 pub returns-in-Ok-eq0-clause-first : goal.returns-in-Ok-eq0-clause-first
 returns-in-Ok-eq0-clause-first g c = stops-written c.args.reader.now c.read.new.self c.args.writer.now c.loop.writer c.write_last.new.writer c.write_last.result (c.in-Ok-eq0.ensures.counted.failures ∙ c.loop.invariant.reads) c.loop.invariant.writes c.write_last.ensures.fault
@@ -39,19 +44,34 @@ returns-in-Ok-eq0-clause-read g c = λ is. absurd (no-read-failed c.loop.writer 
 pub returns-in_err-take_piece-in-Ok-clause-err : goal.returns-in_err-take_piece-in-Ok-clause-err
 returns-in_err-take_piece-in-Ok-clause-err g c =
     let p = err_from_is_err_and c.from_residual.result c.from_residual.ensures.1 in
-    rw p.1 (Filling-piece_failed g.A.Analyst.gives _ _ _ _ _ _ _ _ _ _ c.loop.invariant.so_far c.in-Ok.ensures.bytes.0 c.in_err-take_piece-in-Ok.ensures.err)
+    rw p.1 (Filling-piece_failed g.A.Analyst.gives g.A.Analyst.way _ _ _ _ _ _ _ _ _ _ _ _ c.loop.invariant.so_far c.in-Ok.ensures.bytes.0 c.in_err-take_piece-in-Ok.ensures.err)
 
 pub returns-in-Err-clause-err : goal.returns-in-Err-clause-err
-returns-in-Err-clause-err g c = Filling-read_failed g.A.Analyst.gives _ _ _ _ _ _ _ _ c.loop.invariant.so_far c.in-Err.ensures.bytes
+returns-in-Err-clause-err g c = Filling-read_failed g.A.Analyst.gives g.A.Analyst.way _ _ _ _ _ _ _ _ _ _ c.loop.invariant.so_far c.in-Err.ensures.bytes
 
 pub loop-preserved : goal.loop-preserved
 loop-preserved g c =
     let counted = c.in-Ok.ensures.counted in
     record {
-      so_far = Filling-further g.A.Analyst.gives _ _ _ _ _ _ _ _ _ _ _ _ c.loop.invariant.so_far c.in-Ok.ensures.bytes.0 c.in_ok-take_piece-in-Ok.ensures.ok;
+      so_far = Filling-further g.A.Analyst.gives g.A.Analyst.way _ _ _ _ _ _ _ _ _ _ _ _ _ _ _ c.loop.invariant.so_far c.in-Ok.ensures.bytes.0 c.in_ok-take_piece-in-Ok.ensures.ok;
       reads = counted.failures ∙ c.loop.invariant.reads;
       writes = c.in_ok-take_piece-in-Ok.ensures.fault ∙ c.loop.invariant.writes;
       turns = omega (arith, counted.calls, counted.let_through);
       few = λ _. omega (arith, counted.calls, counted.let_through);
       room = search rules;
     }
+
+pub returns-in-Ok-eq0-clause-some : goal.returns-in-Ok-eq0-clause-some
+returns-in-Ok-eq0-clause-some g c =
+    on_err_weaker c.write_last.result (λ some. Filling-then-some g.A.Analyst.gives g.A.Analyst.way _ _ _ _ _ _ _ _ _ _ c.loop.invariant.so_far some) c.write_last.ensures.stops
+
+pub returns-in_err-take_piece-in-Ok-clause-some : goal.returns-in_err-take_piece-in-Ok-clause-some
+returns-in_err-take_piece-in-Ok-clause-some g c =
+    let p = err_from_is_err_and c.from_residual.result c.from_residual.ensures.1 in
+    rw p.1 (Filling-then-some g.A.Analyst.gives g.A.Analyst.way _ _ _ _ _ _ _ _ _ _ c.loop.invariant.so_far c.in_err-take_piece-in-Ok.ensures.stops)
+
+pub returns-in-Err-clause-some : goal.returns-in-Err-clause-some
+returns-in-Err-clause-some g c = Filling-some g.A.Analyst.gives g.A.Analyst.way _ _ _ _ _ _ _ _ _ c.loop.invariant.so_far
+
+pub returns-clause-some : goal.returns-clause-some
+returns-clause-some g c = Filling-some g.A.Analyst.gives g.A.Analyst.way _ _ _ _ _ _ _ _ _ c.loop.invariant.so_far

@@ -6,7 +6,7 @@ use Rattle.dd_file.proofs.engine.fill_file.Given as goal
 abbrev pub invariant-loop : goal.invariant-loop
 invariant-loop g l =
     record {
-      so_far : Filling g.A.Analyst.gives l.fn.wanted l.filler l.window.items (g.R.Read.remaining (device_of l.fn.reader)) (g.R.Read.remaining (device_of l.reader)) (g.W.Write.contents (device_of l.fn.writer)) (g.W.Write.contents (device_of l.writer));
+      so_far : Filling g.A.Analyst.gives g.A.Analyst.way l.fn.wanted l.filler (g.A.Analyst.state l.fn.analyst) (g.A.Analyst.state l.analyst) l.window.items (g.R.Read.remaining (device_of l.fn.reader)) (g.R.Read.remaining (device_of l.reader)) (g.W.Write.contents (device_of l.fn.writer)) (g.W.Write.contents (device_of l.writer));
       reads : failures_of l.reader ≡ failures_of l.fn.reader;
       writes : failures_of l.writer ≡ failures_of l.fn.writer;
       turns : l.counter ≤ calls_of l.reader;

@@ -7,7 +7,7 @@ abbrev pub invariant-loop-at : goal.invariant-loop-at
 invariant-loop-at g l =
     record {
       within : l.at ≤ l.count;
-      front : PassesFront g.A.Analyst.gives l.is_all l.fn.filler l.filler l.window (drop l.at l.window) l.fn.out.items l.out.items;
+      front : PassesFront g.A.Analyst.gives g.A.Analyst.way l.is_all l.fn.filler l.filler (g.A.Analyst.state l.fn.analyst) (g.A.Analyst.state l.analyst) l.window (drop l.at l.window) l.fn.out.items l.out.items;
     }
 
 abbrev pub decreases-loop-at : goal.decreases-loop-at
