@@ -1,4 +1,5 @@
 pub mod Ahead
 pub mod Notes
+pub mod Said
 pub mod Served
 pub mod Told

@@ -45,6 +45,10 @@ note_text game board reason unknown =
 abbrev pub no_game_text : List ℕ
 no_game_text = codes "ddserve: no game was found: the input has no tag of PBN\n"
 
--- what a terminal's last line shows in place of what it had: how many games have ended, and at which byte of the file
+-- to the beginning of a terminal's last line, and nothing on it
+abbrev pub clear_text : List ℕ
+clear_text = 13 ∷ 27 ∷ codes "[K"
+
+-- what that line shows in place of what it had: how many games have ended, and at which byte of the file
 abbrev pub progress_text : ℕ → ℕ → List ℕ
-progress_text games bytes = (13 ∷ 27 ∷ codes "[K") ++ codes "ddserve: " ++ decimal games ++ codes " games, " ++ decimal bytes ++ codes " bytes"
+progress_text games bytes = clear_text ++ codes "ddserve: " ++ decimal games ++ codes " games, " ++ decimal bytes ++ codes " bytes"

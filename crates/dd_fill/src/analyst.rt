@@ -6,11 +6,11 @@ use crate::deal::Deal;
 use crate::limit::Limit;
 use crate::note::{no_game, note_of};
 use crate::pool::Pool;
-use crate::progress::{clear_progress, show_progress};
+use crate::progress::{say, show_progress};
 use crate::solving::{CLUBS, DIAMONDS, HEARTS, Row, SPADES, results_by_strains, solve_row};
 use dd_cards::{Hands, Strain};
 use dd_file::{Analyst, Reason};
-use dd_lines::{CountedDevice, write_whole};
+use dd_lines::CountedDevice;
 use dd_score::Results;
 use dd_search::Bounds;
 use std::io::Write;
@@ -18,34 +18,76 @@ use std::sync::Wait;
 
 /// Takes results from those that search ahead for a pool, if there is one. Where they have none it searches over a table, each
 /// time within a limit. It says on a device which games are left, and that a file has none.
+// What it has but for the table and the device is behind shared references: else its makers learn nothing of these two.
 #[derive(Drop)]
 pub(crate) struct DealAnalyst<'r, 'p, 't, 'e, W, B, E, L> {
     pub(crate) rt: &'r W,
-    pub(crate) pool: Option<&'p Pool>,
+    pub(crate) pool: &'p Option<&'p Pool>,
     pub(crate) table: &'t mut B,
     pub(crate) errors: &'e mut CountedDevice<E>,
     pub(crate) shows_progress: bool,
-    pub(crate) limit: L,
+    pub(crate) limit: &'r L,
+}
+
+impl<'r, 'p, 't, 'e, W: Wait, B: Bounds, E: Write, L: Limit> DealAnalyst<
+    'r,
+    'p,
+    't,
+    'e,
+    W,
+    B,
+    E,
+    L,
+> {
+    /// Nothing was asked and told yet.
+    pub(crate) fn new(
+        rt: &'r W,
+        pool: &'p Option<&'p Pool>,
+        table: &'t mut B,
+        errors: &'e mut CountedDevice<E>,
+        shows_progress: bool,
+        limit: &'r L,
+    ) -> DealAnalyst<'r, 'p, 't, 'e, W, B, E, L>
+        ensures same_table { result.table.ghost_name ≡ table.entry.ghost_name }
+        ensures same_reference { result.errors.ghost_name ≡ errors.entry.ghost_name }
+        ensures errors { result.errors.now ≡ errors.old }
+        ensures shows { result.shows_progress ≡ shows_progress }
+    {
+        DealAnalyst {
+            rt,
+            pool,
+            table,
+            errors,
+            shows_progress,
+            limit,
+        }
+    }
 }
 
 impl<'r, 'p, 't, 'e, W: Wait, B: Bounds, E: Write, L: Limit> Analyst
     for DealAnalyst<'r, 'p, 't, 'e, W, B, E, L> {
+    ghost use Rattle.dd_fill.specs.Ahead.{SayingOf, SaysTold};
+    ghost use Rattle.dd_fill.specs.Said.{sink_of};
     ghost use Rattle.dd_fill.specs.Told.{IsTold};
 
     ghost gives = { IsTold L.may_spend };
 
-    // What it says is in no clause.
-    ghost State = { Unit {0} };
+    ghost State = { SayingOf };
 
-    ghost state = { λ _. tt };
+    ghost state = { λ a. record {
+      table = a.table.ghost_name;
+      reference = a.errors.ghost_name;
+      shows = a.shows_progress;
+      errors = sink_of E.contents a.errors.now;
+    } };
 
-    ghost way = { λ _ _ _. Unit {0} };
+    ghost way = { SaysTold };
 
     fn results(&mut self, deal: &Hands) -> Option<Results> {
         let budget = self.limit.positions();
         results_of(
             self.rt,
-            self.pool,
+            *self.pool,
             &Deal::new(deal),
             &mut *self.table,
             budget,
@@ -57,7 +99,7 @@ impl<'r, 'p, 't, 'e, W: Wait, B: Bounds, E: Write, L: Limit> Analyst
     }
 
     fn foresee(&mut self, deal: &Hands) {
-        if let Some(pool) = self.pool {
+        if let Some(pool) = *self.pool {
             pool.take_in(self.rt, deal);
         }
     }
@@ -124,11 +166,4 @@ fn found_ahead<W: Wait>(
     ensures { IfSome result (IsRowTold (MaySpend budget) deal.now strain) }
 {
     pool?.row_of(rt, deal, strain, budget)
-}
-
-// Says a line, in place of what is shown in the last one.
-fn say<E: Write>(line: &[u8], errors: &mut CountedDevice<E>, shows_progress: bool) {
-    clear_progress(shows_progress, errors);
-    // Where it fails there is no place left to say so.
-    let _ = write_whole(errors, line);
 }

@@ -1,6 +1,7 @@
 //! A file in, the file with the results of its deals out.
-ghost use Rattle.std.specs.Prelude.{◌<◌, length};
-ghost use Rattle.dd_fill.specs.Ahead.{FillsFile};
+ghost use Rattle.std.specs.Prelude.{◌≡◌, ◌<◌, length};
+ghost use Rattle.dd_fill.specs.Ahead.{FillsFile, FillsSaying};
+ghost use Rattle.dd_fill.specs.Said.{sink_of};
 ghost use Rattle.dd_fill.specs.Served.{Fills};
 ghost use Rattle.dd_fill.specs.Told.{MaySpend};
 
@@ -45,8 +46,10 @@ pub fn fill_deals<
     requires { 0 < length buffer.old }
     // All was read, and what was written is the file with its lines, by the results of its deals, of which none were given up
     // without a budget; or a beginning of that, where a call failed or memory ran out.
-    ensures { Fills R.remaining O.contents (MaySpend budget) wanted
-        reader.old reader.new writer.old writer.new result }
+    // Of each game that lacks a tag which is wanted a line was said, and else nothing but how far it is, where that is shown.
+    ensures { Fills R.remaining O.contents (MaySpend budget) wanted shows_progress
+        reader.old reader.new writer.old writer.new
+        (sink_of E.contents errors.old) (sink_of E.contents errors.new) result }
 {
     if others.is_empty() {
         fill_by(
@@ -101,8 +104,9 @@ fn fill_with_help<
     buffer: &mut [u8],
 ) -> Result<(), FileFault>
     requires { 0 < length buffer.old }
-    ensures { FillsFile R.remaining O.contents (MaySpend budget) wanted
-        reader.old reader.new writer.old writer.new result }
+    ensures { FillsFile R.remaining O.contents (MaySpend budget) wanted shows_progress
+        reader.old reader.new writer.old writer.new
+        (sink_of E.contents errors.old) (sink_of E.contents errors.new) result }
 {
     let pool = Pool::new(alloc, budget);
     let (_, result) = join_mut(
@@ -154,8 +158,9 @@ fn fill_by<W: Wait, R: Read, O: Write, E: Write, B: Bounds>(
     buffer: &mut [u8],
 ) -> Result<(), FileFault>
     requires { 0 < length buffer.old }
-    ensures { FillsFile R.remaining O.contents (MaySpend budget) wanted
-        reader.old reader.new writer.old writer.new result }
+    ensures { FillsFile R.remaining O.contents (MaySpend budget) wanted shows_progress
+        reader.old reader.new writer.old writer.new
+        (sink_of E.contents errors.old) (sink_of E.contents errors.new) result }
 {
     match budget {
         Some(positions) => fill_within(
@@ -202,18 +207,65 @@ fn fill_within<W: Wait, R: Read, O: Write, E: Write, B: Bounds, L: Limit>(
     buffer: &mut [u8],
 ) -> Result<(), FileFault>
     requires { 0 < length buffer.old }
-    ensures { Fills R.remaining O.contents L.may_spend wanted
-        reader.old reader.new writer.old writer.new result }
+    ensures { Fills R.remaining O.contents L.may_spend wanted shows_progress
+        reader.old reader.new writer.old writer.new
+        (sink_of E.contents errors.old) (sink_of E.contents errors.new) result }
 {
-    let mut analyst = DealAnalyst {
+    let filled = fill_saying(
         rt,
+        alloc,
+        wanted,
+        reader,
+        writer,
+        errors,
+        shows_progress,
         pool,
         table,
-        errors: &mut *errors,
-        shows_progress,
         limit,
-    };
-    let filled = fill_file(alloc, wanted, reader, writer, &mut analyst, buffer);
+        buffer,
+    );
     clear_progress(shows_progress, errors);
     filled
+}
+
+// The same, where the last line of a terminal may be left.
+fn fill_saying<W: Wait, R: Read, O: Write, E: Write, B: Bounds, L: Limit>(
+    rt: &W,
+    alloc: Global,
+    wanted: Wanted,
+    reader: &mut CountedDevice<R>,
+    writer: &mut CountedDevice<O>,
+    errors: &mut CountedDevice<E>,
+    shows_progress: bool,
+    pool: Option<&Pool>,
+    table: &mut B,
+    limit: L,
+    buffer: &mut [u8],
+) -> Result<(), FileFault>
+    requires { 0 < length buffer.old }
+    ensures { FillsSaying R.remaining O.contents L.may_spend wanted shows_progress
+        reader.old reader.new writer.old writer.new
+        (sink_of E.contents errors.old) (sink_of E.contents errors.new) result }
+{
+    let mut analyst = DealAnalyst::new(rt, &pool, table, errors, shows_progress, &limit);
+    fill_by_analyst(alloc, wanted, reader, writer, &mut analyst, buffer)
+}
+
+// The same by an analyst, which keeps its references.
+fn fill_by_analyst<'r, 'p, 't, 'e, W: Wait, R: Read, O: Write, E: Write, B: Bounds, L: Limit>(
+    alloc: Global,
+    wanted: Wanted,
+    reader: &mut CountedDevice<R>,
+    writer: &mut CountedDevice<O>,
+    analyst: &mut DealAnalyst<'r, 'p, 't, 'e, W, B, E, L>,
+    buffer: &mut [u8],
+) -> Result<(), FileFault>
+    requires { 0 < length buffer.old }
+    ensures same_table { analyst.new.table.ghost_name ≡ analyst.old.table.ghost_name }
+    ensures same_reference { analyst.new.errors.ghost_name ≡ analyst.old.errors.ghost_name }
+    ensures fills { FillsSaying R.remaining O.contents L.may_spend wanted analyst.old.shows_progress
+        reader.old reader.new writer.old writer.new
+        (sink_of E.contents analyst.old.errors.now) (sink_of E.contents analyst.new.errors.now) result }
+{
+    fill_file(alloc, wanted, reader, writer, analyst, buffer)
 }

@@ -1,6 +1,7 @@
 //! What is shown of a run while it goes on, in the last line of a terminal.
-ghost use Rattle.std.specs.Prelude.{◌≡◌};
+ghost use Rattle.std.specs.Prelude.{◌≡◌, ◌++◌, ◌∷◌, []};
 ghost use Rattle.dd_fill.specs.Notes.{progress_text};
+ghost use Rattle.dd_fill.specs.Said.{Says, SaysAll, clear_texts, progress_texts, sink_of};
 
 use crate::note::{Note, push};
 use dd_lines::{CountedDevice, write_whole};
@@ -16,19 +17,40 @@ pub(crate) fn show_progress<E: Write>(
     games: u64,
     bytes: u64,
     errors: &mut CountedDevice<E>,
-) {
-    if shows_progress {
-        let text = progress_of(games, bytes);
-        // Where it fails there is no place left to say so.
-        let _ = write_whole(errors, text.as_slice());
+)
+    ensures { SaysAll (progress_texts shows_progress games bytes) (sink_of E.contents errors.old) (sink_of E.contents errors.new) }
+{
+    if !shows_progress {
+        return;
     }
+    let text = progress_of(games, bytes);
+    say_text(text.as_slice(), errors);
 }
 
 /// Shows nothing in the last line, where that was to be shown.
-pub(crate) fn clear_progress<E: Write>(shows_progress: bool, errors: &mut CountedDevice<E>) {
-    if shows_progress {
-        let _ = write_whole(errors, CLEAR);
+pub(crate) fn clear_progress<E: Write>(shows_progress: bool, errors: &mut CountedDevice<E>)
+    ensures { SaysAll (clear_texts shows_progress) (sink_of E.contents errors.old) (sink_of E.contents errors.new) }
+{
+    if !shows_progress {
+        return;
     }
+    say_text(CLEAR, errors);
+}
+
+/// Says a line, in place of what is shown in the last one.
+pub(crate) fn say<E: Write>(line: &[u8], errors: &mut CountedDevice<E>, shows_progress: bool)
+    ensures { SaysAll (clear_texts shows_progress ++ line.now ∷ []) (sink_of E.contents errors.old) (sink_of E.contents errors.new) }
+{
+    clear_progress(shows_progress, errors);
+    say_text(line, errors);
+}
+
+// Says a text.
+fn say_text<E: Write>(text: &[u8], errors: &mut CountedDevice<E>)
+    ensures { Says text.now (sink_of E.contents errors.old) (sink_of E.contents errors.new) }
+{
+    // Where it fails there is no place left to say so.
+    let _ = write_whole(errors, text);
 }
 
 /// The line's text, which stands in place of what was there.

@@ -114,13 +114,14 @@ untold-start terms events address line input before output errors errors2 ending
     (record { input = refl; output = inl (address, subst (λ l. WritesBeginning l before output) line-is begins); said = said })
 
 -- so what arguments of `serve` ask for is done
-pub as-serve : (args : Args) (listen : String Global) (workers shards entries : ℕ) (budget : Option ℕ) (events : ℕ) (idle : Option ℕ) (websocket allow_stop explain : Bool) (old new : Streams) (ending : Ending)
-    → args ≡ Serve listen workers shards entries budget events idle websocket allow_stop explain
-    → ServesUntil (terms_for budget allow_stop explain) events old new ending → AnswersUntil args old new ending
-as-serve args listen workers shards entries budget events idle websocket allow_stop explain old new ending is serves = subst (λ a. AnswersUntil a old new ending) (sym is) serves
+pub as-serve : (args : Args) (listen : String Global) (workers shards entries : ℕ) (budget : Option ℕ) (events : ℕ) (idle : Option ℕ) (websocket allow_stop explain is_terminal : Bool)
+    (old new : Streams) (ending : Ending) → args ≡ Serve listen workers shards entries budget events idle websocket allow_stop explain
+    → ServesUntil (terms_for budget allow_stop explain) events old new ending → AnswersUntil is_terminal args old new ending
+as-serve args listen workers shards entries budget events idle websocket allow_stop explain is_terminal old new ending is serves =
+    subst (λ a. AnswersUntil is_terminal a old new ending) (sym is) serves
 
 -- and what those of `pbn` do
-pub as-fill : (args : Args) (tags : String Global) (budget : Option ℕ) (entries workers : ℕ) (text : List ℕ) (old new : Streams) (ending : Ending) → args ≡ Fill tags budget entries workers
-    → text ≡ string_bytes tags → FillsUntil text budget old new ending → AnswersUntil args old new ending
-as-fill args tags budget entries workers text old new ending is same fills =
-    subst (λ a. AnswersUntil a old new ending) (sym is) (subst (λ t. FillsUntil t budget old new ending) same fills)
+pub as-fill : (args : Args) (tags : String Global) (budget : Option ℕ) (entries workers : ℕ) (text : List ℕ) (is_terminal : Bool) (old new : Streams) (ending : Ending)
+    → args ≡ Fill tags budget entries workers → text ≡ string_bytes tags → FillsUntil text budget is_terminal old new ending → AnswersUntil is_terminal args old new ending
+as-fill args tags budget entries workers text is_terminal old new ending is same fills =
+    subst (λ a. AnswersUntil is_terminal a old new ending) (sym is) (subst (λ t. FillsUntil t budget is_terminal old new ending) same fills)

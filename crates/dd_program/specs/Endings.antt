@@ -20,10 +20,12 @@ use Rattle.dd_program.specs.ListenFaults.{line_of_fault}
 use Rattle.dd_program.specs.declared.listen_fault.ListenFault.{ListenFault}
 use Rattle.dd_command.specs.Program.{program_app}
 use Rattle.dd_program.specs.Tags.{wanted_by}
-use Rattle.dd_file.specs.Served.{FilledAll, FilledBeginning}
+use Rattle.dd_file.specs.Served.{FilledBeginning}
 use Rattle.dd_file.specs.declared.engine.FileFault.{FileFault}
 use Rattle.dd_file.specs.declared.engine.FileFault.TheVariants as file
 use Rattle.dd_file.specs.declared.wanted.Wanted.{Wanted}
+use Rattle.dd_fill.specs.Said.{Sink}
+use Rattle.dd_fill.specs.Served.{FilledSaying, SaysSome}
 use Rattle.dd_fill.specs.Told.{IsTold, MaySpend}
 use Rattle.dd_server.specs.Histories.{IsLengthOfHistory}
 use Rattle.dd_server.specs.declared.args.ServeFault.{ServeFault}
@@ -263,9 +265,13 @@ EndsSo (Err NoMemoryLeft) failed errors errors2 ending = (ending ≡ OutOfMemory
 
 -- ---- a file is filled
 
--- all that came was read and passed on with its lines, and no call failed
-pub record FillsFile (may_spend : Type 0) (wanted : Wanted) (old new : Streams) : Type 0 where
-  pub filled : FilledAll (IsTold may_spend) wanted old.input.bytes new.input.bytes old.output.bytes new.output.bytes
+-- what is known of the standard error
+abbrev pub sink_of : Device → Sink
+sink_of device = record { bytes = device.bytes; failures = device.failures }
+
+-- all that came was read and passed on with its lines, it was said of each game that lacks one why, and no call of these two devices failed
+pub record FillsFile (may_spend : Type 0) (wanted : Wanted) (shows : Bool) (old new : Streams) : Type 0 where
+  pub filled : FilledSaying may_spend wanted shows old.input.bytes new.input.bytes old.output.bytes new.output.bytes (sink_of old.errors) (sink_of new.errors)
   pub reads : new.input.failures ≡ old.input.failures
   pub writes : new.output.failures ≡ old.output.failures
 
@@ -274,30 +280,30 @@ abbrev pub FillsInPart : Type 0 → Wanted → Streams → Streams → Type 0
 FillsInPart may_spend wanted old new =
     FilledBeginning (IsTold may_spend) wanted old.input.bytes new.input.bytes old.output.bytes new.output.bytes
 
--- the text was said behind the notes of games
-abbrev pub SaysLast : List ℕ → Device → Type 0
-SaysLast text errors = (before : Device) × Writes text before errors
+-- the text was said behind notes of games
+abbrev pub SaysLast : List ℕ → Bool → Device → Device → Type 0
+SaysLast text shows old new = (before : Device) × SaysSome shows (sink_of old) (sink_of before) × Writes text before new
 
 -- a read failed, and what was written is a beginning of what was to come
-pub record FailsToReadFile (may_spend : Type 0) (wanted : Wanted) (old new : Streams) : Type 0 where
+pub record FailsToReadFile (may_spend : Type 0) (wanted : Wanted) (shows : Bool) (old new : Streams) : Type 0 where
   pub filled : FillsInPart may_spend wanted old new
   pub reads : Fails old.input new.input
   pub writes : new.output.failures ≡ old.output.failures
-  pub said : SaysLast (line_of ReadFailed) new.errors
+  pub said : SaysLast (line_of ReadFailed) shows old.errors new.errors
 
 -- the same of a write
-pub record FailsToWriteFile (may_spend : Type 0) (wanted : Wanted) (old new : Streams) : Type 0 where
+pub record FailsToWriteFile (may_spend : Type 0) (wanted : Wanted) (shows : Bool) (old new : Streams) : Type 0 where
   pub filled : FillsInPart may_spend wanted old new
   pub reads : new.input.failures ≡ old.input.failures
   pub writes : Fails old.output new.output
-  pub said : SaysLast (line_of WriteFailed) new.errors
+  pub said : SaysLast (line_of WriteFailed) shows old.errors new.errors
 
 -- the same where memory ran out, and no call failed
-pub record RunsOutOfMemory (may_spend : Type 0) (wanted : Wanted) (old new : Streams) : Type 0 where
+pub record RunsOutOfMemory (may_spend : Type 0) (wanted : Wanted) (shows : Bool) (old new : Streams) : Type 0 where
   pub filled : FillsInPart may_spend wanted old new
   pub reads : new.input.failures ≡ old.input.failures
   pub writes : new.output.failures ≡ old.output.failures
-  pub said : SaysLast (line_of OutOfMemory) new.errors
+  pub said : SaysLast (line_of OutOfMemory) shows old.errors new.errors
 
 -- how it ends
 abbrev pub ending_of : Result (Unit {0}) FileFault → Ending
@@ -306,13 +312,13 @@ ending_of (Err file.Read) = ReadFailed
 ending_of (Err file.Write) = WriteFailed
 ending_of (Err file.Memory) = OutOfMemory
 
--- the input is passed on with the lines that are wanted, up to this ending
-abbrev pub EndsFilling : Type 0 → Wanted → Streams → Streams → Ending → Type 0
-EndsFilling may_spend wanted old new Filled = FillsFile may_spend wanted old new
-EndsFilling may_spend wanted old new ReadFailed = FailsToReadFile may_spend wanted old new
-EndsFilling may_spend wanted old new WriteFailed = FailsToWriteFile may_spend wanted old new
-EndsFilling may_spend wanted old new OutOfMemory = RunsOut old new ⊎ RunsOutOfMemory may_spend wanted old new
-EndsFilling may_spend wanted old new _ = ⊥
+-- the input is passed on with the lines that are wanted, up to this ending; the progress is shown, or not
+abbrev pub EndsFilling : Type 0 → Wanted → Bool → Streams → Streams → Ending → Type 0
+EndsFilling may_spend wanted shows old new Filled = FillsFile may_spend wanted shows old new
+EndsFilling may_spend wanted shows old new ReadFailed = FailsToReadFile may_spend wanted shows old new
+EndsFilling may_spend wanted shows old new WriteFailed = FailsToWriteFile may_spend wanted shows old new
+EndsFilling may_spend wanted shows old new OutOfMemory = RunsOut old new ⊎ RunsOutOfMemory may_spend wanted shows old new
+EndsFilling may_spend wanted shows old new _ = ⊥
 
 -- what is said where a name is no tag's
 abbrev pub tags_line : List ℕ
@@ -326,19 +332,19 @@ pub record RefusesTags (ending : Ending) (old new : Streams) : Type 0 where
   pub said : Writes tags_line old.errors new.errors
 
 -- the same of tags that a text names, or not
-abbrev pub FillsWanted : Option Wanted → Option ℕ → Streams → Streams → Ending → Type 0
-FillsWanted None budget old new ending = RefusesTags ending old new
-FillsWanted (Some wanted) budget old new ending = EndsFilling (MaySpend budget) wanted old new ending
+abbrev pub FillsWanted : Option Wanted → Option ℕ → Bool → Streams → Streams → Ending → Type 0
+FillsWanted None budget shows old new ending = RefusesTags ending old new
+FillsWanted (Some wanted) budget shows old new ending = EndsFilling (MaySpend budget) wanted shows old new ending
 
-abbrev pub FillsUntil : List ℕ → Option ℕ → Streams → Streams → Ending → Type 0
-FillsUntil tags budget old new ending = FillsWanted (wanted_by tags) budget old new ending
+abbrev pub FillsUntil : List ℕ → Option ℕ → Bool → Streams → Streams → Ending → Type 0
+FillsUntil tags budget shows old new ending = FillsWanted (wanted_by tags) budget shows old new ending
 
--- what the arguments ask for is done, up to this ending
-abbrev pub AnswersUntil : Args → Streams → Streams → Ending → Type 0
-AnswersUntil (Solve budget entries workers explain) old new ending = SolvesUntil (IsReplyAs explain budget) old new ending
-AnswersUntil (Serve listen workers shards entries budget events idle websocket allow_stop explain) old new ending =
+-- what the arguments ask for is done, up to this ending; progress is shown where the standard error is a terminal
+abbrev pub AnswersUntil : Bool → Args → Streams → Streams → Ending → Type 0
+AnswersUntil is_terminal (Solve budget entries workers explain) old new ending = SolvesUntil (IsReplyAs explain budget) old new ending
+AnswersUntil is_terminal (Serve listen workers shards entries budget events idle websocket allow_stop explain) old new ending =
     ServesUntil (terms_for budget allow_stop explain) events old new ending
-AnswersUntil (Fill tags budget entries workers) old new ending = FillsUntil (string_bytes tags) budget old new ending
+AnswersUntil is_terminal (Fill tags budget entries workers) old new ending = FillsUntil (string_bytes tags) budget is_terminal old new ending
 
 -- ---- an error is shown
 
@@ -375,8 +381,8 @@ ShowsUntil error old new _ = ⊥
 
 -- What a run does up to its ending: it answers lines, serves clients or fills a file where the arguments ask for that, and else shows their error; or memory ran
 -- out before either.
-abbrev pub Runs : Words → Streams → Streams → Ending → Type 0
-Runs arguments old new ending =
-    ((args : Args) × AskFor arguments args × AnswersUntil args old new ending)
+abbrev pub Runs : Words → Bool → Streams → Streams → Ending → Type 0
+Runs arguments is_terminal old new ending =
+    ((args : Args) × AskFor arguments args × AnswersUntil is_terminal args old new ending)
     ⊎ ((error : ErrorKind) × AskForNothing arguments × HaveError arguments error × ShowsUntil error old new ending)
     ⊎ ((ending ≡ OutOfMemory) × RunsOut old new)

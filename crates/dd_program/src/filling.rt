@@ -1,5 +1,5 @@
 //! The filling of files.
-ghost use Rattle.std.specs.Prelude.{◌≡◌, ◌≤◌, IfErr};
+ghost use Rattle.std.specs.Prelude.{◌≡◌, ◌≤◌, IfErr, OnOk};
 ghost use Rattle.dd_fill.specs.Told.{MaySpend};
 ghost use Rattle.dd_command.specs.CommandLine.{IsTableSize};
 ghost use Rattle.dd_program.specs.Endings.{ending_of, line_of, state_of, streams, tags_line, EndsFilling, FillsUntil, Writes};
@@ -53,7 +53,7 @@ pub(crate) fn fill<W: Threads + Wait + Sync, R: Read, O: Write, E: Write>(
     errors: &mut CountedDevice<E>,
 ) -> Ending
     requires { IsTableSize args.entries }
-    ensures { FillsUntil tags.now args.budget
+    ensures { FillsUntil tags.now args.budget args.shows_progress
         (streams (state_of R.remaining reader.old) (state_of O.contents output.old)
         (state_of E.contents errors.old))
         (streams (state_of R.remaining reader.new) (state_of O.contents output.new)
@@ -86,7 +86,7 @@ fn fill_wanted<W: Threads + Wait + Sync, R: Read, O: Write, E: Write>(
     errors: &mut CountedDevice<E>,
 ) -> Ending
     requires { IsTableSize args.entries }
-    ensures { EndsFilling (MaySpend args.budget) wanted
+    ensures { EndsFilling (MaySpend args.budget) wanted args.shows_progress
         (streams (state_of R.remaining reader.old) (state_of O.contents output.old)
         (state_of E.contents errors.old))
         (streams (state_of R.remaining reader.new) (state_of O.contents output.new)
@@ -137,7 +137,7 @@ fn fill_over<W: Threads + Wait + Sync, B: Bounds, H: Bounds + Send, R: Read, O: 
     table: &mut B,
     others: &mut [H],
 ) -> Ending
-    ensures { EndsFilling (MaySpend args.budget) wanted
+    ensures { EndsFilling (MaySpend args.budget) wanted args.shows_progress
         (streams (state_of R.remaining reader.old) (state_of O.contents output.old)
         (state_of E.contents errors.old))
         (streams (state_of R.remaining reader.new) (state_of O.contents output.new)
@@ -163,6 +163,7 @@ fn fill_over<W: Threads + Wait + Sync, B: Bounds, H: Bounds + Send, R: Read, O: 
 /// How the filling ends, which is said where it is a failure.
 fn end<E: Write>(filled: Result<(), FileFault>, errors: &mut CountedDevice<E>) -> Ending
     ensures ending { result ≡ ending_of filled }
+    ensures silent { OnOk filled (state_of E.contents errors.new ≡ state_of E.contents errors.old) }
     ensures says { IfErr filled (λ _. Writes (line_of result)
         (state_of E.contents errors.old) (state_of E.contents errors.new)) }
 {

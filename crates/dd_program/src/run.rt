@@ -59,7 +59,7 @@ pub fn run_program<
     errors: &mut CountedDevice<E>,
     is_terminal: bool,
 ) -> Ending
-    ensures { Runs (arguments_of arguments)
+    ensures { Runs (arguments_of arguments) is_terminal
         (streams (state_of R.remaining reader.old) (state_of O.contents output.old)
         (state_of E.contents errors.old))
         (streams (state_of R.remaining reader.new) (state_of O.contents output.new)

@@ -15,7 +15,7 @@ returns-in-Ok-Serve g c =
     inl (
       c.in-Ok-Serve.field-0,
       c.in-Ok-Serve.ensures.asked,
-      as-serve c.in-Ok-Serve.field-0 _ _ _ _ _ _ _ _ _ _ (streams input (state_of g.O.Write.contents c.args.output.now) (state_of g.E.Write.contents c.args.errors.now))
+      as-serve c.in-Ok-Serve.field-0 _ _ _ _ _ _ _ _ _ _ c.args.is_terminal (streams input (state_of g.O.Write.contents c.args.output.now) (state_of g.E.Write.contents c.args.errors.now))
           (streams input (state_of g.O.Write.contents c.serve.new.output) (state_of g.E.Write.contents c.serve.new.errors)) c.serve.result c.in-Ok-Serve.field-0-is (c.serve.ensures input),
     )
 
@@ -25,6 +25,6 @@ returns-in-Ok-Fill g c =
     inl (
       c.in-Ok-Fill.field-0,
       c.in-Ok-Fill.ensures.asked,
-      as-fill c.in-Ok-Fill.field-0 _ _ _ _ c.as_str-in-Ok-Fill.result.now (streams (input c.args.reader.now) (state_of g.O.Write.contents c.args.output.now) (state_of g.E.Write.contents c.args.errors.now))
+      as-fill c.in-Ok-Fill.field-0 _ _ _ _ c.as_str-in-Ok-Fill.result.now c.args.is_terminal (streams (input c.args.reader.now) (state_of g.O.Write.contents c.args.output.now) (state_of g.E.Write.contents c.args.errors.now))
           (streams (input c.fill.new.reader) (state_of g.O.Write.contents c.fill.new.output) (state_of g.E.Write.contents c.fill.new.errors)) c.fill.result c.in-Ok-Fill.field-0-is c.as_str-in-Ok-Fill.ensures.value c.fill.ensures,
     )
