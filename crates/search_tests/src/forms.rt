@@ -173,11 +173,11 @@ fn compare_each<R: AllocGlobal + Abort>(
 #[test]
 fn both_forms_find_what_was_found_with_few_tricks(rt: HostRuntime) -> Result<(), AllocError> {
     let rows = [
-        (4, 16, 10_361_023_606_899_171_627),
-        (5, 16, 14_204_204_738_532_711_526),
-        (6, 16, 5_558_816_276_067_857_813),
-        (7, 16, 10_667_224_856_535_856_646),
-        (8, 10, 17_579_057_897_480_678_547),
+        (4, 16, 7_827_678_740_649_999_591),
+        (5, 16, 12_022_159_229_626_017_245),
+        (6, 16, 13_072_118_401_780_127_316),
+        (7, 16, 15_409_799_732_611_398_715),
+        (8, 10, 10_858_325_530_553_755_187),
     ];
     compare_each(&rt, &rows)
 }
@@ -189,8 +189,8 @@ fn both_forms_find_what_was_found_with_nine_and_ten_tricks(
     compare_each(
         &rt,
         &[
-            (9, 5, 7_444_982_594_951_256_224),
-            (10, 3, 71_851_227_168_430_499),
+            (9, 5, 2_477_891_487_721_165_609),
+            (10, 3, 14_537_285_774_900_719_318),
         ],
     )
 }
@@ -202,15 +202,15 @@ fn both_forms_find_what_was_found_with_eleven_and_twelve_tricks(
     compare_each(
         &rt,
         &[
-            (11, 2, 14_230_529_361_687_817_466),
-            (12, 1, 8_373_872_572_656_975_238),
+            (11, 2, 11_031_073_460_824_286_315),
+            (12, 1, 9_335_266_369_060_694_465),
         ],
     )
 }
 
 #[test]
 fn both_forms_find_what_was_found_in_full_deals(rt: HostRuntime) -> Result<(), AllocError> {
-    compare_each(&rt, &[(13, 1, 1_913_633_417_761_534_826)])
+    compare_each(&rt, &[(13, 1, 13_560_099_159_385_333_833)])
 }
 
 // A table of a caller, which may look at the cards and says nothing of starts by relative ranks. It keeps nothing, and mixes into one

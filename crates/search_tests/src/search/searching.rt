@@ -200,19 +200,19 @@ fn a_quick_trick_settles_what_a_look_does_not(rt: HostRuntime) {
 // Two tricks are not had. East's 6 and South's 3 have equals below them, so there is one card to try in these hands. North
 // tries the ace, the surest winner, and West plays its 4 to it, so that a position is visited before each of four cards. Then
 // North has the queen to lead, the fifth position, where quick tricks settle that West's king takes it; so West's 4 was
-// enough. North would try the queen in the first trick too, which the ace's failure, by the king, doesn't spare: there West's
-// king takes a trick, which settles it before the queen is led. That is five. There is a look at each start of a trick. What is
-// noted at that of the trick that was played is the answer there.
+// enough. North tries the queen in the first trick too, which the ace's failure, by the king, doesn't spare: three positions
+// more, East's, South's and West's, where the king settles it by counting. That is eight. There is a look at each start of a
+// trick. What is noted at that of the trick that was played is the answer there.
 #[test]
 fn each_position_is_one_tick_where_two_tricks_are_asked_for(rt: HostRuntime) {
-    search_each(&rt, b"tenace 2 14 100 no 5 L2L1N201");
+    search_each(&rt, b"tenace 2 14 100 no 8 L2L1N201");
 }
 
 // East and West have the cards, and the leader's side is theirs: North and South take one trick, since these don't take two.
 // What is noted of them is the same.
 #[test]
 fn each_position_is_one_tick_where_the_other_side_asks(rt: HostRuntime) {
-    search_each(&rt, b"turned 1 14 100 yes 5 L2L1N201");
+    search_each(&rt, b"turned 1 14 100 yes 8 L2L1N201");
 }
 
 // Two tricks of the leader's side, and one of the other side.
