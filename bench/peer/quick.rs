@@ -1,26 +1,26 @@
 //! The quick tricks of `dd_quick` in plain Rust. `RULES` says which are counted, so that `cases/tools/rules.rs` can try each alone: a
 //! search counts `ALL`. What is left out or added is known when it is compiled, and costs nothing.
-use super::{Card, Interval, Position, SEATS, SUITS, Seat, Strain, Suit, above, below, highest, with};
+use super::{Interval, Position, SEATS, SUITS, Seat, Strain, Suit, above, below, highest, with};
 
 /// A side suit's highest cards, while the leader holds them without a gap.
-pub const RUNS: u64 = 1;
+pub const RUNS: u32 = 1;
 /// All cards of a long suit.
-pub const LONG_SUITS: u64 = 2;
+pub const LONG_SUITS: u32 = 2;
 /// The highest trumps that two partners hold between them.
-pub const JOINT_TRUMPS: u64 = 4;
+pub const JOINT_TRUMPS: u32 = 4;
 /// The partner's winners next below the leader's that nobody ruffs, once the leader has crossed.
-pub const CROSSING: u64 = 8;
+pub const CROSSING: u32 = 8;
 /// All cards of a long suit of the partner's, once the leader has crossed.
-pub const PARTNERS_LONG_SUITS: u64 = 1024;
+pub const PARTNERS_LONG_SUITS: u32 = 1024;
 /// Without trumps, one trick where the leader's side has to lead to a card that an opponent guards.
-pub const LATER_TRICK: u64 = 8192;
+pub const LATER_TRICK: u32 = 8192;
 /// Joint trumps below some of the opponents', but for as many tricks.
-pub const LOWER_TRUMPS: u64 = 65536;
+pub const LOWER_TRUMPS: u32 = 65536;
 /// Without trumps, the winners that an opponent keeps until the leader's side has to lead to them.
-pub const KEPT_WINNERS: u64 = 1 << 20;
+pub const KEPT_WINNERS: u32 = 1 << 20;
 /// The second highest trump behind the hand that has the highest, with another trump.
-pub const GUARDED_TRUMP: u64 = 1 << 24;
-pub const ALL: u64 = RUNS
+pub const GUARDED_TRUMP: u32 = 1 << 24;
+pub const ALL: u32 = RUNS
     | LONG_SUITS
     | JOINT_TRUMPS
     | CROSSING
@@ -32,68 +32,57 @@ pub const ALL: u64 = RUNS
 
 // Wrong forms, which `cases/tools/rules.rs` has to find wrong.
 /// An opponent with trumps follows suit as long as it is led.
-pub const NOBODY_RUFFS: u64 = 16;
+pub const NOBODY_RUFFS: u32 = 16;
 /// An opponent with no more trumps than the leader's run does not ruff, and all joint trumps are left to be counted.
-pub const TRUMPS_ARE_DRAWN: u64 = 32;
+pub const TRUMPS_ARE_DRAWN: u32 = 32;
 /// The suit that is led gives a trick though third hand ruffs it.
-pub const THE_LEAD_IS_NOT_RUFFED: u64 = 64;
+pub const THE_LEAD_IS_NOT_RUFFED: u32 = 64;
 /// No winner of the partner's falls under the leader's.
-pub const NO_WINNER_FALLS: u64 = 256;
+pub const NO_WINNER_FALLS: u32 = 256;
 /// The leader crosses without a card to lead to its partner.
-pub const CROSSES_WITHOUT_A_CARD: u64 = 512;
+pub const CROSSES_WITHOUT_A_CARD: u32 = 512;
 
 /// A suit of the partner's is long whatever the leader has of it.
-pub const LONG_BEFORE_THE_LEADER: u64 = 2048;
+pub const LONG_BEFORE_THE_LEADER: u32 = 2048;
 /// A suit of the partner's is long whatever the opponents have of it.
-pub const LONG_BEFORE_THE_OPPONENTS: u64 = 4096;
+pub const LONG_BEFORE_THE_OPPONENTS: u32 = 4096;
 
 /// An opponent with trumps follows suit as long as the partner leads it.
-pub const NOBODY_RUFFS_THE_PARTNER: u64 = 1 << 28;
+pub const NOBODY_RUFFS_THE_PARTNER: u32 = 1 << 28;
 /// An opponent with trumps still has all its cards of a suit when the partner leads it.
-pub const NOBODY_HAS_FOLLOWED: u64 = 1 << 29;
+pub const NOBODY_HAS_FOLLOWED: u32 = 1 << 29;
 /// Crossing rests on no trumps.
-pub const CROSSING_WITHOUT_TRUMPS: u64 = 1 << 30;
+pub const CROSSING_WITHOUT_TRUMPS: u32 = 1 << 30;
 
 /// The leader's side may have a round of its own suits for each trick left.
-pub const A_ROUND_FOR_EACH_TRICK: u64 = 16384;
+pub const A_ROUND_FOR_EACH_TRICK: u32 = 16384;
 /// Of a suit that nobody guards the leader's side has as many rounds as its shorter holding.
-pub const ROUNDS_OF_THE_SHORTER: u64 = 32768;
+pub const ROUNDS_OF_THE_SHORTER: u32 = 32768;
 /// A card below some of the leader's side is guarded by none.
-pub const A_LONE_HONOUR_IS_GUARDED: u64 = 128;
+pub const A_LONE_HONOUR_IS_GUARDED: u32 = 128;
 /// It is guarded before a hand that has one of those and others.
-pub const GUARDED_BEFORE_A_HIGHER: u64 = 1 << 23;
+pub const GUARDED_BEFORE_A_HIGHER: u32 = 1 << 23;
 /// An opponent keeps what it guards, however few tricks are left.
-pub const GUARDS_WITHOUT_ROOM: u64 = 1 << 31;
+pub const GUARDS_WITHOUT_ROOM: u32 = 1 << 31;
 
 /// The opponents' higher trumps take no trick.
-pub const HIGHER_TRUMPS_TAKE_NOTHING: u64 = 1 << 17;
+pub const HIGHER_TRUMPS_TAKE_NOTHING: u32 = 1 << 17;
 /// Joint trumps take a trick each though neither hand has a trump for each.
-pub const TRUMPS_OF_BOTH_HANDS: u64 = 1 << 18;
+pub const TRUMPS_OF_BOTH_HANDS: u32 = 1 << 18;
 /// An opponent's higher trump takes no trick where the other opponent holds it.
-pub const ONE_OPPONENTS_TRUMPS: u64 = 1 << 19;
+pub const ONE_OPPONENTS_TRUMPS: u32 = 1 << 19;
 
 /// An opponent keeps as many winners as it likes.
-pub const KEEPS_EACH_WINNER: u64 = 1 << 21;
+pub const KEEPS_EACH_WINNER: u32 = 1 << 21;
 /// It keeps them over the rounds of the shorter holdings.
-pub const KEEPS_OVER_THE_SHORTER: u64 = 1 << 22;
+pub const KEEPS_OVER_THE_SHORTER: u32 = 1 << 22;
 
 /// A trump is guarded by none.
-pub const A_LONE_TRUMP_IS_GUARDED: u64 = 1 << 25;
+pub const A_LONE_TRUMP_IS_GUARDED: u32 = 1 << 25;
 /// It is guarded before the hand that has the highest.
-pub const GUARDED_BEFORE_THE_HIGHEST: u64 = 1 << 26;
+pub const GUARDED_BEFORE_THE_HIGHEST: u32 = 1 << 26;
 /// It is the third highest.
-pub const THE_THIRD_IS_GUARDED: u64 = 1 << 27;
-
-/// The leader's partner ruffs no low lead.
-pub const NOBODY_RUFFS_A_LOW_LEAD: u64 = 1 << 32;
-/// The leader's partner never beats an opponent's card.
-pub const THE_PARTNER_STAYS_LOW: u64 = 1 << 33;
-/// The winner's partner has a card to throw to a low lead beside those that it is to throw later.
-pub const A_CARD_FOR_THE_LOW_LEAD: u64 = 1 << 34;
-/// The winner of a low lead cashes its other cards of the suit too.
-pub const THE_LOW_SUIT_IS_CASHED: u64 = 1 << 35;
-/// A lead above the opponent's card is won by it too.
-pub const ANY_LEAD_IS_LOW: u64 = 1 << 36;
+pub const THE_THIRD_IS_GUARDED: u32 = 1 << 27;
 
 // The cards of a holding above all of these others.
 fn above_all(own: u16, others: u16) -> u16 {
@@ -158,7 +147,7 @@ impl Cash {
     }
 }
 
-fn cash<const RULES: u64>(position: &Position, suit: Suit) -> Cash {
+fn cash<const RULES: u32>(position: &Position, suit: Suit) -> Cash {
     let [left, partner, right] = others(position.first);
     let lengths = [left, partner, right].map(|seat| length(position, seat, suit));
     let longest = lengths[0].max(lengths[1]).max(lengths[2]);
@@ -179,7 +168,7 @@ fn cash<const RULES: u64>(position: &Position, suit: Suit) -> Cash {
     }
 }
 
-fn is_drawn<const RULES: u64>(position: &Position, seat: Seat) -> bool {
+fn is_drawn<const RULES: u32>(position: &Position, seat: Seat) -> bool {
     match position.strain {
         Strain::Trump(trump) if RULES & TRUMPS_ARE_DRAWN != 0 => {
             trumps(position, seat) <= winners(position, position.first, trump).count_ones() as u8
@@ -218,7 +207,7 @@ struct Trumps {
 }
 
 impl Trumps {
-    fn new<const RULES: u64>(position: &Position, seat: Seat, trump: Suit) -> Trumps {
+    fn new<const RULES: u32>(position: &Position, seat: Seat, trump: Suit) -> Trumps {
         let [left, partner, right] = others(seat).map(|other| position.holding(other, trump));
         let own = position.holding(seat, trump);
         let (long, short) = (own.count_ones().max(partner.count_ones()), own.count_ones().min(partner.count_ones()));
@@ -230,7 +219,7 @@ impl Trumps {
     }
 
     // What those of this rank or higher take.
-    fn taken<const RULES: u64>(&self, rank: u8) -> u8 {
+    fn taken<const RULES: u32>(&self, rank: u8) -> u8 {
         let from = |ranks: u16| (ranks.count_ones() - below(ranks, rank).count_ones()) as u8;
         let over = from(self.theirs);
         match over {
@@ -241,7 +230,7 @@ impl Trumps {
         }
     }
 
-    fn most<const RULES: u64>(&self) -> u8 {
+    fn most<const RULES: u32>(&self) -> u8 {
         let (mut rest, mut most) = (self.ours, 0);
         while rest != 0 {
             let rank = highest(rest);
@@ -252,7 +241,7 @@ impl Trumps {
     }
 
     // The highest of its ranks from which on trumps take so many tricks.
-    fn lowest<const RULES: u64>(&self, tricks: u8) -> Option<u8> {
+    fn lowest<const RULES: u32>(&self, tricks: u8) -> Option<u8> {
         let mut rest = self.ours;
         while rest != 0 {
             let rank = highest(rest);
@@ -266,14 +255,14 @@ impl Trumps {
 }
 
 // The tricks of the joint trumps of the seat and its partner.
-fn joint_trumps<const RULES: u64>(position: &Position, seat: Seat) -> u8 {
+fn joint_trumps<const RULES: u32>(position: &Position, seat: Seat) -> u8 {
     match position.strain {
         Strain::Trump(trump) if RULES & JOINT_TRUMPS != 0 => Trumps::new::<RULES>(position, seat, trump).most::<RULES>(),
         _ => 0,
     }
 }
 
-fn with_trumps<const RULES: u64>(position: &Position, seat: Seat, cards: u64, tricks: u8) -> u64 {
+fn with_trumps<const RULES: u32>(position: &Position, seat: Seat, cards: u64, tricks: u8) -> u64 {
     let Strain::Trump(trump) = position.strain else { return cards };
     let [left, _, right] = others(seat);
     if tricks == 0 || length(position, left, trump) == 0 && length(position, right, trump) == 0 {
@@ -291,7 +280,7 @@ fn next_run(position: &Position, suit: Suit) -> u16 {
 }
 
 // What the partner takes in a suit once the leader has crossed, and whether the leader can cross there.
-fn next<const RULES: u64>(position: &Position, suit: Suit) -> Offer {
+fn next<const RULES: u32>(position: &Position, suit: Suit) -> Offer {
     let run = winners(position, position.first, suit).count_ones() as u8;
     let tricks = partners_cashed::<RULES>(position, suit, run);
     let card = RULES & CROSSES_WITHOUT_A_CARD != 0 || run < length(position, position.first, suit);
@@ -299,7 +288,7 @@ fn next<const RULES: u64>(position: &Position, suit: Suit) -> Offer {
 }
 
 // What the partner takes in a suit after so many leads of the leader's, where nobody ruffs: in trumps none.
-fn partners_cashed<const RULES: u64>(position: &Position, suit: Suit, leads: u8) -> u8 {
+fn partners_cashed<const RULES: u32>(position: &Position, suit: Suit, leads: u8) -> u8 {
     match position.strain {
         Strain::Notrump => partners_tricks::<RULES>(position, suit, leads),
         Strain::Trump(trump) if trump == suit => 0,
@@ -315,7 +304,7 @@ fn partners_cashed<const RULES: u64>(position: &Position, suit: Suit, leads: u8)
 }
 
 // What the partner takes in a suit after so many leads of the leader's.
-fn partners_tricks<const RULES: u64>(position: &Position, suit: Suit, leads: u8) -> u8 {
+fn partners_tricks<const RULES: u32>(position: &Position, suit: Suit, leads: u8) -> u8 {
     let [left, partner, right] = others(position.first);
     let spare = length(position, partner, suit).saturating_sub(leads);
     if spare == 0 && RULES & NO_WINNER_FALLS == 0 {
@@ -340,7 +329,7 @@ fn beside_trumps(position: &Position, side: u8) -> u8 {
 }
 
 // What the partner takes in each suit once the leader has crossed, and how many tricks that adds, of so many.
-fn crossing<const RULES: u64>(position: &Position, most: u8) -> ([Offer; 4], u8) {
+fn crossing<const RULES: u32>(position: &Position, most: u8) -> ([Offer; 4], u8) {
     if RULES & CROSSING == 0 || most == 0 {
         return ([Offer { tricks: 0, first: false }; 4], 0);
     }
@@ -351,7 +340,7 @@ fn crossing<const RULES: u64>(position: &Position, most: u8) -> ([Offer; 4], u8)
 }
 
 // What the leader's side is sure of: in each side suit, in all, and its joint trumps.
-fn leaders<const RULES: u64>(position: &Position) -> ([Cash; 4], u8, u8) {
+fn leaders<const RULES: u32>(position: &Position) -> ([Cash; 4], u8, u8) {
     let cash = SUITS.map(|suit| cash::<RULES>(position, suit));
     let all: u8 = cash.iter().map(|cash| cash.tricks).sum();
     let side = all.min(position.tricks_left() - trumps(position, position.first.next().next()));
@@ -359,7 +348,7 @@ fn leaders<const RULES: u64>(position: &Position) -> ([Cash; 4], u8, u8) {
 }
 
 /// An interval that holds the tricks of the leader's side from this start of a trick on.
-pub fn bounds<const RULES: u64>(position: &Position) -> Interval {
+pub fn bounds<const RULES: u32>(position: &Position) -> Interval {
     let (_, side, trumps) = leaders::<RULES>(position);
     let (_, crossed) = crossing::<RULES>(position, beside_trumps(position, side));
     let [left, _, right] = others(position.first);
@@ -369,7 +358,7 @@ pub fn bounds<const RULES: u64>(position: &Position) -> Interval {
 }
 
 /// At a start of a trick: the cards on which it rests that the leader's side takes at least `need` tricks.
-pub fn for_leader<const RULES: u64>(position: &Position, need: u8) -> Option<u64> {
+pub fn for_leader<const RULES: u32>(position: &Position, need: u8) -> Option<u64> {
     let (cash, side, trumps) = leaders::<RULES>(position);
     if need > side + trumps {
         return crossing_cards::<RULES>(position, cash, side, trumps, need);
@@ -394,7 +383,7 @@ fn long_first(cash: &[Cash; 4]) -> [Offer; 4] {
 }
 
 // The cards on which so many tricks rest where the leader crosses to its partner.
-fn crossing_cards<const RULES: u64>(position: &Position, cash: [Cash; 4], side: u8, trumps: u8, need: u8) -> Option<u64> {
+fn crossing_cards<const RULES: u32>(position: &Position, cash: [Cash; 4], side: u8, trumps: u8, need: u8) -> Option<u64> {
     let most = beside_trumps(position, side);
     if need > side + trumps + most {
         return None;
@@ -412,7 +401,7 @@ fn crossing_cards<const RULES: u64>(position: &Position, cash: [Cash; 4], side: 
 }
 
 /// At a start of a trick: the cards on which it rests that the other side takes at least `need` tricks.
-pub fn against_leader<const RULES: u64>(position: &Position, need: u8) -> Option<u64> {
+pub fn against_leader<const RULES: u32>(position: &Position, need: u8) -> Option<u64> {
     let left = position.first.next();
     if need <= joint_trumps::<RULES>(position, left) {
         return Some(with_trumps::<RULES>(position, left, 0, need));
@@ -432,7 +421,7 @@ pub fn against_leader<const RULES: u64>(position: &Position, need: u8) -> Option
 }
 
 // The second highest trump, where the hand before the seat's has the highest, and the seat has another trump.
-fn guarded_trump<const RULES: u64>(position: &Position, seat: Seat) -> Option<u64> {
+fn guarded_trump<const RULES: u32>(position: &Position, seat: Seat) -> Option<u64> {
     let Strain::Trump(trump) = position.strain else { return None };
     let [left, partner, right] = others(seat).map(|other| position.holding(other, trump));
     let own = position.holding(seat, trump);
@@ -450,14 +439,14 @@ fn guarded_trump<const RULES: u64>(position: &Position, seat: Seat) -> Option<u6
 }
 
 // Of a suit, how many winners an opponent has, and how often the leader's side can lead it.
-fn kept_of<const RULES: u64>(position: &Position, seat: Seat, suit: Suit) -> (u8, u8) {
+fn kept_of<const RULES: u32>(position: &Position, seat: Seat, suit: Suit) -> (u8, u8) {
     let run = winners(position, seat, suit).count_ones() as u8;
     let (own, his) = (length(position, position.first, suit), length(position, position.first.next().next(), suit));
     (run, if RULES & KEEPS_OVER_THE_SHORTER != 0 { own.min(his) } else { own.max(his) })
 }
 
 // Does the opponent keep so many winners? Most often it has too few of them, which is asked first.
-fn keeps<const RULES: u64>(position: &Position, seat: Seat, need: u8) -> bool {
+fn keeps<const RULES: u32>(position: &Position, seat: Seat, need: u8) -> bool {
     if SEATS.into_iter().any(|seat| trumps(position, seat) > 0) {
         return false;
     }
@@ -466,7 +455,7 @@ fn keeps<const RULES: u64>(position: &Position, seat: Seat, need: u8) -> bool {
 }
 
 // How many winners the opponent keeps until it comes in.
-fn kept<const RULES: u64>(position: &Position, seat: Seat) -> u8 {
+fn kept<const RULES: u32>(position: &Position, seat: Seat) -> u8 {
     if RULES & KEPT_WINNERS == 0 || SEATS.into_iter().any(|seat| trumps(position, seat) > 0) {
         return 0;
     }
@@ -499,7 +488,7 @@ fn kept_cards(position: &Position, seat: Seat, need: u8) -> u64 {
 // Of a suit: how often the leader's side can lead it before the opponents win, and whether the left or the right one guards it:
 // it has the highest card of the two, and one for each card of the leader's side above it, and the hand behind it has none of
 // those, or no others.
-fn led<const RULES: u64>(position: &Position, suit: Suit) -> (u8, bool, bool) {
+fn led<const RULES: u32>(position: &Position, suit: Suit) -> (u8, bool, bool) {
     let [left, partner, right] = others(position.first).map(|seat| position.holding(seat, suit));
     let own = position.holding(position.first, suit);
     let tops = above_all(own | partner, left | right);
@@ -520,7 +509,7 @@ fn led<const RULES: u64>(position: &Position, suit: Suit) -> (u8, bool, bool) {
 }
 
 // Has the leader's side to lead to a card that an opponent guards?
-fn later_trick<const RULES: u64>(position: &Position) -> bool {
+fn later_trick<const RULES: u32>(position: &Position) -> bool {
     let [left, partner, right] = others(position.first);
     let seats = [position.first, left, partner, right];
     if RULES & LATER_TRICK == 0 || seats.into_iter().any(|seat| trumps(position, seat) > 0) {
@@ -567,7 +556,7 @@ fn heading(position: &Position, suit: Suit) -> Option<Seat> {
 
 /// At a start of a trick: the cards on which it rests that after each lead of the suit the opponents of the leader take at least
 /// `need` tricks: the winners of one of them, that of the suit the first of them.
-pub fn for_second_hand<const RULES: u64>(position: &Position, suit: Suit, need: u8) -> Option<u64> {
+pub fn for_second_hand<const RULES: u32>(position: &Position, suit: Suit, need: u8) -> Option<u64> {
     if position.played != 0 {
         return None;
     }
@@ -578,7 +567,7 @@ pub fn for_second_hand<const RULES: u64>(position: &Position, suit: Suit, need: 
     }
 }
 
-fn after_a_side_suit<const RULES: u64>(before: &Position, suit: Suit, need: u8) -> Option<u64> {
+fn after_a_side_suit<const RULES: u32>(before: &Position, suit: Suit, need: u8) -> Option<u64> {
     let (mut cash, side, trumps) = leaders::<RULES>(before);
     if RULES & THE_LEAD_IS_NOT_RUFFED != 0 {
         cash[suit as usize].tricks = cash[suit as usize].tricks.max(1);
@@ -597,7 +586,7 @@ fn after_a_side_suit<const RULES: u64>(before: &Position, suit: Suit, need: u8) 
     Some(with_trumps::<RULES>(before, before.first, with_shares(before, 0, &cash, shares), need - side))
 }
 
-fn after_a_trump<const RULES: u64>(before: &Position, trump: Suit, need: u8) -> Option<u64> {
+fn after_a_trump<const RULES: u32>(before: &Position, trump: Suit, need: u8) -> Option<u64> {
     let (cash, sure, _) = leaders::<RULES>(before);
     let run = winners(before, before.first, trump);
     let tops = need.min(run.count_ones() as u8);
@@ -609,39 +598,3 @@ fn after_a_trump<const RULES: u64>(before: &Position, trump: Suit, need: u8) -> 
     Some(with_shares(before, with_highest(0, trump, run, tops), &cash, shares(long_first(&cash), side)))
 }
 
-// The rank of the seat's highest card of the suit, where neither its partner nor third hand can beat it, and third hand can't ruff.
-fn low_lead_winner<const RULES: u64>(before: &Position, third: Seat, suit: Suit) -> Option<u8> {
-    let own = before.holding(before.first, suit);
-    let partner = before.holding(before.first.next().next(), suit);
-    let beside = if RULES & THE_PARTNER_STAYS_LOW != 0 { partner } else { partner | before.holding(third, suit) };
-    let ruffs = trumps(before, third) > 0 && length(before, third, suit) == 0 && RULES & NOBODY_RUFFS_A_LOW_LEAD == 0;
-    if before.strain == Strain::Trump(suit) || own == 0 || ruffs || above(beside, highest(own)) != 0 {
-        return None;
-    }
-    Some(highest(own))
-}
-
-/// At a start of a trick: the cards on which it rests that the opponents of the leader take at least `need` tricks after this card
-/// is led, that trick included: this opponent wins it, though the leader may head the suit, and cashes others.
-pub fn for_low_lead<const RULES: u64>(position: &Position, seat: Seat, card: Card, need: u8) -> Option<u64> {
-    let before = Position { hands: position.hands, strain: position.strain, first: seat, trick: position.trick, played: 0 };
-    let suit = card.suit;
-    let rank = low_lead_winner::<RULES>(&before, position.first.next().next(), suit)?;
-    if need == 0 || rank <= card.rank && RULES & ANY_LEAD_IS_LOW == 0 {
-        return None;
-    }
-    let (cash, side, joint) = leaders::<RULES>(&before);
-    let spare = before.tricks_left() - trumps(&before, seat.next().next());
-    let most = side.min(if RULES & A_CARD_FOR_THE_LOW_LEAD != 0 { spare } else { spare.saturating_sub(1) });
-    let mut others = cash;
-    if RULES & THE_LOW_SUIT_IS_CASHED == 0 {
-        others[suit as usize].tricks = 0;
-    }
-    let shares = shares(long_first(&others), (need - 1).min(most));
-    let side: u8 = shares.iter().sum();
-    if spare == 0 || side + joint < need - 1 {
-        return None;
-    }
-    let cards = with_shares(&before, with(0, suit, rank), &cash, shares);
-    Some(with_trumps::<RULES>(&before, seat, cards, need - 1 - side))
-}

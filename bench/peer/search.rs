@@ -9,7 +9,7 @@ pub mod quick;
 pub mod shard;
 
 use order::{Plan, guess};
-use quick::{ALL, against_leader, bounds, for_leader, for_low_lead, for_second_hand, others};
+use quick::{ALL, against_leader, bounds, for_leader, for_second_hand, others};
 use shard::Shard;
 use std::io::{self, BufRead, Write};
 use std::time::Instant;
@@ -417,52 +417,6 @@ fn seconds_answer(position: &Position, suit: Suit, need: u8) -> Option<Answer> {
     Some(Answer { yes: !leads, cards })
 }
 
-// Whom to ask whether it wins a lead though the leader heads the suit: once for each suit, after a lead that failed, and no opponent
-// that was asked in vain.
-struct LowLeads {
-    unasked: u64,
-    fails: [bool; 2],
-    tried: bool,
-}
-
-impl LowLeads {
-    fn of(choices: u64) -> LowLeads {
-        LowLeads { unasked: choices, fails: [false; 2], tried: false }
-    }
-
-    // The left opponent or the right one, which has the higher one of the opponents' highest cards of the suit.
-    fn to_ask(&mut self, position: &Position, card: Card) -> Option<usize> {
-        let suit = card.suit;
-        if position.played != 0 || !self.tried || self.unasked >> card.place() & 1 == 0 {
-            return None;
-        }
-        let [left, partner, right] = others(position.first).map(|seat| position.holding(seat, suit));
-        let ruffs = match position.strain {
-            Strain::Trump(trump) if trump == suit => true,
-            Strain::Trump(trump) => partner == 0 && position.holding(others(position.first)[1], trump) != 0,
-            Strain::Notrump => false,
-        };
-        let best = highest(left | right);
-        // A lower card of the suit may be led yet.
-        if ruffs || best < card.rank {
-            return None;
-        }
-        self.unasked &= !(0xffff << suit.shift());
-        let side = if left >> best & 1 != 0 { 0 } else { 1 };
-        if above(partner, best) != 0 || self.fails[side] { None } else { Some(side) }
-    }
-
-    // The answer of the lead by an opponent that wins it.
-    fn answer(&mut self, position: &Position, card: Card, need: u8) -> Option<Answer> {
-        let side = self.to_ask(position, card)?;
-        let leads = position.first.is_north_south();
-        let theirs = if leads { position.tricks_left() + 1 - need } else { need };
-        let found = for_low_lead::<ALL>(position, others(position.first)[2 * side], card, theirs);
-        self.fails[side] = found.is_none();
-        found.map(|cards| Answer { yes: !leads, cards })
-    }
-}
-
 impl<B: Bounds> Search<B> {
     fn known(&mut self, position: &Position, need: u8) -> Option<Answer> {
         let leads = position.first.is_north_south();
@@ -495,10 +449,9 @@ impl<B: Bounds> Search<B> {
         let mut untried = choices;
         let settling = if position.played == 0 { self.bounds.settling_leads(position) } else { [None; 3] };
         let mut plan = if self.legal { Plan::Listed } else { Plan::of(position, untried, settling) };
-        let mut low = LowLeads::of(choices);
         while untried != 0 {
             let card = plan.next(untried);
-            let later = self.after(position, card, need, &mut low);
+            let later = self.after(position, card, need);
             let by = later.cards;
             if later.yes == ours {
                 if position.played == 0 && choices & choices - 1 != 0 {
@@ -507,7 +460,6 @@ impl<B: Bounds> Search<B> {
                 found = Some(by);
                 break;
             }
-            low.tried = true;
             cards |= by;
             untried &= !(1 << card.place()) & !told_too(card, by);
             plan.go_on(position, card.suit, untried, settling);
@@ -523,9 +475,9 @@ impl<B: Bounds> Search<B> {
     }
 
     // The answer when this card is played, and the cards on which that rests before it is.
-    fn after(&mut self, position: &Position, card: Card, need: u8, low: &mut LowLeads) -> Answer {
+    fn after(&mut self, position: &Position, card: Card, need: u8) -> Answer {
         if position.played == 0 {
-            if let Some(answer) = seconds_answer(position, card.suit, need).or_else(|| low.answer(position, card, need)) {
+            if let Some(answer) = seconds_answer(position, card.suit, need) {
                 return answer;
             }
         }

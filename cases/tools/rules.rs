@@ -11,13 +11,12 @@ mod deals;
 
 use deals::{Chance, Played, code, dealt_anew, random_deal, start, turned, written};
 use search::quick::{ALL, CROSSING, JOINT_TRUMPS, LATER_TRICK, LONG_SUITS, LOWER_TRUMPS, PARTNERS_LONG_SUITS, RUNS};
-use search::quick::{against_leader, for_leader, for_low_lead, for_second_hand, others as other_seats};
+use search::quick::{against_leader, for_leader, for_second_hand, others as other_seats};
 use search::quick::{CROSSES_WITHOUT_A_CARD, LONG_BEFORE_THE_LEADER, LONG_BEFORE_THE_OPPONENTS};
 use search::quick::{A_LONE_HONOUR_IS_GUARDED, GUARDED_BEFORE_A_HIGHER, GUARDS_WITHOUT_ROOM};
 use search::quick::{A_ROUND_FOR_EACH_TRICK, ROUNDS_OF_THE_SHORTER};
 use search::quick::{CROSSING_WITHOUT_TRUMPS, NOBODY_HAS_FOLLOWED, NOBODY_RUFFS_THE_PARTNER};
 use search::quick::{KEEPS_EACH_WINNER, KEEPS_OVER_THE_SHORTER, KEPT_WINNERS};
-use search::quick::{A_CARD_FOR_THE_LOW_LEAD, ANY_LEAD_IS_LOW, NOBODY_RUFFS_A_LOW_LEAD, THE_LOW_SUIT_IS_CASHED, THE_PARTNER_STAYS_LOW};
 use search::quick::{A_LONE_TRUMP_IS_GUARDED, GUARDED_BEFORE_THE_HIGHEST, GUARDED_TRUMP, THE_THIRD_IS_GUARDED};
 use search::quick::{HIGHER_TRUMPS_TAKE_NOTHING, ONE_OPPONENTS_TRUMPS, TRUMPS_OF_BOTH_HANDS};
 use search::quick::{NOBODY_RUFFS, NO_WINNER_FALLS, THE_LEAD_IS_NOT_RUFFED, TRUMPS_ARE_DRAWN};
@@ -58,7 +57,7 @@ const fn others(name: &'static str, played: usize, claim: fn(&Position, u8) -> O
 }
 
 // A rule that is added to the quick tricks gets a line here, and where it has parts a line for each.
-const RIGHT: [Rule; 39] = [
+const RIGHT: [Rule; 35] = [
     leaders("side suits without long ones", for_leader::<RUNS>),
     leaders("long suits", for_leader::<LONG_SUITS>),
     leaders("side suits with long ones", for_leader::<{ RUNS | LONG_SUITS }>),
@@ -94,13 +93,9 @@ const RIGHT: [Rule; 39] = [
     others("second hand: the trump led", 1, trump_led::<0>),
     others("second hand: the trump led and side suits", 1, trump_led::<RUNS>),
     others("second hand: all after the lead of a trump", 1, trump_led::<ALL>),
-    others("a low lead: its winner alone", 1, low_led::<0>),
-    others("a low lead: side suits without long ones", 1, low_led::<RUNS>),
-    others("a low lead: side suits and joint trumps", 1, low_led::<{ RUNS | LONG_SUITS | JOINT_TRUMPS }>),
-    others("a low lead: all", 1, low_led::<ALL>),
 ];
 
-const WRONG: [Rule; 38] = [
+const WRONG: [Rule; 33] = [
     leaders("joint trumps added after a draw", for_leader::<{ ALL | TRUMPS_ARE_DRAWN }>),
     leaders("long suits that opponents with trumps can't follow", for_leader::<{ LONG_SUITS | NOBODY_RUFFS }>),
     leaders("lower trumps where higher ones take nothing", lower_leaders::<{ ALL | HIGHER_TRUMPS_TAKE_NOTHING }>),
@@ -134,29 +129,24 @@ const WRONG: [Rule; 38] = [
     leaders("crossing beside trumps to winners that fall", beside::<{ ALL | NO_WINNER_FALLS }>),
     others("second hand: crossing beside trumps to winners that fall", 1, second_beside::<{ ALL | NO_WINNER_FALLS }>),
     others("second hand's winners at third hand", 2, third_hand),
-    others("a low lead that the leader's partner ruffs", 1, low_led::<{ ALL | NOBODY_RUFFS_A_LOW_LEAD }>),
-    others("a low lead that the leader's partner wins", 1, low_led::<{ ALL | THE_PARTNER_STAYS_LOW }>),
-    others("a low lead for which the winner's partner has no card", 1, low_led::<{ ALL | A_CARD_FOR_THE_LOW_LEAD }>),
-    others("a low lead whose suit is cashed too", 1, low_led::<{ ALL | THE_LOW_SUIT_IS_CASHED }>),
-    others("a lead above the opponents' cards", 1, low_led::<{ ALL | ANY_LEAD_IS_LOW }>),
 ];
 
 // Only what the highest trumps don't answer.
-fn lower_leaders<const RULES: u64>(position: &Position, need: u8) -> Option<u64> {
+fn lower_leaders<const RULES: u32>(position: &Position, need: u8) -> Option<u64> {
     match for_leader::<{ RUNS | LONG_SUITS | JOINT_TRUMPS }>(position, need) {
         Some(_) => None,
         None => for_leader::<RULES>(position, need),
     }
 }
 
-fn lower_others<const RULES: u64>(position: &Position, need: u8) -> Option<u64> {
+fn lower_others<const RULES: u32>(position: &Position, need: u8) -> Option<u64> {
     match against_leader::<JOINT_TRUMPS>(position, need) {
         Some(_) => None,
         None => against_leader::<RULES>(position, need),
     }
 }
 
-fn second_lower<const RULES: u64>(position: &Position, need: u8) -> Option<u64> {
+fn second_lower<const RULES: u32>(position: &Position, need: u8) -> Option<u64> {
     match side_suit_led::<{ RUNS | JOINT_TRUMPS }>(position, need) {
         Some(_) => None,
         None => side_suit_led::<RULES>(position, need),
@@ -164,7 +154,7 @@ fn second_lower<const RULES: u64>(position: &Position, need: u8) -> Option<u64> 
 }
 
 // Only what the leader's own tricks don't answer.
-fn crossed<const RULES: u64>(position: &Position, need: u8) -> Option<u64> {
+fn crossed<const RULES: u32>(position: &Position, need: u8) -> Option<u64> {
     match for_leader::<{ RUNS | LONG_SUITS | JOINT_TRUMPS }>(position, need) {
         Some(_) => None,
         None => for_leader::<RULES>(position, need),
@@ -172,17 +162,17 @@ fn crossed<const RULES: u64>(position: &Position, need: u8) -> Option<u64> {
 }
 
 // Only where a hand has a trump, and what the leader's own tricks don't answer.
-fn beside<const RULES: u64>(position: &Position, need: u8) -> Option<u64> {
+fn beside<const RULES: u32>(position: &Position, need: u8) -> Option<u64> {
     if trumps_left(position).iter().any(|&trumps| trumps > 0) { crossed::<RULES>(position, need) } else { None }
 }
 
 // Only where one of the leader's side has a trump, and no opponent.
-fn drawn<const RULES: u64>(position: &Position, need: u8) -> Option<u64> {
+fn drawn<const RULES: u32>(position: &Position, need: u8) -> Option<u64> {
     let trumps = trumps_left(position);
     if trumps[1] == 0 && trumps[3] == 0 { beside::<RULES>(position, need) } else { None }
 }
 
-fn second_beside<const RULES: u64>(position: &Position, need: u8) -> Option<u64> {
+fn second_beside<const RULES: u32>(position: &Position, need: u8) -> Option<u64> {
     if trumps_left(position).iter().any(|&trumps| trumps > 0) { second_crossed::<RULES>(position, need) } else { None }
 }
 
@@ -194,14 +184,14 @@ fn trumps_left(position: &Position) -> [u32; 4] {
 }
 
 // Only what the partner's long suits add.
-fn long_crossed<const RULES: u64>(position: &Position, need: u8) -> Option<u64> {
+fn long_crossed<const RULES: u32>(position: &Position, need: u8) -> Option<u64> {
     match for_leader::<{ RUNS | LONG_SUITS | JOINT_TRUMPS | CROSSING }>(position, need) {
         Some(_) => None,
         None => for_leader::<RULES>(position, need),
     }
 }
 
-fn second_long<const RULES: u64>(position: &Position, need: u8) -> Option<u64> {
+fn second_long<const RULES: u32>(position: &Position, need: u8) -> Option<u64> {
     match side_suit_led::<{ RUNS | LONG_SUITS | JOINT_TRUMPS | CROSSING }>(position, need) {
         Some(_) => None,
         None => side_suit_led::<RULES>(position, need),
@@ -213,7 +203,7 @@ fn is_trump(position: &Position, card: Card) -> bool {
 }
 
 // What second hand takes after the lead on the trick: counted in the position before it, with all cards of the trick put back.
-fn after_lead<const RULES: u64>(position: &Position, need: u8) -> Option<u64> {
+fn after_lead<const RULES: u32>(position: &Position, need: u8) -> Option<u64> {
     let mut hands = position.hands;
     for (place, card) in position.trick[..position.played as usize].iter().enumerate() {
         hands[(position.first as usize + place) % 4] |= 1 << card.place();
@@ -221,30 +211,20 @@ fn after_lead<const RULES: u64>(position: &Position, need: u8) -> Option<u64> {
     for_second_hand::<RULES>(&start(hands, position.strain, position.first), position.trick[0].suit, need)
 }
 
-fn side_suit_led<const RULES: u64>(position: &Position, need: u8) -> Option<u64> {
+fn side_suit_led<const RULES: u32>(position: &Position, need: u8) -> Option<u64> {
     if is_trump(position, position.trick[0]) { None } else { after_lead::<RULES>(position, need) }
 }
 
 // Only what second hand's own tricks don't answer.
-fn second_crossed<const RULES: u64>(position: &Position, need: u8) -> Option<u64> {
+fn second_crossed<const RULES: u32>(position: &Position, need: u8) -> Option<u64> {
     match side_suit_led::<{ RUNS | LONG_SUITS | JOINT_TRUMPS }>(position, need) {
         Some(_) => None,
         None => side_suit_led::<RULES>(position, need),
     }
 }
 
-fn trump_led<const RULES: u64>(position: &Position, need: u8) -> Option<u64> {
+fn trump_led<const RULES: u32>(position: &Position, need: u8) -> Option<u64> {
     if is_trump(position, position.trick[0]) { after_lead::<RULES>(position, need) } else { None }
-}
-
-// What an opponent takes that wins the lead on the trick though the leader may head the suit, the left one's where it has so many.
-fn low_led<const RULES: u64>(position: &Position, need: u8) -> Option<u64> {
-    let led = position.trick[0];
-    let mut hands = position.hands;
-    hands[position.first as usize] |= 1 << led.place();
-    let before = start(hands, position.strain, position.first);
-    let [left, _, right] = other_seats(position.first);
-    for_low_lead::<RULES>(&before, left, led, need).or_else(|| for_low_lead::<RULES>(&before, right, led, need))
 }
 
 // Where second hand has not followed suit: so it is fourth hand that has the highest card of it.

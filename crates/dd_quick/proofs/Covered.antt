@@ -52,7 +52,7 @@ module _ (top : PlayingCard → Bool) (k : ℕ) (to from : PlayingCard → Playi
   apart x i l m = λ e. (let a = after-code x i in let b = code-lt x in omega (arith, a, b, e, l, m))
 
   -- a hand that has no card above a top card has none above its image
-  pub free-image : (x : Seat) (c : PlayingCard) (i : ℕ) → 1 ≤ i → i < 4 → has_card (cards_at p x) c ≡ true → top c ≡ true
+  free-image : (x : Seat) (c : PlayingCard) (i : ℕ) → 1 ≤ i → i < 4 → has_card (cards_at p x) c ≡ true → top c ≡ true
       → ((e : PlayingCard) → has_card (cards_at p (seat_after x i)) e ≡ true → e.suit ≡ c.suit → e.rank < c.rank) → beats q (seat_after (seat_after x k) i) (to c) ≡ false
   free-image x c i l m has tc below = else-false _ (λ h.
       let e = some-card (λ d. is_of (to c).suit d && nat_lt (to c).rank d.rank) (cards_at q (seat_after (seat_after x k) i)) h in

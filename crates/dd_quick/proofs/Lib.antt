@@ -27,8 +27,6 @@ pub mod TakenTrick
 pub mod SecondHand
 pub mod SecondTrump
 pub mod SecondAcross
-pub mod LowLead
-pub mod Heading
 pub mod PlainTrick
 pub mod HonourLed
 pub mod GuardedSuits

@@ -118,7 +118,7 @@ none-passes test [] each = refl
 none-passes test (c ∷ cards) each = rw (each c (has-first c cards)) (none-passes test cards (λ d h. each d (in-rest c d cards h)))
 
 -- a hand with no higher card of the suit does not beat a card
-pub no-beat : (p : Board) (x : Seat) (suit : Suit) (q : ℕ) → ((d : PlayingCard) → has_card (cards_at p x) d ≡ true → d.suit ≡ suit → d.rank ≤ q) → beats p x (card_of suit q) ≡ false
+no-beat : (p : Board) (x : Seat) (suit : Suit) (q : ℕ) → ((d : PlayingCard) → has_card (cards_at p x) d ≡ true → d.suit ≡ suit → d.rank ≤ q) → beats p x (card_of suit q) ≡ false
 no-beat p x suit q each = none-passes (λ d. is_of suit d && nat_lt q d.rank) (cards_at p x) (λ d has. go d has (is_of suit d) refl)
   where
     not-over : (a b : ℕ) → b ≤ a → nat_lt a b ≡ false

@@ -169,9 +169,9 @@ module _ (strain : Strain) (o : Board) (lets : Bool → ℕ → List PlayingCard
   apart : seat_code (seat_after o.first i) ≢ seat_code o.first
   apart = (let a = after-code o.first i in let b = code-lt o.first in λ e. omega (arith, a, b, e, low, high))
 
-  -- where it does not ruff, and had no card above m, it does not beat m
-  beaten : ((e : PlayingCard) → has_card (cards_at o (seat_after o.first i)) e ≡ true → e.suit ≡ m.suit → e.rank < m.rank) → IsQuiet strain m d → IsBeaten strain m d
-  beaten under plain = (plain, λ e. under d (now.part (seat_after o.first i) d own-played) e)
+  -- where it does not ruff it does not beat m
+  beaten : IsMaster o m → IsQuiet strain m d → IsBeaten strain m d
+  beaten master plain = (plain, λ e. master (seat_after o.first i) d apart (now.part (seat_after o.first i) d own-played) e)
 
   -- each other hand is as it was
   stays : (x : Seat) → seat_code x ≢ seat_code (seat_after o.first i) → cards_at (after p d) x ≡ cards_at p x
@@ -277,14 +277,10 @@ three-three East = refl
 three-three South = refl
 three-three West = refl
 
--- m is higher than each card of its suit in o of the hands but h and the leader of p
-abbrev pub Heads : Board → Seat → Board → PlayingCard → Type 0
-Heads p h o m = (x : Seat) (d : PlayingCard) → seat_code x ≢ seat_code h → seat_code x ≢ seat_code p.first → has_card (cards_at o x) d ≡ true → d.suit ≡ m.suit → d.rank < m.rank
-
--- The card c was led, and h, the next hand or the last, has m to win the trick with: it is higher than c, and than each card of
--- the suit of the two hands that are to play beside it. b is what its side takes then.
+-- The card c was led, and h, the next hand or the last, has m, the highest card of the suit, to win the trick with; b is what
+-- its side takes then.
 module _ (p : Board) (c : PlayingCard) (h : Seat) (lets : Bool → ℕ → List PlayingCard → Type 0) (m : PlayingCard) (b : ℕ) (valid : IsBoard p) (led : p.trick ≡ c ∷ [])
-    (own : has_card (cards_at (unled p c h) h) m ≡ true) (suit : c.suit ≡ m.suit) (low : c.rank < m.rank) (heads : Heads p h (unled p c h) m) (allows : Allows p.strain m lets)
+    (own : has_card (cards_at (unled p c h) h) m ≡ true) (suit : c.suit ≡ m.suit) (master : IsMaster (unled p c h) m) (allows : Allows p.strain m lets)
     (start : (i : ℕ) → 1 ≤ i → i < 4 → lets true i (hand_on (unled p c h) i))
     (next : (q : Board) → IsMidway p.strain (unled p c h) lets (without (cards_at (unled p c h) h) m) nobody q → q.trick ≡ [] → q.first ≡ h → b ≤ won (side_of h) q) where
   abbrev o : Board
@@ -294,14 +290,8 @@ module _ (p : Board) (c : PlayingCard) (h : Seat) (lets : Bool → ℕ → List 
   kept = without (cards_at (unled p c h) h) m
 
   -- the card led does not beat m
-  beaten-led : IsBeaten p.strain m c
-  beaten-led = (λ t. sym (same-trump p.strain c m suit) ∙ t, λ e. low)
-
-  -- nor does a card of a hand that is neither h nor the leader
-  under-m : (j i : ℕ) → 1 ≤ i → i < 4 → j < 4 → p.first ≡ seat_after h j → i ≢ j → (e : PlayingCard) → has_card (cards_at o (seat_after h i)) e ≡ true → e.suit ≡ m.suit → e.rank < m.rank
-  under-m j i l k b at differs e = heads (seat_after h i) e
-      (let a = after-code h i in let d = code-lt h in λ z. omega (arith, a, d, z, l, k))
-      (let a = after-code h i in let d = after-code h j in let f = code-lt h in let z : seat_code p.first ≡ seat_code (seat_after h j) = ap seat_code at in λ y. omega (arith, a, d, f, z, y, k, b, differs))
+  beaten-led : seat_code p.first ≢ seat_code h → IsBeaten p.strain m c
+  beaten-led apart = (λ t. sym (same-trump p.strain c m suit) ∙ t, λ e. master p.first c apart (led-back p c valid led h) e)
 
   -- the leader alone has played
   begins : (j : ℕ) → 1 ≤ j → j < 4 → j ≢ 2 → p.first ≡ seat_after h j → IsMidway p.strain o lets (cards_at o h) (but j everybody) p
@@ -370,6 +360,9 @@ module _ (p : Board) (c : PlayingCard) (h : Seat) (lets : Bool → ℕ → List 
       first1 : (after p m).first ≡ p.first
       first1 = (trick-after p m goes_on).1
 
+      apart : seat_code p.first ≢ seat_code h
+      apart = (let a = after-code p.first 1 in let k = code-lt p.first in let e : seat_code h ≡ seat_code (seat_after p.first 1) = ap seat_code at in λ z. omega (arith, a, k, e, z))
+
       third : (d : PlayingCard) → IsLegal (after p m) d → b + 1 ≤ won_with (side_of h) (after p m) d
       third d legal =
           let low : b + 1 ≤ won (side_of h) p2 = fourth in
@@ -391,7 +384,7 @@ module _ (p : Board) (c : PlayingCard) (h : Seat) (lets : Bool → ℕ → List 
           now2 = goes-on p.strain o lets m kept (but 3 everybody) (after p m) 1 d now1 (omega arith) (omega arith) turn1 refl led1 legal plays.0
 
           low_d : IsBeaten p.strain m d
-          low_d = beaten p.strain o lets m kept (but 3 everybody) (after p m) 1 d now1 (omega arith) (omega arith) turn1 refl led1 legal (under-m 3 1 (omega arith) (omega arith) (omega arith) leader (λ e. omega (arith, e))) plays.1
+          low_d = beaten p.strain o lets m kept (but 3 everybody) (after p m) 1 d now1 (omega arith) (omega arith) turn1 refl led1 legal master plays.1
 
           goes_on1 : completes (after p m) ≡ false
           goes_on1 = ap (λ trick. length trick == 3) trick1
@@ -415,7 +408,7 @@ module _ (p : Board) (c : PlayingCard) (h : Seat) (lets : Bool → ℕ → List 
           legal2 = ap (λ x. has_card (following p2.trick (cards_at p2 x)) card.0) turn2 ∙ card.1
 
           low_e : IsBeaten p.strain m card.0
-          low_e = beaten p.strain o lets m kept (but 1 (but 3 everybody)) p2 2 card.0 now2 (omega arith) (omega arith) turn2 refl led2 legal2 (under-m 3 2 (omega arith) (omega arith) (omega arith) leader (λ e. omega (arith, e))) card.2
+          low_e = beaten p.strain o lets m kept (but 1 (but 3 everybody)) p2 2 card.0 now2 (omega arith) (omega arith) turn2 refl led2 legal2 master card.2
 
           full : completes p2 ≡ true
           full = ap (λ trick. length trick == 3) trick2
@@ -424,7 +417,7 @@ module _ (p : Board) (c : PlayingCard) (h : Seat) (lets : Bool → ℕ → List 
           behind e there = elim (in-push (d ∷ []) card.0 e there) [ inl k ↦ elim (in-push [] d e k) [ inl z ↦ absurd (cc) | inr z ↦ subst (IsBeaten p.strain m) z low_d ] | inr z ↦ subst (IsBeaten p.strain m) z low_e ]
 
           before : (e : PlayingCard) → has_card (c ∷ []) e ≡ true → IsBeaten p.strain m e
-          before e there = elim (in-push [] c e there) [ inl z ↦ absurd (cc) | inr z ↦ subst (IsBeaten p.strain m) z beaten-led ]
+          before e there = elim (in-push [] c e there) [ inl z ↦ absurd (cc) | inr z ↦ subst (IsBeaten p.strain m) z (beaten-led apart) ]
 
           wins : winner_of (trick_with p2 card.0) p2.first p2.strain ≡ h
           wins = ap₂ seat_after first2 (ap₂ winning_place now2.same (ap (λ trick. trick ++ card.0 ∷ []) trick2) ∙ wins-at p.strain m c [] (d ∷ card.0 ∷ []) suit before behind) ∙ sym at
@@ -481,13 +474,16 @@ module _ (p : Board) (c : PlayingCard) (h : Seat) (lets : Bool → ℕ → List 
       now1 = goes-on p.strain o lets m (cards_at o h) (but 1 everybody) p 2 card.0 now0 (omega arith) (omega arith) turn refl led0 legal (card.3 (cards_at p1 (seat_after h 2)) (taken p.strain o lets m (cards_at o h) (but 1 everybody) p 2 card.0 now0 (omega arith) (omega arith) turn refl led0 legal))
 
       low_card : IsBeaten p.strain m card.0
-      low_card = beaten p.strain o lets m (cards_at o h) (but 1 everybody) p 2 card.0 now0 (omega arith) (omega arith) turn refl led0 legal (under-m 1 2 (omega arith) (omega arith) (omega arith) leader (λ e. omega (arith, e))) card.2
+      low_card = beaten p.strain o lets m (cards_at o h) (but 1 everybody) p 2 card.0 now0 (omega arith) (omega arith) turn refl led0 legal master card.2
 
       trick1 : p1.trick ≡ c ∷ card.0 ∷ []
       trick1 = (trick-after p card.0 goes_on).0 ∙ ap (λ trick. trick ++ card.0 ∷ []) led
 
       first1 : p1.first ≡ p.first
       first1 = (trick-after p card.0 goes_on).1
+
+      apart : seat_code p.first ≢ seat_code h
+      apart = (let a = after-code p.first 3 in let k = code-lt p.first in let e : seat_code h ≡ seat_code (seat_after p.first 3) = ap seat_code at in λ z. omega (arith, a, k, e, z))
 
       third : (d : PlayingCard) → IsLegal p1 d → b + 1 ≤ won_with (side_of h) p1 d
       third d may =
@@ -510,7 +506,7 @@ module _ (p : Board) (c : PlayingCard) (h : Seat) (lets : Bool → ℕ → List 
           now2 = goes-on p.strain o lets m (cards_at o h) (but 2 (but 1 everybody)) p1 3 d now1 (omega arith) (omega arith) turn1 refl led1 may plays.0
 
           low_d : IsBeaten p.strain m d
-          low_d = beaten p.strain o lets m (cards_at o h) (but 2 (but 1 everybody)) p1 3 d now1 (omega arith) (omega arith) turn1 refl led1 may (under-m 1 3 (omega arith) (omega arith) (omega arith) leader (λ e. omega (arith, e))) plays.1
+          low_d = beaten p.strain o lets m (cards_at o h) (but 2 (but 1 everybody)) p1 3 d now1 (omega arith) (omega arith) turn1 refl led1 may master plays.1
 
           goes_on1 : completes p1 ≡ false
           goes_on1 = ap (λ trick. length trick == 3) trick1
@@ -532,7 +528,7 @@ module _ (p : Board) (c : PlayingCard) (h : Seat) (lets : Bool → ℕ → List 
 
           before : (e : PlayingCard) → has_card (c ∷ card.0 ∷ d ∷ []) e ≡ true → IsBeaten p.strain m e
           before e there = elim (in-push (c ∷ card.0 ∷ []) d e there) [
-            | inl k ↦ elim (in-push (c ∷ []) card.0 e k) [ inl y ↦ elim (in-push [] c e y) [ inl z ↦ absurd (cc) | inr z ↦ subst (IsBeaten p.strain m) z beaten-led ] | inr z ↦ subst (IsBeaten p.strain m) z low_card ]
+            | inl k ↦ elim (in-push (c ∷ []) card.0 e k) [ inl y ↦ elim (in-push [] c e y) [ inl z ↦ absurd (cc) | inr z ↦ subst (IsBeaten p.strain m) z (beaten-led apart) ] | inr z ↦ subst (IsBeaten p.strain m) z low_card ]
             | inr z ↦ subst (IsBeaten p.strain m) z low_d
           ]
 
@@ -557,20 +553,5 @@ module _ (p : Board) (c : PlayingCard) (h : Seat) (lets : Bool → ℕ → List 
               omega (arith, reach, more)
 
   -- either way its side takes the trick and what comes then
-  pub low-taken : (i : ℕ) → IsOpposed i → h ≡ seat_after p.first i → b + 1 ≤ won (side_of h) p
-  low-taken i opposed at = elim opposed [ inl e ↦ second-hand (at ∙ ap (seat_after p.first) e) | inr e ↦ fourth-hand (at ∙ ap (seat_after p.first) e) ]
-
--- so it does where m is the highest card of the suit
-pub trick-taken : (p : Board) (c : PlayingCard) (h : Seat) (lets : Bool → ℕ → List PlayingCard → Type 0) (m : PlayingCard) (b : ℕ) (valid : IsBoard p) (led : p.trick ≡ c ∷ [])
-    → has_card (cards_at (unled p c h) h) m ≡ true → c.suit ≡ m.suit → IsMaster (unled p c h) m → Allows p.strain m lets
-    → ((i : ℕ) → 1 ≤ i → i < 4 → lets true i (hand_on (unled p c h) i))
-    → ((q : Board) → IsMidway p.strain (unled p c h) lets (without (cards_at (unled p c h) h) m) nobody q → q.trick ≡ [] → q.first ≡ h → b ≤ won (side_of h) q)
-    → (i : ℕ) → IsOpposed i → h ≡ seat_after p.first i → b + 1 ≤ won (side_of h) p
-trick-taken p c h lets m b valid led own suit master allows start next i opposed at =
-    low-taken p c h lets m b valid led own suit (master p.first c away (led-back p c valid led h) suit) (λ x d apart other has same. master x d apart has same) allows start next i opposed at
-  where
-    away : seat_code p.first ≢ seat_code h
-    away = elim opposed [
-      | inl e ↦ (let a = after-code p.first 1 in let k = code-lt p.first in let z : seat_code h ≡ seat_code (seat_after p.first 1) = ap seat_code (at ∙ ap (seat_after p.first) e) in λ y. omega (arith, a, k, z, y))
-      | inr e ↦ (let a = after-code p.first 3 in let k = code-lt p.first in let z : seat_code h ≡ seat_code (seat_after p.first 3) = ap seat_code (at ∙ ap (seat_after p.first) e) in λ y. omega (arith, a, k, z, y))
-    ]
+  pub trick-taken : (i : ℕ) → IsOpposed i → h ≡ seat_after p.first i → b + 1 ≤ won (side_of h) p
+  trick-taken i opposed at = elim opposed [ inl e ↦ second-hand (at ∙ ap (seat_after p.first) e) | inr e ↦ fourth-hand (at ∙ ap (seat_after p.first) e) ]

@@ -1,15 +1,14 @@
 -- The position before the lead, for what second or fourth hand would take from there.
-use Rattle.std.specs.Prelude.{◌≡◌, ◌≤◌, ◌⊎◌, ℕ, true, false, List, [], ◌∷◌}
+use Rattle.std.specs.Prelude.{◌≡◌, ◌⊎◌, ℕ, List, [], ◌∷◌}
 use Rattle.dd_cards.specs.declared.seat.Seat.{Seat}
 use Rattle.dd_cards.specs.PlayingCard.{PlayingCard}
-use Rattle.dd_cards.specs.Cards.{card_of, has_card, with_card}
+use Rattle.dd_cards.specs.Cards.{with_card}
 use Rattle.dd_cards.specs.Hands.{with_hand}
 use Rattle.dd_cards.specs.Seats.{seat_after}
 use Rattle.dd_cards.specs.declared.suit.Suit.{Suit}
 use Rattle.dd_cards.specs.Sides.{side_of}
 use Rattle.dd_play.specs.Board.{Board, board_of, cards_at}
 use Rattle.dd_play.specs.Reach.{TakesBy, reach}
-use Rattle.dd_quick.specs.QuickTricks.{beats, length_at, trumps_at}
 
 -- the card that was led back in the leader's hand, and this seat to lead in its place
 abbrev pub unled : Board → PlayingCard → Seat → Board
@@ -29,18 +28,3 @@ pub record IsBeforeLead (p : Board) (c : PlayingCard) (before : Board) : Type 0 
 -- so many tricks, by these cards
 abbrev pub TakesAfterLead : List PlayingCard → Board → Suit → ℕ → Type 0
 TakesAfterLead cards before suit need = (p : Board) (led : PlayingCard) → IsBeforeLead p led before → led.suit ≡ suit → TakesBy (reach cards) (side_of before.first) p need
-
--- after this lead of this leader's, before which this is the position, with an opponent to lead in its place, that opponent's side
--- takes so many tricks, by these cards
-abbrev pub TakesAfterLed : List PlayingCard → Board → Seat → PlayingCard → ℕ → Type 0
-TakesAfterLed cards before leader led need = (p : Board) → IsBeforeLead p led before → p.first ≡ leader → TakesBy (reach cards) (side_of before.first) p need
-
--- the seat can't ruff a lead of this side suit: it has a card of it, or no trump
-abbrev pub CantRuff : Board → Seat → Suit → Type 0
-CantRuff p seat suit = (trumps_at p.strain p seat ≡ 0) ⊎ (1 ≤ length_at p seat suit)
-
--- the leader has a card of this rank in the suit, and neither its partner nor this seat has a higher one
-pub record IsHeading (p : Board) (third : Seat) (suit : Suit) (rank : ℕ) : Type 0 where
-  pub own : has_card (cards_at p p.first) (card_of suit rank) ≡ true
-  pub partner : beats p (seat_after p.first 2) (card_of suit rank) ≡ false
-  pub others : beats p third (card_of suit rank) ≡ false

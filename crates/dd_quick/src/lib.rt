@@ -7,12 +7,10 @@ mod joint_trumps;
 mod kept_winners;
 mod later_trick;
 mod long_suit;
-mod low_lead;
 mod quick_tricks;
 mod second_hand;
 mod sharing;
 mod winners;
 
-pub use low_lead::for_low_lead;
 pub use quick_tricks::{against_leader, bounds, for_leader};
 pub use second_hand::for_second_hand;

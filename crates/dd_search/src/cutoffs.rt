@@ -24,7 +24,7 @@ use crate::turn::Turn;
 use crate::verdict::Verdict;
 use dd_cards::{Card, Seat};
 use dd_play::{Interval, Position, TrickStart};
-use dd_quick::{against_leader, bounds as quick_bounds, for_leader, for_low_lead, for_second_hand};
+use dd_quick::{against_leader, bounds as quick_bounds, for_leader, for_second_hand};
 use dd_rank::{Depths, OwnerStrings};
 
 /// Do North and South take at least `need` of the tricks left, where the quick tricks of a side settle it? With the winners
@@ -132,58 +132,6 @@ fn answer_of_second_hand(
     }
     let Some(cards) = for_second_hand(position, seat, card.suit, others) else {
         seconds.was_in_vain(position, seat, card.suit);
-        return None;
-    };
-    Some(Verdict::new(!leads, cards))
-}
-
-/// What is answered where this card is led, by quick tricks of an opponent that wins the trick though the leader heads the suit.
-/// It leads nowhere else.
-#[inline(always)]
-pub(crate) fn low_leads_answer(
-    position: &Position,
-    turn: Turn,
-    card: Card,
-    need: u8,
-    seconds: &mut SecondHands,
-) -> Option<Verdict>
-    requires legal { has_card (legal position.now) card ≡ true }
-    requires turn { length position.now.trick ≡ cards_before turn }
-    requires low { 1 ≤ need }
-    requires high { need ≤ tricks_left position.now }
-    ensures found { IfSome result
-        (λ found. IsAnswerAfter position.now need card found.cards found.yes) }
-{
-    match turn {
-        Turn::First => {
-            let seat = seconds.to_ask_low(position, card)?;
-            answer_of_low_lead(position, seat, card, need, seconds)
-        }
-        Turn::Second | Turn::Third | Turn::Fourth => None,
-    }
-}
-
-// The same where no card is on the trick, by the quick tricks of this opponent.
-fn answer_of_low_lead(
-    position: &Position,
-    seat: Seat,
-    card: Card,
-    need: u8,
-    seconds: &mut SecondHands,
-) -> Option<Verdict>
-    requires legal { has_card (legal position.now) card ≡ true }
-    requires start { length position.now.trick ≡ 0 }
-    requires opposes { Opposes position.now seat }
-    requires low { 1 ≤ need }
-    requires high { need ≤ tricks_left position.now }
-    ensures found { IfSome result
-        (λ found. IsAnswerAfter position.now need card found.cards found.yes) }
-{
-    let leads = position.first().is_north_south();
-    let left = position.tricks_left();
-    let theirs = if leads { left + 1 - need } else { need };
-    let Some(cards) = for_low_lead(position, seat, card, theirs) else {
-        seconds.was_in_vain_low(position, seat);
         return None;
     };
     Some(Verdict::new(!leads, cards))

@@ -15,7 +15,7 @@ use crate::table::{Bounds, ProbeHint};
 use crate::turn::Turn;
 use dd_cards::{Place, Seat};
 use dd_play::Interval;
-use dd_quick::{against_leader, for_leader, for_low_lead, for_second_hand};
+use dd_quick::{against_leader, for_leader, for_second_hand};
 use dd_rank::{Depths, OwnerStrings};
 use dd_relative::{ComingStart, PlacedTrick, WinningRanks};
 
@@ -151,80 +151,6 @@ fn ranks_of_second_hand(
     }
     let Some(cards) = for_second_hand(position, seat, suit, others) else {
         seconds.was_in_vain(position, seat, suit);
-        return None;
-    };
-    Some(RankVerdict::new(!leads, &WinningRanks::reaching(cards)))
-}
-
-/// What is answered where this card is led, by quick tricks of an opponent that wins the trick though the leader heads the suit.
-/// It leads nowhere else.
-#[inline(always)]
-pub(crate) fn low_leads_ranks(
-    trick: &PlacedTrick<'_>,
-    turn: Turn,
-    card: Place,
-    need: u8,
-    seconds: &mut SecondHands,
-) -> Option<RankVerdict>
-    requires legal { has_card (legal trick.now) card ≡ true }
-    requires turn { length trick.now.trick ≡ cards_before turn }
-    requires low { 1 ≤ need }
-    requires high { need ≤ tricks_left trick.now }
-    ensures found { IfSome result
-        (λ found. IsAnswerAfter trick.now need card found.cards found.yes) }
-{
-    match turn {
-        Turn::First => {
-            if seconds.may_ask_low(card) {
-                ranks_of_low_asked(trick, card, need, seconds)
-            } else {
-                None
-            }
-        }
-        Turn::Second | Turn::Third | Turn::Fourth => None,
-    }
-}
-
-// The same where no card is on the trick.
-fn ranks_of_low_asked(
-    trick: &PlacedTrick<'_>,
-    card: Place,
-    need: u8,
-    seconds: &mut SecondHands,
-) -> Option<RankVerdict>
-    requires legal { has_card (legal trick.now) card ≡ true }
-    requires start { length trick.now.trick ≡ 0 }
-    requires low { 1 ≤ need }
-    requires high { need ≤ tricks_left trick.now }
-    ensures found { IfSome result
-        (λ found. IsAnswerAfter trick.now need card found.cards found.yes) }
-{
-    let seat = seconds.to_ask_low(trick.at_lead().position(), card.card())?;
-    ranks_of_low_lead(trick, seat, card, need, seconds)
-}
-
-// The same by the quick tricks of this opponent.
-fn ranks_of_low_lead(
-    trick: &PlacedTrick<'_>,
-    seat: Seat,
-    card: Place,
-    need: u8,
-    seconds: &mut SecondHands,
-) -> Option<RankVerdict>
-    requires legal { has_card (legal trick.now) card ≡ true }
-    requires start { length trick.now.trick ≡ 0 }
-    requires opposes { Opposes trick.now seat }
-    requires low { 1 ≤ need }
-    requires high { need ≤ tricks_left trick.now }
-    ensures found { IfSome result
-        (λ found. IsAnswerAfter trick.now need card found.cards found.yes) }
-{
-    let position = trick.at_lead().position();
-    let leads = position.first().is_north_south();
-    let left = position.tricks_left();
-    let theirs = if leads { left + 1 - need } else { need };
-    let Some(cards) = for_low_lead(position, seat, card.card(), theirs) else {
-        seconds.was_in_vain_low(position, seat);
         return None;
     };
     Some(RankVerdict::new(!leads, &WinningRanks::reaching(cards)))

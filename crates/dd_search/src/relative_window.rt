@@ -21,9 +21,7 @@ use crate::meter::Meter;
 use crate::placed_order::{Phase, PlacedPicker, follows, go_on, lead_history, note_lead, seconds};
 use crate::placed_untried::still_untried;
 use crate::rank_verdict::RankVerdict;
-use crate::relative_cutoffs::{
-    low_leads_ranks, note_ranks, quick_ranks, second_hands_ranks, told_ranks,
-};
+use crate::relative_cutoffs::{note_ranks, quick_ranks, second_hands_ranks, told_ranks};
 use crate::second_hands::SecondHands;
 use crate::table::{Bounds, ProbeHint};
 use crate::turn::Turn;
@@ -270,7 +268,6 @@ fn relative_by_choices<B: Bounds, M: Meter>(
             note_lead(trick, turn, card, table);
             return Ok(found);
         }
-        seconds.note_tried();
         let winning_ranks = found.ranks();
         ranks = ranks.with_all(&winning_ranks);
         untried = still_untried(untried, card, &winning_ranks);
@@ -303,9 +300,6 @@ fn relative_after<B: Bounds, M: Meter>(
     ensures ends { EndsAs (M.says meter.new) result }
 {
     if let Some(found) = second_hands_ranks(trick, turn, card, need, seconds) {
-        return Ok(found);
-    }
-    if let Some(found) = low_leads_ranks(trick, turn, card, need, seconds) {
         return Ok(found);
     }
     match turn {

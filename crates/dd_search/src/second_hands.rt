@@ -26,13 +26,6 @@ pub(crate) struct SecondHands {
     // which opponents were asked of a side suit in vain: they have too few winners for any
     left_fails: bool,
     right_fails: bool,
-    // the leads of suits of which nobody was asked yet whether it wins though the leader heads the suit
-    low_unasked: Hand,
-    // which opponents were asked that in vain
-    low_left_fails: bool,
-    low_right_fails: bool,
-    // a lead has been tried, and failed
-    tried: bool,
 }
 
 impl SecondHands {
@@ -49,10 +42,6 @@ impl SecondHands {
             unasked: choices,
             left_fails: false,
             right_fails: false,
-            low_unasked: choices,
-            low_left_fails: false,
-            low_right_fails: false,
-            tried: false,
         }
     }
 
@@ -103,67 +92,6 @@ impl SecondHands {
             Some(leader.right())
         } else {
             Some(leader.left())
-        }
-    }
-
-    /// A lead was tried, and failed.
-    #[inline(always)]
-    pub(crate) fn note_tried(&mut self) {
-        self.tried = true;
-    }
-
-    /// May there be an opponent that wins this lead though the leader heads the suit?
-    #[inline(always)]
-    pub(crate) fn may_ask_low(&self, card: Place) -> bool {
-        self.tried && self.tops.is_some() && self.low_unasked.has_place(card)
-    }
-
-    /// The opponent to ask whether it wins this lead though the leader heads the suit: once for each suit, after a lead that failed.
-    // It has the higher one of the opponents' highest cards, and the leader's partner has no higher one.
-    pub(crate) fn to_ask_low(&mut self, position: &Position, card: Card) -> Option<Seat>
-        ensures { IfSome result (λ seat. Opposes position.now seat) }
-    {
-        let suit = card.suit;
-        if !self.tried || self.tops.is_none() || !self.low_unasked.has(card) {
-            return None;
-        }
-        let leader = position.first();
-        let partner = leader.partner();
-        if position.strain() == Strain::Trump(suit) || ruffs(position, partner, suit) {
-            return None;
-        }
-        let hands = position.hands();
-        let left = hands.holding(leader.left(), suit);
-        let right = hands.holding(leader.right(), suit);
-        let highest = left.union(right).highest()?;
-        // A lower card of the suit may be led yet.
-        if highest.code() < card.rank.code() {
-            return None;
-        }
-        self.low_unasked = self.low_unasked.without_suit(suit);
-        if !hands.holding(partner, suit).above(highest).is_empty() {
-            return None;
-        }
-        if left.has(highest) {
-            if self.low_left_fails {
-                None
-            } else {
-                Some(leader.left())
-            }
-        } else if self.low_right_fails {
-            None
-        } else {
-            Some(leader.right())
-        }
-    }
-
-    /// It was asked that in vain.
-    #[inline]
-    pub(crate) fn was_in_vain_low(&mut self, position: &Position, seat: Seat) {
-        if seat == position.first().left() {
-            self.low_left_fails = true;
-        } else {
-            self.low_right_fails = true;
         }
     }
 

@@ -12,9 +12,7 @@ ghost use Rattle.dd_search.specs.ClaimsBy.{IsAnswer, IsAnswerBy, IsAnswerAfter};
 ghost use Rattle.dd_search.specs.Turns.{cards_before};
 ghost use Rattle.dd_search.specs.declared.turn.Turn.{Turn};
 
-use crate::cutoffs::{
-    low_leads_answer, note_answer, quick_answer, second_hands_answer, told_answer,
-};
+use crate::cutoffs::{note_answer, quick_answer, second_hands_answer, told_answer};
 use crate::halt_word::{HaltWord, answer_or_halt, tick};
 use crate::lead::Leading;
 use crate::meter::{Halt, Meter, go_on};
@@ -347,7 +345,6 @@ fn answer_by_choices<B: Bounds, M: Meter>(
             note_lead(position, strings, card, table);
             return Ok(found);
         }
-        seconds.note_tried();
         let winning_ranks = found.cards();
         cards = cards.union(winning_ranks);
         untried = still_untried(untried, card, winning_ranks);
@@ -432,9 +429,6 @@ fn answer_after<B: Bounds, M: Meter>(
     ensures ends { EndsAs (M.says meter.new) result }
 {
     if let Some(found) = second_hands_answer(position, turn, card, need, seconds) {
-        return Ok(found);
-    }
-    if let Some(found) = low_leads_answer(position, turn, card, need, seconds) {
         return Ok(found);
     }
     // The position stays where `play` put it: a copy of it would wait for its bytes to be written.

@@ -4,7 +4,6 @@ use dd_play::{Position, TrickStart};
 use dd_quick::{against_leader, bounds, for_leader};
 use std::process::Abort;
 
-mod low_lead;
 mod second_hand;
 
 // Rows of a test are one text, so that its proof does not grow with them. A row begins with a position before a trick: the
