@@ -186,18 +186,18 @@ changes, and what was added, taken out again, leaves the file.
 
 What is said:
 
-Of each game that lacks one of them afterwards a line on the standard error
-says why:
+Of each game that still lacks one that was asked for, a line on the standard
+error says why:
 
   ddserve: game 3 (board 7): no par: Dealer is missing
 
 The reasons are no deal; deal refused, with the number of the fault as `ddserve
 solve --help` lists them, and its words; no par, since Dealer or Vulnerable is
 missing, or unknown with what it says: a dealer is one letter, vulnerable is
-None, NS, EW or All; not closed, where a comment or a tag is open at the end of
-the file; and spent, with --budget. Where a file has no tag it says that no game
-was found. On a terminal a last line shows how many games have ended, and at
-which byte of the file.
+None, NS, EW or All; not closed, where the next game begins in the middle of a
+line, or a comment or a tag is open at the end of the file; and spent, with
+--budget. Where a file has no tag it says that no game was found. On a terminal
+a last line shows how many games have ended, and at which byte of the file.
 
 With --workers N, threads search ahead for the deals of what was read, 262144
 bytes or so at a time. The file comes out the same, but for results that are

@@ -3,7 +3,7 @@ use Rattle.std.specs.Prelude.{◌≡◌, ℕ, List, [], ◌∷◌}
 use Rattle.dd_file.specs.declared.analyst.Reason.{Reason}
 
 -- Why the game of this number, with this text of its tag Board, lacks a tag, with what its tag Dealer or Vulnerable says where that isn't known; how
--- many games have ended, and before how many bytes; and how many games there are.
+-- many games have ended, and how many bytes stand before that place; and how many games there are.
 pub data Notice : Type 0 where
   left_game : ℕ → List ℕ → Reason → List ℕ → Notice
   games_ended : ℕ → ℕ → Notice

@@ -22,14 +22,14 @@ reason_text NoVulnerable = codes "no par: Vulnerable is missing"
 reason_text NotClosed = codes "not closed"
 reason_text Spent = codes "spent"
 
--- the first 32 bytes of the value of the tag Board
-abbrev pub board_text : List ℕ → List ℕ
-board_text [] = codes "?"
-board_text (byte ∷ bytes) = take 32 (byte ∷ bytes)
-
 -- a byte as it is said: a control byte as a question mark
 abbrev pub said_byte : ℕ → ℕ
 said_byte byte = (if nat_lt byte 32 || byte == 127 then 63 else byte)
+
+-- the first 32 bytes of the value of the tag Board; a question mark where it has none
+abbrev pub board_text : List ℕ → List ℕ
+board_text [] = codes "?"
+board_text (byte ∷ bytes) = map said_byte (take 32 (byte ∷ bytes))
 
 -- the first 32 bytes of the value of a tag Dealer or Vulnerable that isn't known; nothing where there is none
 abbrev pub unknown_text : List ℕ → List ℕ

@@ -33,7 +33,7 @@ pub(crate) fn note_of(game: u64, board: &[u8], reason: Reason, unknown: &[u8]) -
     push(&mut note, b"ddserve: game ");
     push(&mut note, buffer.format(game).as_bytes());
     push(&mut note, b" (board ");
-    push(&mut note, shown(board));
+    push_board(&mut note, board);
     push(&mut note, b"): ");
     push(&mut note, reason_of(reason).as_bytes());
     push_unknown(&mut note, unknown);
@@ -51,6 +51,19 @@ pub(crate) fn push(note: &mut Note, bytes: &[u8])
         Ok(()) => {}
         Err(_) => unreachable!(),
     }
+}
+
+// Appends the first bytes of the value of Board as they are said, or a question mark where it has none.
+fn push_board(note: &mut Note, board: &[u8])
+    requires { array_vec_len note.old + SAID_BYTES ≤ LONGEST_NOTE }
+    ensures items { note.new.items ≡ note.old.items ++ board_text board.now }
+    ensures len { array_vec_len note.new ≤ array_vec_len note.old + SAID_BYTES }
+{
+    if board.is_empty() {
+        push(note, b"?");
+        return;
+    }
+    push_said(note, front(board));
 }
 
 // Appends what a tag says whose value isn't known, if it says anything.
@@ -86,14 +99,6 @@ fn said_byte(byte: u8) -> u8
     } else {
         byte
     }
-}
-
-// The first bytes of the value of Board, or a question mark where it has none.
-fn shown(board: &[u8]) -> &[u8]
-    ensures text { result.now ≡ board_text board.now }
-    ensures short { length result.now ≤ 32 }
-{
-    if board.is_empty() { b"?" } else { front(board) }
 }
 
 // The first bytes of a value.

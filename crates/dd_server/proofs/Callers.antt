@@ -1,8 +1,8 @@
 -- Whose pass it is.
-use Rattle.std.proofs.Common.{◌≡◌, ◌∙◌, ℕ, List, [], ◌∷◌, ◌++◌, length, Option, None, Some, Ok, Err, Bool, false, refl, sym, ap, subst}
+use Rattle.std.proofs.Common.{◌≡◌, ◌∙◌, ℕ, List, [], ◌∷◌, ◌++◌, length, Option, None, Some, Ok, Err, Bool, false, inl, inr, refl, sym, ap, subst}
 use Rattle.std.specs.Prelude.{All, IfSome, Result, ◌&&◌}
 use Rattle.std.specs.List.{list_all}
-use Rattle.std.proofs.lemmas.List.Elements.{All-append, All-cons, All-nil}
+use Rattle.std.proofs.lemmas.List.Elements.{All-append, All-cons, All-nil, All-weaker}
 use Rattle.std.proofs.lemmas.List.Folds.{list_all-append}
 use Rattle.dd_book.specs.declared.call.Call.TheVariants.{Shut}
 use Rattle.dd_book.specs.declared.call.Reply.{Reply}
@@ -14,7 +14,7 @@ use Rattle.dd_session.specs.Leaving.{HasEndedBy, SawEnd, ThenLeaves}
 use Rattle.dd_session.specs.Ports.{AreClients, AsksNoStop, DeskPortOf, LatePortOf, before_by, new_late_port, pass_by, port_of, refusals_by, told_by, told_in}
 use Rattle.dd_session.specs.Sockets.{ServesMessages}
 use Rattle.dd_work.specs.Rounds.{AreRounds, Works}
-use Rattle.dd_server.specs.Callers.{AreShuts, IsCallers, IsClients}
+use Rattle.dd_server.specs.Callers.{AreCallers, AreShuts, IsCallers, IsClients, IsWorkersOrClients}
 use Rattle.dd_server.specs.declared.terms.Terms.{Terms}
 
 -- ---- the run's own
@@ -75,7 +75,23 @@ clients_pass limits terms workers start after pass fresh begun is told calls ask
 -- ---- all passes
 
 -- one pass more comes back
-pub callers_more : (limits : LimitsOf) (terms : Terms) (passes : List PassOf) (pass : PassOf) → All (IsCallers limits terms) passes → IsCallers limits terms pass
-    → All (IsCallers limits terms) (passes ++ pass ∷ [])
+pub callers_more : (limits : LimitsOf) (terms : Terms) (passes : List PassOf) (pass : PassOf) → All (IsWorkersOrClients limits terms) passes → IsWorkersOrClients limits terms pass
+    → All (IsWorkersOrClients limits terms) (passes ++ pass ∷ [])
 callers_more limits terms passes pass each here =
-    All-append (IsCallers limits terms) passes (pass ∷ []) each (All-cons (IsCallers limits terms) pass [] here (All-nil (IsCallers limits terms)))
+    All-append (IsWorkersOrClients limits terms) passes (pass ∷ []) each
+    (All-cons (IsWorkersOrClients limits terms) pass [] here (All-nil (IsWorkersOrClients limits terms)))
+
+-- passes of workers and clients alone, whichever number the run's own has
+pub callers_alone : (limits : LimitsOf) (terms : Terms) (own : ℕ) (passes : List PassOf) → All (IsWorkersOrClients limits terms) passes → All (IsCallers limits terms own) passes
+callers_alone limits terms own passes each = All-weaker (IsWorkersOrClients limits terms) (IsCallers limits terms own) (λ pass here. inr here) passes each
+
+-- these and the run's own
+pub callers_with_own : (limits : LimitsOf) (terms : Terms) (passes : List PassOf) (own : PassOf) → All (IsWorkersOrClients limits terms) passes → AreShuts own.receipts
+    → All (IsCallers limits terms own.number) (passes ++ own ∷ [])
+callers_with_own limits terms passes own each shuts =
+    All-append (IsCallers limits terms own.number) passes (own ∷ []) (callers_alone limits terms own.number passes each)
+    (All-cons (IsCallers limits terms own.number) own [] (inl (refl, shuts)) (All-nil (IsCallers limits terms own.number)))
+
+-- the number of the run's own is some number
+pub are_callers : (limits : LimitsOf) (terms : Terms) (own : ℕ) (passes : List PassOf) → All (IsCallers limits terms own) passes → AreCallers limits terms passes
+are_callers limits terms own passes each = (own, each)

@@ -1,5 +1,5 @@
 -- To be believed: whose calls stand in the journal of a run.
-use Rattle.std.specs.Prelude.{◌≡◌, ◌⊎◌, ℕ, List, [], true, false}
+use Rattle.std.specs.Prelude.{◌≡◌, ◌⊎◌, ℕ, List, [], All, true, false}
 use Rattle.std.specs.List.{list_all}
 use Rattle.dd_book.specs.Limits.{LimitsOf}
 use Rattle.dd_desk.specs.Receipts.{PassOf, ReceiptOf, is_shut}
@@ -22,8 +22,14 @@ pub record IsClients (limits : LimitsOf) (terms : Terms) (pass : PassOf) : Type 
   pub asked : ThenLeaves (ServesMessages terms.manner (port_of [] 0)) (SawEnd limits 0 pass) (port_of (told_in pass.receipts) refusals)
   pub leave : terms.manner.allow_stop ≡ false → AsksNoStop [] (told_in pass.receipts)
 
--- Whose pass it is: the run's own, by which it shut the book; a worker's, with rounds of a claim and its finish, within the
--- budget; or a client's.
-abbrev pub IsCallers : LimitsOf → Terms → PassOf → Type 0
-IsCallers limits terms pass =
-    AreShuts pass.receipts ⊎ (AreRounds terms.budget pass.number pass.receipts ⊎ IsClients limits terms pass)
+-- the pass of a worker, with rounds of a claim and its finish, within the budget; or of a client
+abbrev pub IsWorkersOrClients : LimitsOf → Terms → PassOf → Type 0
+IsWorkersOrClients limits terms pass = AreRounds terms.budget pass.number pass.receipts ⊎ IsClients limits terms pass
+
+-- Whose pass it is: the run's own, which has this number, and by which it shut the book; a worker's; or a client's.
+abbrev pub IsCallers : LimitsOf → Terms → ℕ → PassOf → Type 0
+IsCallers limits terms own pass = ((pass.number ≡ own) × AreShuts pass.receipts) ⊎ IsWorkersOrClients limits terms pass
+
+-- The passes of a run: the pass of one number may be its own, and each other one is a worker's or a client's.
+abbrev pub AreCallers : LimitsOf → Terms → List PassOf → Type 0
+AreCallers limits terms passes = (own : ℕ) × All (IsCallers limits terms own) passes

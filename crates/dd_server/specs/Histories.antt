@@ -1,12 +1,12 @@
 -- To be believed: what a run leaves.
-use Rattle.std.specs.Prelude.{◌≡◌, ◌≤◌, ℕ, List, All, length, true}
+use Rattle.std.specs.Prelude.{◌≡◌, ◌≤◌, ℕ, List, length, true}
 use Rattle.dd_book.specs.Limits.{LimitsOf}
 use Rattle.dd_desk.specs.Answers.{AnswersAreRight}
 use Rattle.dd_desk.specs.Events.{AnswersAreOwn, EventOf, IsLegal}
 use Rattle.dd_desk.specs.Receipts.{PassOf}
 use Rattle.dd_desk.specs.Reserve.{HasReserve}
 use Rattle.dd_desk.specs.Closing.{numbers_of, by_these, AllTheirs}
-use Rattle.dd_server.specs.Callers.{IsCallers}
+use Rattle.dd_server.specs.Callers.{AreCallers}
 use Rattle.dd_server.specs.declared.terms.Terms.{Terms}
 
 -- The journal of a desk of these limits has at most so many events as they allow, with room for what is reserved after it, and is
@@ -24,11 +24,11 @@ pub record IsHistory (limits : LimitsOf) (journal : List EventOf) (passes : List
   pub theirs : AllTheirs journal passes
   pub callers : by_these (numbers_of passes) journal ≡ true
 
--- So many events has such a journal, of some passes, each of which is the run's own, a worker's or a client's, as the run was
--- asked for.
+-- So many events has such a journal, of some passes, of which one is the run's own, and each other one a worker's or a client's, as
+-- the run was asked for.
 pub record IsLengthOfHistory (limits : LimitsOf) (terms : Terms) (events : ℕ) : Type 0 where
   pub journal : List EventOf
   pub passes : List PassOf
   pub history : IsHistory limits journal passes
-  pub callers : All (IsCallers limits terms) passes
+  pub callers : AreCallers limits terms passes
   pub count : events ≡ length journal

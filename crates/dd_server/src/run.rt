@@ -1,7 +1,7 @@
 //! One run: a desk of its own, its workers and its connections.
-ghost use Rattle.std.specs.Prelude.{◌≡◌, All, map, IfOk};
+ghost use Rattle.std.specs.Prelude.{◌≡◌, map, IfOk};
 ghost use Rattle.once_cell.specs.Once.{cell_name};
-ghost use Rattle.dd_server.specs.Callers.{IsCallers};
+ghost use Rattle.dd_server.specs.Callers.{AreCallers, AreShuts};
 ghost use Rattle.dd_server.specs.Histories.{IsHistory};
 
 use crate::accepting::{accept_connections, wait_for_sessions};
@@ -88,7 +88,7 @@ fn serve_row<
     ensures history { IfOk result (λ closed.
         IsHistory J.limits closed.history.journal.items closed.passes.items) }
     ensures callers { IfOk result (λ closed.
-        All (IsCallers J.limits J.terms) closed.passes.items) }
+        AreCallers J.limits J.terms closed.passes.items) }
 {
     let state = RunState {
         server,
@@ -105,7 +105,7 @@ fn serve_row<
         silent: AtomicU64::new(0),
         lacks_memory: AtomicBool::new(false),
     };
-    let ended = keep_open(rt, &state, runs, stream, gate);
+    let (own, ended) = keep_open(rt, &state, runs, stream, gate)?;
     let RunState {
         server: _,
         number: _,
@@ -121,7 +121,7 @@ fn serve_row<
         silent: _,
         lacks_memory,
     } = state;
-    let closed = close(desk, returned.into_inner().into_passes())?;
+    let closed = close(desk, returned.into_inner().into_passes(own))?;
     ended?;
     if lacks_memory.into_inner() {
         return Err(ServeFault::OutOfMemory);
@@ -132,11 +132,11 @@ fn serve_row<
 // The desk is closed, and its passes are compared with its journal.
 fn close<J: RunNaming>(desk: Desk<J>, passes: Vec<Pass<J>>) -> Result<Closed<J>, ServeFault>
     requires whole { J.all ≡ J.parts }
-    requires callers { All (IsCallers J.limits J.terms) passes.items }
+    requires callers { AreCallers J.limits J.terms passes.items }
     ensures history { IfOk result (λ closed.
         IsHistory J.limits closed.history.journal.items closed.passes.items) }
     ensures callers { IfOk result (λ closed.
-        All (IsCallers J.limits J.terms) closed.passes.items) }
+        AreCallers J.limits J.terms closed.passes.items) }
 {
     match desk.close(passes) {
         Ok(closed) => Ok(closed),
@@ -144,7 +144,7 @@ fn close<J: RunNaming>(desk: Desk<J>, passes: Vec<Pass<J>>) -> Result<Closed<J>,
     }
 }
 
-// Workers and connections, until all have ended.
+// Workers and connections, until all have ended: the run's own pass then, and how it ended.
 fn keep_open<
     J: RunNaming + Send + Sync,
     L: RunLimits + Send + Sync,
@@ -156,7 +156,9 @@ fn keep_open<
     runs: &Runs<L>,
     stream: Option<TcpStream>,
     gate: &G,
-) -> Result<(), ServeFault> {
+) -> Result<(Pass<J>, Result<(), ServeFault>), ServeFault>
+    ensures { IfOk result (λ kept. AreShuts kept.0.receipts) }
+{
     // The run's own pass, by which it shuts the book.
     let Ok(pass) = state.enrol(rt) else {
         return Err(ServeFault::OutOfMemory);
@@ -170,8 +172,7 @@ fn keep_open<
             (own, ended)
         },
     );
-    state.take_back(rt, own.into_pass());
-    ended
+    Ok((own.into_pass(), ended))
 }
 
 // Workers, and connections until the run is worn or stopped. Then its book is shut, where no client did that.

@@ -1,6 +1,6 @@
 //! How a run ended.
-ghost use Rattle.std.specs.Prelude.{◌≡◌, All, length};
-ghost use Rattle.dd_server.specs.Callers.{IsCallers};
+ghost use Rattle.std.specs.Prelude.{◌≡◌, length};
+ghost use Rattle.dd_server.specs.Callers.{AreCallers};
 ghost use Rattle.dd_server.specs.Histories.{IsHistory, IsLengthOfHistory};
 
 use crate::telling::TellsRuns;
@@ -53,7 +53,7 @@ impl<L: RunLimits> RunEnd<L> {
         requires terms { J.terms ≡ L.terms }
         requires history { IsHistory J.limits closed.now.history.journal.items
             closed.now.passes.items }
-        requires callers { All (IsCallers J.limits J.terms) closed.now.passes.items }
+        requires callers { AreCallers J.limits J.terms closed.now.passes.items }
         ensures { result ≡ length closed.now.history.journal.items }
     {
         RunEnd {

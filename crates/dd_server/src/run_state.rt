@@ -1,6 +1,6 @@
 //! What the threads of a run share.
 ghost use Rattle.std.specs.Prelude.{◌≡◌};
-ghost use Rattle.dd_server.specs.Callers.{IsCallers};
+ghost use Rattle.dd_server.specs.Callers.{IsWorkersOrClients};
 ghost use Rattle.dd_server.specs.Worn.{SeesFewFree, SeesFewLeft, SeesUsedUp};
 
 use crate::new_pass::NewPass;
@@ -86,7 +86,7 @@ impl<'a, J: RunNaming> RunState<'a, J> {
 
     /// The pass comes back.
     pub(crate) fn take_back<R: Wait>(&self, rt: &R, pass: Pass<J>)
-        requires { IsCallers J.limits J.terms pass }
+        requires { IsWorkersOrClients J.limits J.terms pass }
     {
         self.returned.lock(rt).take_back(pass);
     }

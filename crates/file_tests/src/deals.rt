@@ -134,6 +134,13 @@ fn a_value_that_is_not_known_is_said_without_control_bytes(rt: HostRuntime) {
 }
 
 #[test]
+fn a_board_is_said_without_control_bytes(rt: HostRuntime) {
+    let file = b"[Board \"\x1b[2J\r7\x7f\"]\n";
+    let note = b"ddserve: game 1 (board ?[2J?7?): no deal\n";
+    assert!(rt; is_left(&rt, rt.alloc(), file, None, note));
+}
+
+#[test]
 fn a_file_without_games_is_said_to_have_none(rt: HostRuntime) {
     let note = b"ddserve: no game was found: the input has no tag of PBN\n";
     for file in [b"".as_slice(), b"words [ without ] a tag\n".as_slice()] {

@@ -3,6 +3,7 @@ mod ahead;
 mod asking;
 mod budgets;
 mod devices;
+mod files;
 mod given;
 mod idle;
 mod leave;
