@@ -376,7 +376,7 @@ pub fn next_file(
     })
 }
 
-// What the files come to, the bytes of the longest one, and how many are passed on in several fronts. Each is read in pieces as large as
+// What the files are mixed into, the bytes of the longest one, and how many are passed on in several fronts. Each is read in pieces as large as
 // the buffer, in small ones and byte by byte.
 fn mixed_files(alloc: Global, making: Making) -> Result<(Mixes, usize, u64), Fail> {
     let mut state = making.seed;
