@@ -1,6 +1,6 @@
 -- From place to place in a file.
 use Rattle.std.proofs.Common.{◌≡◌, ◌∙◌, ℕ, zero, suc, ◌+◌, ◌-◌, ◌<◌, ◌≤◌, Bool, true, false, List, [], ◌∷◌, ◌++◌, length, get_or, take, drop, refl, sym, ap, subst, arith, append_assoc, append-nil, length-append, length-drop, Option, Result, Ok, Err}
-use Rattle.std.specs.Prelude.{◌&&◌, nat_le, OnOk}
+use Rattle.std.specs.Prelude.{◌&&◌, nat_le, OnOk, if◌then◌else◌}
 use Rattle.std.proofs.lemmas.Bool.Decides.{nat_tests}
 use Rattle.std.proofs.lemmas.List.{drop-drop, take_all, take-append-le}
 use Rattle.dd_cards.specs.Hands.{FourHands}
@@ -15,11 +15,11 @@ use Rattle.dd_file.specs.Marked.{byte, begins, begins_within, is_closed, left_wi
 use Rattle.dd_file.specs.Marks.{Begins, mark_at}
 use Rattle.dd_file.specs.Modes.{next_mode}
 use Rattle.dd_file.specs.Notes.{Notes, board_of, notes_of, unknown_of}
-use Rattle.dd_file.specs.Notices.{Notice, Hears, games_in_all}
+use Rattle.dd_file.specs.Notices.{Notice, Hears, games_ended, games_in_all, games_over}
 use Rattle.dd_file.specs.Passing.{PassesByte, begins_now}
-use Rattle.dd_file.specs.Told.{GameNotes, TextsOf, games_in, next_notes, one_more, told_from, told_here, told_last}
-use Rattle.dd_file.specs.Windows.{Point, Place, place_of, point_of, marked_at, Follows, Passed, Ended, Begun, PassesFront}
-use Rattle.dd_file.proofs.Heard.{Hears-append}
+use Rattle.dd_file.specs.Told.{GameNotes, TextsOf, games_in, next_notes, one_more, told_from, told_here, told_last, told_of}
+use Rattle.dd_file.specs.Windows.{Point, Place, place_of, point_of, marked_at, Follows, Passed, Ended, PassesFront}
+use Rattle.dd_file.proofs.Heard.{Hears-append, games_over-append}
 
 -- ---- answers
 -- one after another
@@ -43,6 +43,37 @@ takes gives true ask wanted state (answer ∷ []) more right = record { text = r
 takes gives true ask wanted state (answer ∷ (other ∷ answers)) more right = absurd right.1
 takes gives false ask wanted state [] more right = record { text = refl; after = refl; told = λ place notes. refl }
 takes gives false ask wanted state (answer ∷ answers) more right = absurd right
+
+-- of each game that was answered all was told
+pub over-then : (a b : List (Option Found)) (n m : List Notice) → length a ≤ games_over n → length b ≤ games_over m → length (a ++ b) ≤ games_over (n ++ m)
+over-then a b n m first second = (let all = games_over-append n m in omega (arith, all, length-append {A = Option Found}))
+
+pub over-here : (gives : FourHands → Option (List (List ℕ)) → Type 0) (here place : Bool) (ask : Option Ask) (wanted : Wanted) (state : FillState) (notes : GameNotes) (answers : List (Option Found))
+    → AreAnswers gives (asked_here here ask) answers → length answers ≤ games_over (told_here here place wanted state notes (first_of answers))
+over-here gives true place ask wanted state notes [] right = absurd right
+over-here gives true place ask wanted state notes (answer ∷ []) right =
+    (let all = games_over-append (told_of place wanted state notes answer) (games_ended notes.number notes.bytes ∷ []) in omega (arith, all))
+over-here gives true place ask wanted state notes (answer ∷ (other ∷ answers)) right = absurd right.1
+over-here gives false place ask wanted state notes [] right = omega arith
+over-here gives false place ask wanted state notes (answer ∷ answers) right = absurd right
+
+over-last : (gives : FourHands → Option (List (List ℕ)) → Type 0) (here : Bool) (ask : Option Ask) (answers : List (Option Found)) → AreAnswers gives (asked_here here ask) answers → length answers ≤ 1
+over-last gives true ask [] right = absurd right
+over-last gives true ask (answer ∷ []) right = omega arith
+over-last gives true ask (answer ∷ (other ∷ answers)) right = absurd right.1
+over-last gives false ask [] right = omega arith
+over-last gives false ask (answer ∷ answers) right = absurd right
+
+-- what is told of a last game needs no other answers: of one without an end it is the same, whatever is answered
+last-told : (gives : FourHands → Option (List (List ℕ)) → Type 0) (closed begun : Bool) (ask : Option Ask) (wanted : Wanted) (state : FillState) (notes : GameNotes) (answers more : List (Option Found))
+    → AreAnswers gives (asked_here (closed && begun) ask) answers
+    → (if begun then told_of closed wanted state notes (first_of (answers ++ more)) else []) ≡ (if begun then told_of closed wanted state notes (first_of answers) else [])
+last-told gives true true ask wanted state notes [] more right = absurd right
+last-told gives true true ask wanted state notes (answer ∷ answers) more right = refl
+last-told gives false true ask wanted state notes [] more right = refl
+last-told gives false true ask wanted state notes (answer ∷ answers) more right = absurd right
+last-told gives true false ask wanted state notes answers more right = refl
+last-told gives false false ask wanted state notes answers more right = refl
 
 -- ---- what begins
 nat_le-false : (n m : ℕ) → m < n → nat_le n m ≡ false
@@ -125,6 +156,7 @@ Passed-byte {S} gives way is_all old new s t b tail out_old out_new room noted p
       asked = asked_here here (ask_at (has_place mark) old.wanted old.state);
       notices = says;
       right = passes.right;
+      over = over-here gives here (has_place mark) (ask_at (has_place mark) old.wanted old.state) old.wanted old.state (notes_of old) passes.answers passes.right;
       hears = passes.hears;
       fills = λ more rest follows.
           (let some = takes gives here (ask_at (has_place mark) old.wanted old.state) old.wanted old.state passes.answers more passes.right in
@@ -181,6 +213,7 @@ module _ {S : Type 0} (gives : FourHands → Option (List (List ℕ)) → Type 0
         asked = [];
         notices = [];
         right = tt;
+        over = omega arith;
         hears = refl;
         fills = λ more rest follows. refl;
         asks = λ rest follows. refl;
@@ -194,6 +227,7 @@ module _ {S : Type 0} (gives : FourHands → Option (List (List ℕ)) → Type 0
         asked = first.asked ++ second.asked;
         notices = first.notices ++ second.notices;
         right = AreAnswers-append gives first.asked second.asked first.answers second.answers first.right second.right;
+        over = over-then first.answers second.answers first.notices second.notices first.over second.over;
         hears = Hears-append way p.heard q.heard r.heard first.notices second.notices first.hears second.hears;
         fills = λ more rest follows.
             ap (λ a. filled_from wanted a p.point.state (marked_at p.point (b0 ++ rest))) (append_assoc first.answers second.answers more)
@@ -216,6 +250,7 @@ module _ {S : Type 0} (gives : FourHands → Option (List (List ℕ)) → Type 0
         asked = passed.asked;
         notices = passed.notices;
         right = passed.right;
+        over = passed.over;
         hears = passed.hears;
         fills = λ more rest follows.
             ap (λ l. filled_from wanted (passed.answers ++ more) p.point.state (marked_at p.point l)) (append_assoc before piece rest) ∙ passed.fills more (piece ++ rest) tt
@@ -228,78 +263,45 @@ module _ {S : Type 0} (gives : FourHands → Option (List (List ℕ)) → Type 0
             ∙ ap (λ l. passed.notices ++ told_from wanted more q.point.state q.notes (marked_at q.point l)) (sym (append_assoc after piece rest));
       }
 
-  follows-nothing : (is_all : Bool) → Follows is_all []
-  follows-nothing true = refl
-  follows-nothing false = tt
-
-  -- a beginning of a text that comes out
-  pub Begun-part : (is_all : Bool) (p q : Place S) (before after text written unwritten : List ℕ) → Passed gives way is_all wanted p q before after text → text ≡ written ++ unwritten → Begun gives wanted p.point before written
-  Begun-part is_all p q before after text written unwritten passed split =
-      let more = filled_from wanted [] q.point.state (marked_at q.point (after ++ [])) in
+  -- where nothing has to follow, something may
+  pub Passed-any : (is_all : Bool) (p q : Place S) (before after text : List ℕ) → Passed gives way false wanted p q before after text → Passed gives way is_all wanted p q before after text
+  Passed-any is_all p q before after text passed =
       record {
         answers = passed.answers;
         asked = passed.asked;
-        unasked = asks_from wanted q.point.state (marked_at q.point (after ++ []));
-        unwritten = unwritten ++ more;
+        notices = passed.notices;
         right = passed.right;
-        games = ap (λ l. asks_from wanted p.point.state (marked_at p.point l)) (sym (append-nil before)) ∙ passed.asks [] (follows-nothing is_all);
-        split =
-            ap (λ l. filled_from wanted passed.answers p.point.state (marked_at p.point l)) (sym (append-nil before))
-            ∙ ap (λ a. filled_from wanted a p.point.state (marked_at p.point (before ++ []))) (sym (append-nil passed.answers))
-            ∙ passed.fills [] [] (follows-nothing is_all) ∙ ap (λ l. l ++ more) split ∙ append_assoc written unwritten more;
+        over = passed.over;
+        hears = passed.hears;
+        fills = λ more rest follows. passed.fills more rest tt;
+        asks = λ rest follows. passed.asks rest tt;
+        tells = λ more rest follows. passed.tells more rest tt;
       }
 
   -- after what has come out
-  pub Begun-then : (p q : Place S) (b0 b1 t written : List ℕ) → Passed gives way false wanted p q b0 b1 t → Begun gives wanted q.point b1 written → Begun gives wanted p.point b0 (t ++ written)
-  Begun-then p q b0 b1 t written passed begun =
-      record {
-        answers = passed.answers ++ begun.answers;
-        asked = passed.asked ++ begun.asked;
-        unasked = begun.unasked;
-        unwritten = begun.unwritten;
-        right = AreAnswers-append gives passed.asked begun.asked passed.answers begun.answers passed.right begun.right;
-        games =
-            ap (λ l. asks_from wanted p.point.state (marked_at p.point l)) (sym (append-nil b0)) ∙ passed.asks [] tt
-            ∙ ap (λ l. passed.asked ++ asks_from wanted q.point.state (marked_at q.point l)) (append-nil b1)
-            ∙ ap (λ l. passed.asked ++ l) begun.games ∙ sym (append_assoc passed.asked begun.asked begun.unasked);
-        split =
-            ap (λ l. filled_from wanted (passed.answers ++ begun.answers) p.point.state (marked_at p.point l)) (sym (append-nil b0)) ∙ passed.fills begun.answers [] tt
-            ∙ ap (λ l. t ++ filled_from wanted begun.answers q.point.state (marked_at q.point l)) (append-nil b1)
-            ∙ ap (λ l. t ++ l) begun.split ∙ sym (append_assoc t written begun.unwritten);
-      }
-
   pub Ended-then : (p q : Place S) (heard : S) (games : ℕ) (b0 b1 t u : List ℕ) → Passed gives way false wanted p q b0 b1 t → Ended gives way wanted q heard games b1 u
       → Ended gives way wanted p heard games b0 (t ++ u)
   Ended-then p q heard games b0 b1 t u passed ended =
       record {
         answers = passed.answers ++ ended.answers;
         notices = passed.notices ++ ended.notices;
+        over = (let all = games_over-append passed.notices ended.notices in omega (arith, all, passed.over, ended.over, length-append {A = Option Found}));
         hears = Hears-append way p.heard q.heard heard passed.notices ended.notices passed.hears ended.hears;
-        tells =
-            ap (λ l. told_from wanted (passed.answers ++ ended.answers) p.point.state p.notes (marked_at p.point l)) (sym (append-nil b0)) ∙ passed.tells ended.answers [] tt
-            ∙ ap (λ l. passed.notices ++ told_from wanted ended.answers q.point.state q.notes (marked_at q.point l)) (append-nil b1) ∙ ap (λ l. passed.notices ++ l) ended.tells
+        tells = λ more.
+            ap (λ l. told_from wanted ((passed.answers ++ ended.answers) ++ more) p.point.state p.notes (marked_at p.point l)) (sym (append-nil b0))
+            ∙ ap (λ a. told_from wanted a p.point.state p.notes (marked_at p.point (b0 ++ []))) (append_assoc passed.answers ended.answers more)
+            ∙ passed.tells (ended.answers ++ more) [] tt
+            ∙ ap (λ l. passed.notices ++ told_from wanted (ended.answers ++ more) q.point.state q.notes (marked_at q.point l)) (append-nil b1) ∙ ap (λ l. passed.notices ++ l) (ended.tells more)
             ∙ sym (append_assoc passed.notices ended.notices (games_in_all games ∷ []));
         right = subst (λ (l : List (Option Ask)). AreAnswers gives l (passed.answers ++ ended.answers))
             (sym (ap (λ l. asks_from wanted p.point.state (marked_at p.point l)) (sym (append-nil b0)) ∙ passed.asks [] tt
             ∙ ap (λ l. passed.asked ++ asks_from wanted q.point.state (marked_at q.point l)) (append-nil b1)))
             (AreAnswers-append gives passed.asked (asks_from wanted q.point.state (marked_at q.point b1)) passed.answers ended.answers passed.right ended.right);
-        fills =
-            ap (λ l. filled_from wanted (passed.answers ++ ended.answers) p.point.state (marked_at p.point l)) (sym (append-nil b0)) ∙ passed.fills ended.answers [] tt
-            ∙ ap (λ l. t ++ filled_from wanted ended.answers q.point.state (marked_at q.point l)) (append-nil b1) ∙ ap (λ l. t ++ l) ended.fills;
-      }
-
-  -- a beginning of what comes out to the end
-  pub Begun-ended : (p : Place S) (heard : S) (games : ℕ) (before text written unwritten : List ℕ) → Ended gives way wanted p heard games before text → text ≡ written ++ unwritten
-      → Begun gives wanted p.point before written
-  Begun-ended p heard games before text written unwritten ended split =
-      record {
-        answers = ended.answers;
-        asked = asks_from wanted p.point.state (marked_at p.point before);
-        unasked = [];
-        unwritten = unwritten;
-        right = ended.right;
-        games = sym (append-nil (asks_from wanted p.point.state (marked_at p.point before)));
-        split = ended.fills ∙ split;
+        fills = λ more.
+            ap (λ l. filled_from wanted ((passed.answers ++ ended.answers) ++ more) p.point.state (marked_at p.point l)) (sym (append-nil b0))
+            ∙ ap (λ a. filled_from wanted a p.point.state (marked_at p.point (b0 ++ []))) (append_assoc passed.answers ended.answers more)
+            ∙ passed.fills (ended.answers ++ more) [] tt
+            ∙ ap (λ l. t ++ filled_from wanted (ended.answers ++ more) q.point.state (marked_at q.point l)) (append-nil b1) ∙ ap (λ l. t ++ l) (ended.fills more);
       }
 
   -- the end of the file, behind all its bytes
@@ -310,17 +312,31 @@ module _ {S : Type 0} (gives : FourHands → Option (List (List ℕ)) → Type 0
   unfolding filled_from asks_from told_from marked
   Ended-last p q heard before text answers passed right hears =
       let closed = is_closed q.point.left q.point.mode in
+      let here = ends_last closed q.point.state in
       let last = told_last closed wanted q.point.state q.notes (first_of answers) in
+      let games = games_in_all (games_in q.point.state q.notes) ∷ [] in
       record {
         answers = passed.answers ++ answers;
         notices = passed.notices ++ last;
         right = subst (λ (l : List (Option Ask)). AreAnswers gives l (passed.answers ++ answers))
             (sym (ap (λ l. asks_from wanted p.point.state (marked_at p.point l)) (sym (append-nil before)) ∙ passed.asks [] refl))
-            (AreAnswers-append gives passed.asked (asked_here (ends_last closed q.point.state) (ask_of wanted q.point.state)) passed.answers answers passed.right right);
+            (AreAnswers-append gives passed.asked (asked_here here (ask_of wanted q.point.state)) passed.answers answers passed.right right);
+        over =
+            (let all = games_over-append passed.notices last in
+            let one = over-last gives here (ask_of wanted q.point.state) answers right in
+            omega (arith, all, one, passed.over, length-append {A = Option Found}));
         hears = Hears-append way p.heard q.heard heard passed.notices last passed.hears hears;
-        fills = ap (λ l. filled_from wanted (passed.answers ++ answers) p.point.state (marked_at p.point l)) (sym (append-nil before)) ∙ passed.fills answers [] refl;
-        tells = ap (λ l. told_from wanted (passed.answers ++ answers) p.point.state p.notes (marked_at p.point l)) (sym (append-nil before)) ∙ passed.tells answers [] refl
-            ∙ sym (append_assoc passed.notices last (games_in_all (games_in q.point.state q.notes) ∷ []));
+        fills = λ more.
+            ap (λ l. filled_from wanted ((passed.answers ++ answers) ++ more) p.point.state (marked_at p.point l)) (sym (append-nil before))
+            ∙ ap (λ a. filled_from wanted a p.point.state (marked_at p.point (before ++ []))) (append_assoc passed.answers answers more)
+            ∙ passed.fills (answers ++ more) [] refl
+            ∙ ap (λ l. text ++ l) (takes gives here (ask_of wanted q.point.state) wanted q.point.state answers more right).text;
+        tells = λ more.
+            ap (λ l. told_from wanted ((passed.answers ++ answers) ++ more) p.point.state p.notes (marked_at p.point l)) (sym (append-nil before))
+            ∙ ap (λ a. told_from wanted a p.point.state p.notes (marked_at p.point (before ++ []))) (append_assoc passed.answers answers more)
+            ∙ passed.tells (answers ++ more) [] refl
+            ∙ ap (λ l. passed.notices ++ (l ++ games)) (last-told gives closed q.point.state.begun (ask_of wanted q.point.state) wanted q.point.state q.notes answers more right)
+            ∙ sym (append_assoc passed.notices last games);
       }
 
 -- one stretch after another

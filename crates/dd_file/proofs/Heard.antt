@@ -1,7 +1,6 @@
 -- What an analyst hears, one thing after another.
-use Rattle.std.proofs.Common.{◌≡◌, ◌∙◌, refl, sym, ap, subst, List, [], ◌∷◌, ◌++◌, Result, Ok, Err, Option, None, Some}
-use Rattle.std.specs.Prelude.{OnOk, OnErr, IfNone}
-use Rattle.dd_file.specs.Notices.{Notice, Hears, HearsSome}
+use Rattle.std.proofs.Common.{◌≡◌, ◌∙◌, ◌+◌, refl, subst, arith, List, [], ◌∷◌, ◌++◌}
+use Rattle.dd_file.specs.Notices.{Notice, Hears, games_ended, games_in_all, games_over, left_game}
 
 module _ {S : Type 0} (way : S → Notice → S → Type 0) where
   pub Hears-append : (s t u : S) (a b : List Notice) → Hears way s a t → Hears way t b u → Hears way s (a ++ b) u
@@ -15,12 +14,12 @@ module _ {S : Type 0} (way : S → Notice → S → Type 0) where
   pub Hears-from : (r s t : S) (notices : List Notice) → r ≡ s → Hears way r notices t → Hears way s notices t
   Hears-from r s t notices same hears = subst (λ (x : S). Hears way x notices t) same hears
 
-  -- nothing was told
-  pub HearsSome-none : (s t : S) → t ≡ s → HearsSome way s t
-  HearsSome-none s t same = record { notices = []; hears = same }
-
-  pub HearsSome-then : (s t u : S) (notices : List Notice) → Hears way s notices t → HearsSome way t u → HearsSome way s u
-  HearsSome-then s t u notices first some = record { notices = notices ++ some.notices; hears = Hears-append s t u notices some.notices first some.hears }
+-- of how many games it was told that they are over
+pub games_over-append : (a b : List Notice) → games_over (a ++ b) ≡ games_over a + games_over b
+games_over-append [] b = omega arith
+games_over-append (left_game number board reason text ∷ a) b = games_over-append a b
+games_over-append (games_ended games bytes ∷ a) b = (let more = games_over-append a b in omega (arith, more))
+games_over-append (games_in_all games ∷ a) b = (let more = games_over-append a b in omega (arith, more))
 
 -- who keeps to itself what it is told is as it was
 pub Hears-silent : {S : Type 0} (s t : S) (notices : List Notice) → Hears (λ before _ after. after ≡ before) s notices t → t ≡ s

@@ -22,6 +22,7 @@ pub mod SmallWords
 pub mod Spelled
 pub mod Staying
 pub mod Steps
+pub mod Stopped
 pub mod Stretches
 pub mod WovenLemmas
 pub mod Written

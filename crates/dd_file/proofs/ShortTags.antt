@@ -20,7 +20,7 @@ use Rattle.dd_file.specs.Marked.{begins, begins_within, marked}
 use Rattle.dd_file.specs.Marks.{Begins, tag, line_mark, mark_read}
 use Rattle.dd_file.specs.Modes.{next_mode, outside_mode}
 use Rattle.dd_file.specs.Notes.{Notes, notes_of}
-use Rattle.dd_file.specs.Notices.{Notice, Hears, HearsSome}
+use Rattle.dd_file.specs.Notices.{Notice, Hears}
 use Rattle.dd_file.specs.Passing.{EndsBefore, EndsHere}
 use Rattle.dd_file.specs.Quiet.{BeginsShort, IsPlace, PassesSome, PassesTag, Stays, Takes, after_calm, are_calm, are_names, is_calm, later, required_number, short_tag, with_line_bytes}
 use Rattle.dd_file.specs.Tags.{◌>>=◌, after_gap, after_name, after_string, byte_at, front_of, is_gap, is_name, tag_at}
@@ -31,8 +31,7 @@ use Rattle.dd_file.proofs.AgainMiss.{gap-step, gap-stop, name-step, name-stop, r
 use Rattle.dd_file.proofs.AgainOver.{is_quiet, modes, modes-append, quiet-append, quiet-first, quiet-rest}
 use Rattle.dd_file.proofs.AgainTags.{as_tag, byte-found, front-is}
 use Rattle.dd_file.proofs.Calm.{calm-front, calm-unescaped, front-count, front-taken, quoted-stays, quoted-step, take-front}
-use Rattle.dd_file.proofs.Going.{Passed-more, Passed-none, Passed-then, PassesFront-then, asks-byte, filled-byte, takes, told-byte}
-use Rattle.dd_file.proofs.Heard.{HearsSome-then}
+use Rattle.dd_file.proofs.Going.{Passed-any, Passed-more, Passed-none, Passed-then, PassesFront-then, asks-byte, filled-byte, over-here, takes, told-byte}
 use Rattle.dd_file.proofs.Passed.{EndsHere-before}
 use Rattle.dd_file.proofs.Staying.{Stays-none, Stays-then, behind, byte-stays, later-bytes, later-then, same-notes, same-point, take-of-take}
 
@@ -256,6 +255,7 @@ tag-passed gives way wanted state notes from to mode is_first p name quoted answ
       asked = asked_here here (ask_at is_first wanted state);
       notices = says;
       right = right;
+      over = over-here gives here is_first (ask_at is_first wanted state) wanted state notes answers right;
       hears = hears;
       fills = λ more rest follows.
           (let some = takes gives here (ask_at is_first wanted state) wanted state answers more right in
@@ -364,6 +364,7 @@ Passed-stays gives way wanted p q notes s bytes stays =
       asked = [];
       notices = [];
       right = tt;
+      over = omega arith;
       hears = refl;
       fills = λ more rest follows. stays.fills wanted more rest;
       asks = λ rest follows. stays.asks wanted rest;
@@ -417,22 +418,8 @@ PassesTag-more gives way old mid taken new s t is_first text name quoted rest be
     subst (λ (n : GameNotes). PassesTag gives way old new n s t text more o0 o2) (sym (noted-behind old new (tag is_first count name quoted) (inside name quoted) takes.bytes more notes size passed))
     (PassesTag-behind gives way old mid taken new _ s t text name quoted rest behind count more o0 o1 o2 passes short counted takes all wanted arrived appended)
 
--- ---- where nothing has to follow, something may
-Passed-any : {S : Type 0} (gives : FourHands → Option (List (List ℕ)) → Type 0) (way : S → Notice → S → Type 0) (is_all : Bool) (wanted : Wanted) (p q : Place S) (before after text : List ℕ) → Passed gives way false wanted p q before after text
-    → Passed gives way is_all wanted p q before after text
-Passed-any gives way is_all wanted p q before after text passed =
-    record {
-      answers = passed.answers;
-      asked = passed.asked;
-      notices = passed.notices;
-      right = passed.right;
-      hears = passed.hears;
-      fills = λ more rest follows. passed.fills more rest tt;
-      asks = λ rest follows. passed.asks rest tt;
-      tells = λ more rest follows. passed.tells more rest tt;
-    }
-
-PassesFront-tag : {S : Type 0} (gives : FourHands → Option (List (List ℕ)) → Type 0) (way : S → Notice → S → Type 0) (is_all : Bool) (old new : Filler) (s t : S) (rest : List ℕ) (most count : ℕ) (o0 o1 : List ℕ) → count ≤ most
+-- ---- at the front of a window
+pub PassesFront-tag : {S : Type 0} (gives : FourHands → Option (List (List ℕ)) → Type 0) (way : S → Notice → S → Type 0) (is_all : Bool) (old new : Filler) (s t : S) (rest : List ℕ) (most count : ℕ) (o0 o1 : List ℕ) → count ≤ most
     → PassesTag gives way old new (notes_of new) s t (take most rest) count o0 o1 → PassesFront gives way is_all old new s t rest (drop count rest) o0 o1
 PassesFront-tag gives way is_all old new s t rest most count o0 o1 few passes =
     let bytes : List ℕ = take count (take most rest) in
@@ -441,7 +428,7 @@ PassesFront-tag gives way is_all old new s t rest most count o0 o1 few passes =
       wanted = passes.wanted;
       text = passes.added;
       appended = passes.appended;
-      passed = Passed-any gives way is_all old.wanted (place_of old s) (place_of new t) rest (drop count rest) passes.added
+      passed = Passed-any gives way old.wanted is_all (place_of old s) (place_of new t) rest (drop count rest) passes.added
           (subst (λ (l : List ℕ). Passed gives way false old.wanted (place_of old s) (place_of new t) l (drop count rest) passes.added) whole
           (Passed-more gives way old.wanted (place_of old s) (place_of new t) bytes [] (drop count rest) passes.added passes.passed));
     }
@@ -467,11 +454,6 @@ PassesSome-byte gives way is_all old mid new s t u rest most count o0 o1 o2 some
       front = PassesFront-then gives way is_all old mid new s t u rest rest (drop 1 rest) o0 o1 o2
           (subst (λ (n : ℕ). PassesFront gives way is_all old mid s t rest (drop n rest) o0 o1) zero_count (PassesFront-tag gives way is_all old mid s t rest most count o0 o1 few passes)) first;
     }
-
--- what was heard up to a tag, and then
-pub tag-then-some : {S : Type 0} (gives : FourHands → Option (List (List ℕ)) → Type 0) (way : S → Notice → S → Type 0) (old new : Filler) (notes : GameNotes) (s t u : S) (text : List ℕ) (count : ℕ) (o0 o1 : List ℕ)
-    → PassesTag gives way old new notes s t text count o0 o1 → HearsSome way t u → HearsSome way s u
-tag-then-some gives way old new notes s t u text count o0 o1 passes some = HearsSome-then way s t u passes.passed.notices passes.passed.hears some
 
 -- ---- what the reader finds
 front-whole : (text bytes after : List ℕ) → text ≡ bytes ++ after → front_of text after 0 ≡ bytes

@@ -352,6 +352,7 @@ PassesFront-quiet {S} gives way is_all old new s rest most count out_old out_new
       asked = [];
       notices = [];
       right = tt;
+      over = omega arith;
       hears = refl;
       fills = λ more behind follows.
           ap (λ l. filled_from old.wanted more p.state (marked_at p l)) (ap (λ l. l ++ behind) (sym whole) ∙ append_assoc bytes (drop count rest) behind)

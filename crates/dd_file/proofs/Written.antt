@@ -15,27 +15,29 @@ use Rattle.dd_file.specs.declared.mode.Mode.{Mode}
 use Rattle.dd_file.specs.declared.mode.Mode.TheVariants.{Head}
 use Rattle.dd_file.specs.Games.{first_state}
 use Rattle.dd_file.specs.declared.wanted.Wanted.{Wanted}
-use Rattle.dd_file.specs.Filled.{AreAnswers, ask_of, asked_here, ends_last, first_of, text_here}
+use Rattle.dd_file.specs.Filled.{AreAnswers, ask_of, asked_here, ends_last, filled_from, first_of, text_here}
 use Rattle.dd_file.specs.Marked.{is_closed}
 use Rattle.dd_file.specs.Notes.{board_of, games_of, notes_of, unknown_of}
-use Rattle.dd_file.specs.Notices.{Notice, Hears, HearsSome, games_in_all}
+use Rattle.dd_file.specs.Notices.{Notice, Hears, games_in_all}
 use Rattle.dd_file.specs.Passing.{AddsLast}
-use Rattle.dd_file.specs.Served.{FilledAll, FilledBeginning, FilledTelling, StopsAtFirstFailure, StopsAtWrite}
-use Rattle.dd_file.specs.Told.{GameNotes, TextsOf, first_notes, no_texts, told_last, told_of_file}
-use Rattle.dd_file.specs.Windows.{Place, Point, point_of, place_of, first_place, first_point, Passed, Ended, Begun, PassesFront, WritesFront, WritesLast, WritesBegun}
-use Rattle.dd_file.proofs.Heard.{Hears-append, Hears-one, HearsSome-then}
-use Rattle.dd_file.proofs.Going.{Passed-none, Passed-then, Passed-more, Begun-part, Begun-then, Begun-ended, Ended-last, Ended-then}
+use Rattle.dd_file.specs.Served.{FilledAll, FilledBeginning, FilledTelling, MayFollow, StopsAtFirstFailure, StopsAtWrite}
+use Rattle.dd_file.specs.Told.{GameNotes, first_notes, told_from, told_last}
+use Rattle.dd_file.specs.Windows.{Place, Point, point_of, place_of, first_place, first_point, marked_at, Follows, Passed, Ended, Begun, HearsSome, PassesFront, Stops, WritesFront, WritesLast, WritesBegun}
+use Rattle.dd_file.proofs.Heard.{Hears-append, Hears-one}
+use Rattle.dd_file.proofs.Going.{Passed-any, Passed-none, Passed-then, Passed-more, Ended-last, Ended-then}
+use Rattle.dd_file.proofs.Stopped.{Begun-ended, Begun-none, Begun-part, Begun-then, front-then-stops}
 
 module _ {S : Type 0} (gives : FourHands → Option (List (List ℕ)) → Type 0) (way : S → Notice → S → Type 0) where
   -- ---- one stretch
   -- nothing was written
-  pub WritesBegun-none : (old : Filler) (s : S) (before : List ℕ) (w0 : Option (List ℕ)) → WritesBegun gives old before w0 w0
-  WritesBegun-none old s before w0 =
-      record {
-        written = [];
-        appended = Appends-nil w0;
-        begun = Begun-part gives way old.wanted false (place_of old s) (place_of old s) before before [] [] [] (Passed-none gives way old.wanted false (place_of old s) before) refl;
-      }
+  pub WritesBegun-none : (is_all : Bool) (old : Filler) (s : S) (before : List ℕ) (w0 : Option (List ℕ)) → WritesBegun gives way is_all old s s before w0 w0
+  WritesBegun-none is_all old s before w0 = record { written = []; appended = Appends-nil w0; begun = Begun-none gives way old.wanted is_all (place_of old s) s before refl }
+
+  -- and what came out is lost
+  pub WritesBegun-stopped : (is_all : Bool) (old : Filler) (s t : S) (slice window : List ℕ) (w0 : Option (List ℕ)) → slice ≡ window → Stops gives way is_all old s t slice
+      → WritesBegun gives way is_all old s t window w0 w0
+  WritesBegun-stopped is_all old s t slice window w0 is stops =
+      record { written = []; appended = Appends-nil w0; begun = subst (λ (l : List ℕ). Stops gives way is_all old s t l) is stops }
 
   -- and nothing was to be
   pub WritesFront-none : (old : Filler) (s : S) (before : List ℕ) (w0 : Option (List ℕ)) → WritesFront gives way old old s s before before w0 w0
@@ -54,7 +56,7 @@ module _ {S : Type 0} (gives : FourHands → Option (List (List ℕ)) → Type 0
 
   -- a beginning of it was
   pub WritesBegun-front : (old new : Filler) (s t : S) (before after text slice : List ℕ) (w0 w1 : Option (List ℕ)) → PassesFront gives way false old new s t before after [] text → slice ≡ text
-      → WroteText w0 w1 slice → WritesBegun gives old before w0 w1
+      → WroteText w0 w1 slice → WritesBegun gives way false old s t before w0 w1
   WritesBegun-front old new s t before after text slice w0 w1 front is wrote =
       record {
         written = wrote.written;
@@ -64,7 +66,7 @@ module _ {S : Type 0} (gives : FourHands → Option (List (List ℕ)) → Type 0
 
   -- all of it was, and then memory ran out
   pub WritesBegun-whole : (old new : Filler) (s t : S) (before after text slice : List ℕ) (w0 w1 : Option (List ℕ)) → PassesFront gives way false old new s t before after [] text → slice ≡ text
-      → Appends w0 w1 slice → WritesBegun gives old before w0 w1
+      → Appends w0 w1 slice → WritesBegun gives way false old s t before w0 w1
   WritesBegun-whole old new s t before after text slice w0 w1 front is wrote =
       WritesBegun-front old new s t before after text slice w0 w1 front is (record { written = slice; unwritten = []; split = sym (append-nil slice); appended = wrote })
 
@@ -72,13 +74,6 @@ module _ {S : Type 0} (gives : FourHands → Option (List (List ℕ)) → Type 0
   pub front-of-window : (old new : Filler) (s t : S) (slice window : List ℕ) (count : ℕ) (text : List ℕ) → slice ≡ window → PassesFront gives way false old new s t slice (drop count slice) [] text
       → PassesFront gives way false old new s t window (drop count window) [] text
   front-of-window old new s t slice window count text is front = subst (λ (l : List ℕ). PassesFront gives way false old new s t l (drop count l) [] text) is front
-
-  -- what was heard while it came out
-  pub front-some : (is_all : Bool) (old new : Filler) (s t : S) (before after o0 o1 : List ℕ) → PassesFront gives way is_all old new s t before after o0 o1 → HearsSome way s t
-  front-some is_all old new s t before after o0 o1 front = record { notices = front.passed.notices; hears = front.passed.hears }
-
-  pub front-then-some : (is_all : Bool) (old new : Filler) (s t u : S) (before after o0 o1 : List ℕ) → PassesFront gives way is_all old new s t before after o0 o1 → HearsSome way t u → HearsSome way s u
-  front-then-some is_all old new s t u before after o0 o1 front some = HearsSome-then way s t u front.passed.notices front.passed.hears some
 
   -- from a state of the analyst that is the same
   pub front-from : (is_all : Bool) (old new : Filler) (r s t : S) (before after o0 o1 : List ℕ) → r ≡ s → PassesFront gives way is_all old new r t before after o0 o1
@@ -89,8 +84,8 @@ module _ {S : Type 0} (gives : FourHands → Option (List (List ℕ)) → Type 0
       → Ended gives way wanted (place_of old s) t games before text
   ended-from wanted old r s t games before text same ended = subst (λ (x : S). Ended gives way wanted (place_of old x) t games before text) same ended
 
-  pub some-from : (r s t : S) → r ≡ s → HearsSome way r t → HearsSome way s t
-  some-from r s t same some = subst (λ (x : S). HearsSome way x t) same some
+  pub stops-from : (is_all : Bool) (old : Filler) (r s t : S) (before : List ℕ) → r ≡ s → Stops gives way is_all old r t before → Stops gives way is_all old s t before
+  stops-from is_all old r s t before same stops = subst (λ (x : S). Stops gives way is_all old x t before) same stops
 
   -- ---- the last stretch
   -- the rest of the file, and the lines of a last game
@@ -119,18 +114,15 @@ module _ {S : Type 0} (gives : FourHands → Option (List (List ℕ)) → Type 0
         counted = subst (λ (n : ℕ). way t (games_in_all n) u) same counted;
       }
 
-  pub WritesBegun-last : (old : Filler) (s t : S) (games : ℕ) (window text slice : List ℕ) (w0 w1 : Option (List ℕ)) → Ended gives way old.wanted (place_of old s) t games window text → slice ≡ text
-      → WroteText w0 w1 slice → WritesBegun gives old window w0 w1
-  WritesBegun-last old s t games window text slice w0 w1 ended is wrote =
+  pub WritesBegun-last : (old : Filler) (s t u : S) (games told : ℕ) (window text slice : List ℕ) (w0 w1 : Option (List ℕ)) → Ended gives way old.wanted (place_of old s) t games window text
+      → told ≡ games → way t (games_in_all told) u → slice ≡ text → WroteText w0 w1 slice → WritesBegun gives way true old s u window w0 w1
+  WritesBegun-last old s t u games told window text slice w0 w1 ended same counted is wrote =
       record {
         written = wrote.written;
         appended = wrote.appended;
-        begun = Begun-ended gives way old.wanted (place_of old s) t games window text wrote.written wrote.unwritten ended (sym is ∙ wrote.split);
+        begun = Begun-ended gives way old.wanted (place_of old s) t u games window text wrote.written wrote.unwritten ended (subst (λ (n : ℕ). way t (games_in_all n) u) same counted)
+            (sym is ∙ wrote.split);
       }
-
-  pub last-some : (old : Filler) (s t u : S) (games told : ℕ) (window text : List ℕ) → Ended gives way old.wanted (place_of old s) t games window text → way t (games_in_all told) u → HearsSome way s u
-  last-some old s t u games told window text ended counted =
-      record { notices = ended.notices ++ games_in_all told ∷ []; hears = Hears-append way s t u ended.notices (games_in_all told ∷ []) ended.hears (Hears-one way t u _ counted) }
 
   -- ---- the run
   -- what was read has come out but for the window
@@ -186,8 +178,10 @@ module _ {S : Type 0} (gives : FourHands → Option (List (List ℕ)) → Type 0
         consumed = subst (Consumes r0 r2) (append-nil before.input) (Consumes-trans r0 r1 r2 before.input [] before.consumed read);
         ended = end;
         answered = ended.right;
-        written = subst (Appends w0 w2) (sym ended.fills) (Appends-trans w0 w1 w2 before.text last.text before.written last.written);
-        told = subst (λ (l : List Notice). Hears way s l u) (sym ended.tells)
+        written = subst (Appends w0 w2) (sym (ap (λ a. filled_from wanted a first_point.state (marked_at first_point before.input)) (sym (append-nil ended.answers)) ∙ ended.fills []))
+            (Appends-trans w0 w1 w2 before.text last.text before.written last.written);
+        told = subst (λ (l : List Notice). Hears way s l u)
+            (sym (ap (λ a. told_from wanted a first_point.state first_notes (marked_at first_point before.input)) (sym (append-nil ended.answers)) ∙ ended.tells []))
             (Hears-append way s last.heard u ended.notices (games_in_all last.games ∷ []) ended.hears (Hears-one way last.heard u _ last.counted));
       }
 
@@ -196,66 +190,67 @@ module _ {S : Type 0} (gives : FourHands → Option (List (List ℕ)) → Type 0
   filled-all wanted s t r0 r1 w0 w1 all =
       record { input = all.input; answers = all.answers; consumed = all.consumed; ended = all.ended; answered = all.answered; written = all.written }
 
-  -- a beginning of what comes out for what was read
-  beginning : (wanted : Wanted) (input written : List ℕ) (r0 r2 w0 w2 : Option (List ℕ)) → Consumes r0 r2 input → Appends w0 w2 written → Begun gives wanted first_point input written
-      → FilledBeginning gives wanted r0 r2 w0 w2
-  beginning wanted input written r0 r2 w0 w2 read wrote begun =
+  -- a beginning of what comes out, and of what is told, for what was read, and whatever follows
+  beginning : (is_all : Bool) (wanted : Wanted) (s t : S) (input written : List ℕ) (r0 r2 w0 w2 : Option (List ℕ)) → ((rest : List ℕ) → MayFollow r2 rest → Follows is_all rest)
+      → Consumes r0 r2 input → Appends w0 w2 written → Begun gives way is_all wanted (first_place s) t input written → FilledBeginning gives way wanted s t r0 r2 w0 w2
+  beginning is_all wanted s t input written r0 r2 w0 w2 follows read wrote begun =
       record {
         input = input;
         answers = begun.answers;
         asked = begun.asked;
-        unasked = begun.unasked;
         written = written;
-        unwritten = begun.unwritten;
+        notices = begun.notices;
         consumed = read;
-        games = begun.games;
         answered = begun.right;
-        split = begun.split;
+        games = λ rest may. begun.asks rest (follows rest may);
+        begun = λ more rest may. begun.fills more rest (follows rest may);
+        told = λ more rest may. begun.tells more rest (follows rest may);
+        over = begun.over;
         appended = wrote;
+        hears = begun.hears;
       }
 
-  pub Filling-piece_failed : (wanted : Wanted) (filler : Filler) (s t : S) (window piece : List ℕ) (r0 r1 r2 w0 w1 w2 : Option (List ℕ)) → Filling wanted filler s t window r0 r1 w0 w1
-      → Consumes r1 r2 piece → WritesBegun gives filler (window ++ piece) w1 w2 → FilledBeginning gives wanted r0 r2 w0 w2
-  Filling-piece_failed wanted filler s t window piece r0 r1 r2 w0 w1 w2 before read wrote =
-      beginning wanted (before.input ++ piece) (before.text ++ wrote.written) r0 r2 w0 w2 (Consumes-trans r0 r1 r2 before.input piece before.consumed read)
-      (Appends-trans w0 w1 w2 before.text wrote.written before.written wrote.appended)
-      (Begun-then gives way wanted (first_place s) (place_of filler t) (before.input ++ piece) (window ++ piece) before.text wrote.written (further wanted filler s t window piece r0 r1 w0 w1 before)
-      (subst (λ (w : Wanted). Begun gives w (point_of filler) (window ++ piece) wrote.written) before.same wrote.begun))
+  pub Filling-piece_failed : (wanted : Wanted) (filler : Filler) (s t u : S) (window piece : List ℕ) (r0 r1 r2 w0 w1 w2 : Option (List ℕ)) → Filling wanted filler s t window r0 r1 w0 w1
+      → Consumes r1 r2 piece → WritesBegun gives way false filler t u (window ++ piece) w1 w2 → FilledBeginning gives way wanted s u r0 r2 w0 w2
+  Filling-piece_failed wanted filler s t u window piece r0 r1 r2 w0 w1 w2 before read wrote =
+      beginning false wanted s u (before.input ++ piece) (before.text ++ wrote.written) r0 r2 w0 w2 (λ rest may. tt)
+      (Consumes-trans r0 r1 r2 before.input piece before.consumed read) (Appends-trans w0 w1 w2 before.text wrote.written before.written wrote.appended)
+      (Begun-then gives way wanted false (first_place s) (place_of filler t) u (before.input ++ piece) (window ++ piece) before.text wrote.written
+      (further wanted filler s t window piece r0 r1 w0 w1 before)
+      (subst (λ (w : Wanted). Begun gives way false w (place_of filler t) u (window ++ piece) wrote.written) before.same wrote.begun))
 
-  pub Filling-last_failed : (wanted : Wanted) (filler : Filler) (s t : S) (window slice : List ℕ) (r0 r1 r2 w0 w1 w2 : Option (List ℕ)) → Filling wanted filler s t window r0 r1 w0 w1
-      → Consumes r1 r2 [] → slice ≡ window → WritesBegun gives filler slice w1 w2 → FilledBeginning gives wanted r0 r2 w0 w2
-  Filling-last_failed wanted filler s t window slice r0 r1 r2 w0 w1 w2 before read is wrote =
-      beginning wanted before.input (before.text ++ wrote.written) r0 r2 w0 w2
+  pub Filling-last_failed : (wanted : Wanted) (filler : Filler) (s t u : S) (window slice : List ℕ) (r0 r1 r2 w0 w1 w2 : Option (List ℕ)) → Filling wanted filler s t window r0 r1 w0 w1
+      → Consumes r1 r2 [] → IsAtEnd r2 → slice ≡ window → WritesBegun gives way true filler t u slice w1 w2 → FilledBeginning gives way wanted s u r0 r2 w0 w2
+  Filling-last_failed wanted filler s t u window slice r0 r1 r2 w0 w1 w2 before read end is wrote =
+      beginning true wanted s u before.input (before.text ++ wrote.written) r0 r2 w0 w2 (λ rest may. may end)
       (subst (Consumes r0 r2) (append-nil before.input) (Consumes-trans r0 r1 r2 before.input [] before.consumed read))
       (Appends-trans w0 w1 w2 before.text wrote.written before.written wrote.appended)
-      (Begun-then gives way wanted (first_place s) (place_of filler t) before.input window before.text wrote.written before.passed
-      (subst (λ (w : Wanted). Begun gives w (point_of filler) window wrote.written) before.same
-      (subst (λ (l : List ℕ). Begun gives filler.wanted (point_of filler) l wrote.written) is wrote.begun)))
+      (Begun-then gives way wanted true (first_place s) (place_of filler t) u before.input window before.text wrote.written
+      (Passed-any gives way wanted true (first_place s) (place_of filler t) before.input window before.text before.passed)
+      (subst (λ (w : Wanted). Begun gives way true w (place_of filler t) u window wrote.written) before.same
+      (subst (λ (l : List ℕ). Begun gives way true filler.wanted (place_of filler t) u l wrote.written) is wrote.begun)))
 
   pub Filling-read_failed : (wanted : Wanted) (filler : Filler) (s t : S) (window : List ℕ) (r0 r1 r2 w0 w1 : Option (List ℕ)) → Filling wanted filler s t window r0 r1 w0 w1 → Keeps r1 r2
-      → FilledBeginning gives wanted r0 r2 w0 w1
+      → FilledBeginning gives way wanted s t r0 r2 w0 w1
   Filling-read_failed wanted filler s t window r0 r1 r2 w0 w1 before kept =
-      beginning wanted before.input before.text r0 r2 w0 w1 (Consumes-kept r0 r1 r2 before.input before.consumed kept) before.written
+      beginning false wanted s t before.input before.text r0 r2 w0 w1 (λ rest may. tt) (Consumes-kept r0 r1 r2 before.input before.consumed kept) before.written
       (Begun-part gives way wanted false (first_place s) (place_of filler t) before.input window before.text before.text [] before.passed (sym (append-nil before.text)))
 
-  -- what was heard until it stopped
-  pub Filling-some : (wanted : Wanted) (filler : Filler) (s t : S) (window : List ℕ) (r0 r1 w0 w1 : Option (List ℕ)) → Filling wanted filler s t window r0 r1 w0 w1 → HearsSome way s t
-  Filling-some wanted filler s t window r0 r1 w0 w1 before = record { notices = before.passed.notices; hears = before.passed.hears }
-
-  pub Filling-then-some : (wanted : Wanted) (filler : Filler) (s t u : S) (window : List ℕ) (r0 r1 w0 w1 : Option (List ℕ)) → Filling wanted filler s t window r0 r1 w0 w1 → HearsSome way t u
-      → HearsSome way s u
-  Filling-then-some wanted filler s t u window r0 r1 w0 w1 before some = HearsSome-then way s t u before.passed.notices before.passed.hears some
+  -- behind what has come out in this stretch
+  pub front-then-none : (old mid : Filler) (s t u : S) (window after o0 o1 : List ℕ) → u ≡ t → PassesFront gives way true old mid s t window after o0 o1 → Stops gives way true old s u window
+  front-then-none old mid s t u window after o0 o1 same front =
+      front-then-stops gives way true old mid s t u window after o0 o1 front (Begun-none gives way mid.wanted true (place_of mid t) u after same)
 
 -- what was heard, whether all came out or memory ran out
 pub front-any : {S : Type 0} (gives : FourHands → Option (List (List ℕ)) → Type 0) (way : S → Notice → S → Type 0) (is_all : Bool) (old new : Filler) (s t : S) (before after o0 o1 : List ℕ)
-    {E : Type 0} (result : Result (Unit {0}) E) → OnOk result (PassesFront gives way is_all old new s t before after o0 o1) → OnErr result (HearsSome way s t) → HearsSome way s t
-front-any gives way is_all old new s t before after o0 o1 (Ok done) front some = record { notices = front.passed.notices; hears = front.passed.hears }
-front-any gives way is_all old new s t before after o0 o1 (Err fault) front some = some
+    {E : Type 0} (result : Result (Unit {0}) E) → OnOk result (PassesFront gives way is_all old new s t before after o0 o1) → OnErr result (Stops gives way is_all old s t before) → HearsSome way s t
+front-any gives way is_all old new s t before after o0 o1 (Ok done) front stops = record { notices = front.passed.notices; hears = front.passed.hears }
+front-any gives way is_all old new s t before after o0 o1 (Err fault) front stops = record { notices = stops.notices; hears = stops.hears }
 
 pub ended-any : {S : Type 0} (gives : FourHands → Option (List (List ℕ)) → Type 0) (way : S → Notice → S → Type 0) (wanted : Wanted) (old : Filler) (s t : S) (games : ℕ) (before text : List ℕ)
-    {E : Type 0} (result : Result (Unit {0}) E) → OnOk result (Ended gives way wanted (place_of old s) t games before text) → OnErr result (HearsSome way s t) → HearsSome way s t
-ended-any gives way wanted old s t games before text (Ok done) ended some = record { notices = ended.notices; hears = ended.hears }
-ended-any gives way wanted old s t games before text (Err fault) ended some = some
+    {E : Type 0} (result : Result (Unit {0}) E) → OnOk result (Ended gives way wanted (place_of old s) t games before text) → OnErr result (Stops gives way true old s t before) → HearsSome way s t
+ended-any gives way wanted old s t games before text (Ok done) ended stops = record { notices = ended.notices; hears = ended.hears }
+ended-any gives way wanted old s t games before text (Err fault) ended stops = record { notices = stops.notices; hears = stops.hears }
 
 -- where nothing came
 pub nothing_read : (old new : Option (List ℕ)) (count : ℕ) (buffer : List ℕ) → count ≡ 0 → Consumes old new (take count buffer) → Consumes old new []

@@ -1,5 +1,5 @@
 -- To be believed: what an analyst is told of the games of a file.
-use Rattle.std.specs.Prelude.{◌≡◌, ℕ, List, [], ◌∷◌}
+use Rattle.std.specs.Prelude.{◌≡◌, ℕ, ◌+◌, List, [], ◌∷◌}
 use Rattle.dd_file.specs.declared.analyst.Reason.{Reason}
 
 -- Why the game of this number, with this text of its tag Board, lacks a tag, with what its tag Dealer or Vulnerable says where that isn't known; how
@@ -14,7 +14,10 @@ abbrev pub Hears : {S : Type 0} → (S → Notice → S → Type 0) → S → Li
 Hears way before [] after = after ≡ before
 Hears {S} way before (notice ∷ notices) after = (between : S) × way before notice between × Hears way between notices after
 
--- some are
-pub record HearsSome {S : Type 0} (way : S → Notice → S → Type 0) (before after : S) : Type 0 where
-  pub notices : List Notice
-  pub hears : Hears way before notices after
+-- Of how many games it was told that they are over: how far it is where one ends before the end of the file, and in the end how many there are. What is
+-- told of a game comes before that.
+abbrev pub games_over : List Notice → ℕ
+games_over [] = 0
+games_over (left_game number board reason text ∷ notices) = games_over notices
+games_over (games_ended games bytes ∷ notices) = games_over notices + 1
+games_over (games_in_all games ∷ notices) = games_over notices + 1

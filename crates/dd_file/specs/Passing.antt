@@ -1,5 +1,5 @@
 -- What passing a byte on does.
-use Rattle.std.specs.Prelude.{◌≡◌, ℕ, zero, suc, Bool, List, [], ◌∷◌, ◌++◌, Option, None, Some}
+use Rattle.std.specs.Prelude.{◌≡◌, ◌⊎◌, ℕ, zero, suc, Bool, List, [], ◌∷◌, ◌++◌, Option, None, Some}
 use Rattle.dd_cards.specs.Hands.{FourHands}
 use Rattle.dd_score.specs.declared.par_of_results.ParResult.{ParResult}
 use Rattle.dd_file.specs.declared.fill_state.Conditions.{Conditions}
@@ -75,6 +75,16 @@ pub record PassesByte {S : Type 0} (gives : FourHands → Option (List (List ℕ
   pub hears : Hears way s (told_here (ends old.state mark) (has_place mark) old.wanted old.state (notes_of old) (first_of answers)) t
   pub text : out_new ≡ (out_old ++ text_here (ends old.state mark) old.wanted old.state answers) ++ b ∷ []
   pub state : new.state ≡ next_state (state_here (ends old.state mark) old.state) mark b
+
+-- the analyst heard all of the game that ends before what begins here, by an answer, if one ends
+pub record TellsHere {S : Type 0} (gives : FourHands → Option (List (List ℕ)) → Type 0) (way : S → Notice → S → Type 0) (old : Filler) (s t : S) (mark : Begins) : Type 0 where
+  pub answers : List (Option Found)
+  pub right : AreAnswers gives (asked_here (ends old.state mark) (ask_at (has_place mark) old.wanted old.state)) answers
+  pub hears : Hears way s (told_here (ends old.state mark) (has_place mark) old.wanted old.state (notes_of old) (first_of answers)) t
+
+-- or it heard nothing
+abbrev pub StopsAt : {S : Type 0} → (FourHands → Option (List (List ℕ)) → Type 0) → (S → Notice → S → Type 0) → Filler → S → S → Begins → Type 0
+StopsAt gives way old s t mark = (t ≡ s) ⊎ TellsHere gives way old s t mark
 
 -- the game that the end of the file ends has its lines
 pub record AddsLast {S : Type 0} (gives : FourHands → Option (List (List ℕ)) → Type 0) (way : S → Notice → S → Type 0) (closed : Bool) (filler : Filler) (s t : S) (out_old out_new : List ℕ) : Type 0 where

@@ -1,5 +1,5 @@
 -- To be believed: what was written for what was read.
-use Rattle.std.specs.Prelude.{◌≡◌, ℕ, List, ◌++◌, Option, Result, MatchResult}
+use Rattle.std.specs.Prelude.{◌≡◌, ℕ, ◌≤◌, List, [], ◌++◌, length, Option, Result, MatchResult}
 use Rattle.std.specs.Io.KnownBytes.{Consumes, Appends, IsAtEnd}
 use Rattle.dd_cards.specs.Hands.{FourHands}
 use Rattle.dd_lines.specs.CountedDevices.{bytes_of}
@@ -9,7 +9,7 @@ use Rattle.dd_file.specs.declared.engine.FileFault.{FileFault}
 use Rattle.dd_file.specs.declared.engine.FileFault.TheVariants.{Read, Write, Memory}
 use Rattle.dd_file.specs.declared.wanted.Wanted.{Wanted}
 use Rattle.dd_file.specs.Filled.{Ask, Found, AreAnswers, asks, filled}
-use Rattle.dd_file.specs.Notices.{Notice, Hears}
+use Rattle.dd_file.specs.Notices.{Notice, Hears, games_over}
 use Rattle.dd_file.specs.Told.{told_of_file}
 
 -- all that came was read, and what was written is the file with its lines
@@ -32,19 +32,33 @@ pub record FilledTelling {S : Type 0} (gives : FourHands → Option (List (List 
   pub written : Appends write_old write_new (filled wanted answers input)
   pub told : Hears way before (told_of_file wanted answers input) after
 
--- What was written is a beginning of the file with its lines, for what was read. Answers are those of the first games.
-pub record FilledBeginning (gives : FourHands → Option (List (List ℕ)) → Type 0) (wanted : Wanted) (read_old read_new write_old write_new : Option (List ℕ)) : Type 0 where
+-- this list is a beginning of that one
+pub record IsBeginning {A : Type 0} (front whole : List A) : Type 0 where
+  pub rest : List A
+  pub split : whole ≡ front ++ rest
+
+-- what may follow what was read: nothing, where the reader is at its end
+abbrev pub MayFollow : Option (List ℕ) → List ℕ → Type 0
+MayFollow read_new rest = IsAtEnd read_new → rest ≡ []
+
+-- The run ended early. Answers are those of the first games. What was written is a beginning of the file with its lines, and what the analyst was told, each
+-- step from state to state, is a beginning of what is told of the file: so it is whatever follows what was read, and whatever is answered of the other
+-- games. Of each game that was answered all was told.
+pub record FilledBeginning {S : Type 0} (gives : FourHands → Option (List (List ℕ)) → Type 0) (way : S → Notice → S → Type 0) (wanted : Wanted) (before after : S)
+    (read_old read_new write_old write_new : Option (List ℕ)) : Type 0 where
   pub input : List ℕ
   pub answers : List (Option Found)
   pub asked : List (Option Ask)
-  pub unasked : List (Option Ask)
   pub written : List ℕ
-  pub unwritten : List ℕ
+  pub notices : List Notice
   pub consumed : Consumes read_old read_new input
-  pub games : asks wanted input ≡ asked ++ unasked
   pub answered : AreAnswers gives asked answers
-  pub split : filled wanted answers input ≡ written ++ unwritten
+  pub games : (rest : List ℕ) → MayFollow read_new rest → IsBeginning asked (asks wanted (input ++ rest))
+  pub begun : (more : List (Option Found)) (rest : List ℕ) → MayFollow read_new rest → IsBeginning written (filled wanted (answers ++ more) (input ++ rest))
+  pub told : (more : List (Option Found)) (rest : List ℕ) → MayFollow read_new rest → IsBeginning notices (told_of_file wanted (answers ++ more) (input ++ rest))
+  pub over : length answers ≤ games_over notices
   pub appended : Appends write_old write_new written
+  pub hears : Hears way before notices after
 
 -- the same over counted devices
 abbrev pub FillsAll : {R W : Type 0} → (R → Option (List ℕ)) → (W → Option (List ℕ)) → (FourHands → Option (List (List ℕ)) → Type 0) → Wanted
@@ -57,10 +71,10 @@ abbrev pub FillsTelling : {R W S : Type 0} → (R → Option (List ℕ)) → (W 
 FillsTelling remaining contents gives way wanted before after reader_old reader_new writer_old writer_new =
     FilledTelling gives way wanted before after (bytes_of remaining reader_old) (bytes_of remaining reader_new) (bytes_of contents writer_old) (bytes_of contents writer_new)
 
-abbrev pub FillsBeginning : {R W : Type 0} → (R → Option (List ℕ)) → (W → Option (List ℕ)) → (FourHands → Option (List (List ℕ)) → Type 0) → Wanted
-    → CountedDevice R → CountedDevice R → CountedDevice W → CountedDevice W → Type 0
-FillsBeginning remaining contents gives wanted reader_old reader_new writer_old writer_new =
-    FilledBeginning gives wanted (bytes_of remaining reader_old) (bytes_of remaining reader_new) (bytes_of contents writer_old) (bytes_of contents writer_new)
+abbrev pub FillsBeginning : {R W S : Type 0} → (R → Option (List ℕ)) → (W → Option (List ℕ)) → (FourHands → Option (List (List ℕ)) → Type 0)
+    → (S → Notice → S → Type 0) → Wanted → S → S → CountedDevice R → CountedDevice R → CountedDevice W → CountedDevice W → Type 0
+FillsBeginning remaining contents gives way wanted before after reader_old reader_new writer_old writer_new =
+    FilledBeginning gives way wanted before after (bytes_of remaining reader_old) (bytes_of remaining reader_new) (bytes_of contents writer_old) (bytes_of contents writer_new)
 
 -- which calls failed, by what ended the run
 abbrev pub FailedBy : {R W : Type 0} → CountedDevice R → CountedDevice R → CountedDevice W → CountedDevice W → FileFault → Type 0

@@ -1,5 +1,5 @@
 -- What was passed on of a file, whatever follows.
-use Rattle.std.specs.Prelude.{◌≡◌, ℕ, Bool, true, false, List, [], ◌∷◌, ◌++◌, Option}
+use Rattle.std.specs.Prelude.{◌≡◌, ℕ, ◌+◌, ◌≤◌, Bool, true, false, List, [], ◌∷◌, ◌++◌, length, Option}
 use Rattle.std.specs.Io.KnownBytes.{Appends}
 use Rattle.dd_cards.specs.Hands.{FourHands}
 use Rattle.dd_file.specs.declared.fill_state.FillState.{FillState}
@@ -11,7 +11,8 @@ use Rattle.dd_file.specs.Filled.{Ask, Found, AreAnswers, asks_from, filled_from}
 use Rattle.dd_file.specs.Games.{first_state}
 use Rattle.dd_file.specs.Marked.{Marked, marked}
 use Rattle.dd_file.specs.Notes.{notes_of}
-use Rattle.dd_file.specs.Notices.{Notice, Hears, games_in_all}
+use Rattle.dd_file.specs.Notices.{Notice, Hears, games_in_all, games_over}
+use Rattle.dd_file.specs.Served.{IsBeginning}
 use Rattle.dd_file.specs.Told.{GameNotes, first_notes, told_from}
 
 -- a place in a file: the game at hand, what is left of a tag, and how the next byte stands
@@ -55,6 +56,7 @@ pub record Passed {S : Type 0} (gives : FourHands → Option (List (List ℕ)) �
   pub asked : List (Option Ask)
   pub notices : List Notice
   pub right : AreAnswers gives asked answers
+  pub over : length answers ≤ games_over notices
   pub hears : Hears way p.heard notices q.heard
   pub fills : (more : List (Option Found)) (rest : List ℕ) → Follows is_all rest
       → filled_from wanted (answers ++ more) p.point.state (marked_at p.point (before ++ rest)) ≡ text ++ filled_from wanted more q.point.state (marked_at q.point (after ++ rest))
@@ -70,19 +72,29 @@ pub record Ended {S : Type 0} (gives : FourHands → Option (List (List ℕ)) �
   pub answers : List (Option Found)
   pub notices : List Notice
   pub right : AreAnswers gives (asks_from wanted p.point.state (marked_at p.point before)) answers
+  pub over : length answers ≤ games_over notices + 1
   pub hears : Hears way p.heard notices heard
-  pub fills : filled_from wanted answers p.point.state (marked_at p.point before) ≡ text
-  pub tells : told_from wanted answers p.point.state p.notes (marked_at p.point before) ≡ notices ++ games_in_all games ∷ []
+  pub fills : (more : List (Option Found)) → filled_from wanted (answers ++ more) p.point.state (marked_at p.point before) ≡ text
+  pub tells : (more : List (Option Found)) → told_from wanted (answers ++ more) p.point.state p.notes (marked_at p.point before) ≡ notices ++ games_in_all games ∷ []
 
--- a beginning of what comes out for these bytes, where nothing follows
-pub record Begun (gives : FourHands → Option (List (List ℕ)) → Type 0) (wanted : Wanted) (p : Point) (before written : List ℕ) : Type 0 where
+-- Behind a place, with these bytes next: this is a beginning of what comes out, and of what is told the analyst heard a beginning, whatever follows.
+pub record Begun {S : Type 0} (gives : FourHands → Option (List (List ℕ)) → Type 0) (way : S → Notice → S → Type 0) (is_all : Bool) (wanted : Wanted) (p : Place S) (heard : S)
+    (before written : List ℕ) : Type 0 where
   pub answers : List (Option Found)
   pub asked : List (Option Ask)
-  pub unasked : List (Option Ask)
-  pub unwritten : List ℕ
+  pub notices : List Notice
   pub right : AreAnswers gives asked answers
-  pub games : asks_from wanted p.state (marked_at p before) ≡ asked ++ unasked
-  pub split : filled_from wanted answers p.state (marked_at p before) ≡ written ++ unwritten
+  pub over : length answers ≤ games_over notices
+  pub hears : Hears way p.heard notices heard
+  pub fills : (more : List (Option Found)) (rest : List ℕ) → Follows is_all rest
+      → IsBeginning written (filled_from wanted (answers ++ more) p.point.state (marked_at p.point (before ++ rest)))
+  pub asks : (rest : List ℕ) → Follows is_all rest → IsBeginning asked (asks_from wanted p.point.state (marked_at p.point (before ++ rest)))
+  pub tells : (more : List (Option Found)) (rest : List ℕ) → Follows is_all rest
+      → IsBeginning notices (told_from wanted (answers ++ more) p.point.state p.notes (marked_at p.point (before ++ rest)))
+
+-- the run stopped among these bytes, and what comes out for them is lost
+abbrev pub Stops : {S : Type 0} → (FourHands → Option (List (List ℕ)) → Type 0) → (S → Notice → S → Type 0) → Bool → Filler → S → S → List ℕ → Type 0
+Stops gives way is_all old s t before = Begun gives way is_all old.wanted (place_of old s) t before []
 
 -- the text that comes out stands at the end
 pub record PassesFront {S : Type 0} (gives : FourHands → Option (List (List ℕ)) → Type 0) (way : S → Notice → S → Type 0) (is_all : Bool) (old new : Filler) (s t : S)
@@ -111,7 +123,13 @@ pub record WritesLast {S : Type 0} (gives : FourHands → Option (List (List ℕ
   pub counted : way heard (games_in_all games) t
 
 -- a beginning of it was written
-pub record WritesBegun (gives : FourHands → Option (List (List ℕ)) → Type 0) (old : Filler) (before : List ℕ) (write_old write_new : Option (List ℕ)) : Type 0 where
+pub record WritesBegun {S : Type 0} (gives : FourHands → Option (List (List ℕ)) → Type 0) (way : S → Notice → S → Type 0) (is_all : Bool) (old : Filler) (s t : S) (before : List ℕ)
+    (write_old write_new : Option (List ℕ)) : Type 0 where
   pub written : List ℕ
   pub appended : Appends write_old write_new written
-  pub begun : Begun gives old.wanted (point_of old) before written
+  pub begun : Begun gives way is_all old.wanted (place_of old s) t before written
+
+-- the analyst heard something, or nothing
+pub record HearsSome {S : Type 0} (way : S → Notice → S → Type 0) (before after : S) : Type 0 where
+  pub notices : List Notice
+  pub hears : Hears way before notices after

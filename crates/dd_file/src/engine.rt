@@ -1,13 +1,12 @@
 //! A file in, the file with its lines out.
-ghost use Rattle.std.specs.Prelude.{◌≡◌, ◌+◌, ◌<◌, ◌≤◌, ◌++◌, ◌&&◌, [], drop, false, length, nat_le, take, OnOk, OnErr, IfErr, IfNone, IfOk, IfSome};
+ghost use Rattle.std.specs.Prelude.{◌≡◌, ◌+◌, ◌<◌, ◌≤◌, ◌++◌, ◌&&◌, [], drop, false, length, nat_le, take, true, OnOk, OnErr, IfErr, IfNone, IfOk, IfSome};
 ghost use Rattle.std.specs.Io.KnownBytes.{Appends};
 ghost use Rattle.dd_lines.specs.CountedDevices.{HasFailed, bytes_of};
 ghost use Rattle.dd_lines.specs.Served.{WroteText};
 ghost use Rattle.dd_file.specs.Notes.{games_of};
-ghost use Rattle.dd_file.specs.Notices.{HearsSome};
 ghost use Rattle.dd_file.specs.Quiet.{PassesSome};
 ghost use Rattle.dd_file.specs.Served.{FillsAll, FillsBeginning, FillsTelling, StopsAtFirstFailure, StopsAtWrite};
-ghost use Rattle.dd_file.specs.Windows.{Ended, PassesFront, WritesBegun, WritesFront, WritesLast, place_of};
+ghost use Rattle.dd_file.specs.Windows.{Ended, HearsSome, PassesFront, Stops, WritesBegun, WritesFront, WritesLast, place_of};
 
 use crate::analyst::Analyst;
 use crate::filler::Filler;
@@ -55,11 +54,9 @@ pub fn fill_file<R: Read, W: Write, A: Analyst>(
     // And by the same answers the analyst was told of its games, from state to state.
     ensures told { OnOk result (FillsTelling R.remaining W.contents A.gives A.way wanted
         (A.state analyst.old) (A.state analyst.new) reader.old reader.new writer.old writer.new) }
-    // What was written is a beginning of that for what was read.
-    ensures err { OnErr result (FillsBeginning R.remaining W.contents A.gives wanted
-        reader.old reader.new writer.old writer.new) }
-    // The analyst was told something, or nothing.
-    ensures some { OnErr result (HearsSome A.way (A.state analyst.old) (A.state analyst.new)) }
+    // What was written is a beginning of that for what was read, and so is what the analyst was told, whatever follows.
+    ensures err { OnErr result (FillsBeginning R.remaining W.contents A.gives A.way wanted
+        (A.state analyst.old) (A.state analyst.new) reader.old reader.new writer.old writer.new) }
     // No call failed before the one that ended the run.
     ensures first { StopsAtFirstFailure reader.old reader.new writer.old writer.new result }
     ensures read { result ≡ Err FileFault.Read → HasFailed reader.old reader.new }
@@ -97,10 +94,10 @@ fn take_piece<W: Write, A: Analyst>(
         (A.state analyst.old) (A.state analyst.new)
         (window.old.items ++ piece.now) window.new.items
         (bytes_of W.contents writer.old) (bytes_of W.contents writer.new)) }
-    ensures err { OnErr result (WritesBegun A.gives filler.old (window.old.items ++ piece.now)
+    ensures err { OnErr result (WritesBegun A.gives A.way false filler.old
+        (A.state analyst.old) (A.state analyst.new) (window.old.items ++ piece.now)
         (bytes_of W.contents writer.old) (bytes_of W.contents writer.new)) }
     ensures fault { StopsAtWrite writer.old writer.new result }
-    ensures stops { OnErr result (HearsSome A.way (A.state analyst.old) (A.state analyst.new)) }
 {
     match window.extend_from_slice(piece) {
         Ok(()) => write_full(alloc, window, filler, writer, analyst),
@@ -120,10 +117,10 @@ fn write_full<W: Write, A: Analyst>(
         (A.state analyst.old) (A.state analyst.new)
         window.old.items window.new.items
         (bytes_of W.contents writer.old) (bytes_of W.contents writer.new)) }
-    ensures err { OnErr result (WritesBegun A.gives filler.old window.old.items
+    ensures err { OnErr result (WritesBegun A.gives A.way false filler.old
+        (A.state analyst.old) (A.state analyst.new) window.old.items
         (bytes_of W.contents writer.old) (bytes_of W.contents writer.new)) }
     ensures fault { StopsAtWrite writer.old writer.new result }
-    ensures stops { OnErr result (HearsSome A.way (A.state analyst.old) (A.state analyst.new)) }
 {
     if window.len() < WINDOW {
         return Ok(());
@@ -144,10 +141,10 @@ fn write_front<W: Write, A: Analyst>(
         (A.state analyst.old) (A.state analyst.new)
         window.old.items window.new.items
         (bytes_of W.contents writer.old) (bytes_of W.contents writer.new)) }
-    ensures err { OnErr result (WritesBegun A.gives filler.old window.old.items
+    ensures err { OnErr result (WritesBegun A.gives A.way false filler.old
+        (A.state analyst.old) (A.state analyst.new) window.old.items
         (bytes_of W.contents writer.old) (bytes_of W.contents writer.new)) }
     ensures fault { StopsAtWrite writer.old writer.new result }
-    ensures stops { OnErr result (HearsSome A.way (A.state analyst.old) (A.state analyst.new)) }
 {
     let count = window.len() - NEAR;
     let Some(text) = front_text(alloc, window.as_slice(), count, filler, analyst) else {
@@ -168,7 +165,8 @@ fn front_text<A: Analyst>(
     requires { count + NEAR ≤ length window.now }
     ensures passes { IfSome result (λ text. PassesFront A.gives A.way false filler.old filler.new
         (A.state analyst.old) (A.state analyst.new) window.now (drop count window.now) [] text.items) }
-    ensures stops { IfNone result (HearsSome A.way (A.state analyst.old) (A.state analyst.new)) }
+    ensures stops { IfNone result (Stops A.gives A.way false filler.old
+        (A.state analyst.old) (A.state analyst.new) window.now) }
 {
     foresee(alloc, window, count, false, filler, analyst);
     let mut text = Vec::new(alloc);
@@ -265,10 +263,10 @@ fn write_last<W: Write, A: Analyst>(
     ensures ok { OnOk result (WritesLast A.gives A.way filler.old
         (A.state analyst.old) (A.state analyst.new) window.now
         (bytes_of W.contents writer.old) (bytes_of W.contents writer.new)) }
-    ensures err { OnErr result (WritesBegun A.gives filler.old window.now
+    ensures err { OnErr result (WritesBegun A.gives A.way true filler.old
+        (A.state analyst.old) (A.state analyst.new) window.now
         (bytes_of W.contents writer.old) (bytes_of W.contents writer.new)) }
     ensures fault { StopsAtWrite writer.old writer.new result }
-    ensures stops { OnErr result (HearsSome A.way (A.state analyst.old) (A.state analyst.new)) }
 {
     let Some(text) = last_text(alloc, window, filler, analyst) else {
         return Err(FileFault::Memory);
@@ -287,7 +285,8 @@ fn last_text<A: Analyst>(
     ensures ended { IfSome result (λ text. Ended A.gives A.way filler.old.wanted
         (place_of filler.old (A.state analyst.old)) (A.state analyst.new) (games_of filler.new)
         window.now text.items) }
-    ensures stops { IfNone result (HearsSome A.way (A.state analyst.old) (A.state analyst.new)) }
+    ensures stops { IfNone result (Stops A.gives A.way true filler.old
+        (A.state analyst.old) (A.state analyst.new) window.now) }
 {
     foresee(alloc, window, window.len(), true, filler, analyst);
     let mut text = Vec::new(alloc);
@@ -308,7 +307,8 @@ fn add_rest<A: Analyst>(
     ensures ended { OnOk result (Ended A.gives A.way filler.old.wanted
         (place_of filler.old (A.state analyst.old)) (A.state analyst.new) (games_of filler.new)
         window.now text.new.items) }
-    ensures stops { OnErr result (HearsSome A.way (A.state analyst.old) (A.state analyst.new)) }
+    ensures stops { OnErr result (Stops A.gives A.way true filler.old
+        (A.state analyst.old) (A.state analyst.new) window.now) }
 {
     pass_front(window, window.len(), true, filler, analyst, text)?;
     filler.add_last(analyst, text)
@@ -329,7 +329,8 @@ fn pass_front<A: Analyst>(
     ensures passes { OnOk result (PassesFront A.gives A.way is_all filler.old filler.new
         (A.state analyst.old) (A.state analyst.new)
         window.now (drop count window.now) out.old.items out.new.items) }
-    ensures stops { OnErr result (HearsSome A.way (A.state analyst.old) (A.state analyst.new)) }
+    ensures stops { OnErr result (Stops A.gives A.way is_all filler.old
+        (A.state analyst.old) (A.state analyst.new) window.now) }
 {
     let mut at = 0;
     while at < count {
@@ -353,7 +354,8 @@ fn pass_some<A: Analyst>(
     ensures passes { IfOk result (λ count. PassesSome A.gives A.way is_all filler.old filler.new
         (A.state analyst.old) (A.state analyst.new)
         rest.now most count out.old.items out.new.items) }
-    ensures stops { OnErr result (HearsSome A.way (A.state analyst.old) (A.state analyst.new)) }
+    ensures stops { OnErr result (Stops A.gives A.way is_all filler.old
+        (A.state analyst.old) (A.state analyst.new) rest.now) }
 {
     let count = filler.pass_quiet(&rest[..most], out)?;
     if count >= most {
@@ -378,7 +380,8 @@ fn pass_next<A: Analyst>(
     ensures passes { IfOk result (λ count. PassesSome A.gives A.way is_all filler.old filler.new
         (A.state analyst.old) (A.state analyst.new)
         rest.now most count out.old.items out.new.items) }
-    ensures stops { OnErr result (HearsSome A.way (A.state analyst.old) (A.state analyst.new)) }
+    ensures stops { OnErr result (Stops A.gives A.way is_all filler.old
+        (A.state analyst.old) (A.state analyst.new) rest.now) }
 {
     let count = filler.pass_tag(&rest[..most], analyst, out)?;
     if count > 0 {
@@ -401,7 +404,8 @@ fn pass_first<A: Analyst>(
     ensures passes { OnOk result (PassesFront A.gives A.way is_all filler.old filler.new
         (A.state analyst.old) (A.state analyst.new)
         rest.now (drop 1 rest.now) out.old.items out.new.items) }
-    ensures stops { OnErr result (HearsSome A.way (A.state analyst.old) (A.state analyst.new)) }
+    ensures stops { OnErr result (Stops A.gives A.way is_all filler.old
+        (A.state analyst.old) (A.state analyst.new) rest.now) }
 {
     filler.pass(near_of(rest), is_near(is_all, rest), analyst, out)
 }

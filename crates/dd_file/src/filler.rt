@@ -8,11 +8,12 @@ ghost use Rattle.dd_file.specs.Marked.{is_closed, left_of, left_within};
 ghost use Rattle.dd_file.specs.Marks.{shown};
 ghost use Rattle.dd_file.specs.Modes.{next_mode};
 ghost use Rattle.dd_file.specs.Notes.{AsksAtEnd, Notes, NotesFirst, board_of, games_of, notes_of, unknown_of};
-ghost use Rattle.dd_file.specs.Notices.{Hears, HearsSome};
-ghost use Rattle.dd_file.specs.Passing.{AddsAnswer, AddsLast, EndsBefore, EndsHere, KeepsPlace, PassesByte, begins_now};
+ghost use Rattle.dd_file.specs.Notices.{Hears};
+ghost use Rattle.dd_file.specs.Passing.{AddsAnswer, AddsLast, EndsBefore, EndsHere, KeepsPlace, PassesByte, StopsAt, begins_now};
 ghost use Rattle.dd_file.specs.Quiet.{Counts, IsPlace, KeepsCounts, PassesQuiet, PassesTag, Takes, is_alone, is_quiet, with_line_bytes};
 ghost use Rattle.dd_file.specs.Told.{board_here, board_told, board_with, first_notes, is_board, left_of_game, no_texts, number_here, reason_of, texts_here, texts_told, texts_with, why_at, why_par, why_with, why};
 ghost use Rattle.dd_file.specs.Values.{unescaped};
+ghost use Rattle.dd_file.specs.Windows.{Stops};
 
 use crate::analyst::{Analyst, Reason};
 use crate::fill_state::FillState;
@@ -112,7 +113,8 @@ impl Filler {
         ensures passed { OnOk result (self.new.passed ≡ min (self.old.passed + 1) (2 ^ 64 - 1)) }
         ensures asks { ends self.old.state (begins_now self.old.left self.old.mode is_all near.now) ≡ false
             → analyst.new ≡ analyst.old }
-        ensures stops { OnErr result (HearsSome A.way (A.state analyst.old) (A.state analyst.new)) }
+        ensures stops { OnErr result (StopsAt A.gives A.way self.old (A.state analyst.old) (A.state analyst.new)
+            (begins_now self.old.left self.old.mode is_all near.now)) }
     {
         let byte = near[0];
         let mark = self.mark(near, is_all);
@@ -160,7 +162,8 @@ impl Filler {
             × (count ≡ 0 → KeepsCounts self.old self.new)) }
         ensures notes { IfOk result (λ count. NotesFirst self.old self.new text.now count) }
         ensures asks { IfOk result (λ count. AsksAtEnd self.old text.now analyst.old analyst.new) }
-        ensures stops { OnErr result (HearsSome A.way (A.state analyst.old) (A.state analyst.new)) }
+        ensures stops { OnErr result (Stops A.gives A.way false self.old
+            (A.state analyst.old) (A.state analyst.new) text.now) }
     {
         let Some(is_first) = tag_place(self.left, self.mode) else {
             return Ok(0);
@@ -348,7 +351,7 @@ impl Filler {
         ensures board { OnOk result (board_of self.new ≡ board_here (ends self.old.state (shown mark.now)) (board_of self.old)) }
         ensures texts { OnOk result (unknown_of self.new ≡ texts_here (ends self.old.state (shown mark.now)) (unknown_of self.old)) }
         ensures asks { ends self.old.state (shown mark.now) ≡ false → analyst.new ≡ analyst.old }
-        ensures stops { OnErr result (HearsSome A.way (A.state analyst.old) (A.state analyst.new)) }
+        ensures stops { OnErr result (A.state analyst.new ≡ A.state analyst.old) }
     {
         let ends = self.state.ends(mark);
         self.end_here(ends, has_place(mark), analyst, out)
@@ -370,7 +373,7 @@ impl Filler {
         ensures board { OnOk result (board_of self.new ≡ board_here ends (board_of self.old)) }
         ensures texts { OnOk result (unknown_of self.new ≡ texts_here ends (unknown_of self.old)) }
         ensures asks { ends ≡ false → analyst.new ≡ analyst.old }
-        ensures stops { OnErr result (HearsSome A.way (A.state analyst.old) (A.state analyst.new)) }
+        ensures stops { OnErr result (A.state analyst.new ≡ A.state analyst.old) }
     {
         if !ends {
             return Ok(());
@@ -480,7 +483,7 @@ impl Filler {
             (why has_place self.now.wanted self.now.state (unknown_of self.now))
             self.now.wanted self.now.state (notes_of self.now)
             (A.state analyst.old) (A.state analyst.new) out.old.items out.new.items) }
-        ensures stops { OnErr result (HearsSome A.way (A.state analyst.old) (A.state analyst.new)) }
+        ensures stops { OnErr result (A.state analyst.new ≡ A.state analyst.old) }
     {
         if has_place {
             return self.add_lines(analyst, out);
@@ -497,7 +500,7 @@ impl Filler {
     ) -> Result<(), AllocError>
         ensures adds { OnOk result (AddsLast A.gives A.way (is_closed self.now.left self.now.mode) self.now
             (A.state analyst.old) (A.state analyst.new) out.old.items out.new.items) }
-        ensures stops { OnErr result (HearsSome A.way (A.state analyst.old) (A.state analyst.new)) }
+        ensures stops { OnErr result (A.state analyst.new ≡ A.state analyst.old) }
     {
         if !self.state.begun {
             return Ok(());
@@ -515,7 +518,7 @@ impl Filler {
             (why true self.now.wanted self.now.state (unknown_of self.now))
             self.now.wanted self.now.state (notes_of self.now)
             (A.state analyst.old) (A.state analyst.new) out.old.items out.new.items) }
-        ensures stops { OnErr result (HearsSome A.way (A.state analyst.old) (A.state analyst.new)) }
+        ensures stops { OnErr result (A.state analyst.new ≡ A.state analyst.old) }
     {
         if lacks_none(self.state.lacks(self.wanted)) {
             return Ok(());
@@ -542,7 +545,7 @@ impl Filler {
             (why_with (Ok deal.now) (lacks self.now.wanted self.now.state) self.now.state (unknown_of self.now))
             self.now.wanted self.now.state (notes_of self.now)
             (A.state analyst.old) (A.state analyst.new) out.old.items out.new.items) }
-        ensures stops { OnErr result (HearsSome A.way (A.state analyst.old) (A.state analyst.new)) }
+        ensures stops { OnErr result (A.state analyst.new ≡ A.state analyst.old) }
     {
         let lacking = self.state.lacks(self.wanted);
         let conditions = self.state.conditions();
@@ -552,8 +555,10 @@ impl Filler {
         }
         match analyst.results(deal) {
             Some(results) => {
+                push_found(out, self.state.line_ends(), lacking, &results, conditions)?;
+                // Only now: where memory runs out it is told nothing of a game whose lines are lost.
                 self.tell_unknown(lacking, analyst);
-                push_found(out, self.state.line_ends(), lacking, &results, conditions)
+                Ok(())
             }
             None => {
                 self.leave(analyst, Reason::Spent, b"");

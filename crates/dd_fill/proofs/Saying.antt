@@ -8,11 +8,11 @@ use Rattle.dd_lines.specs.declared.engine.LineFault.{LineFault}
 use Rattle.dd_lines.specs.Served.{StopsAtFailedWrite, WroteText}
 use Rattle.dd_file.specs.declared.engine.FileFault.{FileFault}
 use Rattle.dd_file.specs.declared.wanted.Wanted.{Wanted}
-use Rattle.dd_file.specs.Notices.{Notice, Hears, HearsSome}
-use Rattle.dd_file.specs.Served.{FilledTelling, FillsTelling, FillsBeginning, StopsAtFirstFailure}
+use Rattle.dd_file.specs.Notices.{Notice, Hears}
+use Rattle.dd_file.specs.Served.{FilledBeginning, FilledTelling, FillsTelling, FillsBeginning, StopsAtFirstFailure}
 use Rattle.dd_fill.specs.Ahead.{FillsSaying, SayingOf, SaysTold}
 use Rattle.dd_fill.specs.Said.{Says, SaysAll, SaysNotice, Sink, clear_texts, progress_texts, sink_of}
-use Rattle.dd_fill.specs.Served.{FilledSaying, Fills, SaysSome}
+use Rattle.dd_fill.specs.Served.{FilledSaying, Fills}
 use Rattle.dd_fill.specs.Told.{IsTold}
 
 -- a text that was written as far as the device took it was said
@@ -69,8 +69,24 @@ module _ (may_spend : Type 0) (wanted : Wanted) (before after : SayingOf) where
         told = (said _ before after all.told).hears;
       }
 
-pub some-said : (before after : SayingOf) → HearsSome SaysTold before after → HearsSome (SaysNotice before.shows) before.errors after.errors
-some-said before after some = record { notices = some.notices; hears = (said some.notices before after some.hears).hears }
+  pub begun-said : (r0 r1 w0 w1 : Option (List ℕ)) → FilledBeginning (IsTold may_spend) SaysTold wanted before after r0 r1 w0 w1
+      → FilledBeginning (IsTold may_spend) (SaysNotice before.shows) wanted before.errors after.errors r0 r1 w0 w1
+  begun-said r0 r1 w0 w1 some =
+      record {
+        input = some.input;
+        answers = some.answers;
+        asked = some.asked;
+        written = some.written;
+        notices = some.notices;
+        consumed = some.consumed;
+        answered = some.answered;
+        games = some.games;
+        begun = some.begun;
+        told = some.told;
+        over = some.over;
+        appended = some.appended;
+        hears = (said _ before after some.hears).hears;
+      }
 
 -- whether the file was filled or not, the references stay
 pub record Stays (before after : SayingOf) : Type 0 where
@@ -82,21 +98,22 @@ stays notices before after hears = (let all = said notices before after hears in
 
 pub ends-stays : {R W : Type 0} (remaining : R → Option (List ℕ)) (contents : W → Option (List ℕ)) (may_spend : Type 0) (wanted : Wanted) (before after : SayingOf)
     (reader reader2 : CountedDevice R) (writer writer2 : CountedDevice W) (result : Result (Unit {0}) FileFault)
-    → OnOk result (FillsTelling remaining contents (IsTold may_spend) SaysTold wanted before after reader reader2 writer writer2) → OnErr result (HearsSome SaysTold before after)
-    → Stays before after
+    → OnOk result (FillsTelling remaining contents (IsTold may_spend) SaysTold wanted before after reader reader2 writer writer2)
+    → OnErr result (FillsBeginning remaining contents (IsTold may_spend) SaysTold wanted before after reader reader2 writer writer2) → Stays before after
 ends-stays remaining contents may_spend wanted before after reader reader2 writer writer2 (Ok done) all some = stays _ before after all.told
 ends-stays remaining contents may_spend wanted before after reader reader2 writer writer2 (Err fault) all some = stays some.notices before after some.hears
 
 -- and this was said
 pub ends-told : {R W : Type 0} (remaining : R → Option (List ℕ)) (contents : W → Option (List ℕ)) (may_spend : Type 0) (wanted : Wanted) (before after : SayingOf)
     (reader reader2 : CountedDevice R) (writer writer2 : CountedDevice W) (result : Result (Unit {0}) FileFault)
-    → OnOk result (FillsTelling remaining contents (IsTold may_spend) SaysTold wanted before after reader reader2 writer writer2) → OnErr result (HearsSome SaysTold before after)
-    → OnErr result (FillsBeginning remaining contents (IsTold may_spend) wanted reader reader2 writer writer2) → StopsAtFirstFailure reader reader2 writer writer2 result
+    → OnOk result (FillsTelling remaining contents (IsTold may_spend) SaysTold wanted before after reader reader2 writer writer2)
+    → OnErr result (FillsBeginning remaining contents (IsTold may_spend) SaysTold wanted before after reader reader2 writer writer2)
+    → StopsAtFirstFailure reader reader2 writer writer2 result
     → FillsSaying remaining contents may_spend wanted before.shows reader reader2 writer writer2 before.errors after.errors result
-ends-told remaining contents may_spend wanted before after reader reader2 writer writer2 (Ok done) all some begun first =
-    record { ok = filled-said may_spend wanted before after _ _ _ _ all; some = tt; err = tt; first = first }
-ends-told remaining contents may_spend wanted before after reader reader2 writer writer2 (Err fault) all some begun first =
-    record { ok = tt; some = some-said before after some; err = begun; first = first }
+ends-told remaining contents may_spend wanted before after reader reader2 writer writer2 (Ok done) all some first =
+    record { ok = filled-said may_spend wanted before after _ _ _ _ all; err = tt; first = first }
+ends-told remaining contents may_spend wanted before after reader reader2 writer writer2 (Err fault) all some first =
+    record { ok = tt; err = begun-said may_spend wanted before after _ _ _ _ some; first = first }
 
 -- and at the end no progress is shown
 pub ends-said : {R W : Type 0} (remaining : R → Option (List ℕ)) (contents : W → Option (List ℕ)) (may_spend : Type 0) (wanted : Wanted) (shows : Bool) (before after last : Sink)
@@ -104,6 +121,6 @@ pub ends-said : {R W : Type 0} (remaining : R → Option (List ℕ)) (contents :
     → FillsSaying remaining contents may_spend wanted shows reader reader2 writer writer2 before after result → SaysAll (clear_texts shows) after last
     → Fills remaining contents may_spend wanted shows reader reader2 writer writer2 before last result
 ends-said remaining contents may_spend wanted shows before after last reader reader2 writer writer2 (Ok done) fills cleared =
-    record { ok = record { between = after; filled = fills.ok; cleared = cleared }; err = tt; some = tt; first = fills.first }
+    record { ok = record { between = after; filled = fills.ok; cleared = cleared }; err = tt; first = fills.first }
 ends-said remaining contents may_spend wanted shows before after last reader reader2 writer writer2 (Err fault) fills cleared =
-    record { ok = tt; err = fills.err; some = record { between = after; some = fills.some; cleared = cleared }; first = fills.first }
+    record { ok = tt; err = record { between = after; filled = fills.err; cleared = cleared }; first = fills.first }

@@ -5,7 +5,7 @@ use Rattle.dd_cards.specs.Hands.{FourHands}
 use Rattle.dd_lines.specs.declared.counted_device.CountedDevice.{CountedDevice}
 use Rattle.dd_file.specs.declared.engine.FileFault.{FileFault}
 use Rattle.dd_file.specs.declared.wanted.Wanted.{Wanted}
-use Rattle.dd_file.specs.Notices.{HearsSome, Notice}
+use Rattle.dd_file.specs.Notices.{Notice}
 use Rattle.dd_file.specs.Served.{FillsTelling, FillsBeginning, StopsAtFirstFailure}
 use Rattle.dd_fill.specs.Told.{IsTold}
 use Rattle.dd_fill.specs.Said.{SaysNotice, Sink}
@@ -43,6 +43,5 @@ pub record SaysTold (before : SayingOf) (notice : Notice) (after : SayingOf) : T
 pub record FillsSaying {R W : Type 0} (remaining : R → Option (List ℕ)) (contents : W → Option (List ℕ)) (may_spend : Type 0) (wanted : Wanted) (shows : Bool)
     (reader_old reader_new : CountedDevice R) (writer_old writer_new : CountedDevice W) (errors_old errors_new : Sink) (result : Result (Unit {0}) FileFault) : Type 0 where
   pub ok : OnOk result (FillsTelling remaining contents (IsTold may_spend) (SaysNotice shows) wanted errors_old errors_new reader_old reader_new writer_old writer_new)
-  pub some : OnErr result (HearsSome (SaysNotice shows) errors_old errors_new)
-  pub err : OnErr result (FillsBeginning remaining contents (IsTold may_spend) wanted reader_old reader_new writer_old writer_new)
+  pub err : OnErr result (FillsBeginning remaining contents (IsTold may_spend) (SaysNotice shows) wanted errors_old errors_new reader_old reader_new writer_old writer_new)
   pub first : StopsAtFirstFailure reader_old reader_new writer_old writer_new result

@@ -2,8 +2,7 @@
 use Rattle.std.specs.Prelude.{ℕ, Bool, List, Option, Result, OnOk, OnErr}
 use Rattle.dd_lines.specs.declared.counted_device.CountedDevice.{CountedDevice}
 use Rattle.dd_lines.specs.CountedDevices.{bytes_of}
-use Rattle.dd_file.specs.Notices.{HearsSome}
-use Rattle.dd_file.specs.Served.{FilledTelling, FillsBeginning, StopsAtFirstFailure}
+use Rattle.dd_file.specs.Served.{FilledBeginning, FilledTelling, StopsAtFirstFailure}
 use Rattle.dd_file.specs.declared.engine.FileFault.{FileFault}
 use Rattle.dd_file.specs.declared.wanted.Wanted.{Wanted}
 use Rattle.dd_fill.specs.Said.{SaysAll, SaysNotice, Sink, clear_texts}
@@ -16,18 +15,18 @@ pub record FilledSaying (may_spend : Type 0) (wanted : Wanted) (shows : Bool) (r
   pub filled : FilledTelling (IsTold may_spend) (SaysNotice shows) wanted errors_old between read_old read_new write_old write_new
   pub cleared : SaysAll (clear_texts shows) between errors_new
 
--- what was said is something of that form
-pub record SaysSome (shows : Bool) (errors_old errors_new : Sink) : Type 0 where
+-- The run ended early. What was written, and what was said of the games, are beginnings of that, whatever follows what was read and whatever the results
+-- of the other games are; each text was said as far as the device took it. Of each game whose results were told all was said.
+pub record FilledInPart (may_spend : Type 0) (wanted : Wanted) (shows : Bool) (read_old read_new write_old write_new : Option (List ℕ)) (errors_old errors_new : Sink) : Type 0 where
   pub between : Sink
-  pub some : HearsSome (SaysNotice shows) errors_old between
+  pub filled : FilledBeginning (IsTold may_spend) (SaysNotice shows) wanted errors_old between read_old read_new write_old write_new
   pub cleared : SaysAll (clear_texts shows) between errors_new
 
--- That; or a call failed, or memory ran out, and what was written is a beginning of the file with its lines for what was read. No call failed before
--- the one that ended the run.
+-- All that; or a call failed, or memory ran out, and it was done in part. No call failed before the one that ended the run.
 pub record Fills {R W : Type 0} (remaining : R → Option (List ℕ)) (contents : W → Option (List ℕ)) (may_spend : Type 0) (wanted : Wanted) (shows : Bool)
     (reader_old reader_new : CountedDevice R) (writer_old writer_new : CountedDevice W) (errors_old errors_new : Sink) (result : Result (Unit {0}) FileFault) : Type 0 where
   pub ok : OnOk result (FilledSaying may_spend wanted shows (bytes_of remaining reader_old) (bytes_of remaining reader_new)
       (bytes_of contents writer_old) (bytes_of contents writer_new) errors_old errors_new)
-  pub err : OnErr result (FillsBeginning remaining contents (IsTold may_spend) wanted reader_old reader_new writer_old writer_new)
-  pub some : OnErr result (SaysSome shows errors_old errors_new)
+  pub err : OnErr result (FilledInPart may_spend wanted shows (bytes_of remaining reader_old) (bytes_of remaining reader_new)
+      (bytes_of contents writer_old) (bytes_of contents writer_new) errors_old errors_new)
   pub first : StopsAtFirstFailure reader_old reader_new writer_old writer_new result

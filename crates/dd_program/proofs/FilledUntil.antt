@@ -25,10 +25,10 @@ ends-filling may_spend wanted shows remaining contents reader reader2 writer wri
     })
 ends-filling may_spend wanted shows remaining contents reader reader2 writer writer2 errors between errors2 (Err Read) ending is fills silent said =
     subst (EndsFilling may_spend wanted shows (streams (state_of remaining reader) (state_of contents writer) errors) (streams (state_of remaining reader2) (state_of contents writer2) errors2)) (sym is)
-    (record { filled = fills.err; reads = fills.first.0; writes = fills.first.1; said = (between, fills.some, subst (λ e. Writes (line_of e) between errors2) is said) })
+    (record { noted = between; filled = fills.err; reads = fills.first.0; writes = fills.first.1; said = subst (λ e. Writes (line_of e) between errors2) is said })
 ends-filling may_spend wanted shows remaining contents reader reader2 writer writer2 errors between errors2 (Err Write) ending is fills silent said =
     subst (EndsFilling may_spend wanted shows (streams (state_of remaining reader) (state_of contents writer) errors) (streams (state_of remaining reader2) (state_of contents writer2) errors2)) (sym is)
-    (record { filled = fills.err; reads = fills.first.0; writes = fills.first.1; said = (between, fills.some, subst (λ e. Writes (line_of e) between errors2) is said) })
+    (record { noted = between; filled = fills.err; reads = fills.first.0; writes = fills.first.1; said = subst (λ e. Writes (line_of e) between errors2) is said })
 ends-filling may_spend wanted shows remaining contents reader reader2 writer writer2 errors between errors2 (Err Memory) ending is fills silent said =
     subst (EndsFilling may_spend wanted shows (streams (state_of remaining reader) (state_of contents writer) errors) (streams (state_of remaining reader2) (state_of contents writer2) errors2)) (sym is)
-    (inr (record { filled = fills.err; reads = fills.first.0; writes = fills.first.1; said = (between, fills.some, subst (λ e. Writes (line_of e) between errors2) is said) }))
+    (inr (record { noted = between; filled = fills.err; reads = fills.first.0; writes = fills.first.1; said = subst (λ e. Writes (line_of e) between errors2) is said }))

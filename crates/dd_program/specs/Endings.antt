@@ -20,13 +20,12 @@ use Rattle.dd_program.specs.ListenFaults.{line_of_fault}
 use Rattle.dd_program.specs.declared.listen_fault.ListenFault.{ListenFault}
 use Rattle.dd_command.specs.Program.{program_app}
 use Rattle.dd_program.specs.Tags.{wanted_by}
-use Rattle.dd_file.specs.Served.{FilledBeginning}
 use Rattle.dd_file.specs.declared.engine.FileFault.{FileFault}
 use Rattle.dd_file.specs.declared.engine.FileFault.TheVariants as file
 use Rattle.dd_file.specs.declared.wanted.Wanted.{Wanted}
 use Rattle.dd_fill.specs.Said.{Sink}
-use Rattle.dd_fill.specs.Served.{FilledSaying, SaysSome}
-use Rattle.dd_fill.specs.Told.{IsTold, MaySpend}
+use Rattle.dd_fill.specs.Served.{FilledInPart, FilledSaying}
+use Rattle.dd_fill.specs.Told.{MaySpend}
 use Rattle.dd_server.specs.Histories.{IsLengthOfHistory}
 use Rattle.dd_server.specs.declared.args.ServeFault.{ServeFault}
 use Rattle.dd_server.specs.declared.terms.Terms.{Terms}
@@ -275,35 +274,34 @@ pub record FillsFile (may_spend : Type 0) (wanted : Wanted) (shows : Bool) (old 
   pub reads : new.input.failures ≡ old.input.failures
   pub writes : new.output.failures ≡ old.output.failures
 
--- what was written is a beginning of that for what was read
-abbrev pub FillsInPart : Type 0 → Wanted → Streams → Streams → Type 0
-FillsInPart may_spend wanted old new =
-    FilledBeginning (IsTold may_spend) wanted old.input.bytes new.input.bytes old.output.bytes new.output.bytes
+-- What was written is a beginning of that for what was read, and so is what was said of its games on the standard error, up to this state of it.
+abbrev pub FillsInPart : Type 0 → Wanted → Bool → Streams → Streams → Device → Type 0
+FillsInPart may_spend wanted shows old new noted =
+    FilledInPart may_spend wanted shows old.input.bytes new.input.bytes old.output.bytes new.output.bytes (sink_of old.errors) (sink_of noted)
 
--- the text was said behind notes of games
-abbrev pub SaysLast : List ℕ → Bool → Device → Device → Type 0
-SaysLast text shows old new = (before : Device) × SaysSome shows (sink_of old) (sink_of before) × Writes text before new
-
--- a read failed, and what was written is a beginning of what was to come
+-- a read failed, and what was written is a beginning of what was to come; that was said behind the notes of games
 pub record FailsToReadFile (may_spend : Type 0) (wanted : Wanted) (shows : Bool) (old new : Streams) : Type 0 where
-  pub filled : FillsInPart may_spend wanted old new
+  pub noted : Device
+  pub filled : FillsInPart may_spend wanted shows old new noted
   pub reads : Fails old.input new.input
   pub writes : new.output.failures ≡ old.output.failures
-  pub said : SaysLast (line_of ReadFailed) shows old.errors new.errors
+  pub said : Writes (line_of ReadFailed) noted new.errors
 
 -- the same of a write
 pub record FailsToWriteFile (may_spend : Type 0) (wanted : Wanted) (shows : Bool) (old new : Streams) : Type 0 where
-  pub filled : FillsInPart may_spend wanted old new
+  pub noted : Device
+  pub filled : FillsInPart may_spend wanted shows old new noted
   pub reads : new.input.failures ≡ old.input.failures
   pub writes : Fails old.output new.output
-  pub said : SaysLast (line_of WriteFailed) shows old.errors new.errors
+  pub said : Writes (line_of WriteFailed) noted new.errors
 
 -- the same where memory ran out, and no call failed
 pub record RunsOutOfMemory (may_spend : Type 0) (wanted : Wanted) (shows : Bool) (old new : Streams) : Type 0 where
-  pub filled : FillsInPart may_spend wanted old new
+  pub noted : Device
+  pub filled : FillsInPart may_spend wanted shows old new noted
   pub reads : new.input.failures ≡ old.input.failures
   pub writes : new.output.failures ≡ old.output.failures
-  pub said : SaysLast (line_of OutOfMemory) shows old.errors new.errors
+  pub said : Writes (line_of OutOfMemory) noted new.errors
 
 -- how it ends
 abbrev pub ending_of : Result (Unit {0}) FileFault → Ending

@@ -20,6 +20,21 @@ impl Read for Pieces<'_> {
     }
 }
 
+/// Gives its bytes in pieces, and then fails.
+#[derive(Drop)]
+pub struct Broken<'a> {
+    pub pieces: Pieces<'a>,
+}
+
+impl Read for Broken<'_> {
+    fn read(&mut self, buf: &mut [u8]) -> io::Result<usize> {
+        if self.pieces.bytes.is_empty() {
+            return Err(Error::from(ErrorKind::ConnectionReset));
+        }
+        self.pieces.read(buf)
+    }
+}
+
 /// Takes bytes, and fails once it has no more room.
 #[derive(Drop)]
 pub struct Taker {

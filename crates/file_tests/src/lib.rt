@@ -14,6 +14,8 @@ mod devices;
 #[cfg(test)]
 mod drawn;
 #[cfg(test)]
+mod faults;
+#[cfg(test)]
 mod files;
 #[cfg(test)]
 mod order;

@@ -1,6 +1,6 @@
 use Rattle.std.proofs.Common.{◌<◌, ◌∙◌, length, refl, rules, arith}
 use Rattle.std.proofs.lemmas.Result.{on_ok_weaker, on_err_weaker, err_from_is_err_and}
-use Rattle.dd_file.proofs.Written.{Filling-begun, Filling-further, Filling-ended, Filling-last_failed, Filling-piece_failed, Filling-read_failed, Filling-some, Filling-then-some, filled-all, first-place, first-point, nothing_read, stops-written, write-failed, no-read-failed}
+use Rattle.dd_file.proofs.Written.{Filling-begun, Filling-further, Filling-ended, Filling-last_failed, Filling-piece_failed, Filling-read_failed, filled-all, first-place, first-point, nothing_read, stops-written, write-failed, no-read-failed}
 use Rattle.dd_file.proofs.engine.fill_file.Goals as goal
 
 pub loop-init : goal.loop-init
@@ -28,8 +28,10 @@ returns-in-Ok-eq0-clause-ok g c =
 
 pub returns-in-Ok-eq0-clause-err : goal.returns-in-Ok-eq0-clause-err
 returns-in-Ok-eq0-clause-err g c =
-    let read = nothing_read _ _ _ _ c.in-Ok-eq0.field-0-test c.in-Ok-eq0.ensures.bytes.0 in
-    on_err_weaker c.write_last.result (λ wrote. Filling-last_failed g.A.Analyst.gives g.A.Analyst.way _ _ _ _ _ _ _ _ _ _ _ _ c.loop.invariant.so_far read c.as_slice.ensures.value wrote) c.write_last.ensures.err
+    let none = c.in-Ok-eq0.field-0-test in
+    let read = c.in-Ok-eq0.ensures.bytes in
+    let room : 0 < length c.read.new.buf = omega arith in
+    on_err_weaker c.write_last.result (λ wrote. Filling-last_failed g.A.Analyst.gives g.A.Analyst.way _ _ _ _ _ _ _ _ _ _ _ _ _ c.loop.invariant.so_far (nothing_read _ _ _ _ none read.0) (read.1 none room) c.as_slice.ensures.value wrote) c.write_last.ensures.err
 
 pub returns-in-Ok-eq0-clause-first : goal.returns-in-Ok-eq0-clause-first
 returns-in-Ok-eq0-clause-first g c = stops-written c.args.reader.now c.read.new.self c.args.writer.now c.loop.writer c.write_last.new.writer c.write_last.result (c.in-Ok-eq0.ensures.counted.failures ∙ c.loop.invariant.reads) c.loop.invariant.writes c.write_last.ensures.fault
@@ -44,7 +46,7 @@ returns-in-Ok-eq0-clause-read g c = λ is. absurd (no-read-failed c.loop.writer 
 pub returns-in_err-take_piece-in-Ok-clause-err : goal.returns-in_err-take_piece-in-Ok-clause-err
 returns-in_err-take_piece-in-Ok-clause-err g c =
     let p = err_from_is_err_and c.from_residual.result c.from_residual.ensures.1 in
-    rw p.1 (Filling-piece_failed g.A.Analyst.gives g.A.Analyst.way _ _ _ _ _ _ _ _ _ _ _ _ c.loop.invariant.so_far c.in-Ok.ensures.bytes.0 c.in_err-take_piece-in-Ok.ensures.err)
+    rw p.1 (Filling-piece_failed g.A.Analyst.gives g.A.Analyst.way _ _ _ _ _ _ _ _ _ _ _ _ _ c.loop.invariant.so_far c.in-Ok.ensures.bytes.0 c.in_err-take_piece-in-Ok.ensures.err)
 
 pub returns-in-Err-clause-err : goal.returns-in-Err-clause-err
 returns-in-Err-clause-err g c = Filling-read_failed g.A.Analyst.gives g.A.Analyst.way _ _ _ _ _ _ _ _ _ _ c.loop.invariant.so_far c.in-Err.ensures.bytes
@@ -60,18 +62,3 @@ loop-preserved g c =
       few = λ _. omega (arith, counted.calls, counted.let_through);
       room = search rules;
     }
-
-pub returns-in-Ok-eq0-clause-some : goal.returns-in-Ok-eq0-clause-some
-returns-in-Ok-eq0-clause-some g c =
-    on_err_weaker c.write_last.result (λ some. Filling-then-some g.A.Analyst.gives g.A.Analyst.way _ _ _ _ _ _ _ _ _ _ c.loop.invariant.so_far some) c.write_last.ensures.stops
-
-pub returns-in_err-take_piece-in-Ok-clause-some : goal.returns-in_err-take_piece-in-Ok-clause-some
-returns-in_err-take_piece-in-Ok-clause-some g c =
-    let p = err_from_is_err_and c.from_residual.result c.from_residual.ensures.1 in
-    rw p.1 (Filling-then-some g.A.Analyst.gives g.A.Analyst.way _ _ _ _ _ _ _ _ _ _ c.loop.invariant.so_far c.in_err-take_piece-in-Ok.ensures.stops)
-
-pub returns-in-Err-clause-some : goal.returns-in-Err-clause-some
-returns-in-Err-clause-some g c = Filling-some g.A.Analyst.gives g.A.Analyst.way _ _ _ _ _ _ _ _ _ c.loop.invariant.so_far
-
-pub returns-clause-some : goal.returns-clause-some
-returns-clause-some g c = Filling-some g.A.Analyst.gives g.A.Analyst.way _ _ _ _ _ _ _ _ _ c.loop.invariant.so_far

@@ -1,7 +1,7 @@
 use Rattle.std.proofs.Common.{ℕ, subst, List, drop}
 use Rattle.std.specs.Prelude.{false}
 use Rattle.dd_file.specs.Windows.{PassesFront}
-use Rattle.dd_file.proofs.Written.{front-from, some-from}
+use Rattle.dd_file.proofs.Written.{front-from, stops-from}
 use Rattle.dd_file.proofs.engine.front_text.Goals as goal
 
 pub returns-in-Ok-clause-passes : goal.returns-in-Ok-clause-passes
@@ -11,4 +11,4 @@ returns-in-Ok-clause-passes g c =
     (front-from g.A.Analyst.gives g.A.Analyst.way _ _ _ _ _ _ _ _ _ _ c.foresee.ensures c.in-Ok.ensures.passes)
 
 pub returns-in-Err-clause-stops : goal.returns-in-Err-clause-stops
-returns-in-Err-clause-stops g c = some-from g.A.Analyst.gives g.A.Analyst.way _ _ _ c.foresee.ensures c.in-Err.ensures.stops
+returns-in-Err-clause-stops g c = stops-from g.A.Analyst.gives g.A.Analyst.way _ c.args.filler.now _ _ _ _ c.foresee.ensures c.in-Err.ensures.stops

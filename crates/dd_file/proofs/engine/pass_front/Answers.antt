@@ -2,7 +2,7 @@ use Rattle.std.proofs.Common.{◌≡◌, ◌≤◌, ◌-◌, length, arith}
 use Rattle.std.proofs.lemmas.Result.{err_from_is_err_and}
 use Rattle.dd_file.proofs.Going.{PassesFront-then, PassesFront-none}
 use Rattle.dd_file.proofs.Staying.{PassesFront-behind}
-use Rattle.dd_file.proofs.Written.{front-then-some}
+use Rattle.dd_file.proofs.Stopped.{Stops-rest, front-then-stops}
 use Rattle.dd_file.proofs.engine.pass_front.Goals as goal
 
 pub loop-at-init : goal.loop-at-init
@@ -25,4 +25,6 @@ returns-clause-passes g c =
 pub returns-in_err-at-clause-stops : goal.returns-in_err-at-clause-stops
 returns-in_err-at-clause-stops g c =
     let p = err_from_is_err_and c.from_residual.result c.from_residual.ensures.1 in
-    rw p.1 (front-then-some g.A.Analyst.gives g.A.Analyst.way _ _ _ _ _ _ _ _ _ _ c.loop-at.invariant.front c.in_err-at.ensures.stops)
+    let within : c.loop-at.at ≤ length c.args.window.now = omega arith in
+    rw p.1 (front-then-stops g.A.Analyst.gives g.A.Analyst.way _ _ c.loop-at.filler _ _ _ _ _ _ _ c.loop-at.invariant.front
+    (Stops-rest g.A.Analyst.gives g.A.Analyst.way _ c.loop-at.filler _ _ c.args.window.now c.loop-at.at within c.in_err-at.ensures.stops))

@@ -1,5 +1,4 @@
 use Rattle.std.proofs.Common.{◌∙◌, ap, sym}
-use Rattle.std.proofs.lemmas.Result.{on_ok_weaker}
 use Rattle.dd_file.specs.Filled.{needs}
 use Rattle.dd_file.specs.declared.analyst.Reason.TheVariants.{Spent}
 use Rattle.dd_file.specs.Notes.{notes_of, unknown_of}
@@ -8,13 +7,12 @@ use Rattle.dd_file.proofs.Heard.{Hears-from}
 use Rattle.dd_file.proofs.Passed.{AddsFound-answer, AddsAnswer-spent, AddsAnswer-unneeded}
 use Rattle.dd_file.proofs.filler.Filler.add_lines_of.Goals as goal
 
-pub returns-in-Some-clause-adds : goal.returns-in-Some-clause-adds
-returns-in-Some-clause-adds g c =
+pub returns-in_ok-push_found-in-Some-clause-adds : goal.returns-in_ok-push_found-in-Some-clause-adds
+returns-in_ok-push_found-in-Some-clause-adds g c =
     let told = Hears-from g.A.Analyst.way _ (g.A.Analyst.state c.args.analyst.now) _
     (left_of_game (notes_of c.args.self.now) (why_par c.lacks-lacking.result c.args.self.now.state (unknown_of c.args.self.now))) c.in-Some.ensures.state c.tell_unknown-in-Some.ensures in
-    on_ok_weaker c.push_found.result
-    (λ adds. AddsFound-answer g.A.Analyst.gives g.A.Analyst.way c.args.self.now.wanted c.args.self.now.state (notes_of c.args.self.now) _ _ c.args.deal.now _ _ _ _ _ _ c.line_ends.ensures c.lacks-lacking.ensures c.conditions-conditions.ensures
-    (ap (λ b. needs c.lacks-lacking.result b) (sym c.is_some.ensures) ∙ sym c.needs.ensures ∙ c.if-not-needs.false) c.in-Some.ensures.gives told adds) c.push_found.ensures
+    AddsFound-answer g.A.Analyst.gives g.A.Analyst.way c.args.self.now.wanted c.args.self.now.state (notes_of c.args.self.now) _ _ c.args.deal.now _ _ _ _ _ _ c.line_ends.ensures c.lacks-lacking.ensures c.conditions-conditions.ensures
+    (ap (λ b. needs c.lacks-lacking.result b) (sym c.is_some.ensures) ∙ sym c.needs.ensures ∙ c.if-not-needs.false) c.in-Some.ensures.gives told c.in_ok-push_found-in-Some.ensures
 
 pub returns-then-not-needs-clause-adds : goal.returns-then-not-needs-clause-adds
 returns-then-not-needs-clause-adds g c =
