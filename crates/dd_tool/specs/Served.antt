@@ -1,5 +1,5 @@
 -- To be believed: what the line tool has served of the lines of a stream. The budget is that of each line.
-use Rattle.std.specs.Prelude.{◌≡◌, ◌⊎◌, ℕ, List, [], ◌∷◌, ◌++◌, Bool, true, false, Option, None}
+use Rattle.std.specs.Prelude.{◌≡◌, ◌⊎◌, ℕ, List, [], ◌∷◌, ◌++◌, Contains, Bool, true, false, Option, None}
 use Rattle.std.specs.Io.KnownBytes.{Consumes, Appends, IsAtEnd}
 use Rattle.dd_lines.specs.CountedDevices.{bytes_of}
 use Rattle.dd_lines.specs.declared.counted_device.CountedDevice.{CountedDevice}
@@ -80,21 +80,20 @@ abbrev pub ServesBeginning : {R W : Type 0} → (R → Option (List ℕ)) → (W
     → CountedDevice R → CountedDevice R → CountedDevice W → CountedDevice W → Type 0
 ServesBeginning remaining contents budget = TellsBeginning remaining contents (IsReply budget)
 
--- ---- two outputs for the same lines
+-- ---- the lines of an output, and two outputs for the same lines
+
+-- each of these texts is the reply to the line at its place, and no line is without one
+abbrev pub AreReplies : (List ℕ → List ℕ → Type 0) → List (List ℕ) → List (List ℕ) → Type 0
+AreReplies Reply [] [] = Unit {0}
+AreReplies Reply [] (text ∷ texts) = ⊥
+AreReplies Reply (line ∷ rest) [] = ⊥
+AreReplies Reply (line ∷ rest) (text ∷ texts) = Reply line text × AreReplies Reply rest texts
 
 -- the reply that says that memory ran out
 abbrev pub memory_text : Bool → List ℕ
 memory_text false = fault_text OutOfMemory
 memory_text true = fault_told OutOfMemory None
 
--- the bytes are replies of this kind to these lines, and one of them is this text
-abbrev pub AreToldWith : List ℕ → (List ℕ → List ℕ → Type 0) → List (List ℕ) → List ℕ → Type 0
-AreToldWith said Reply [] bytes = ⊥
-AreToldWith said Reply (line ∷ rest) bytes =
-    (text : List ℕ) × (more : List ℕ) × Reply line text × AreTold Reply rest more × (bytes ≡ text ++ line_feed ∷ more)
-    × ((text ≡ said) ⊎ AreToldWith said Reply rest more)
-
--- the bytes are the same, or one of the replies of one of them says that memory ran out
-abbrev pub AreSameBut : Bool → List (List ℕ) → List ℕ → List ℕ → Type 0
-AreSameBut explain all a b =
-    (a ≡ b) ⊎ AreToldWith (memory_text explain) (IsReplyAs explain None) all a ⊎ AreToldWith (memory_text explain) (IsReplyAs explain None) all b
+-- the bytes are the same, or a line of one of them says that memory ran out
+abbrev pub AreSameBut : Bool → List ℕ → List ℕ → Type 0
+AreSameBut explain a b = (a ≡ b) ⊎ Contains (lines a) (memory_text explain) ⊎ Contains (lines b) (memory_text explain)

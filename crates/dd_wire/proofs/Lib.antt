@@ -8,6 +8,7 @@ pub mod LineMeanings
 pub mod Meanings
 pub mod NoStops
 pub mod Objects
+pub mod OneLine
 pub mod OneMeaning
 pub mod OneReply
 pub mod Pairs

@@ -1,6 +1,6 @@
 -- To be believed: the text of a reply: JSON without spaces, keys in the order of their bytes.
-use Rattle.std.specs.Prelude.{ℕ, ◌+◌, ◌*◌, List, ◌++◌, map, codes, decimal}
-use Rattle.std.specs.List.{join_with_byte, range_with_len, slice_range}
+use Rattle.std.specs.Prelude.{ℕ, ◌+◌, ◌*◌, Bool, nat_le, List, ◌++◌, map, codes, decimal}
+use Rattle.std.specs.List.{join_with_byte, list_all, range_with_len, slice_range}
 use Rattle.dd_cards.specs.Suits.{suit_code}
 use Rattle.dd_wire.specs.declared.fault.Fault.{Fault}
 use Rattle.dd_wire.specs.Faults.{fault_number}
@@ -50,3 +50,7 @@ fault_text fault = numbered_fault_text (fault_number fault)
 -- the budget was spent before there was an answer
 abbrev pub spent_text : List ℕ
 spent_text = codes "{\"state\":\"spent\"}"
+
+-- No byte of it is a control character, a line feed among them.
+abbrev pub is_one_line : List ℕ → Bool
+is_one_line text = list_all (nat_le 32) text

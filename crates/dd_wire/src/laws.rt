@@ -1,4 +1,4 @@
-ghost use Rattle.std.specs.Prelude.{◌≡◌, ℕ, Bool, true, false, List, [], ◌∷◌, None, Some, Result, Ok, Err, codes};
+ghost use Rattle.std.specs.Prelude.{◌≡◌, ℕ, Bool, true, false, List, [], ◌∷◌, None, Option, Some, Result, Ok, Err, codes};
 ghost use Rattle.dd_cards.specs.declared.seat.Seat.TheVariants.{North, East};
 ghost use Rattle.dd_cards.specs.declared.strain.Strain.TheVariants.{Trump, Notrump};
 ghost use Rattle.dd_cards.specs.declared.suit.Suit.TheVariants.{Spades};
@@ -9,7 +9,7 @@ ghost use Rattle.dd_wire.specs.ExplainedWants.{MeansExplained, fault_explained, 
 ghost use Rattle.dd_wire.specs.FaultWords.{fault_told};
 ghost use Rattle.dd_wire.specs.LineReplies.{AreOneBut, IsReply};
 ghost use Rattle.dd_wire.specs.Lines.{Means};
-ghost use Rattle.dd_wire.specs.Replies.{fault_text};
+ghost use Rattle.dd_wire.specs.Replies.{fault_text, is_one_line};
 ghost use Rattle.dd_wire.specs.Wants.{MeansWant};
 
 use crate::fault::Fault;
@@ -36,6 +36,15 @@ pub fn one_reply()
 {
     an_auction_has_one_value();
 }
+
+/// A reply is one line, whatever its line is and within any budget: no byte of it is a control character. So the line feed behind
+/// it is the only one.
+pub fn a_reply_is_one_line()
+    ensures plain { (budget : Option ℕ) (line text : List ℕ) → IsReply budget line text →
+        is_one_line text ≡ true }
+    ensures explained { (budget : Option ℕ) (line text : List ℕ) → IsExplained budget line text →
+        is_one_line text ≡ true }
+{}
 
 /// Lines worked by hand.
 pub fn worked_lines()

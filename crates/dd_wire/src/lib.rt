@@ -35,8 +35,8 @@ pub use fault_words::{words_of, write_explained};
 pub use health::{Health, write_health};
 pub use id::{IdText, named_reply};
 pub use laws::{
-    one_explained_want, one_meaning, one_reply, one_want, worked_explained_wants, worked_lines,
-    worked_wants,
+    a_reply_is_one_line, one_explained_want, one_meaning, one_reply, one_want,
+    worked_explained_wants, worked_lines, worked_wants,
 };
 pub use line_asked::LineAsked;
 pub use line_reply::{LONGEST_ANSWER, put_reply_to_line, reply_to_line};
