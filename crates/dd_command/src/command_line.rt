@@ -43,7 +43,7 @@ pub const VERSION: &str = "0.2.0";
 pub enum Args {
     /// Answers the request lines of the standard input.
     Solve {
-        /// The most positions that the search may come to for each line, 0 to 1,000,000,000,000. `None` is no limit.
+        /// The most positions that the search may visit for each line, 0 to 1,000,000,000,000. `None` is no limit.
         budget: Option<u64>,
         /// The entries of each shard of the transposition table, 1 to `MOST_SHAPES`.
         entries: u32,
@@ -62,7 +62,7 @@ pub enum Args {
         shards: u32,
         /// The entries of each shard, 1 to `MOST_SHAPES`.
         entries: u32,
-        /// The most positions that the search may come to for each job or part of one, 1 to 1,000,000,000,000. `None` is no
+        /// The most positions that the search may visit for each job or part of one, 1 to 1,000,000,000,000. `None` is no
         /// limit.
         budget: Option<u64>,
         /// The most events of each run, 1,024 to 1,048,576.
@@ -80,7 +80,7 @@ pub enum Args {
     Fill {
         /// The names of the tags that are added, with commas between them. All four where it is empty.
         tags: String,
-        /// The most positions that the search may come to for each result, 0 to 1,000,000,000,000. `None` is no limit.
+        /// The most positions that the search may visit for each result, 0 to 1,000,000,000,000. `None` is no limit.
         budget: Option<u64>,
         /// The entries of each shard of the transposition table, 1 to `MOST_SHAPES`.
         entries: u32,
@@ -342,9 +342,7 @@ fn budget_option<'a>(alloc: Global) -> Arg<'a>
         .long("budget")
         .value_name("N")
         .value_parser(value_parser!(u64).range(0..=MOST_POSITIONS))
-        .help(
-            "The most positions to come to for each line,\n0 to 1000000000000 [default: no limit]",
-        )
+        .help("The most positions to visit for each line,\n0 to 1000000000000 [default: no limit]")
 }
 
 fn entries_option<'a>(alloc: Global) -> Arg<'a>
@@ -493,7 +491,7 @@ fn result_budget_option<'a>(alloc: Global) -> Arg<'a>
         .value_name("N")
         .value_parser(value_parser!(u64).range(0..=MOST_POSITIONS))
         .help(
-            "The most positions to come to for each of a deal's\ntwenty results, 0 to 1000000000000 [default: no limit]",
+            "The most positions to visit for each of a deal's\ntwenty results, 0 to 1000000000000 [default: no limit]",
         )
 }
 

@@ -148,7 +148,7 @@ has words, and where it can be told the field:
 
 Budget and memory:
 
-A position is a state of play that the search comes to; some six to eight
+A position is a state of play that the search visits; some six to eight
 million take a second. A budget of a million was enough for nine of ten full
 deals, ten million for each of 80.
 

@@ -18,7 +18,7 @@ use std::sync::Wait;
 use std::thread::{Threads, for_each_mut, join_mut};
 
 /// Passes a file on, with those lines that its games lack of the ones that are wanted. The results of its deals are searched
-/// for over the table. The budget is the most positions that the search for one result comes to, and `None` lets each search go
+/// for over the table. The budget is the most positions that the search for one result visits, and `None` lets each search go
 /// on to its end. For each of the tables in `others` a thread of its own searches ahead over it, and has ended when this returns;
 /// where there are none no thread is made. Of each game that still lacks a tag which is wanted a line on `errors` says why, and
 /// where that is a terminal its last line may show how far it is.

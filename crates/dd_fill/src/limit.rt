@@ -1,7 +1,7 @@
 //! How long the search for a result may be.
 ghost use Rattle.std.specs.Prelude.{IfSome};
 
-/// The most positions that the search for one of the twenty results of a deal comes to.
+/// The most positions that the search for one of the twenty results of a deal visits.
 pub(crate) trait Limit: Copy {
     /// what holds where such a search may be given up
     ghost may_spend: { Type 0 };

@@ -24,7 +24,7 @@ pub(crate) struct Pool {
 }
 
 impl Pool {
-    /// No deals. The budget is the most positions that the search for one result comes to.
+    /// No deals. The budget is the most positions that the search for one result visits.
     pub(crate) fn new(alloc: Global, budget: Option<u64>) -> Pool {
         Pool {
             budget,

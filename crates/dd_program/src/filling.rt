@@ -30,7 +30,7 @@ const TAGS_LINE: &str =
 /// How a file is filled.
 #[derive(Clone, Copy, Drop)]
 pub(crate) struct FillArgs {
-    /// The most positions that the search for one result comes to.
+    /// The most positions that the search for one result visits.
     pub(crate) budget: Option<u64>,
     /// The room of a shard of the table.
     pub(crate) entries: u32,

@@ -4,7 +4,7 @@ ghost use Rattle.dd_search.specs.Budgets.{EndsAs};
 
 use std::marker::Model;
 
-/// What a meter says at a position that the search comes to.
+/// What a meter says at a position that the search visits.
 #[derive(Clone, Copy, Debug, PartialEq, Eq)]
 pub enum Tick {
     /// The search goes on.
@@ -24,7 +24,7 @@ pub enum Halt {
     Stopped,
 }
 
-/// Asked once at each position that a search comes to, before anything else is done there.
+/// Asked once at each position that a search visits, before anything else is done there.
 pub trait Meter {
     ghost use Rattle.dd_search.specs.declared.meter.Tick.{Tick};
 

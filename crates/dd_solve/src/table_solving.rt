@@ -8,7 +8,7 @@ use crate::table_request::{PARTS, TableRequest};
 use dd_cards::{Seat, Strain, Suit};
 use dd_search::{Bounds, Budget, Endless};
 
-/// Finds the results of a table. The budget is the most positions that the search for one of them comes to, and `None` lets
+/// Finds the results of a table. The budget is the most positions that the search for one of them visits, and `None` lets
 /// each search go on to its end. `None` where a search spent its budget.
 pub fn solve_table<B: Bounds>(
     request: &TableRequest,

@@ -25,7 +25,7 @@ pub const LONGEST_ANSWER: usize = 900;
 
 /// The reply to a line of any length, without a line feed at its end.
 ///
-/// The budget is the most positions that the search for the answer comes to, for a table the search for each of its
+/// The budget is the most positions that the search for the answer visits, for a table the search for each of its
 /// twenty results, and for a play the search for each number; `None` lets it go on to its end. A line whose search spends
 /// it is told so in place of an answer.
 pub fn reply_to_line<B: Bounds>(

@@ -15,7 +15,7 @@ use std::sync::atomic::AtomicBool;
 use std::sync::{Mutex, Wait};
 use std::time::Clock;
 
-// Nine cards a hand: over no table the search comes to more than 40,000 positions.
+// Nine cards a hand: over no table the search visits more than 40,000 positions.
 const LEADS: &str =
     r#"{"do":"solve","deal":"N:T74.JT.8.AKQ AK2.7.T74.T9 QJ63..653.83 98.Q96.AK.J7","trump":0,"first":1,"solutions":3}"#;
 
