@@ -19,7 +19,7 @@ use Rattle.dd_score.specs.ParContracts.{contracts_below, least_of, par_contracts
 use Rattle.dd_score.specs.Tables.{tricks_of}
 use Rattle.dd_file.specs.declared.fill_state.Conditions.{Conditions}
 use Rattle.dd_file.specs.declared.mark.TheConstants.{NEAR}
-use Rattle.dd_file.specs.Again.{AreResults}
+use Rattle.dd_file.specs.Again.{AreResults, MayBeResults}
 use Rattle.dd_file.specs.Filled.{Ask, Found, ParFound, AreAnswers, IsAnswer, IsParFound}
 use Rattle.dd_file.specs.Lines.{contract_line, contract_text, declarers_text, denomination, outcome_text, score_line, score_text}
 
@@ -38,6 +38,17 @@ abbrev pub AllAnswered : List (Option Ask) → List (Option Found) → Type 0
 AllAnswered [] answers = answers ≡ []
 AllAnswered (ask ∷ asks) [] = ⊥
 AllAnswered (ask ∷ asks) (answer ∷ answers) = HasAnswer ask answer × AllAnswered asks answers
+
+-- the same where results may have been given up
+abbrev pub MayAnswer : Option Ask → Option Found → Type 0
+MayAnswer None answer = answer ≡ None
+MayAnswer (Some ask) None = Unit {0}
+MayAnswer (Some ask) (Some found) = ((strain : Strain) (declarer : Seat) → tricks_of found.table strain declarer ≤ 13) × HasPar ask.conditions found.par
+
+abbrev pub AllMay : List (Option Ask) → List (Option Found) → Type 0
+AllMay [] answers = answers ≡ []
+AllMay (ask ∷ asks) [] = ⊥
+AllMay (ask ∷ asks) (answer ∷ answers) = MayAnswer ask answer × AllMay asks answers
 
 -- ---- how long the lines of par are
 onto-length : (k n : ℕ) (acc : List ℕ) → length (digits_onto k 10 false n acc) ≤ k + length acc
@@ -163,6 +174,34 @@ answer-has None None is = refl
 answer-has None (Some found) is = absurd is
 answer-has (Some ask) None is = absurd is
 answer-has (Some ask) (Some found) is = (is.0, par-has found.table ask.conditions found.par is.1)
+
+answer-may : (ask : Option Ask) (answer : Option Found) → IsAnswer MayBeResults ask answer → MayAnswer ask answer
+answer-may None None is = refl
+answer-may None (Some found) is = absurd is
+answer-may (Some ask) None is = tt
+answer-may (Some ask) (Some found) is = (is.0, par-has found.table ask.conditions found.par is.1)
+
+pub all-may : (asks : List (Option Ask)) (answers : List (Option Found)) → AreAnswers MayBeResults asks answers → AllMay asks answers
+all-may [] [] are = refl
+all-may [] (answer ∷ answers) are = absurd are
+all-may (ask ∷ asks) [] are = absurd are
+all-may (ask ∷ asks) (answer ∷ answers) are = (answer-may ask answer are.0, all-may asks answers are.1)
+
+-- those that were answered may be
+pub has-may : (ask : Option Ask) (answer : Option Found) → HasAnswer ask answer → MayAnswer ask answer
+has-may None answer has = has
+has-may (Some ask) None has = absurd has
+has-may (Some ask) (Some found) has = has
+
+pub answered-may : (asks : List (Option Ask)) (answers : List (Option Found)) → AllAnswered asks answers → AllMay asks answers
+answered-may [] answers all = all
+answered-may (ask ∷ asks) [] all = absurd all
+answered-may (ask ∷ asks) (answer ∷ answers) all = (has-may ask answer all.0, answered-may asks answers all.1)
+
+-- and an answer that is none
+pub unasked : (ask : Option Ask) → HasAnswer ask None → ask ≡ None
+unasked None has = refl
+unasked (Some ask) has = absurd has
 
 pub all-answered : (asks : List (Option Ask)) (answers : List (Option Found)) → AreAnswers AreResults asks answers → AllAnswered asks answers
 all-answered [] [] are = refl

@@ -9,7 +9,7 @@ use Rattle.dd_file.specs.declared.fill_state.FillState.{FillState}
 use Rattle.dd_file.specs.declared.mode.Mode.{Mode}
 use Rattle.dd_file.specs.declared.mode.Mode.TheVariants.{Head, Mark1, Mark2, Start, Plain, Escaped, Remark, Braced, Quoted, Backslash}
 use Rattle.dd_file.specs.declared.wanted.Wanted.{Wanted}
-use Rattle.dd_file.proofs.AgainAnswers.{AllAnswered, HasAnswer, HasPar}
+use Rattle.dd_file.proofs.AgainAnswers.{AllAnswered, HasAnswer, HasPar, answered-may}
 use Rattle.dd_file.specs.Filled.{Ask, Found, added_text, answers_after, ask_at, ask_of, asked_here, asks_from, ends_last, filled_from, first_of, has_place, state_here, text_here, text_of}
 use Rattle.dd_file.specs.Games.{after_end, conditions_of, ends, first_state, has_name, is_required, lacks, next_state}
 use Rattle.dd_file.specs.Kepts.{value_of}
@@ -21,7 +21,7 @@ use Rattle.dd_file.proofs.AgainBehind.{Answered, answered-step, behind-filled, b
 use Rattle.dd_file.proofs.AgainFilled.{Puts, PutsNone, answered-split, given, par-fits, puts}
 use Rattle.dd_file.proofs.AgainLines.{added-passes, names_with}
 use Rattle.dd_file.proofs.AgainMarks.{mark-same}
-use Rattle.dd_file.proofs.AgainOver.{at_spot, spot}
+use Rattle.dd_file.proofs.AgainOver.{Walk, at_spot, spot}
 use Rattle.dd_file.proofs.AgainStates.{Sound, ask-filled, name-kept, sound-next}
 use Rattle.dd_file.proofs.AgainTagLines.{IsOpen}
 use Rattle.dd_file.proofs.Going.{asks-byte}
@@ -49,17 +49,17 @@ none-split false ask asks none = (λ e. absurd (true≢false (sym e)), none)
 none-split true ask asks none = (λ e. none.0, none.1)
 
 -- the game at hand, where it has begun and a line has ended
-state-is : (state : FillState) (mode : Mode) → state.begun ≡ true → state.last ≡ 10 → state ≡ at_spot state (spot state.names 10 state.has_return 0 mode)
+pub state-is : (state : FillState) (mode : Mode) → state.begun ≡ true → state.last ≡ 10 → state ≡ at_spot state (spot state.names 10 state.has_return 0 mode)
 state-is state mode begun last =
     ap (λ (b : Bool). (let s : FillState = record { begun = b; names = state.names; deal = state.deal; dealer = state.dealer; vulnerable = state.vulnerable; last = state.last; has_return = state.has_return } in s)) begun
     ∙ ap (λ (l : ℕ). (let s : FillState = record { begun = true; names = state.names; deal = state.deal; dealer = state.dealer; vulnerable = state.vulnerable; last = l; has_return = state.has_return } in s)) last
 
-begun-is : (state : FillState) (mode : Mode) → state.begun ≡ true → state ≡ at_spot state (spot state.names state.last state.has_return 0 mode)
+pub begun-is : (state : FillState) (mode : Mode) → state.begun ≡ true → state ≡ at_spot state (spot state.names state.last state.has_return 0 mode)
 begun-is state mode begun =
     ap (λ (b : Bool). (let s : FillState = record { begun = b; names = state.names; deal = state.deal; dealer = state.dealer; vulnerable = state.vulnerable; last = state.last; has_return = state.has_return } in s)) begun
 
 -- with its lines a game ends where it ended
-ends-filled : (state : FillState) (mark : Begins) (lacking : Wanted) (has : Bool) → ends state mark ≡ true → ends (at_spot state (spot (names_with lacking has state.names) 10 state.has_return 0 Start)) mark ≡ true
+pub ends-filled : (state : FillState) (mark : Begins) (lacking : Wanted) (has : Bool) → ends state mark ≡ true → ends (at_spot state (spot (names_with lacking has state.names) 10 state.has_return 0 Start)) mark ≡ true
 ends-filled state nothing lacking has e = e
 ends-filled state empty_line lacking has e = refl
 ends-filled state (tag is_first size name quoted) lacking has e = name-kept lacking has state.names name ∙ go state.begun e
@@ -70,9 +70,19 @@ ends-filled state (tag is_first size name quoted) lacking has e = name-kept lack
 ends-filled state (cut size) lacking has e = e
 
 -- and then nothing of them is left
-over-filled : (state : FillState) (names : List Bool) → state.last ≡ 10 → after_end (at_spot state (spot names 10 state.has_return 0 Start)) ≡ after_end state
+pub over-filled : (state : FillState) (names : List Bool) → state.last ≡ 10 → after_end (at_spot state (spot names 10 state.has_return 0 Start)) ≡ after_end state
 over-filled state names last =
     ap (λ (l : ℕ). (let s : FillState = record state { last = l } in after_end s)) (sym last)
+
+-- what is asked is seen of the games
+abbrev asking : Wanted → Walk (List (Option Ask))
+asking wanted =
+    record {
+      seen = asks_from wanted;
+      step = λ state left mode b rest mark is goes.
+          asks-byte wanted state left mode b rest mark is
+          ∙ ap (λ (h : Bool). asked_here h (ask_at (has_place mark) wanted state) ++ asks_from wanted (next_state (state_here h state) mark b) (marked (left_within left mark) (next_mode mode b) rest)) goes;
+    }
 
 module _ (wanted : Wanted) where
   -- over the lines of a game that ends before a byte
@@ -85,7 +95,7 @@ module _ (wanted : Wanted) where
       let f = names_with (lacks wanted state) (is_some found.par) in
       let t : FillState = at_spot state (spot (f state.names) 10 state.has_return 0 Start) in
       let text : List ℕ = added_text (record { has_return = state.has_return; leads = false }) (lacks wanted state) found in
-      let goes = added-passes wanted state false state.has_return (lacks wanted state) found most fits.0 state.names (x ∷ rest) in
+      let goes = added-passes (asking wanted) state false state.has_return (lacks wanted state) found most fits.0 state.names (x ∷ rest) in
       let first = ap (λ (s : FillState). asks_from wanted s (marked 0 Start (text ++ x ∷ rest))) (state-is state Start begun last) in
       let ended : ends t mark ≡ true = ends-filled state mark (lacks wanted state) (is_some found.par) here in
       let over : state_here (ends state mark) state ≡ state_here (ends t mark) t =
@@ -104,7 +114,7 @@ module _ (wanted : Wanted) where
   none-end left mode state none = subst NoneAsk (sym (asks-end left mode state)) (none-here (ends_last (is_closed left mode) state) (ask_of wanted state) (λ e. none))
 
   -- where a closed file ends a game
-  end-mode : (left : ℕ) (mode : Mode) (state : FillState) → Sound mode state → ends_last (is_closed left mode) state ≡ true → (left ≡ 0) × (state.begun ≡ true) × ((mode ≡ Start) ⊎ IsOpen mode)
+  pub end-mode : (left : ℕ) (mode : Mode) (state : FillState) → Sound mode state → ends_last (is_closed left mode) state ≡ true → (left ≡ 0) × (state.begun ≡ true) × ((mode ≡ Start) ⊎ IsOpen mode)
   end-mode (suc left) mode state sound e = absurd (true≢false (sym e))
   end-mode zero Head state sound e = absurd (true≢false (sym e ∙ sound.fresh tt))
   end-mode zero Mark1 state sound e = absurd (true≢false (sym e ∙ sound.fresh tt))
@@ -124,7 +134,7 @@ module _ (wanted : Wanted) where
       let fits = par-fits (conditions_of state) found.par par in
       let text : List ℕ = added_text (record { has_return = state.has_return; leads = false }) (lacks wanted state) found in
       let t : FillState = at_spot state (spot (names_with (lacks wanted state) (is_some found.par) state.names) 10 state.has_return 0 Start) in
-      let goes = added-passes wanted state false state.has_return (lacks wanted state) found most fits.0 state.names [] in
+      let goes = added-passes (asking wanted) state false state.has_return (lacks wanted state) found most fits.0 state.names [] in
       let first = ap (λ (s : FillState). asks_from wanted s (marked 0 Start text)) (state-is state Start begun (sound.line tt begun)) in
       let nil = ap (λ (l : List ℕ). asks_from wanted (at_spot state (spot state.names 10 state.has_return 0 Start)) (marked 0 Start l)) (sym (append-nil text)) in
       subst NoneAsk (sym (first ∙ nil ∙ goes)) (none-end 0 Start t (ask-filled wanted state (is_some found.par) 10 state.has_return Start sound.size fits.1))
@@ -135,7 +145,7 @@ module _ (wanted : Wanted) where
   last-before mode state found free sound begun most par =
       let fits = par-fits (conditions_of state) found.par par in
       let text : List ℕ = added_text (record { has_return = state.has_return; leads = true }) (lacks wanted state) found in
-      let over = added-passes wanted state true state.has_return (lacks wanted state) found most fits.0 state.names state.last state.has_return mode free in
+      let over = added-passes (asking wanted) state true state.has_return (lacks wanted state) found most fits.0 state.names state.last state.has_return mode free in
       let t : FillState = at_spot state (spot (names_with (lacks wanted state) (is_some found.par) state.names) over.0 over.1 0 over.2) in
       let first = ap (λ (s : FillState). asks_from wanted s (marked 0 mode text)) (begun-is state mode begun) in
       let nil = ap (λ (l : List ℕ). asks_from wanted (at_spot state (spot state.names state.last state.has_return 0 mode)) (marked 0 mode l)) (sym (append-nil text)) in
@@ -178,7 +188,9 @@ module _ (wanted : Wanted) where
   mark-filled : (left : ℕ) (mode : Mode) (x : ℕ) (xs : List ℕ) (state : FillState) (answers : List (Option Found)) → Sound mode state → Answered wanted left mode (x ∷ xs) state answers
       → begins_within left mode (x ∷ behind_at wanted left mode x xs state answers) ≡ begins_within left mode (x ∷ xs)
   mark-filled (suc left) mode x xs state answers sound all = refl
-  mark-filled zero mode x xs state answers sound all = mark-same mode x xs (behind_at wanted 0 mode x xs state answers) (behind-filled wanted mode x xs state answers sound all)
+  mark-filled zero mode x xs state answers sound all =
+      mark-same mode x xs (behind_at wanted 0 mode x xs state answers)
+      (behind-filled wanted mode x xs state answers sound (answered-may (asks_from wanted state (marked 0 mode (x ∷ xs))) answers all))
 
   -- from any place on
   pub asks-filled : (bytes : List ℕ) (left : ℕ) (mode : Mode) (state : FillState) (answers : List (Option Found)) → Sound mode state → Answered wanted left mode bytes state answers

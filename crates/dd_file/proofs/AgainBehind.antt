@@ -4,13 +4,13 @@ use Rattle.dd_file.specs.declared.fill_state.FillState.{FillState}
 use Rattle.dd_file.specs.declared.mode.Mode.{Mode}
 use Rattle.dd_file.specs.declared.mode.Mode.TheVariants.{Head, Start, Plain}
 use Rattle.dd_file.specs.declared.wanted.Wanted.{Wanted}
-use Rattle.dd_file.proofs.AgainAnswers.{AllAnswered, HasAnswer}
+use Rattle.dd_file.proofs.AgainAnswers.{AllAnswered, AllMay, HasAnswer, MayAnswer}
 use Rattle.dd_file.specs.Filled.{Ask, Found, added_text, answers_after, ask_at, asks_from, ends_last, filled_from, first_of, has_place, state_here, text_here}
 use Rattle.dd_file.specs.Games.{ends, lacks, next_state}
 use Rattle.dd_file.specs.Marked.{begins, begins_within, is_closed, left_of, left_within, marked}
 use Rattle.dd_file.specs.Marks.{Begins, nothing, empty_line, after_blanks}
 use Rattle.dd_file.specs.Modes.{is_blank, next_mode}
-use Rattle.dd_file.proofs.AgainFilled.{Puts, PutsNone, answered-split, lines-begin, puts}
+use Rattle.dd_file.proofs.AgainFilled.{Puts, PutsNothing, answered-split, lines-begin, may-split, puts-may}
 use Rattle.dd_file.proofs.AgainMarks.{Behind, blank-other, blank-step, blank-stop, next-blank, outside-blank}
 use Rattle.dd_file.proofs.AgainMiss.{Beside, IsAtStart}
 use Rattle.dd_file.proofs.AgainOver.{plain-nothing}
@@ -70,10 +70,22 @@ module _ (wanted : Wanted) where
       (asks_from wanted (state_after left mode x xs state) (marked (left_within left (begins_within left mode (x ∷ xs))) (next_mode mode x) xs)) answers
       (subst (λ (l : List (Option Ask)). AllAnswered l answers) (asks-byte wanted state left mode x xs (begins_within left mode (x ∷ xs)) refl) all)
 
+  -- or its results may have been given up
+  abbrev pub May : ℕ → Mode → List ℕ → FillState → List (Option Found) → Type 0
+  May left mode bytes state answers = AllMay (asks_from wanted state (marked left mode bytes)) answers
+
+  pub may-step : (left : ℕ) (mode : Mode) (x : ℕ) (xs : List ℕ) (state : FillState) (answers : List (Option Found)) → May left mode (x ∷ xs) state answers
+      → (ends state (begins_within left mode (x ∷ xs)) ≡ true → MayAnswer (ask_at (has_place (begins_within left mode (x ∷ xs))) wanted state) (first_of answers))
+      × May (left_within left (begins_within left mode (x ∷ xs))) (next_mode mode x) xs (state_after left mode x xs state) (answers_after (ends state (begins_within left mode (x ∷ xs))) answers)
+  may-step left mode x xs state answers all =
+      may-split (ends state (begins_within left mode (x ∷ xs))) (ask_at (has_place (begins_within left mode (x ∷ xs))) wanted state)
+      (asks_from wanted (state_after left mode x xs state) (marked (left_within left (begins_within left mode (x ∷ xs))) (next_mode mode x) xs)) answers
+      (subst (λ (l : List (Option Ask)). AllMay l answers) (asks-byte wanted state left mode x xs (begins_within left mode (x ∷ xs)) refl) all)
+
   -- nothing is put in, or a `[` at a start of a line
-  text-kind : (left : ℕ) (mode : Mode) (x : ℕ) (xs : List ℕ) (state : FillState) (answers : List (Option Found)) → Sound mode state → Answered left mode (x ∷ xs) state answers
+  text-kind : (left : ℕ) (mode : Mode) (x : ℕ) (xs : List ℕ) (state : FillState) (answers : List (Option Found)) → Sound mode state → May left mode (x ∷ xs) state answers
       → (text_at left mode x xs state answers ≡ []) ⊎ (IsAtStart mode × ((t : List ℕ) × (text_at left mode x xs state answers ≡ 91 ∷ t)))
-  text-kind left mode x xs state answers sound all = go (puts wanted state left mode x xs answers sound (answered-step left mode x xs state answers all).0)
+  text-kind left mode x xs state answers sound all = go (puts-may wanted state left mode x xs answers sound (may-step left mode x xs state answers all).0)
     where
       lines : (p : Puts wanted state left mode (begins_within left mode (x ∷ xs)) answers)
           → (added_text (record { has_return = state.has_return; leads = false }) (lacks wanted state) p.found ≡ [])
@@ -82,19 +94,19 @@ module _ (wanted : Wanted) where
       lines p (inl e) = inl (p.text ∙ e)
       lines p (inr e) = inr (subst IsAtStart (sym p.start) tt, (e.0, p.text ∙ e.1))
 
-      go : Puts wanted state left mode (begins_within left mode (x ∷ xs)) answers ⊎ PutsNone wanted state (begins_within left mode (x ∷ xs)) answers
+      go : Puts wanted state left mode (begins_within left mode (x ∷ xs)) answers ⊎ PutsNothing wanted state (begins_within left mode (x ∷ xs)) answers
           → (text_at left mode x xs state answers ≡ []) ⊎ (IsAtStart mode × ((t : List ℕ) × (text_at left mode x xs state answers ≡ 91 ∷ t)))
       go (inr p) = inl p.text
       go (inl p) = lines p (lines-begin state.has_return (lacks wanted state) p.found)
 
   -- ---- what the filled file has in common with the file
-  beside-filled : (bytes : List ℕ) (left : ℕ) (mode : Mode) (state : FillState) (answers : List (Option Found)) → Sound mode state → Answered left mode bytes state answers
+  beside-filled : (bytes : List ℕ) (left : ℕ) (mode : Mode) (state : FillState) (answers : List (Option Found)) → Sound mode state → May left mode bytes state answers
       → Beside false mode bytes (filled_from wanted answers state (marked left mode bytes))
   beside-filled [] left mode state answers sound all = λ e. absurd (true≢false (sym e))
   beside-filled (x ∷ xs) left mode state answers sound all =
       go (text-kind left mode x xs state answers sound all)
       (beside-filled xs (left_within left (begins_within left mode (x ∷ xs))) (next_mode mode x) (state_after left mode x xs state) (answers_after (ends state (begins_within left mode (x ∷ xs))) answers)
-      (sound-next left mode x xs state sound) (answered-step left mode x xs state answers all).1)
+      (sound-next left mode x xs state sound) (may-step left mode x xs state answers all).1)
     where
       go : (text_at left mode x xs state answers ≡ []) ⊎ (IsAtStart mode × ((t : List ℕ) × (text_at left mode x xs state answers ≡ 91 ∷ t)))
           → Beside false (next_mode mode x) xs (behind_at left mode x xs state answers) → Beside false mode (x ∷ xs) (filled_from wanted answers state (marked left mode (x ∷ xs)))
@@ -161,13 +173,13 @@ module _ (wanted : Wanted) where
       let rest = within-filled p xs r (left_of (begins mode (x ∷ xs))) (next_mode mode x) (state_after 0 mode x xs state) (answers_after (ends state (begins mode (x ∷ xs))) answers) (some-rest x y xs (p ++ r) is) less in
       (rest.0, ap (λ l. x ∷ l) rest.1 ∙ ap (λ z. z ∷ (p ++ rest.0)) (some-first x y xs (p ++ r) is))
 
-  pub behind-filled : (mode : Mode) (x : ℕ) (xs : List ℕ) (state : FillState) (answers : List (Option Found)) → Sound mode state → Answered 0 mode (x ∷ xs) state answers
+  pub behind-filled : (mode : Mode) (x : ℕ) (xs : List ℕ) (state : FillState) (answers : List (Option Found)) → Sound mode state → May 0 mode (x ∷ xs) state answers
       → Behind mode x xs (behind_at 0 mode x xs state answers)
   behind-filled mode x xs state answers sound all =
       record {
         longer = longer-filled xs (left_of (begins mode (x ∷ xs))) (next_mode mode x) (state_after 0 mode x xs state) (answers_after (ends state (begins mode (x ∷ xs))) answers);
         beside = beside-filled xs (left_of (begins mode (x ∷ xs))) (next_mode mode x) (state_after 0 mode x xs state) (answers_after (ends state (begins mode (x ∷ xs))) answers)
-            (sound-next 0 mode x xs state sound) (answered-step 0 mode x xs state answers all).1;
+            (sound-next 0 mode x xs state sound) (may-step 0 mode x xs state answers all).1;
         within = λ p r is some few. within-behind mode x xs state answers p r is some few;
         to_end = λ more. cut-filled xs (left_of (begins mode (x ∷ xs))) (next_mode mode x) (state_after 0 mode x xs state) (answers_after (ends state (begins mode (x ∷ xs))) answers) more;
         blank = λ line is mark blank. blank-behind mode x xs state answers line is mark blank;

@@ -16,12 +16,11 @@ use Rattle.dd_score.specs.declared.par_contract.ParContract.{ParContract}
 use Rattle.dd_file.specs.declared.fill_state.FillState.{FillState}
 use Rattle.dd_file.specs.declared.mode.Mode.{Mode}
 use Rattle.dd_file.specs.declared.mode.Mode.TheVariants.{Start, Plain, Quoted, Backslash}
-use Rattle.dd_file.specs.declared.wanted.Wanted.{Wanted}
 use Rattle.dd_file.specs.Lines.{contract_text, contracts_text, declarers_text, denomination, digit_of, digits_of, outcome_text, right_of, row_line, score_text, seat_letter, two_columns}
 use Rattle.dd_file.specs.Modes.{next_mode}
 use Rattle.dd_file.specs.Tags.{after_string, string_at}
 use Rattle.dd_file.proofs.AgainMiss.{string-step}
-use Rattle.dd_file.proofs.AgainOver.{are_data, data-append, data-first, data-other, data-rest, goes-row, is_data, is_quiet, last_of, modes}
+use Rattle.dd_file.proofs.AgainOver.{Walk, are_data, data-append, data-first, data-other, data-rest, goes-row, is_data, is_quiet, last_of, modes}
 use Rattle.dd_file.proofs.AgainTagLines.{IsBody, IsContent}
 
 -- ---- bytes of a string
@@ -203,11 +202,11 @@ letter-space East = refl
 letter-space South = refl
 letter-space West = refl
 
-module _ (wanted : Wanted) (state : FillState) where
-  pub inside-content : (p : List ℕ) → are_inside p ≡ true → IsContent wanted state p
+module _ {X : Type 0} (walk : Walk X) (state : FillState) where
+  pub inside-content : (p : List ℕ) → are_inside p ≡ true → IsContent walk state p
   inside-content p good = record { read = λ t. inside-read p t good; quoted = inside-modes p good; quiet = inside-quiet p good }
 
-  pub row-body : (declarer : Seat) (strain : Strain) (tricks : ℕ) → tricks ≤ 13 → IsBody wanted state (row_line declarer strain tricks) (λ names. names)
+  pub row-body : (declarer : Seat) (strain : Strain) (tricks : ℕ) → tricks ≤ 13 → IsBody walk state (row_line declarer strain tricks) (λ names. names)
   unfolding row_line
   row-body declarer strain tricks most =
       let rest : List ℕ = 32 ∷ (right_of (denomination strain) ++ 32 ∷ two_columns tricks) in
@@ -215,5 +214,5 @@ module _ (wanted : Wanted) (state : FillState) where
       λ names last has. (
         last_of (seat_letter declarer) rest,
         data-other (last_of (seat_letter declarer) rest) 13 (data-last (seat_letter declarer) rest (letter-data declarer) good) refl,
-        goes-row wanted state (seat_letter declarer) rest names last has (letter-data declarer) (letter-space declarer) good,
+        goes-row walk state (seat_letter declarer) rest names last has (letter-data declarer) (letter-space declarer) good,
       )

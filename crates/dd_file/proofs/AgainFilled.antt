@@ -15,8 +15,8 @@ use Rattle.dd_file.specs.declared.tag_reader.Miss.{Miss}
 use Rattle.dd_file.specs.declared.tag_reader.Miss.TheVariants.{NoTag, Ends}
 use Rattle.dd_file.specs.declared.value.Unfit.{Unfit}
 use Rattle.dd_file.specs.declared.wanted.Wanted.{Wanted}
-use Rattle.dd_file.proofs.AgainAnswers.{AllAnswered, HasAnswer, HasPar}
-use Rattle.dd_file.specs.Filled.{Ask, Found, ParFound, added_text, answers_after, ask_at, ask_of, ask_with, asked_here, first_of, has_place, needs, text_here, text_of}
+use Rattle.dd_file.proofs.AgainAnswers.{AllAnswered, AllMay, HasAnswer, HasPar, MayAnswer, has-may, unasked}
+use Rattle.dd_file.specs.Filled.{Ask, Found, ParFound, added_text, answers_after, ask_at, ask_with, asked_here, first_of, has_place, needs, text_here, text_of}
 use Rattle.dd_file.specs.Games.{conditions_of, ends, has_name, is_required, lacks}
 use Rattle.dd_file.specs.Kepts.{value_of}
 use Rattle.dd_file.specs.Lines.{line_with}
@@ -36,6 +36,25 @@ pub answered-split : (here : Bool) (ask : Option Ask) (asks : List (Option Ask))
 answered-split false ask asks answers all = (λ e. absurd (true≢false (sym e)), all)
 answered-split true ask asks [] all = absurd all
 answered-split true ask asks (answer ∷ answers) all = (λ e. all.0, all.1)
+
+-- the same where results may have been given up
+pub may-split : (here : Bool) (ask : Option Ask) (asks : List (Option Ask)) (answers : List (Option Found)) → AllMay (asked_here here ask ++ asks) answers
+    → (here ≡ true → MayAnswer ask (first_of answers)) × AllMay asks (answers_after here answers)
+may-split false ask asks answers all = (λ e. absurd (true≢false (sym e)), all)
+may-split true ask asks [] all = absurd all
+may-split true ask asks (answer ∷ answers) all = (λ e. all.0, all.1)
+
+-- an answer is none, or it has the results of a deal, and par where that is asked for
+pub given-may : (deal : Result FourHands Unfit) (conditions : Option Conditions) (lacking : Wanted) (answer : Option Found) → MayAnswer (ask_with deal conditions lacking) answer
+    → (answer ≡ None) ⊎ ((found : Found) × (answer ≡ Some found) × ((strain : Strain) (declarer : Seat) → tricks_of found.table strain declarer ≤ 13) × HasPar conditions found.par)
+given-may (Err unfit) conditions lacking answer has = inl has
+given-may (Ok deal) conditions lacking answer has = go (needs lacking (is_some conditions)) answer has
+  where
+    go : (t : Bool) (answer : Option Found) → MayAnswer (if t then Some (record { deal = deal; conditions = conditions }) else None) answer
+        → (answer ≡ None) ⊎ ((found : Found) × (answer ≡ Some found) × ((strain : Strain) (declarer : Seat) → tricks_of found.table strain declarer ≤ 13) × HasPar conditions found.par)
+    go false answer has = inl has
+    go true None has = inl refl
+    go true (Some found) has = inr (found, refl, has.0, has.1)
 
 -- an answer is none, or it is what the game needs
 pub given : (deal : Result FourHands Unfit) (conditions : Option Conditions) (lacking : Wanted) (answer : Option Found) → HasAnswer (ask_with deal conditions lacking) answer
@@ -93,6 +112,7 @@ at-place zero Backslash x xs state sound begun e = absurd (true≢false (sym e))
 -- the lines of a game before a byte
 pub record Puts (wanted : Wanted) (state : FillState) (left : ℕ) (mode : Mode) (mark : Begins) (answers : List (Option Found)) : Type 0 where
   pub found : Found
+  pub is : first_of answers ≡ Some found
   pub here : ends state mark ≡ true
   pub begun : state.begun ≡ true
   pub place : has_place mark ≡ true
@@ -103,31 +123,36 @@ pub record Puts (wanted : Wanted) (state : FillState) (left : ℕ) (mode : Mode)
   pub most : (strain : Strain) (declarer : Seat) → tricks_of found.table strain declarer ≤ 13
   pub par : HasPar (conditions_of state) found.par
 
+-- or none, since there is no answer
+pub record PutsNothing (wanted : Wanted) (state : FillState) (mark : Begins) (answers : List (Option Found)) : Type 0 where
+  pub text : text_here (ends state mark) wanted state answers ≡ []
+  pub none : ends state mark ≡ true → first_of answers ≡ None
+
 -- or none, and then nothing is asked
 pub record PutsNone (wanted : Wanted) (state : FillState) (mark : Begins) (answers : List (Option Found)) : Type 0 where
   pub text : text_here (ends state mark) wanted state answers ≡ []
   pub ask : ends state mark ≡ true → ask_at (has_place mark) wanted state ≡ None
 
-pub puts : (wanted : Wanted) (state : FillState) (left : ℕ) (mode : Mode) (x : ℕ) (xs : List ℕ) (answers : List (Option Found)) → Sound mode state
-    → (ends state (begins_within left mode (x ∷ xs)) ≡ true → HasAnswer (ask_at (has_place (begins_within left mode (x ∷ xs))) wanted state) (first_of answers))
-    → Puts wanted state left mode (begins_within left mode (x ∷ xs)) answers ⊎ PutsNone wanted state (begins_within left mode (x ∷ xs)) answers
-puts wanted state left mode x xs answers sound has = go (begins_within left mode (x ∷ xs)) (ends state (begins_within left mode (x ∷ xs))) (has_place (begins_within left mode (x ∷ xs))) refl refl refl has
+pub puts-may : (wanted : Wanted) (state : FillState) (left : ℕ) (mode : Mode) (x : ℕ) (xs : List ℕ) (answers : List (Option Found)) → Sound mode state
+    → (ends state (begins_within left mode (x ∷ xs)) ≡ true → MayAnswer (ask_at (has_place (begins_within left mode (x ∷ xs))) wanted state) (first_of answers))
+    → Puts wanted state left mode (begins_within left mode (x ∷ xs)) answers ⊎ PutsNothing wanted state (begins_within left mode (x ∷ xs)) answers
+puts-may wanted state left mode x xs answers sound has = go (begins_within left mode (x ∷ xs)) (ends state (begins_within left mode (x ∷ xs))) (has_place (begins_within left mode (x ∷ xs))) refl refl refl has
   where
+    nothing_put : (mark : Begins) → ends state mark ≡ true → first_of answers ≡ None → PutsNothing wanted state mark answers
+    nothing_put mark here none = record { text = ap (λ b. text_here b wanted state answers) here ∙ ap (text_of wanted state) none; none = λ e. none }
+
     lines : (mark : Begins) → begins_within left mode (x ∷ xs) ≡ mark → ends state mark ≡ true → has_place mark ≡ true
-        → ((first_of answers ≡ None) × (ask_of wanted state ≡ None))
+        → (first_of answers ≡ None)
         ⊎ ((found : Found) × (first_of answers ≡ Some found) × ((strain : Strain) (declarer : Seat) → tricks_of found.table strain declarer ≤ 13) × HasPar (conditions_of state) found.par)
-        → Puts wanted state left mode mark answers ⊎ PutsNone wanted state mark answers
-    lines mark is here place (inl none) =
-        inr (record {
-          text = ap (λ b. text_here b wanted state answers) here ∙ ap (text_of wanted state) none.0;
-          ask = λ e. ap (λ b. ask_at b wanted state) place ∙ none.1;
-        })
+        → Puts wanted state left mode mark answers ⊎ PutsNothing wanted state mark answers
+    lines mark is here place (inl none) = inr (nothing_put mark here none)
     lines mark is here place (inr some) =
         let begun : state.begun ≡ true = ends-begun state mark here in
         let at : (left ≡ 0) × (mode ≡ Start) = at-place left mode x xs state sound begun (ap has_place is ∙ place) in
         let last : state.last ≡ 10 = sound.line (subst IsAtStart (sym at.1) tt) begun in
         inl (record {
           found = some.0;
+          is = some.1;
           here = here;
           begun = begun;
           place = place;
@@ -140,17 +165,26 @@ puts wanted state left mode x xs answers sound has = go (begins_within left mode
           par = some.3;
         })
 
-    go : (mark : Begins) (here place : Bool) → begins_within left mode (x ∷ xs) ≡ mark → ends state mark ≡ here → has_place mark ≡ place → (ends state mark ≡ true → HasAnswer (ask_at (has_place mark) wanted state) (first_of answers))
-        → Puts wanted state left mode mark answers ⊎ PutsNone wanted state mark answers
-    go mark false place is here at has = inr (record { text = ap (λ b. text_here b wanted state answers) here; ask = λ e. absurd (true≢false (sym e ∙ here)) })
-    go mark true false is here at has =
-        inr (record {
-          text = ap (λ b. text_here b wanted state answers) here ∙ ap (text_of wanted state) (subst (λ (b : Bool). HasAnswer (ask_at b wanted state) (first_of answers)) at (has here));
-          ask = λ e. ap (λ b. ask_at b wanted state) at;
-        })
+    go : (mark : Begins) (here place : Bool) → begins_within left mode (x ∷ xs) ≡ mark → ends state mark ≡ here → has_place mark ≡ place → (ends state mark ≡ true → MayAnswer (ask_at (has_place mark) wanted state) (first_of answers))
+        → Puts wanted state left mode mark answers ⊎ PutsNothing wanted state mark answers
+    go mark false place is here at has = inr (record { text = ap (λ b. text_here b wanted state answers) here; none = λ e. absurd (true≢false (sym e ∙ here)) })
+    go mark true false is here at has = inr (nothing_put mark here (subst (λ (b : Bool). MayAnswer (ask_at b wanted state) (first_of answers)) at (has here)))
     go mark true true is here at has =
-        lines mark is here at (given (thirteen_in (value_of state.deal)) (conditions_of state) (lacks wanted state) (first_of answers)
-        (subst (λ (b : Bool). HasAnswer (ask_at b wanted state) (first_of answers)) at (has here)))
+        lines mark is here at (given-may (thirteen_in (value_of state.deal)) (conditions_of state) (lacks wanted state) (first_of answers)
+        (subst (λ (b : Bool). MayAnswer (ask_at b wanted state) (first_of answers)) at (has here)))
+
+pub puts : (wanted : Wanted) (state : FillState) (left : ℕ) (mode : Mode) (x : ℕ) (xs : List ℕ) (answers : List (Option Found)) → Sound mode state
+    → (ends state (begins_within left mode (x ∷ xs)) ≡ true → HasAnswer (ask_at (has_place (begins_within left mode (x ∷ xs))) wanted state) (first_of answers))
+    → Puts wanted state left mode (begins_within left mode (x ∷ xs)) answers ⊎ PutsNone wanted state (begins_within left mode (x ∷ xs)) answers
+puts wanted state left mode x xs answers sound has = go (puts-may wanted state left mode x xs answers sound (λ e. has-may ask (first_of answers) (has e)))
+  where
+    ask : Option Ask
+    ask = ask_at (has_place (begins_within left mode (x ∷ xs))) wanted state
+
+    go : Puts wanted state left mode (begins_within left mode (x ∷ xs)) answers ⊎ PutsNothing wanted state (begins_within left mode (x ∷ xs)) answers
+        → Puts wanted state left mode (begins_within left mode (x ∷ xs)) answers ⊎ PutsNone wanted state (begins_within left mode (x ∷ xs)) answers
+    go (inl p) = inl p
+    go (inr p) = inr (record { text = p.text; ask = λ e. unasked ask (subst (λ (a : Option Found). HasAnswer ask a) (p.none e) (has e)) })
 
 -- lines that have their ends behind them begin with a bracket
 pub lines-begin : (h : Bool) (lacking : Wanted) (found : Found) → (added_text (record { has_return = h; leads = false }) lacking found ≡ []) ⊎ ((t : List ℕ) × (added_text (record { has_return = h; leads = false }) lacking found ≡ 91 ∷ t))

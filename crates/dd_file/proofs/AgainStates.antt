@@ -25,16 +25,16 @@ use Rattle.dd_file.proofs.AgainOver.{at_spot, spot}
 use Rattle.dd_file.proofs.AgainTagLines.{IsOpen}
 
 -- ---- names
-set-other : (b : Bool) (n i : ℕ) (names : List Bool) → (i ≡ n → ⊥) → slice_index_or (set_where b n names) i false ≡ slice_index_or names i false
+pub set-other : (b : Bool) (n i : ℕ) (names : List Bool) → (i ≡ n → ⊥) → slice_index_or (set_where b n names) i false ≡ slice_index_or names i false
 set-other true n i names other = get_or-set_other names n i true false other
 set-other false n i names other = refl
 
-set-size : (b : Bool) (n : ℕ) (names : List Bool) → length (set_where b n names) ≡ length names
+pub set-size : (b : Bool) (n : ℕ) (names : List Bool) → length (set_where b n names) ≡ length names
 set-size true n names = length-set names n true
 set-size false n names = refl
 
 -- a name that was lacking is there
-set-there : (want there : Bool) (n : ℕ) (names : List Bool) → slice_index_or names n false ≡ there → n < length names
+pub set-there : (want there : Bool) (n : ℕ) (names : List Bool) → slice_index_or names n false ≡ there → n < length names
     → (want && not (slice_index_or (set_where (want && not there) n names) n false)) ≡ false
 set-there false there n names e room = refl
 set-there true true n names e room = ap not e

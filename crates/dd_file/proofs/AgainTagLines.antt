@@ -4,9 +4,7 @@ use Rattle.std.specs.Prelude.{if◌then◌else◌, slice_set}
 use Rattle.dd_file.specs.declared.fill_state.FillState.{FillState}
 use Rattle.dd_file.specs.declared.mode.Mode.{Mode}
 use Rattle.dd_file.specs.declared.mode.Mode.TheVariants.{Head, Mark1, Mark2, Start, Plain, Escaped, Remark, Braced, Quoted, Backslash}
-use Rattle.dd_file.specs.declared.wanted.Wanted.{Wanted}
-use Rattle.dd_file.specs.Filled.{ask_at, asked_here, asks_from, state_here}
-use Rattle.dd_file.specs.Games.{has_name, is_required, next_state, with_byte, with_tag}
+use Rattle.dd_file.specs.Games.{has_name, is_required, with_byte, with_tag}
 use Rattle.dd_file.specs.Lines.{line_with}
 use Rattle.dd_file.specs.Marked.{begins, marked}
 use Rattle.dd_file.specs.Marks.{tag, line_mark, mark_at, mark_read}
@@ -14,9 +12,8 @@ use Rattle.dd_file.specs.Modes.{next_mode}
 use Rattle.dd_file.specs.Quiet.{are_names}
 use Rattle.dd_file.specs.Tags.{after_string, front_of, is_gap, is_name, tag_at}
 use Rattle.dd_file.proofs.AgainMarks.{blank-stop, is_all, line-begins, line-read}
-use Rattle.dd_file.proofs.AgainOver.{Goes, Spot, at_spot, goes-byte, goes-then, goes-within, is_quiet, last_of, last-append, modes, modes-append, plain-nothing, quiet-append, spot}
+use Rattle.dd_file.proofs.AgainOver.{Goes, Spot, Walk, at_spot, goes-byte, goes-then, goes-within, is_quiet, last_of, last-append, modes, modes-append, plain-nothing, quiet-append, spot}
 use Rattle.dd_file.proofs.AgainTags.{as_tag}
-use Rattle.dd_file.proofs.Going.{asks-byte}
 use Rattle.dd_file.proofs.ShortTags.{name-read, near-split, opened-read, split-size, value-read}
 
 -- ---- line ends
@@ -33,27 +30,27 @@ IsOpen Head = ⊥
 IsOpen Mark1 = ⊥
 IsOpen Mark2 = ⊥
 
-module _ (wanted : Wanted) (state : FillState) where
-  goes-feed : (names : List Bool) (last : ℕ) (has : Bool) (mode : Mode) → IsOpen mode → Goes wanted state (10 ∷ []) (spot names last has 0 mode) (spot names 10 (last == 13) 0 Start)
+module _ {X : Type 0} (walk : Walk X) (state : FillState) where
+  goes-feed : (names : List Bool) (last : ℕ) (has : Bool) (mode : Mode) → IsOpen mode → Goes walk state (10 ∷ []) (spot names last has 0 mode) (spot names 10 (last == 13) 0 Start)
   unfolding mark_at
-  goes-feed names last has Plain free = goes-byte wanted state 10 (spot names last has 0 Plain) (λ r. plain-nothing 10 r refl)
-  goes-feed names last has Escaped free = goes-byte wanted state 10 (spot names last has 0 Escaped) (λ r. refl)
-  goes-feed names last has Remark free = goes-byte wanted state 10 (spot names last has 0 Remark) (λ r. refl)
-  goes-feed names last has Quoted free = goes-byte wanted state 10 (spot names last has 0 Quoted) (λ r. refl)
-  goes-feed names last has Backslash free = goes-byte wanted state 10 (spot names last has 0 Backslash) (λ r. refl)
+  goes-feed names last has Plain free = goes-byte walk state 10 (spot names last has 0 Plain) (λ r. plain-nothing 10 r refl)
+  goes-feed names last has Escaped free = goes-byte walk state 10 (spot names last has 0 Escaped) (λ r. refl)
+  goes-feed names last has Remark free = goes-byte walk state 10 (spot names last has 0 Remark) (λ r. refl)
+  goes-feed names last has Quoted free = goes-byte walk state 10 (spot names last has 0 Quoted) (λ r. refl)
+  goes-feed names last has Backslash free = goes-byte walk state 10 (spot names last has 0 Backslash) (λ r. refl)
   goes-feed names last has Start free = absurd free
   goes-feed names last has Braced free = absurd free
   goes-feed names last has Head free = absurd free
   goes-feed names last has Mark1 free = absurd free
   goes-feed names last has Mark2 free = absurd free
 
-  goes-return : (names : List Bool) (last : ℕ) (has : Bool) (mode : Mode) → IsOpen mode → Goes wanted state (13 ∷ []) (spot names last has 0 mode) (spot names 13 has 0 (next_mode mode 13))
+  goes-return : (names : List Bool) (last : ℕ) (has : Bool) (mode : Mode) → IsOpen mode → Goes walk state (13 ∷ []) (spot names last has 0 mode) (spot names 13 has 0 (next_mode mode 13))
   unfolding mark_at
-  goes-return names last has Plain free = goes-byte wanted state 13 (spot names last has 0 Plain) (λ r. plain-nothing 13 r refl)
-  goes-return names last has Escaped free = goes-byte wanted state 13 (spot names last has 0 Escaped) (λ r. refl)
-  goes-return names last has Remark free = goes-byte wanted state 13 (spot names last has 0 Remark) (λ r. refl)
-  goes-return names last has Quoted free = goes-byte wanted state 13 (spot names last has 0 Quoted) (λ r. refl)
-  goes-return names last has Backslash free = goes-byte wanted state 13 (spot names last has 0 Backslash) (λ r. refl)
+  goes-return names last has Plain free = goes-byte walk state 13 (spot names last has 0 Plain) (λ r. plain-nothing 13 r refl)
+  goes-return names last has Escaped free = goes-byte walk state 13 (spot names last has 0 Escaped) (λ r. refl)
+  goes-return names last has Remark free = goes-byte walk state 13 (spot names last has 0 Remark) (λ r. refl)
+  goes-return names last has Quoted free = goes-byte walk state 13 (spot names last has 0 Quoted) (λ r. refl)
+  goes-return names last has Backslash free = goes-byte walk state 13 (spot names last has 0 Backslash) (λ r. refl)
   goes-return names last has Start free = absurd free
   goes-return names last has Braced free = absurd free
   goes-return names last has Head free = absurd free
@@ -78,23 +75,23 @@ module _ (wanted : Wanted) (state : FillState) where
   return_behind false last = last == 13
 
   goes-end : (has_return : Bool) (names : List Bool) (last : ℕ) (has : Bool) (mode : Mode) → IsOpen mode
-      → Goes wanted state (if has_return then 13 ∷ 10 ∷ [] else 10 ∷ []) (spot names last has 0 mode) (spot names 10 (return_behind has_return last) 0 Start)
+      → Goes walk state (if has_return then 13 ∷ 10 ∷ [] else 10 ∷ []) (spot names last has 0 mode) (spot names 10 (return_behind has_return last) 0 Start)
   goes-end false names last has mode free = goes-feed names last has mode free
   goes-end true names last has mode free =
-      goes-then wanted state (13 ∷ []) (10 ∷ []) (spot names last has 0 mode) (spot names 13 has 0 (next_mode mode 13)) (spot names 10 true 0 Start)
+      goes-then walk state (13 ∷ []) (10 ∷ []) (spot names last has 0 mode) (spot names 13 has 0 (next_mode mode 13)) (spot names 10 true 0 Start)
       (goes-return names last has mode free) (goes-feed names 13 has (next_mode mode 13) (free-return mode free))
 
   -- ---- lines
   -- from the start of a line to its end, the names changed so
   abbrev pub IsBody : List ℕ → (List Bool → List Bool) → Type 0
-  IsBody body f = (names : List Bool) (last : ℕ) (has : Bool) → (after : ℕ) × ((after == 13) ≡ false) × Goes wanted state body (spot names last has 0 Start) (spot (f names) after has 0 Plain)
+  IsBody body f = (names : List Bool) (last : ℕ) (has : Bool) → (after : ℕ) × ((after == 13) ≡ false) × Goes walk state body (spot names last has 0 Start) (spot (f names) after has 0 Plain)
 
   -- lines with their ends behind them leave the start of a line, those with ends before them are begun where a line can end, and end so
   abbrev pub Passes : Bool → Bool → List ℕ → (List Bool → List Bool) → Type 0
-  Passes false has_return p f = (names : List Bool) → Goes wanted state p (spot names 10 has_return 0 Start) (spot (f names) 10 has_return 0 Start)
+  Passes false has_return p f = (names : List Bool) → Goes walk state p (spot names 10 has_return 0 Start) (spot (f names) 10 has_return 0 Start)
   Passes true has_return p f =
       (names : List Bool) (last : ℕ) (has : Bool) (mode : Mode) → IsOpen mode
-      → (after : ℕ) × (had : Bool) × (next : Mode) × IsOpen next × Goes wanted state p (spot names last has 0 mode) (spot (f names) after had 0 next)
+      → (after : ℕ) × (had : Bool) × (next : Mode) × IsOpen next × Goes walk state p (spot names last has 0 mode) (spot (f names) after had 0 next)
 
   pub passes-none : (leads has_return : Bool) → Passes leads has_return [] (λ names. names)
   passes-none false has_return = λ names r. refl
@@ -102,7 +99,7 @@ module _ (wanted : Wanted) (state : FillState) where
 
   pub passes-then : (leads has_return : Bool) (p q : List ℕ) (f g : List Bool → List Bool) → Passes leads has_return p f → Passes leads has_return q g → Passes leads has_return (p ++ q) (λ names. g (f names))
   passes-then false has_return p q f g first second =
-      λ names. goes-then wanted state p q (spot names 10 has_return 0 Start) (spot (f names) 10 has_return 0 Start) (spot (g (f names)) 10 has_return 0 Start) (first names) (second (f names))
+      λ names. goes-then walk state p q (spot names 10 has_return 0 Start) (spot (f names) 10 has_return 0 Start) (spot (g (f names)) 10 has_return 0 Start) (first names) (second (f names))
   passes-then true has_return p q f g first second =
       λ names last has mode free. (
       let one = first names last has mode free in
@@ -111,7 +108,7 @@ module _ (wanted : Wanted) (state : FillState) where
         two.1,
         two.2,
         two.3,
-        goes-then wanted state p q (spot names last has 0 mode) (spot (f names) one.0 one.1 0 one.2) (spot (g (f names)) two.0 two.1 0 two.2) one.4 two.4,
+        goes-then walk state p q (spot names last has 0 mode) (spot (f names) one.0 one.1 0 one.2) (spot (g (f names)) two.0 two.1 0 two.2) one.4 two.4,
       ))
 
   pub passes-line : (leads has_return : Bool) (body : List ℕ) (f : List Bool → List Bool) → IsBody body f
@@ -122,8 +119,8 @@ module _ (wanted : Wanted) (state : FillState) where
       let one = is names 10 has_return in
       let behind : return_behind has_return one.0 ≡ has_return = same has_return one.0 one.1 in
       let e : List ℕ = (if has_return then 13 ∷ 10 ∷ [] else 10 ∷ []) in
-      goes-then wanted state body e (spot names 10 has_return 0 Start) (spot (f names) one.0 has_return 0 Plain) (spot (f names) 10 has_return 0 Start) one.2
-      (subst (λ (b : Bool). Goes wanted state e (spot (f names) one.0 has_return 0 Plain) (spot (f names) 10 b 0 Start)) behind (goes-end has_return (f names) one.0 has_return Plain tt)))
+      goes-then walk state body e (spot names 10 has_return 0 Start) (spot (f names) one.0 has_return 0 Plain) (spot (f names) 10 has_return 0 Start) one.2
+      (subst (λ (b : Bool). Goes walk state e (spot (f names) one.0 has_return 0 Plain) (spot (f names) 10 b 0 Start)) behind (goes-end has_return (f names) one.0 has_return Plain tt)))
     where
       same : (h : Bool) (last : ℕ) → (last == 13) ≡ false → return_behind h last ≡ h
       same true last e = refl
@@ -137,8 +134,8 @@ module _ (wanted : Wanted) (state : FillState) where
         return_behind has_return last,
         Plain,
         tt,
-        subst (λ (l : List ℕ). Goes wanted state l (spot names last has 0 mode) after) (sym (append-nil (e ++ body)))
-            (goes-then wanted state e body (spot names last has 0 mode) (spot names 10 (return_behind has_return last) 0 Start) after (goes-end has_return names last has mode free) one.2),
+        subst (λ (l : List ℕ). Goes walk state l (spot names last has 0 mode) after) (sym (append-nil (e ++ body)))
+            (goes-then walk state e body (spot names last has 0 mode) (spot names 10 (return_behind has_return last) 0 Start) after (goes-end has_return names last has mode free) one.2),
       ))
 
   -- ---- tags
@@ -187,17 +184,15 @@ module _ (wanted : Wanted) (state : FillState) where
   tag-body p called number reads few optional tells quiet plain other = λ names last has. (last_of 91 p, other, λ r. steps names last has r (tag-begins p called reads few r))
     where
       steps : (names : List Bool) (last : ℕ) (has : Bool) (r : List ℕ) → (quoted : List ℕ) × (begins Start (91 ∷ (p ++ r)) ≡ tag true (suc (length p)) called quoted)
-          → asks_from wanted (at_spot state (spot names last has 0 Start)) (marked 0 Start (91 ∷ (p ++ r)))
-          ≡ asks_from wanted (at_spot state (spot (slice_set names number true) (last_of 91 p) has 0 Plain)) (marked 0 Plain r)
+          → walk.seen (at_spot state (spot names last has 0 Start)) (marked 0 Start (91 ∷ (p ++ r)))
+          ≡ walk.seen (at_spot state (spot (slice_set names number true) (last_of 91 p) has 0 Plain)) (marked 0 Plain r)
       steps names last has r mark =
           let s : FillState = at_spot state (spot names last has 0 Start) in
           let after : FillState = at_spot state (spot (slice_set names number true) 91 has (suc (length p) - 1) Plain) in
-          asks-byte wanted s 0 Start 91 (p ++ r) (tag true (suc (length p)) called mark.0) mark.1
-          ∙ ap (λ (o : Option ℕ). asked_here (has_name o names) (ask_at true wanted s)
-          ++ asks_from wanted (next_state (state_here (has_name o names) s) (tag true (suc (length p)) called mark.0) 91) (marked (suc (length p) - 1) Plain (p ++ r))) optional
-          ∙ ap (λ (t : FillState). asks_from wanted (with_byte 91 t) (marked (suc (length p) - 1) Plain (p ++ r))) (tells mark.0 s)
-          ∙ goes-within wanted state p (spot (slice_set names number true) 91 has (suc (length p) - 1) Plain) (let e : suc (length p) - 1 ≡ length p = omega arith in e) quiet r
-          ∙ ap (λ (m : Mode). asks_from wanted (at_spot state (spot (slice_set names number true) (last_of 91 p) has 0 m)) (marked 0 m r)) plain
+          walk.step s 0 Start 91 (p ++ r) (tag true (suc (length p)) called mark.0) mark.1 (ap (λ (o : Option ℕ). has_name o names) optional)
+          ∙ ap (λ (t : FillState). walk.seen (with_byte 91 t) (marked (suc (length p) - 1) Plain (p ++ r))) (tells mark.0 s)
+          ∙ goes-within walk state p (spot (slice_set names number true) 91 has (suc (length p) - 1) Plain) (let e : suc (length p) - 1 ≡ length p = omega arith in e) quiet r
+          ∙ ap (λ (m : Mode). walk.seen (at_spot state (spot (slice_set names number true) (last_of 91 p) has 0 m)) (marked 0 m r)) plain
 
   pub tag-line : (c : ℕ) (name content : List ℕ) (number : ℕ) → IsTagName c name number → IsContent content → length (tag_rest (c ∷ name) content) ≤ 65535
       → IsBody (91 ∷ tag_rest (c ∷ name) content) (λ names. slice_set names number true)

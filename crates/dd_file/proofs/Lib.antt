@@ -24,5 +24,6 @@ pub mod Staying
 pub mod Steps
 pub mod Stopped
 pub mod Stretches
+pub mod ToldLacking
 pub mod WovenLemmas
 pub mod Written

@@ -20,7 +20,7 @@ use Rattle.dd_file.specs.Tags.{tag_at}
 use Rattle.dd_file.specs.Notes.{board_of, notes_of, texts_of, unknown_of}
 use Rattle.dd_file.specs.Notices.{Notice}
 use Rattle.dd_file.specs.Told.{GameNotes, TextsOf, notes_behind, one_more, told_from, told_here}
-use Rattle.dd_file.specs.Windows.{Passed, PassesFront, Point, Place, marked_at, place_of, point_of}
+use Rattle.dd_file.specs.Windows.{Passed, PassesFront, Point, marked_at, place_of, point_of}
 use Rattle.dd_file.proofs.AgainMarks.{blank-stop, is_all, line-begins, line-read, no-tag}
 use Rattle.dd_file.proofs.AgainOver.{plain-nothing}
 use Rattle.dd_file.proofs.Calm.{calm-front, front-taken}

@@ -1,18 +1,18 @@
 -- Where a run stops: a beginning of what comes out was written, and a beginning of what is told was heard.
-use Rattle.std.proofs.Common.{◌≡◌, ◌∙◌, ℕ, ◌+◌, ◌-◌, ◌<◌, ◌≤◌, inl, inr, Bool, true, false, List, [], ◌∷◌, ◌++◌, length, take, drop, refl, sym, ap, subst, arith, append_assoc, append-nil, take_all, take-append-drop, length-drop, Option, Result, Ok, Err}
-use Rattle.std.specs.Prelude.{◌&&◌, nat_le, OnErr}
+use Rattle.std.proofs.Common.{◌≡◌, ◌∙◌, ℕ, ◌-◌, ◌<◌, ◌≤◌, inl, inr, Bool, true, false, List, [], ◌∷◌, ◌++◌, length, take, drop, refl, sym, ap, subst, arith, append_assoc, append-nil, take_all, take-append-drop, length-drop, Option}
+use Rattle.std.specs.Prelude.{◌&&◌, nat_le}
 use Rattle.dd_cards.specs.Hands.{FourHands}
 use Rattle.dd_file.specs.declared.filler.Filler.{Filler}
 use Rattle.dd_file.specs.declared.mark.TheConstants.{NEAR}
 use Rattle.dd_file.specs.declared.wanted.Wanted.{Wanted}
-use Rattle.dd_file.specs.Filled.{Found, answers_after, ask_at, asked_here, asks_from, filled_from, first_of, has_place, state_here}
+use Rattle.dd_file.specs.Filled.{answers_after, ask_at, asked_here, asks_from, filled_from, first_of, has_place, state_here}
 use Rattle.dd_file.specs.Games.{ends, has_name, next_state}
 use Rattle.dd_file.specs.KnownTags.{known_number}
 use Rattle.dd_file.specs.Marked.{begins_within, left_within, marked}
 use Rattle.dd_file.specs.Marks.{Begins, tag}
 use Rattle.dd_file.specs.Modes.{next_mode}
 use Rattle.dd_file.specs.Notes.{notes_of}
-use Rattle.dd_file.specs.Notices.{Notice, games_in_all, games_over}
+use Rattle.dd_file.specs.Notices.{Notice, games_in_all}
 use Rattle.dd_file.specs.Passing.{EndsHere, StopsAt, TellsHere, begins_now}
 use Rattle.dd_file.specs.Quiet.{BeginsShort, Counts, IsPlace, PassesQuiet, PassesTag, required_number}
 use Rattle.dd_file.specs.Told.{next_notes, told_from, told_here}

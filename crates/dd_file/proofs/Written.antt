@@ -17,7 +17,7 @@ use Rattle.dd_file.specs.Games.{first_state}
 use Rattle.dd_file.specs.declared.wanted.Wanted.{Wanted}
 use Rattle.dd_file.specs.Filled.{AreAnswers, ask_of, asked_here, ends_last, filled_from, first_of, text_here}
 use Rattle.dd_file.specs.Marked.{is_closed}
-use Rattle.dd_file.specs.Notes.{board_of, games_of, notes_of, unknown_of}
+use Rattle.dd_file.specs.Notes.{games_of, notes_of}
 use Rattle.dd_file.specs.Notices.{Notice, Hears, games_in_all}
 use Rattle.dd_file.specs.Passing.{AddsLast}
 use Rattle.dd_file.specs.Served.{FilledAll, FilledBeginning, FilledTelling, MayFollow, StopsAtFirstFailure, StopsAtWrite}

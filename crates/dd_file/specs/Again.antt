@@ -12,6 +12,11 @@ abbrev pub AreResults : FourHands → Option (List (List ℕ)) → Type 0
 AreResults deal None = ⊥
 AreResults deal (Some table) = (strain : Strain) (declarer : Seat) → tricks_of table strain declarer ≤ 13
 
+-- they may have been given up
+abbrev pub MayBeResults : FourHands → Option (List (List ℕ)) → Type 0
+MayBeResults deal None = Unit {0}
+MayBeResults deal (Some table) = AreResults deal (Some table)
+
 -- where each game that asks was answered, no game of the filled file asks
 abbrev pub AsksNothingAgain : Type 0
 AsksNothingAgain =

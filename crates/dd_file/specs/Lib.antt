@@ -4,6 +4,7 @@ pub mod Filled
 pub mod Games
 pub mod Kepts
 pub mod KnownTags
+pub mod Lacking
 pub mod Lines
 pub mod Marked
 pub mod Marks

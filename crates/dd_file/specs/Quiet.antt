@@ -15,7 +15,7 @@ use Rattle.dd_file.specs.Modes.{is_blank, next_mode}
 use Rattle.dd_file.specs.Tags.{is_name}
 use Rattle.dd_file.specs.Notices.{Notice}
 use Rattle.dd_file.specs.Told.{GameNotes, one_more, told_from}
-use Rattle.dd_file.specs.Windows.{Passed, PassesFront, Point, Place, place_of, point_of, marked_at}
+use Rattle.dd_file.specs.Windows.{Passed, PassesFront, Point, place_of, point_of, marked_at}
 
 -- does nothing begin at a byte that stands so, outside of tags, whatever follows?
 abbrev pub is_quiet : Mode → ℕ → Bool

@@ -22,5 +22,7 @@ mod wanted;
 
 pub use analyst::{Analyst, DealFault, Reason};
 pub use engine::{FileFault, fill_file};
-pub use laws::{filling_again_adds_nothing, filling_keeps_the_file};
+pub use laws::{
+    filling_again_adds_nothing, filling_keeps_the_file, it_is_told_of_games_that_lack_a_line,
+};
 pub use wanted::Wanted;
