@@ -1,9 +1,9 @@
 -- What was written of what comes out, and how a run goes on and ends.
-use Rattle.std.proofs.Common.{◌≡◌, ◌∙◌, ℕ, Bool, true, false, List, [], ◌∷◌, ◌++◌, refl, sym, ap, subst, append-nil, take, drop, Option, Result, Ok, Err}
+use Rattle.std.proofs.Common.{◌≡◌, ◌∙◌, ℕ, ◌+◌, ◌≤◌, Bool, true, false, List, [], ◌∷◌, ◌++◌, length, refl, sym, ap, subst, arith, append-nil, length-append, take, drop, Option, Result, Ok, Err}
 use Rattle.std.specs.Io.KnownBytes.{Consumes, Appends, Keeps, IsAtEnd}
 use Rattle.std.proofs.KnownBytes.{Appends-nil, Appends-trans, Consumes-nil, Consumes-trans, Consumes-kept}
 use Rattle.dd_cards.specs.Hands.{FourHands}
-use Rattle.std.specs.Prelude.{OnErr, OnOk}
+use Rattle.std.specs.Prelude.{IfErr, OnErr, OnOk}
 use Rattle.dd_lines.specs.CountedDevices.{FailedOnce, HasFailed, failures_of}
 use Rattle.dd_lines.specs.declared.counted_device.CountedDevice.{CountedDevice}
 use Rattle.dd_lines.specs.Served.{NoneFailed, WroteText}
@@ -13,19 +13,39 @@ use Rattle.dd_file.specs.declared.fill_state.FillState.{FillState}
 use Rattle.dd_file.specs.declared.filler.Filler.{Filler}
 use Rattle.dd_file.specs.declared.mode.Mode.{Mode}
 use Rattle.dd_file.specs.declared.mode.Mode.TheVariants.{Head}
-use Rattle.dd_file.specs.Games.{first_state}
+use Rattle.dd_file.specs.Games.{ends, first_state, next_state}
 use Rattle.dd_file.specs.declared.wanted.Wanted.{Wanted}
-use Rattle.dd_file.specs.Filled.{AreAnswers, ask_of, asked_here, ends_last, filled_from, first_of, text_here}
-use Rattle.dd_file.specs.Marked.{is_closed}
+use Rattle.dd_file.specs.Filled.{Found, AreAnswers, answers_after, ask_of, asked_here, asks_from, ends_last, filled, filled_from, first_of, state_here, text_here}
+use Rattle.dd_file.specs.Marked.{begins_within, is_closed, left_within, marked}
+use Rattle.dd_file.specs.Modes.{next_mode}
 use Rattle.dd_file.specs.Notes.{games_of, notes_of}
 use Rattle.dd_file.specs.Notices.{Notice, Hears, games_in_all}
 use Rattle.dd_file.specs.Passing.{AddsLast}
-use Rattle.dd_file.specs.Served.{FilledAll, FilledBeginning, FilledTelling, MayFollow, StopsAtFirstFailure, StopsAtWrite}
+use Rattle.dd_file.specs.Served.{FilledAll, FilledBeginning, FilledTelling, MayFollow, FailedWriteBy, StopsAtFirstFailure, StopsAtWrite, most_held}
 use Rattle.dd_file.specs.Told.{GameNotes, first_notes, told_from, told_last}
 use Rattle.dd_file.specs.Windows.{Place, Point, point_of, place_of, first_place, first_point, marked_at, Follows, Passed, Ended, Begun, HearsSome, PassesFront, Stops, WritesFront, WritesLast, WritesBegun}
 use Rattle.dd_file.proofs.Heard.{Hears-append, Hears-one}
 use Rattle.dd_file.proofs.Going.{Passed-any, Passed-none, Passed-then, Passed-more, Ended-last, Ended-then}
 use Rattle.dd_file.proofs.Stopped.{Begun-ended, Begun-none, Begun-part, Begun-then, front-then-stops}
+
+-- where no game is answered, no line is added
+no-lines : (here : Bool) (wanted : Wanted) (state : FillState) → text_here here wanted state [] ≡ []
+no-lines true wanted state = refl
+no-lines false wanted state = refl
+
+no-more : (here : Bool) → answers_after here (let l : List (Option Found) = [] in l) ≡ []
+no-more true = refl
+no-more false = refl
+
+unanswered : (wanted : Wanted) (bytes : List ℕ) (left : ℕ) (mode : Mode) (state : FillState) → filled_from wanted [] state (marked left mode bytes) ≡ bytes
+unfolding filled_from marked
+unanswered wanted [] left mode state = no-lines (ends_last (is_closed left mode) state) wanted state
+unanswered wanted (b ∷ rest) left mode state =
+    let mark = begins_within left mode (b ∷ rest) in
+    let next = next_state (state_here (ends state mark) state) mark b in
+    ap (λ (l : List ℕ). l ++ b ∷ filled_from wanted (answers_after (ends state mark) []) next (marked (left_within left mark) (next_mode mode b) rest)) (no-lines (ends state mark) wanted state)
+    ∙ ap (λ (a : List (Option Found)). b ∷ filled_from wanted a next (marked (left_within left mark) (next_mode mode b) rest)) (no-more (ends state mark))
+    ∙ ap (λ (l : List ℕ). b ∷ l) (unanswered wanted rest (left_within left mark) (next_mode mode b) next)
 
 module _ {S : Type 0} (gives : FourHands → Option (List (List ℕ)) → Type 0) (way : S → Notice → S → Type 0) where
   -- ---- one stretch
@@ -191,9 +211,9 @@ module _ {S : Type 0} (gives : FourHands → Option (List (List ℕ)) → Type 0
       record { input = all.input; answers = all.answers; consumed = all.consumed; ended = all.ended; answered = all.answered; written = all.written }
 
   -- a beginning of what comes out, and of what is told, for what was read, and whatever follows
-  beginning : (is_all : Bool) (wanted : Wanted) (s t : S) (input written : List ℕ) (r0 r2 w0 w2 : Option (List ℕ)) → ((rest : List ℕ) → MayFollow r2 rest → Follows is_all rest)
-      → Consumes r0 r2 input → Appends w0 w2 written → Begun gives way is_all wanted (first_place s) t input written → FilledBeginning gives way wanted s t r0 r2 w0 w2
-  beginning is_all wanted s t input written r0 r2 w0 w2 follows read wrote begun =
+  beginning : (is_all : Bool) (wanted : Wanted) (s t : S) (input written : List ℕ) (r0 r2 w0 w2 : Option (List ℕ)) (fault : FileFault) → ((rest : List ℕ) → MayFollow r2 rest → Follows is_all rest)
+      → Consumes r0 r2 input → Appends w0 w2 written → (fault ≡ Read → ⊥) → Begun gives way is_all wanted (first_place s) t input written → FilledBeginning gives way wanted s t r0 r2 w0 w2 fault
+  beginning is_all wanted s t input written r0 r2 w0 w2 fault follows read wrote other begun =
       record {
         input = input;
         answers = begun.answers;
@@ -206,35 +226,65 @@ module _ {S : Type 0} (gives : FourHands → Option (List (List ℕ)) → Type 0
         begun = λ more rest may. begun.fills more rest (follows rest may);
         told = λ more rest may. begun.tells more rest (follows rest may);
         over = begun.over;
+        held = λ is. absurd (other is);
         appended = wrote;
         hears = begun.hears;
       }
 
-  pub Filling-piece_failed : (wanted : Wanted) (filler : Filler) (s t u : S) (window piece : List ℕ) (r0 r1 r2 w0 w1 w2 : Option (List ℕ)) → Filling wanted filler s t window r0 r1 w0 w1
-      → Consumes r1 r2 piece → WritesBegun gives way false filler t u (window ++ piece) w1 w2 → FilledBeginning gives way wanted s u r0 r2 w0 w2
-  Filling-piece_failed wanted filler s t u window piece r0 r1 r2 w0 w1 w2 before read wrote =
-      beginning false wanted s u (before.input ++ piece) (before.text ++ wrote.written) r0 r2 w0 w2 (λ rest may. tt)
-      (Consumes-trans r0 r1 r2 before.input piece before.consumed read) (Appends-trans w0 w1 w2 before.text wrote.written before.written wrote.appended)
+  pub Filling-piece_failed : (wanted : Wanted) (filler : Filler) (s t u : S) (window piece : List ℕ) (r0 r1 r2 w0 w1 w2 : Option (List ℕ)) (fault : FileFault) → Filling wanted filler s t window r0 r1 w0 w1
+      → Consumes r1 r2 piece → (fault ≡ Read → ⊥) → WritesBegun gives way false filler t u (window ++ piece) w1 w2 → FilledBeginning gives way wanted s u r0 r2 w0 w2 fault
+  Filling-piece_failed wanted filler s t u window piece r0 r1 r2 w0 w1 w2 fault before read other wrote =
+      beginning false wanted s u (before.input ++ piece) (before.text ++ wrote.written) r0 r2 w0 w2 fault (λ rest may. tt)
+      (Consumes-trans r0 r1 r2 before.input piece before.consumed read) (Appends-trans w0 w1 w2 before.text wrote.written before.written wrote.appended) other
       (Begun-then gives way wanted false (first_place s) (place_of filler t) u (before.input ++ piece) (window ++ piece) before.text wrote.written
       (further wanted filler s t window piece r0 r1 w0 w1 before)
       (subst (λ (w : Wanted). Begun gives way false w (place_of filler t) u (window ++ piece) wrote.written) before.same wrote.begun))
 
-  pub Filling-last_failed : (wanted : Wanted) (filler : Filler) (s t u : S) (window slice : List ℕ) (r0 r1 r2 w0 w1 w2 : Option (List ℕ)) → Filling wanted filler s t window r0 r1 w0 w1
-      → Consumes r1 r2 [] → IsAtEnd r2 → slice ≡ window → WritesBegun gives way true filler t u slice w1 w2 → FilledBeginning gives way wanted s u r0 r2 w0 w2
-  Filling-last_failed wanted filler s t u window slice r0 r1 r2 w0 w1 w2 before read end is wrote =
-      beginning true wanted s u before.input (before.text ++ wrote.written) r0 r2 w0 w2 (λ rest may. may end)
+  pub Filling-last_failed : (wanted : Wanted) (filler : Filler) (s t u : S) (window slice : List ℕ) (r0 r1 r2 w0 w1 w2 : Option (List ℕ)) (fault : FileFault) → Filling wanted filler s t window r0 r1 w0 w1
+      → Consumes r1 r2 [] → IsAtEnd r2 → slice ≡ window → (fault ≡ Read → ⊥) → WritesBegun gives way true filler t u slice w1 w2 → FilledBeginning gives way wanted s u r0 r2 w0 w2 fault
+  Filling-last_failed wanted filler s t u window slice r0 r1 r2 w0 w1 w2 fault before read end is other wrote =
+      beginning true wanted s u before.input (before.text ++ wrote.written) r0 r2 w0 w2 fault (λ rest may. may end)
       (subst (Consumes r0 r2) (append-nil before.input) (Consumes-trans r0 r1 r2 before.input [] before.consumed read))
-      (Appends-trans w0 w1 w2 before.text wrote.written before.written wrote.appended)
+      (Appends-trans w0 w1 w2 before.text wrote.written before.written wrote.appended) other
       (Begun-then gives way wanted true (first_place s) (place_of filler t) u before.input window before.text wrote.written
       (Passed-any gives way wanted true (first_place s) (place_of filler t) before.input window before.text before.passed)
       (subst (λ (w : Wanted). Begun gives way true w (place_of filler t) u window wrote.written) before.same
       (subst (λ (l : List ℕ). Begun gives way true filler.wanted (place_of filler t) u l wrote.written) is wrote.begun)))
 
+  -- what is held comes out as it is, where no more is answered
+  held-length : (wanted : Wanted) (filler : Filler) (s t : S) (window : List ℕ) (r0 r1 w0 w1 : Option (List ℕ)) (before : Filling wanted filler s t window r0 r1 w0 w1) → length window ≤ most_held
+      → length (filled wanted before.passed.answers before.input) ≤ length before.text + most_held
+  held-length wanted filler s t window r0 r1 w0 w1 before few =
+      let p = place_of filler t in
+      let whole : filled wanted before.passed.answers before.input ≡ before.text ++ window =
+      ap (λ (l : List ℕ). filled_from wanted before.passed.answers first_point.state (marked_at first_point l)) (sym (append-nil before.input))
+      ∙ ap (λ (a : List (Option Found)). filled_from wanted a first_point.state (marked_at first_point (before.input ++ []))) (sym (append-nil before.passed.answers))
+      ∙ before.passed.fills [] [] tt
+      ∙ ap (λ (l : List ℕ). before.text ++ filled_from wanted [] p.point.state (marked_at p.point l)) (append-nil window)
+      ∙ ap (λ (l : List ℕ). before.text ++ l) (unanswered wanted window p.point.left p.point.mode p.point.state) in
+      let size : length (filled wanted before.passed.answers before.input) ≡ length (before.text ++ window) = ap (λ (l : List ℕ). length l) whole in
+      omega (arith, size, few, length-append {A = ℕ})
+
   pub Filling-read_failed : (wanted : Wanted) (filler : Filler) (s t : S) (window : List ℕ) (r0 r1 r2 w0 w1 : Option (List ℕ)) → Filling wanted filler s t window r0 r1 w0 w1 → Keeps r1 r2
-      → FilledBeginning gives way wanted s t r0 r2 w0 w1
-  Filling-read_failed wanted filler s t window r0 r1 r2 w0 w1 before kept =
-      beginning false wanted s t before.input before.text r0 r2 w0 w1 (λ rest may. tt) (Consumes-kept r0 r1 r2 before.input before.consumed kept) before.written
-      (Begun-part gives way wanted false (first_place s) (place_of filler t) before.input window before.text before.text [] before.passed (sym (append-nil before.text)))
+      → length window ≤ most_held → FilledBeginning gives way wanted s t r0 r2 w0 w1 Read
+  Filling-read_failed wanted filler s t window r0 r1 r2 w0 w1 before kept few =
+      let p = place_of filler t in
+      record {
+        input = before.input;
+        answers = before.passed.answers;
+        asked = before.passed.asked;
+        written = before.text;
+        notices = before.passed.notices;
+        consumed = Consumes-kept r0 r1 r2 before.input before.consumed kept;
+        answered = before.passed.right;
+        games = λ rest may. record { rest = asks_from wanted p.point.state (marked_at p.point (window ++ rest)); split = before.passed.asks rest tt };
+        begun = λ more rest may. record { rest = filled_from wanted more p.point.state (marked_at p.point (window ++ rest)); split = before.passed.fills more rest tt };
+        told = λ more rest may. record { rest = told_from wanted more p.point.state p.notes (marked_at p.point (window ++ rest)); split = before.passed.tells more rest tt };
+        over = before.passed.over;
+        held = λ is. held-length wanted filler s t window r0 r1 w0 w1 before few;
+        appended = before.written;
+        hears = before.passed.hears;
+      }
 
   -- behind what has come out in this stretch
   pub front-then-none : (old mid : Filler) (s t u : S) (window after o0 o1 : List ℕ) → u ≡ t → PassesFront gives way true old mid s t window after o0 o1 → Stops gives way true old s u window
@@ -295,3 +345,15 @@ no-read-failed w1 w2 (Ok done) fault is = cc
 no-read-failed w1 w2 (Err Read) fault is = fault
 no-read-failed w1 w2 (Err Write) fault is = cc
 no-read-failed w1 w2 (Err Memory) fault is = cc
+
+-- what holds at each fault but that of a read holds at what a write ends
+pub at-write : {W P : Type 0} {Q : FileFault → Type 0} (w1 w2 : CountedDevice W) (result : Result (Unit {0}) FileFault) → StopsAtWrite w1 w2 result → OnErr result P
+    → ((fault : FileFault) → (fault ≡ Read → ⊥) → P → Q fault) → IfErr result Q
+at-write w1 w2 (Ok done) fault holds then = tt
+at-write w1 w2 (Err Read) fault holds then = absurd fault
+at-write w1 w2 (Err Write) fault holds then = then Write (λ is. cc) holds
+at-write w1 w2 (Err Memory) fault holds then = then Memory (λ is. cc) holds
+
+-- and it is no fault of a read
+pub other-fault : {W : Type 0} (w1 w2 : CountedDevice W) (e f : FileFault) → e ≡ f → FailedWriteBy w1 w2 f → e ≡ Read → ⊥
+other-fault w1 w2 e f same fault is = subst (λ (x : FileFault). FailedWriteBy w1 w2 x) (sym same ∙ is) fault

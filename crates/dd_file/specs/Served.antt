@@ -1,5 +1,5 @@
 -- To be believed: what was written for what was read.
-use Rattle.std.specs.Prelude.{◌≡◌, ℕ, ◌≤◌, List, [], ◌++◌, length, Option, Result, MatchResult}
+use Rattle.std.specs.Prelude.{◌≡◌, ℕ, ◌+◌, ◌≤◌, List, [], ◌++◌, length, Option, Result, MatchResult}
 use Rattle.std.specs.Io.KnownBytes.{Consumes, Appends, IsAtEnd}
 use Rattle.dd_cards.specs.Hands.{FourHands}
 use Rattle.dd_lines.specs.CountedDevices.{bytes_of}
@@ -41,11 +41,15 @@ pub record IsBeginning {A : Type 0} (front whole : List A) : Type 0 where
 abbrev pub MayFollow : Option (List ℕ) → List ℕ → Type 0
 MayFollow read_new rest = IsAtEnd read_new → rest ≡ []
 
+-- the most bytes of a file that are held where more is to be read
+abbrev pub most_held : ℕ
+most_held = 262144
+
 -- The run ended early. Answers are those of the first games. What was written is a beginning of the file with its lines, and what the analyst was told, each
 -- step from state to state, is a beginning of what is told of the file: so it is whatever follows what was read, and whatever is answered of the other
--- games. Of each game that was answered all was told.
+-- games. Of each game that was answered all was told. Where a read failed, all of it but so many bytes was written, the lines of these games among them.
 pub record FilledBeginning {S : Type 0} (gives : FourHands → Option (List (List ℕ)) → Type 0) (way : S → Notice → S → Type 0) (wanted : Wanted) (before after : S)
-    (read_old read_new write_old write_new : Option (List ℕ)) : Type 0 where
+    (read_old read_new write_old write_new : Option (List ℕ)) (fault : FileFault) : Type 0 where
   pub input : List ℕ
   pub answers : List (Option Found)
   pub asked : List (Option Ask)
@@ -57,6 +61,7 @@ pub record FilledBeginning {S : Type 0} (gives : FourHands → Option (List (Lis
   pub begun : (more : List (Option Found)) (rest : List ℕ) → MayFollow read_new rest → IsBeginning written (filled wanted (answers ++ more) (input ++ rest))
   pub told : (more : List (Option Found)) (rest : List ℕ) → MayFollow read_new rest → IsBeginning notices (told_of_file wanted (answers ++ more) (input ++ rest))
   pub over : length answers ≤ games_over notices
+  pub held : fault ≡ Read → length (filled wanted answers input) ≤ length written + most_held
   pub appended : Appends write_old write_new written
   pub hears : Hears way before notices after
 
@@ -72,9 +77,9 @@ FillsTelling remaining contents gives way wanted before after reader_old reader_
     FilledTelling gives way wanted before after (bytes_of remaining reader_old) (bytes_of remaining reader_new) (bytes_of contents writer_old) (bytes_of contents writer_new)
 
 abbrev pub FillsBeginning : {R W S : Type 0} → (R → Option (List ℕ)) → (W → Option (List ℕ)) → (FourHands → Option (List (List ℕ)) → Type 0)
-    → (S → Notice → S → Type 0) → Wanted → S → S → CountedDevice R → CountedDevice R → CountedDevice W → CountedDevice W → Type 0
-FillsBeginning remaining contents gives way wanted before after reader_old reader_new writer_old writer_new =
-    FilledBeginning gives way wanted before after (bytes_of remaining reader_old) (bytes_of remaining reader_new) (bytes_of contents writer_old) (bytes_of contents writer_new)
+    → (S → Notice → S → Type 0) → Wanted → S → S → CountedDevice R → CountedDevice R → CountedDevice W → CountedDevice W → FileFault → Type 0
+FillsBeginning remaining contents gives way wanted before after reader_old reader_new writer_old writer_new fault =
+    FilledBeginning gives way wanted before after (bytes_of remaining reader_old) (bytes_of remaining reader_new) (bytes_of contents writer_old) (bytes_of contents writer_new) fault
 
 -- which calls failed, by what ended the run
 abbrev pub FailedBy : {R W : Type 0} → CountedDevice R → CountedDevice R → CountedDevice W → CountedDevice W → FileFault → Type 0

@@ -55,7 +55,7 @@ pub fn fill_file<R: Read, W: Write, A: Analyst>(
     ensures told { OnOk result (FillsTelling R.remaining W.contents A.gives A.way wanted
         (A.state analyst.old) (A.state analyst.new) reader.old reader.new writer.old writer.new) }
     // What was written is a beginning of that for what was read, and so is what the analyst was told, whatever follows.
-    ensures err { OnErr result (FillsBeginning R.remaining W.contents A.gives A.way wanted
+    ensures err { IfErr result (FillsBeginning R.remaining W.contents A.gives A.way wanted
         (A.state analyst.old) (A.state analyst.new) reader.old reader.new writer.old writer.new) }
     // No call failed before the one that ended the run.
     ensures first { StopsAtFirstFailure reader.old reader.new writer.old writer.new result }
@@ -98,6 +98,7 @@ fn take_piece<W: Write, A: Analyst>(
         (A.state analyst.old) (A.state analyst.new) (window.old.items ++ piece.now)
         (bytes_of W.contents writer.old) (bytes_of W.contents writer.new)) }
     ensures fault { StopsAtWrite writer.old writer.new result }
+    ensures held { OnOk result (length window.new.items ≤ WINDOW) }
 {
     match window.extend_from_slice(piece) {
         Ok(()) => write_full(alloc, window, filler, writer, analyst),
@@ -121,6 +122,7 @@ fn write_full<W: Write, A: Analyst>(
         (A.state analyst.old) (A.state analyst.new) window.old.items
         (bytes_of W.contents writer.old) (bytes_of W.contents writer.new)) }
     ensures fault { StopsAtWrite writer.old writer.new result }
+    ensures held { OnOk result (length window.new.items ≤ WINDOW) }
 {
     if window.len() < WINDOW {
         return Ok(());
@@ -145,6 +147,7 @@ fn write_front<W: Write, A: Analyst>(
         (A.state analyst.old) (A.state analyst.new) window.old.items
         (bytes_of W.contents writer.old) (bytes_of W.contents writer.new)) }
     ensures fault { StopsAtWrite writer.old writer.new result }
+    ensures held { OnOk result (length window.new.items ≤ NEAR) }
 {
     let count = window.len() - NEAR;
     let Some(text) = front_text(alloc, window.as_slice(), count, filler, analyst) else {

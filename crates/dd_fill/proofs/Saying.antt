@@ -1,6 +1,6 @@
 -- What is said of a file, text by text.
 use Rattle.std.proofs.Common.{◌≡◌, ◌∙◌, ℕ, Bool, true, false, inl, inr, refl, ap, subst, sym, List, [], ◌∷◌, ◌++◌, Option, Result, Ok, Err}
-use Rattle.std.specs.Prelude.{OnErr, OnOk}
+use Rattle.std.specs.Prelude.{IfErr, OnErr, OnOk}
 use Rattle.std.specs.Io.KnownBytes.{Appends}
 use Rattle.dd_lines.specs.CountedDevices.{bytes_of}
 use Rattle.dd_lines.specs.declared.counted_device.CountedDevice.{CountedDevice}
@@ -69,9 +69,9 @@ module _ (may_spend : Type 0) (wanted : Wanted) (before after : SayingOf) where
         told = (said _ before after all.told).hears;
       }
 
-  pub begun-said : (r0 r1 w0 w1 : Option (List ℕ)) → FilledBeginning (IsTold may_spend) SaysTold wanted before after r0 r1 w0 w1
-      → FilledBeginning (IsTold may_spend) (SaysNotice before.shows) wanted before.errors after.errors r0 r1 w0 w1
-  begun-said r0 r1 w0 w1 some =
+  pub begun-said : (r0 r1 w0 w1 : Option (List ℕ)) (fault : FileFault) → FilledBeginning (IsTold may_spend) SaysTold wanted before after r0 r1 w0 w1 fault
+      → FilledBeginning (IsTold may_spend) (SaysNotice before.shows) wanted before.errors after.errors r0 r1 w0 w1 fault
+  begun-said r0 r1 w0 w1 fault some =
       record {
         input = some.input;
         answers = some.answers;
@@ -84,6 +84,7 @@ module _ (may_spend : Type 0) (wanted : Wanted) (before after : SayingOf) where
         begun = some.begun;
         told = some.told;
         over = some.over;
+        held = some.held;
         appended = some.appended;
         hears = (said _ before after some.hears).hears;
       }
@@ -99,7 +100,7 @@ stays notices before after hears = (let all = said notices before after hears in
 pub ends-stays : {R W : Type 0} (remaining : R → Option (List ℕ)) (contents : W → Option (List ℕ)) (may_spend : Type 0) (wanted : Wanted) (before after : SayingOf)
     (reader reader2 : CountedDevice R) (writer writer2 : CountedDevice W) (result : Result (Unit {0}) FileFault)
     → OnOk result (FillsTelling remaining contents (IsTold may_spend) SaysTold wanted before after reader reader2 writer writer2)
-    → OnErr result (FillsBeginning remaining contents (IsTold may_spend) SaysTold wanted before after reader reader2 writer writer2) → Stays before after
+    → IfErr result (FillsBeginning remaining contents (IsTold may_spend) SaysTold wanted before after reader reader2 writer writer2) → Stays before after
 ends-stays remaining contents may_spend wanted before after reader reader2 writer writer2 (Ok done) all some = stays _ before after all.told
 ends-stays remaining contents may_spend wanted before after reader reader2 writer writer2 (Err fault) all some = stays some.notices before after some.hears
 
@@ -107,13 +108,13 @@ ends-stays remaining contents may_spend wanted before after reader reader2 write
 pub ends-told : {R W : Type 0} (remaining : R → Option (List ℕ)) (contents : W → Option (List ℕ)) (may_spend : Type 0) (wanted : Wanted) (before after : SayingOf)
     (reader reader2 : CountedDevice R) (writer writer2 : CountedDevice W) (result : Result (Unit {0}) FileFault)
     → OnOk result (FillsTelling remaining contents (IsTold may_spend) SaysTold wanted before after reader reader2 writer writer2)
-    → OnErr result (FillsBeginning remaining contents (IsTold may_spend) SaysTold wanted before after reader reader2 writer writer2)
+    → IfErr result (FillsBeginning remaining contents (IsTold may_spend) SaysTold wanted before after reader reader2 writer writer2)
     → StopsAtFirstFailure reader reader2 writer writer2 result
     → FillsSaying remaining contents may_spend wanted before.shows reader reader2 writer writer2 before.errors after.errors result
 ends-told remaining contents may_spend wanted before after reader reader2 writer writer2 (Ok done) all some first =
     record { ok = filled-said may_spend wanted before after _ _ _ _ all; err = tt; first = first }
 ends-told remaining contents may_spend wanted before after reader reader2 writer writer2 (Err fault) all some first =
-    record { ok = tt; err = begun-said may_spend wanted before after _ _ _ _ some; first = first }
+    record { ok = tt; err = begun-said may_spend wanted before after _ _ _ _ fault some; first = first }
 
 -- and at the end no progress is shown
 pub ends-said : {R W : Type 0} (remaining : R → Option (List ℕ)) (contents : W → Option (List ℕ)) (may_spend : Type 0) (wanted : Wanted) (shows : Bool) (before after last : Sink)

@@ -1,5 +1,5 @@
 -- What was searched for ahead, and what was written with its help.
-use Rattle.std.specs.Prelude.{◌≡◌, ℕ, Bool, List, Option, Result, OnErr, OnOk}
+use Rattle.std.specs.Prelude.{◌≡◌, ℕ, Bool, List, Option, Result, IfErr, OnOk}
 use Rattle.dd_cards.specs.declared.strain.Strain.{Strain}
 use Rattle.dd_cards.specs.Hands.{FourHands}
 use Rattle.dd_lines.specs.declared.counted_device.CountedDevice.{CountedDevice}
@@ -43,5 +43,5 @@ pub record SaysTold (before : SayingOf) (notice : Notice) (after : SayingOf) : T
 pub record FillsSaying {R W : Type 0} (remaining : R → Option (List ℕ)) (contents : W → Option (List ℕ)) (may_spend : Type 0) (wanted : Wanted) (shows : Bool)
     (reader_old reader_new : CountedDevice R) (writer_old writer_new : CountedDevice W) (errors_old errors_new : Sink) (result : Result (Unit {0}) FileFault) : Type 0 where
   pub ok : OnOk result (FillsTelling remaining contents (IsTold may_spend) (SaysNotice shows) wanted errors_old errors_new reader_old reader_new writer_old writer_new)
-  pub err : OnErr result (FillsBeginning remaining contents (IsTold may_spend) (SaysNotice shows) wanted errors_old errors_new reader_old reader_new writer_old writer_new)
+  pub err : IfErr result (FillsBeginning remaining contents (IsTold may_spend) (SaysNotice shows) wanted errors_old errors_new reader_old reader_new writer_old writer_new)
   pub first : StopsAtFirstFailure reader_old reader_new writer_old writer_new result

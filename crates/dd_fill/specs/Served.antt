@@ -1,5 +1,5 @@
 -- To be believed: what was written for what was read, by the results of deals.
-use Rattle.std.specs.Prelude.{ℕ, Bool, List, Option, Result, OnOk, OnErr}
+use Rattle.std.specs.Prelude.{ℕ, Bool, List, Option, Result, IfErr, OnOk}
 use Rattle.dd_lines.specs.declared.counted_device.CountedDevice.{CountedDevice}
 use Rattle.dd_lines.specs.CountedDevices.{bytes_of}
 use Rattle.dd_file.specs.Served.{FilledBeginning, FilledTelling, StopsAtFirstFailure}
@@ -16,10 +16,12 @@ pub record FilledSaying (may_spend : Type 0) (wanted : Wanted) (shows : Bool) (r
   pub cleared : SaysAll (clear_texts shows) between errors_new
 
 -- The run ended early. What was written, and what was said of the games, are beginnings of that, whatever follows what was read and whatever the results
--- of the other games are; each text was said as far as the device took it. Of each game whose results were told all was said.
-pub record FilledInPart (may_spend : Type 0) (wanted : Wanted) (shows : Bool) (read_old read_new write_old write_new : Option (List ℕ)) (errors_old errors_new : Sink) : Type 0 where
+-- of the other games are; each text was said as far as the device took it. Of each game whose results were told all was said. Where a read
+-- failed, no more is held back than `most_held`.
+pub record FilledInPart (may_spend : Type 0) (wanted : Wanted) (shows : Bool) (read_old read_new write_old write_new : Option (List ℕ)) (errors_old errors_new : Sink)
+    (fault : FileFault) : Type 0 where
   pub between : Sink
-  pub filled : FilledBeginning (IsTold may_spend) (SaysNotice shows) wanted errors_old between read_old read_new write_old write_new
+  pub filled : FilledBeginning (IsTold may_spend) (SaysNotice shows) wanted errors_old between read_old read_new write_old write_new fault
   pub cleared : SaysAll (clear_texts shows) between errors_new
 
 -- All that; or a call failed, or memory ran out, and it was done in part. No call failed before the one that ended the run.
@@ -27,6 +29,6 @@ pub record Fills {R W : Type 0} (remaining : R → Option (List ℕ)) (contents 
     (reader_old reader_new : CountedDevice R) (writer_old writer_new : CountedDevice W) (errors_old errors_new : Sink) (result : Result (Unit {0}) FileFault) : Type 0 where
   pub ok : OnOk result (FilledSaying may_spend wanted shows (bytes_of remaining reader_old) (bytes_of remaining reader_new)
       (bytes_of contents writer_old) (bytes_of contents writer_new) errors_old errors_new)
-  pub err : OnErr result (FilledInPart may_spend wanted shows (bytes_of remaining reader_old) (bytes_of remaining reader_new)
+  pub err : IfErr result (FilledInPart may_spend wanted shows (bytes_of remaining reader_old) (bytes_of remaining reader_new)
       (bytes_of contents writer_old) (bytes_of contents writer_new) errors_old errors_new)
   pub first : StopsAtFirstFailure reader_old reader_new writer_old writer_new result

@@ -275,14 +275,14 @@ pub record FillsFile (may_spend : Type 0) (wanted : Wanted) (shows : Bool) (old 
   pub writes : new.output.failures ≡ old.output.failures
 
 -- What was written is a beginning of that for what was read, and so is what was said of its games on the standard error, up to this state of it.
-abbrev pub FillsInPart : Type 0 → Wanted → Bool → Streams → Streams → Device → Type 0
-FillsInPart may_spend wanted shows old new noted =
-    FilledInPart may_spend wanted shows old.input.bytes new.input.bytes old.output.bytes new.output.bytes (sink_of old.errors) (sink_of noted)
+abbrev pub FillsInPart : Type 0 → Wanted → Bool → Streams → Streams → Device → FileFault → Type 0
+FillsInPart may_spend wanted shows old new noted fault =
+    FilledInPart may_spend wanted shows old.input.bytes new.input.bytes old.output.bytes new.output.bytes (sink_of old.errors) (sink_of noted) fault
 
 -- a read failed, and what was written is a beginning of what was to come; that was said behind the notes of games
 pub record FailsToReadFile (may_spend : Type 0) (wanted : Wanted) (shows : Bool) (old new : Streams) : Type 0 where
   pub noted : Device
-  pub filled : FillsInPart may_spend wanted shows old new noted
+  pub filled : FillsInPart may_spend wanted shows old new noted file.Read
   pub reads : Fails old.input new.input
   pub writes : new.output.failures ≡ old.output.failures
   pub said : Writes (line_of ReadFailed) noted new.errors
@@ -290,7 +290,7 @@ pub record FailsToReadFile (may_spend : Type 0) (wanted : Wanted) (shows : Bool)
 -- the same of a write
 pub record FailsToWriteFile (may_spend : Type 0) (wanted : Wanted) (shows : Bool) (old new : Streams) : Type 0 where
   pub noted : Device
-  pub filled : FillsInPart may_spend wanted shows old new noted
+  pub filled : FillsInPart may_spend wanted shows old new noted file.Write
   pub reads : new.input.failures ≡ old.input.failures
   pub writes : Fails old.output new.output
   pub said : Writes (line_of WriteFailed) noted new.errors
@@ -298,7 +298,7 @@ pub record FailsToWriteFile (may_spend : Type 0) (wanted : Wanted) (shows : Bool
 -- the same where memory ran out, and no call failed
 pub record RunsOutOfMemory (may_spend : Type 0) (wanted : Wanted) (shows : Bool) (old new : Streams) : Type 0 where
   pub noted : Device
-  pub filled : FillsInPart may_spend wanted shows old new noted
+  pub filled : FillsInPart may_spend wanted shows old new noted file.Memory
   pub reads : new.input.failures ≡ old.input.failures
   pub writes : new.output.failures ≡ old.output.failures
   pub said : Writes (line_of OutOfMemory) noted new.errors

@@ -1,6 +1,6 @@
-use Rattle.std.proofs.Common.{◌<◌, ◌∙◌, length, refl, rules, arith}
-use Rattle.std.proofs.lemmas.Result.{on_ok_weaker, on_err_weaker, err_from_is_err_and}
-use Rattle.dd_file.proofs.Written.{Filling-begun, Filling-further, Filling-ended, Filling-last_failed, Filling-piece_failed, Filling-read_failed, filled-all, first-place, first-point, nothing_read, stops-written, write-failed, no-read-failed}
+use Rattle.std.proofs.Common.{◌<◌, ◌∙◌, List, ℕ, ap, length, refl, rules, arith}
+use Rattle.std.proofs.lemmas.Result.{on_ok_weaker, err_from_is_err_and}
+use Rattle.dd_file.proofs.Written.{Filling-begun, Filling-further, Filling-ended, Filling-last_failed, Filling-piece_failed, Filling-read_failed, at-write, filled-all, first-place, first-point, nothing_read, stops-written, write-failed, no-read-failed, other-fault}
 use Rattle.dd_file.proofs.engine.fill_file.Goals as goal
 
 pub loop-init : goal.loop-init
@@ -12,6 +12,7 @@ loop-init g c =
       writes = refl;
       turns = omega arith;
       few = λ some. absurd (omega (arith, some));
+      few_held = (let none = ap (λ (l : List ℕ). length l) c.new-window.ensures.items in omega (arith, none));
       room = c.requires;
     }
 
@@ -31,7 +32,8 @@ returns-in-Ok-eq0-clause-err g c =
     let none = c.in-Ok-eq0.field-0-test in
     let read = c.in-Ok-eq0.ensures.bytes in
     let room : 0 < length c.read.new.buf = omega arith in
-    on_err_weaker c.write_last.result (λ wrote. Filling-last_failed g.A.Analyst.gives g.A.Analyst.way _ _ _ _ _ _ _ _ _ _ _ _ _ c.loop.invariant.so_far (nothing_read _ _ _ _ none read.0) (read.1 none room) c.as_slice.ensures.value wrote) c.write_last.ensures.err
+    at-write c.loop.writer c.write_last.new.writer c.write_last.result c.write_last.ensures.fault c.write_last.ensures.err
+    (λ fault other wrote. Filling-last_failed g.A.Analyst.gives g.A.Analyst.way _ _ _ _ _ _ _ _ _ _ _ _ _ fault c.loop.invariant.so_far (nothing_read _ _ _ _ none read.0) (read.1 none room) c.as_slice.ensures.value other wrote)
 
 pub returns-in-Ok-eq0-clause-first : goal.returns-in-Ok-eq0-clause-first
 returns-in-Ok-eq0-clause-first g c = stops-written c.args.reader.now c.read.new.self c.args.writer.now c.loop.writer c.write_last.new.writer c.write_last.result (c.in-Ok-eq0.ensures.counted.failures ∙ c.loop.invariant.reads) c.loop.invariant.writes c.write_last.ensures.fault
@@ -46,10 +48,10 @@ returns-in-Ok-eq0-clause-read g c = λ is. absurd (no-read-failed c.loop.writer 
 pub returns-in_err-take_piece-in-Ok-clause-err : goal.returns-in_err-take_piece-in-Ok-clause-err
 returns-in_err-take_piece-in-Ok-clause-err g c =
     let p = err_from_is_err_and c.from_residual.result c.from_residual.ensures.1 in
-    rw p.1 (Filling-piece_failed g.A.Analyst.gives g.A.Analyst.way _ _ _ _ _ _ _ _ _ _ _ _ _ c.loop.invariant.so_far c.in-Ok.ensures.bytes.0 c.in_err-take_piece-in-Ok.ensures.err)
+    rw p.1 (Filling-piece_failed g.A.Analyst.gives g.A.Analyst.way _ _ _ _ _ _ _ _ _ _ _ _ _ p.0 c.loop.invariant.so_far c.in-Ok.ensures.bytes.0 (other-fault c.loop.writer c.take_piece.new.writer p.0 _ p.2 c.in_err-take_piece-in-Ok.ensures.fault) c.in_err-take_piece-in-Ok.ensures.err)
 
 pub returns-in-Err-clause-err : goal.returns-in-Err-clause-err
-returns-in-Err-clause-err g c = Filling-read_failed g.A.Analyst.gives g.A.Analyst.way _ _ _ _ _ _ _ _ _ _ c.loop.invariant.so_far c.in-Err.ensures.bytes
+returns-in-Err-clause-err g c = Filling-read_failed g.A.Analyst.gives g.A.Analyst.way _ _ _ _ _ _ _ _ _ _ c.loop.invariant.so_far c.in-Err.ensures.bytes c.loop.invariant.few_held
 
 pub loop-preserved : goal.loop-preserved
 loop-preserved g c =
@@ -60,5 +62,6 @@ loop-preserved g c =
       writes = c.in_ok-take_piece-in-Ok.ensures.fault ∙ c.loop.invariant.writes;
       turns = omega (arith, counted.calls, counted.let_through);
       few = λ _. omega (arith, counted.calls, counted.let_through);
+      few_held = c.in_ok-take_piece-in-Ok.ensures.held;
       room = search rules;
     }

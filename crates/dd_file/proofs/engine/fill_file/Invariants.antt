@@ -1,5 +1,6 @@
 use Rattle.std.proofs.Common.{◌≡◌, ◌<◌, ◌≤◌, length}
 use Rattle.dd_lines.specs.CountedDevices.{device_of, failures_of, calls_of, most_calls}
+use Rattle.dd_file.specs.Served.{most_held}
 use Rattle.dd_file.proofs.Written.{Filling}
 use Rattle.dd_file.proofs.engine.fill_file.Given as goal
 
@@ -11,5 +12,6 @@ invariant-loop g l =
       writes : failures_of l.writer ≡ failures_of l.fn.writer;
       turns : l.counter ≤ calls_of l.reader;
       few : 0 < l.counter → calls_of l.reader ≤ most_calls;
+      few_held : length l.window.items ≤ most_held;
       room : 0 < length l.buffer;
     }
