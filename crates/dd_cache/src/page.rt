@@ -13,7 +13,7 @@ use std::marker::Model;
 const BOUNDS_OF_A_PAGE: usize = 8;
 
 /// Bounds of one shape.
-// What a look reads first are the eighty bytes before the bounds.
+// What a look reads first are the sixty-four bytes before the bounds.
 #[derive(Drop)]
 pub(crate) struct Page {
     lengths: u64,

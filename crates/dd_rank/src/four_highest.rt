@@ -1,46 +1,48 @@
 //! What is seen at once of owners, as by a signature, but of the four highest cards of each suit. No answer rests on it.
 
 use crate::first_owners::FirstOwners;
-use crate::lanes::OwnerPlanes;
 use crate::owner_strings::OwnerStrings;
-use crate::signature::{TOGETHER, TWO_LOWEST, gathered, top_two};
+use crate::signature::{TOGETHER, gathered};
 use std::simd::cmp::SimdPartialEq;
 use std::simd::u16x8;
 
+// The four lowest bits of each suit's sixteen.
+const FOUR_LOWEST: u64 = 0x000F_000F_000F_000F;
+
+// Of each suit's four cards the two highest.
+const TWO_OF_FOUR: u16 = 0xCCCC;
+
 /// The owners of the four highest cards of each suit of a start of a trick.
-// Of the two highest, and of the next two: four bits a suit each, as in a signature.
+// Four bits a suit, the spades' on top: where the second or fourth hand has the card, and where the third or fourth has it.
 #[derive(Clone, Copy, Debug)]
 pub struct FourHighest {
-    owners: u16,
-    next: u16,
+    odd: u16,
+    far: u16,
 }
 
 /// The same of first owners, as far as there are so many.
 #[derive(Clone, Copy, Debug)]
 pub struct FirstFour {
-    owners: u16,
+    odd: u16,
+    far: u16,
     mask: u16,
-    next: u16,
-    next_mask: u16,
 }
 
 /// The four highest of eight first owners, which are compared at once.
 #[derive(Clone, Copy, Debug)]
 pub struct FirstFours {
-    owners: [u16; TOGETHER],
+    odd: [u16; TOGETHER],
+    far: [u16; TOGETHER],
     masks: [u16; TOGETHER],
-    next: [u16; TOGETHER],
-    next_masks: [u16; TOGETHER],
 }
 
 impl Default for FirstFours {
     /// None: each place has owners of the two highest cards that hardly a position has.
     fn default() -> FirstFours {
         FirstFours {
-            owners: [u16::MAX; TOGETHER],
-            masks: [u16::MAX; TOGETHER],
-            next: [0; TOGETHER],
-            next_masks: [0; TOGETHER],
+            odd: [TWO_OF_FOUR; TOGETHER],
+            far: [TWO_OF_FOUR; TOGETHER],
+            masks: [TWO_OF_FOUR; TOGETHER],
         }
     }
 }
@@ -50,8 +52,8 @@ impl OwnerStrings {
     #[inline]
     pub fn four_highest(&self) -> FourHighest {
         FourHighest {
-            owners: top_two(self.places),
-            next: next_two(self.places),
+            odd: four_of_each(self.places.odd),
+            far: four_of_each(self.places.far),
         }
     }
 }
@@ -61,15 +63,10 @@ impl FirstOwners {
     #[inline]
     pub fn first_four(&self) -> FirstFour {
         let (mask, places) = self.bits();
-        let masks = OwnerPlanes {
-            odd: mask,
-            far: mask,
-        };
         FirstFour {
-            owners: top_two(places),
-            mask: top_two(masks),
-            next: next_two(places),
-            next_mask: next_two(masks),
+            odd: four_of_each(places.odd),
+            far: four_of_each(places.far),
+            mask: four_of_each(mask),
         }
     }
 }
@@ -78,18 +75,18 @@ impl FirstFours {
     /// Puts one at this place, 0 to 7; a greater one is taken modulo 8.
     #[inline]
     pub fn put(&mut self, place: usize, first: FirstFour) {
-        self.owners[place % TOGETHER] = first.owners;
+        self.odd[place % TOGETHER] = first.odd;
+        self.far[place % TOGETHER] = first.far;
         self.masks[place % TOGETHER] = first.mask;
-        self.next[place % TOGETHER] = first.next;
-        self.next_masks[place % TOGETHER] = first.next_mask;
     }
 
     /// The places of those that may begin as this one does and go on, by the two highest: bit n for place n.
     #[inline]
     pub fn may_begin_as(&self, first: FirstFour) -> u64 {
         let masks = u16x8::from_array(self.masks);
-        let mask = u16x8::splat(first.mask);
-        let differing = u16x8::from_array(self.owners) ^ u16x8::splat(first.owners);
+        let mask = u16x8::splat(first.mask & TWO_OF_FOUR);
+        let differing = (u16x8::from_array(self.odd) ^ u16x8::splat(first.odd))
+            | (u16x8::from_array(self.far) ^ u16x8::splat(first.far));
         let missing = (masks & mask) ^ mask;
         let seen = (differing & mask) | missing;
         seen.simd_eq(u16x8::splat(0)).to_bitmask()
@@ -98,18 +95,15 @@ impl FirstFours {
     /// The places of those that may be of the position, by what is seen of both: bit n for place n.
     #[inline]
     pub fn may_be_in(&self, position: FourHighest) -> u64 {
-        let differing = u16x8::from_array(self.owners) ^ u16x8::splat(position.owners);
-        let next_differing = u16x8::from_array(self.next) ^ u16x8::splat(position.next);
-        let seen = (differing & u16x8::from_array(self.masks))
-            | (next_differing & u16x8::from_array(self.next_masks));
+        let differing = (u16x8::from_array(self.odd) ^ u16x8::splat(position.odd))
+            | (u16x8::from_array(self.far) ^ u16x8::splat(position.far));
+        let seen = differing & u16x8::from_array(self.masks);
         seen.simd_eq(u16x8::splat(0)).to_bitmask()
     }
 }
 
-// The owners of the two cards below the two highest of each suit, four bits a suit.
+// Of each suit's bits those of the four highest cards, side by side.
 #[inline]
-fn next_two(places: OwnerPlanes) -> u16 {
-    let odd = places.odd >> 11 & TWO_LOWEST;
-    let far = places.far >> 9 & TWO_LOWEST << 2;
-    gathered(odd | far)
+fn four_of_each(places: u64) -> u16 {
+    gathered(places >> 11 & FOUR_LOWEST)
 }
