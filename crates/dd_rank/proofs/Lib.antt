@@ -29,5 +29,6 @@ pub mod Masked
 pub mod Closed
 pub mod TopPlaces
 pub mod TopRanks
+pub mod DepthLanes
 pub mod Highest
 pub mod CallerLemmas

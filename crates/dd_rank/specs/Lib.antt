@@ -6,3 +6,5 @@ pub mod Cover
 pub mod Tops
 pub mod FirstOwners
 pub mod Lanes
+pub mod DepthMasks
+pub mod DepthMaskLaws

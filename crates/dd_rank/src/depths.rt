@@ -9,6 +9,7 @@ ghost use Rattle.dd_play.specs.Board.{IsBoard};
 ghost use Rattle.dd_play.specs.Covers.{count_of};
 ghost use Rattle.dd_play.specs.Reach.{reach};
 ghost use Rattle.dd_rank.specs.Depths.{all_cards, depths_of, depth_in};
+ghost use Rattle.dd_rank.specs.DepthMasks.{tops_of};
 ghost use Rattle.dd_rank.specs.FirstOwners.{top_places};
 ghost use Rattle.dd_rank.specs.Lanes.{lane};
 
@@ -17,46 +18,59 @@ use dd_play::{Position, TrickStart};
 use std::marker::Model;
 
 /// For each suit how many of its highest cards matter.
-#[derive(Clone, Copy, Debug, Default)]
+// As the bits in which these stand where no card is missing between them: so they are compared with others as they are.
+#[derive(Clone, Copy, Debug)]
 pub struct Depths {
-    spades: u8,
-    hearts: u8,
-    diamonds: u8,
-    clubs: u8,
+    tops: u64,
 }
 
 impl Model for Depths {
     ghost use Rattle.dd_rank.specs.Depths.{FourDepths};
+    ghost use Rattle.dd_rank.specs.DepthMasks.{AreTops, depths_in, tops_of};
+    ghost use Rattle.dd_rank.specs.DepthMaskLaws.{tops_of-inside};
 
     ghost Value = { FourDepths };
 
-    ghost view = { λ d. record {
-      spades = d.spades;
-      hearts = d.hearts;
-      diamonds = d.diamonds;
-      clubs = d.clubs;
-    } };
+    ghost view = { λ d. depths_in d.tops };
 
-    ghost inverse = { λ v. record {
-      spades = v.spades;
-      hearts = v.hearts;
-      diamonds = v.diamonds;
-      clubs = v.clubs;
-    } };
+    ghost invariant = { λ d. AreTops d.tops };
+
+    ghost inverse = { λ v. record { tops = tops_of v } };
+
+    ghost inverse_ok = { λ d valid. tops_of-inside d valid };
+}
+
+impl Default for Depths {
+    /// No card of any suit.
+    fn default() -> Depths
+        ensures { (u : SuitOf) → depth_in result u ≡ 0 }
+    {
+        Depths::of_suits(0, 0, 0, 0)
+    }
 }
 
 impl Depths {
+    // These depths.
+    #[inline]
+    fn of_suits(spades: u8, hearts: u8, diamonds: u8, clubs: u8) -> Depths
+        requires { (spades ≤ 13) × (hearts ≤ 13) × (diamonds ≤ 13) × (clubs ≤ 13) }
+        ensures { result ≡ record { spades = spades; hearts = hearts; diamonds = diamonds; clubs = clubs } }
+    {
+        Depths {
+            tops: (suit_tops(spades) << 48)
+                + (suit_tops(hearts) << 32)
+                + (suit_tops(diamonds) << 16)
+                + suit_tops(clubs),
+        }
+    }
+
     /// The depth of a suit.
     #[inline]
     pub fn of(self, suit: Suit) -> u8
         ensures { result ≡ depth_in self suit }
     {
-        match suit {
-            Suit::Spades => self.spades,
-            Suit::Hearts => self.hearts,
-            Suit::Diamonds => self.diamonds,
-            Suit::Clubs => self.clubs,
-        }
+        let lane = self.tops >> (48 - 16 * suit.code());
+        (lane & 0xFFFF).count_ones() as u8
     }
 
     /// Is no depth above that of the same suit?
@@ -64,22 +78,20 @@ impl Depths {
     pub(crate) fn are_within(self, most: Depths) -> bool
         ensures { IsTrue result ↔ ((u : SuitOf) → depth_in self u ≤ depth_in most u) }
     {
-        (self.spades <= most.spades)
-            & (self.hearts <= most.hearts)
-            & (self.diamonds <= most.diamonds)
-            & (self.clubs <= most.clubs)
+        (self.of(Suit::Spades) <= most.of(Suit::Spades))
+            & (self.of(Suit::Hearts) <= most.of(Suit::Hearts))
+            & (self.of(Suit::Diamonds) <= most.of(Suit::Diamonds))
+            & (self.of(Suit::Clubs) <= most.of(Suit::Clubs))
     }
 
     /// The bits in which so many of each suit's highest cards stand, where no card is missing between them.
     #[inline]
     pub(crate) fn tops(self) -> u64
-        requires { (u : SuitOf) → depth_in self u ≤ 13 }
-        ensures { (u : SuitOf) → lane result u ≡ top_places (depth_in self u) }
+        ensures mask { result ≡ tops_of self }
+        ensures tops { (u : SuitOf) → lane result u ≡ top_places (depth_in self u) }
+        ensures few { (u : SuitOf) → depth_in self u ≤ 13 }
     {
-        (suit_tops(self.spades) << 48)
-            + (suit_tops(self.hearts) << 32)
-            + (suit_tops(self.diamonds) << 16)
-            + suit_tops(self.clubs)
+        self.tops
     }
 
     /// So many of the highest ranks of each suit, as cards.
@@ -98,12 +110,12 @@ impl Depths {
         ensures { (u : SuitOf) → depth_in result u ≡ count_of u (all_cards start.now) }
     {
         let all = cards_left(start.position());
-        Depths {
-            spades: all.holding(Suit::Spades).len(),
-            hearts: all.holding(Suit::Hearts).len(),
-            diamonds: all.holding(Suit::Diamonds).len(),
-            clubs: all.holding(Suit::Clubs).len(),
-        }
+        Depths::of_suits(
+            all.holding(Suit::Spades).len(),
+            all.holding(Suit::Hearts).len(),
+            all.holding(Suit::Diamonds).len(),
+            all.holding(Suit::Clubs).len(),
+        )
     }
 
     /// The depths of these cards at a position: how many of the cards left are one of them or higher than one.
@@ -113,12 +125,12 @@ impl Depths {
         ensures real { (c : PlayingCard) → has_card cards c ≡ true → IsRank c.rank }
     {
         let all = cards_left(start.position());
-        Depths {
-            spades: depth_of(all, cards, Suit::Spades),
-            hearts: depth_of(all, cards, Suit::Hearts),
-            diamonds: depth_of(all, cards, Suit::Diamonds),
-            clubs: depth_of(all, cards, Suit::Clubs),
-        }
+        Depths::of_suits(
+            depth_of(all, cards, Suit::Spades),
+            depth_of(all, cards, Suit::Hearts),
+            depth_of(all, cards, Suit::Diamonds),
+            depth_of(all, cards, Suit::Clubs),
+        )
     }
 
     /// The lowest of the cards of these depths at a position, one of each suit of which there are some.
@@ -128,10 +140,10 @@ impl Depths {
         ensures real { (c : PlayingCard) → has_card result c ≡ true → IsRank c.rank }
     {
         let all = cards_left(start.position());
-        let spades = all.at_depth(Suit::Spades, self.spades);
-        let hearts = all.at_depth(Suit::Hearts, self.hearts);
-        let diamonds = all.at_depth(Suit::Diamonds, self.diamonds);
-        let clubs = all.at_depth(Suit::Clubs, self.clubs);
+        let spades = all.at_depth(Suit::Spades, self.of(Suit::Spades));
+        let hearts = all.at_depth(Suit::Hearts, self.of(Suit::Hearts));
+        let diamonds = all.at_depth(Suit::Diamonds, self.of(Suit::Diamonds));
+        let clubs = all.at_depth(Suit::Clubs, self.of(Suit::Clubs));
         let cards = spades.union(hearts).union(diamonds.union(clubs));
         // The proof reads here that the cards are cards of the pack.
         let _ = cards.holding(Suit::Spades);
@@ -167,6 +179,7 @@ fn cards_left(position: &Position) -> Hand
 #[inline]
 fn depth_of(all: Hand, cards: Hand, suit: Suit) -> u8
     ensures depth { result ≡ length (filter (λ e. is_of suit e && reach cards e) all) }
+    ensures bound { result ≤ 13 }
     ensures real { (c : PlayingCard) → has_card cards c ≡ true → IsRank c.rank }
 {
     match cards.holding(suit).next_from(Rank::of(2)) {

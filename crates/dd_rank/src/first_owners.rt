@@ -14,14 +14,14 @@ use std::marker::Model;
 #[derive(Debug, Drop)]
 pub struct FirstOwners {
     depths: Depths,
-    // the bits in which so many cards stand, and the owners in them
-    mask: u64,
+    // the owners in the bits in which so many cards stand
     places: OwnerPlanes,
 }
 
 impl Model for FirstOwners {
     ghost use Rattle.dd_cards.specs.declared.suit.Suit.TheVariants.{Spades, Hearts, Diamonds, Clubs};
     ghost use Rattle.dd_cards.specs.Ranks.{all_ranks};
+    ghost use Rattle.dd_rank.specs.DepthMasks.{tops_of};
     ghost use Rattle.dd_rank.specs.FirstOwners.{AreUnder, Firsts};
     ghost use Rattle.dd_rank.specs.Lanes.{lane, places_of};
 
@@ -35,7 +35,7 @@ impl Model for FirstOwners {
       clubs = places_of (lane f.places.odd Clubs) (lane f.places.far Clubs) all_ranks;
     } };
 
-    ghost invariant = { λ f. AreUnder f.depths f.mask f.places.odd f.places.far };
+    ghost invariant = { λ f. AreUnder f.depths (tops_of f.depths) f.places.odd f.places.far };
 }
 
 impl Default for FirstOwners {
@@ -43,7 +43,6 @@ impl Default for FirstOwners {
     fn default() -> FirstOwners {
         FirstOwners {
             depths: Depths::default(),
-            mask: 0,
             places: OwnerPlanes { odd: 0, far: 0 },
         }
     }
@@ -61,7 +60,6 @@ impl FirstOwners {
         let mask = depths.tops();
         FirstOwners {
             depths,
-            mask,
             places: strings.places.under(mask),
         }
     }
@@ -71,7 +69,8 @@ impl FirstOwners {
     pub fn are_in(&self, strings: &OwnerStrings) -> bool
         ensures { IsTrue result ↔ AreFirst self.now strings.now }
     {
-        strings.places.under(self.mask).are(self.places)
+        let mask = self.depths.tops();
+        strings.places.under(mask).are(self.places)
     }
 
     /// Has each position with the other's first owners these too: are these no more, and the beginning of those?
@@ -79,7 +78,8 @@ impl FirstOwners {
     pub fn include(&self, other: &FirstOwners) -> bool
         ensures { IsTrue result ↔ IsBeginning self.now other.now }
     {
-        other.places.under(self.mask).are(self.places) && self.depths.are_within(other.depths)
+        let mask = self.depths.tops();
+        other.places.under(mask).are(self.places) && self.depths.are_within(other.depths)
     }
 
     /// How many owners there are of each suit.
@@ -97,7 +97,6 @@ impl FirstOwners {
     {
         FirstOwners {
             depths: self.depths,
-            mask: self.mask,
             places: self.places,
         }
     }
@@ -105,6 +104,6 @@ impl FirstOwners {
     // The bits in which they stand, and the owners in them.
     #[inline]
     pub(crate) fn bits(&self) -> (u64, OwnerPlanes) {
-        (self.mask, self.places)
+        (self.depths.tops(), self.places)
     }
 }

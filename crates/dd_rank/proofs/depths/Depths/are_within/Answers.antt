@@ -29,5 +29,4 @@ within d m = (
         go Clubs = leb-true _ _ all.3
 
 pub returns : goal.returns
-returns c = rw (← c.self.view_is, ← c.most.view_is) (within (record { spades = c.self.inside.spades; hearts = c.self.inside.hearts; diamonds = c.self.inside.diamonds; clubs = c.self.inside.clubs })
-    (record { spades = c.most.inside.spades; hearts = c.most.inside.hearts; diamonds = c.most.inside.diamonds; clubs = c.most.inside.clubs }))
+returns c = rw (c.of.ensures, c.of-2.ensures, c.of-3.ensures, c.of-4.ensures, c.of-5.ensures, c.of-6.ensures, c.of-7.ensures, c.of-8.ensures) (within c.args.self c.args.most)

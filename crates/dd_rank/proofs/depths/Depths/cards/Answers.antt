@@ -40,10 +40,10 @@ by-suits p q all cards d valid is set same sp he di cl u = go u
 pub returns-clause-depths : goal.returns-clause-depths
 returns-clause-depths c =
     by-suits p q all cards d c.cards_left-all.ensures.board c.position.ensures.value c.cards_left-all.ensures.set c.cards_left-all.ensures.cards
-    (deep Spades c.self.inside.spades (ap (λ (d : FourDepths). d.spades) c.self.view_is) c.at_depth-spades.result (record { card = c.at_depth-spades.ensures.card; some = c.at_depth-spades.ensures.some }) (λ x h. c.union-cards.ensures.left x (c.union.ensures.left x h)))
-    (deep Hearts c.self.inside.hearts (ap (λ (d : FourDepths). d.hearts) c.self.view_is) c.at_depth-hearts.result (record { card = c.at_depth-hearts.ensures.card; some = c.at_depth-hearts.ensures.some }) (λ x h. c.union-cards.ensures.left x (c.union.ensures.right x h)))
-    (deep Diamonds c.self.inside.diamonds (ap (λ (d : FourDepths). d.diamonds) c.self.view_is) c.at_depth-diamonds.result (record { card = c.at_depth-diamonds.ensures.card; some = c.at_depth-diamonds.ensures.some }) (λ x h. c.union-cards.ensures.right x (c.union-2.ensures.left x h)))
-    (deep Clubs c.self.inside.clubs (ap (λ (d : FourDepths). d.clubs) c.self.view_is) c.at_depth-clubs.result (record { card = c.at_depth-clubs.ensures.card; some = c.at_depth-clubs.ensures.some }) (λ x h. c.union-cards.ensures.right x (c.union-2.ensures.right x h)))
+    (deep Spades c.of.result c.of.ensures c.at_depth-spades.result (record { card = c.at_depth-spades.ensures.card; some = c.at_depth-spades.ensures.some }) (λ x h. c.union-cards.ensures.left x (c.union.ensures.left x h)))
+    (deep Hearts c.of-2.result c.of-2.ensures c.at_depth-hearts.result (record { card = c.at_depth-hearts.ensures.card; some = c.at_depth-hearts.ensures.some }) (λ x h. c.union-cards.ensures.left x (c.union.ensures.right x h)))
+    (deep Diamonds c.of-3.result c.of-3.ensures c.at_depth-diamonds.result (record { card = c.at_depth-diamonds.ensures.card; some = c.at_depth-diamonds.ensures.some }) (λ x h. c.union-cards.ensures.right x (c.union-2.ensures.left x h)))
+    (deep Clubs c.of-4.result c.of-4.ensures c.at_depth-clubs.result (record { card = c.at_depth-clubs.ensures.card; some = c.at_depth-clubs.ensures.some }) (λ x h. c.union-cards.ensures.right x (c.union-2.ensures.right x h)))
   where
     p : Board
     p = c.args.start.now

@@ -1,4 +1,4 @@
-use Rattle.std.proofs.Common.{◌≡◌, ◌≤◌, arith, ℕ, ◌∙◌, subst, List, length}
+use Rattle.std.proofs.Common.{◌≡◌, ◌≤◌, arith, ℕ, ◌∙◌, sym, subst, List, length}
 use Rattle.std.specs.Prelude.{filter, ◌&&◌}
 use Rattle.dd_cards.specs.declared.suit.Suit.{Suit}
 use Rattle.dd_cards.specs.declared.suit.Suit.TheVariants.{Spades, Hearts, Diamonds, Clubs}
@@ -34,12 +34,14 @@ lengths : (p : Board) (d : FourDepths) (cards : List PlayingCard) → ((u : Suit
 lengths p d cards same u = (let e = same u in let m = more-pass (λ x. is_of u x && reach cards x) (is_of u) (all_cards p) (λ x h. and-left (is_of u x) (reach cards x) h) in omega (arith, e, m))
 
 pub returns-clause-depths : goal.returns-clause-depths
-returns-clause-depths c = subst (λ (p : Board). (u : Suit) → depth_in (record { spades = c.depth_of.result; hearts = c.depth_of-2.result; diamonds = c.depth_of-3.result; clubs = c.depth_of-4.result }) u ≡ depths_of (reach c.args.cards) p u) c.position.ensures.value
-    (by-suits c.position.result.now c.cards_left-all.result c.args.cards c.depth_of.result c.depth_of-2.result c.depth_of-3.result c.depth_of-4.result c.cards_left-all.ensures.board c.cards_left-all.ensures.set c.cards_left-all.ensures.cards
-    c.depth_of.ensures.depth c.depth_of-2.ensures.depth c.depth_of-3.ensures.depth c.depth_of-4.ensures.depth)
-
-pub returns-clause-within : goal.returns-clause-within
-returns-clause-within c = lengths c.args.start.now (record { spades = c.depth_of.result; hearts = c.depth_of-2.result; diamonds = c.depth_of-3.result; clubs = c.depth_of-4.result }) c.args.cards
-    (subst (λ (p : Board). (u : Suit) → depth_in (record { spades = c.depth_of.result; hearts = c.depth_of-2.result; diamonds = c.depth_of-3.result; clubs = c.depth_of-4.result }) u ≡ depths_of (reach c.args.cards) p u) c.position.ensures.value
+returns-clause-depths c = subst (λ (d : FourDepths). (u : Suit) → depth_in d u ≡ depths_of (reach c.args.cards) c.args.start.now u) (sym c.of_suits.ensures) (
+    subst (λ (p : Board). (u : Suit) → depth_in (record { spades = c.depth_of.result; hearts = c.depth_of-2.result; diamonds = c.depth_of-3.result; clubs = c.depth_of-4.result }) u ≡ depths_of (reach c.args.cards) p u) c.position.ensures.value
     (by-suits c.position.result.now c.cards_left-all.result c.args.cards c.depth_of.result c.depth_of-2.result c.depth_of-3.result c.depth_of-4.result c.cards_left-all.ensures.board c.cards_left-all.ensures.set c.cards_left-all.ensures.cards
     c.depth_of.ensures.depth c.depth_of-2.ensures.depth c.depth_of-3.ensures.depth c.depth_of-4.ensures.depth))
+
+pub returns-clause-within : goal.returns-clause-within
+returns-clause-within c = subst (λ (d : FourDepths). (u : Suit) → depth_in d u ≤ count_of u (all_cards c.args.start.now)) (sym c.of_suits.ensures) (
+    lengths c.args.start.now (record { spades = c.depth_of.result; hearts = c.depth_of-2.result; diamonds = c.depth_of-3.result; clubs = c.depth_of-4.result }) c.args.cards
+    (subst (λ (p : Board). (u : Suit) → depth_in (record { spades = c.depth_of.result; hearts = c.depth_of-2.result; diamonds = c.depth_of-3.result; clubs = c.depth_of-4.result }) u ≡ depths_of (reach c.args.cards) p u) c.position.ensures.value
+    (by-suits c.position.result.now c.cards_left-all.result c.args.cards c.depth_of.result c.depth_of-2.result c.depth_of-3.result c.depth_of-4.result c.cards_left-all.ensures.board c.cards_left-all.ensures.set c.cards_left-all.ensures.cards
+    c.depth_of.ensures.depth c.depth_of-2.ensures.depth c.depth_of-3.ensures.depth c.depth_of-4.ensures.depth)))
