@@ -1,5 +1,5 @@
 -- winning ranks with the rest of the classes that they reach in part
-use Rattle.std.proofs.Common.{◌≡◌, ◌<◌, ◌≤◌, ◌⊎◌, Bool, true, false, refl, sym, ap, ◌∙◌, arith, inl, inr, eq-eqb, List, ◌++◌}
+use Rattle.std.proofs.Common.{◌≡◌, ℕ, zero, suc, ◌+◌, ◌-◌, ◌<◌, ◌≤◌, ◌⊎◌, Bool, true, false, refl, sym, ap, ◌∙◌, arith, inl, inr, eq-eqb, List, ◌++◌}
 use Rattle.std.specs.Prelude.{filter, nat_lt, ◌||◌, ◌&&◌}
 use Rattle.std.specs.List.{list_any}
 use mathlib.Core.Bool.{not}
@@ -21,6 +21,7 @@ use Rattle.dd_play.specs.Reach.{reach}
 use Rattle.dd_play.specs.Simulations.{IsLegal}
 use Rattle.dd_play.proofs.CallerLemmas.{filter-has, filter-passes, in-following, legal-in, legal-out, of-suit', reach-of, reach-some, suit-of, times-hand, times-has}
 use Rattle.dd_equal.specs.EqualCards.{IsWhole, are_equal, is_between, other_cards, is_top}
+use Rattle.dd_relative.specs.Runs.{next_above}
 use Rattle.dd_relative.specs.WinningRanks.{AreTop}
 use Rattle.dd_relative.proofs.Boards.{board-hands}
 use Rattle.dd_relative.proofs.Tops.{any-some, obeys-suit, some-any}
@@ -307,3 +308,33 @@ module _ (p : Board) (own others ranks reached lower : List PlayingCard) (made :
                 clear e (ap (λ l. has_card l e) made.theirs ∙ filter-has (λ x. not (has_card own x)) deck e (has_card-deck e (omega (arith, real_c.0, a), omega (arith, real_t.1, b))) (false-not _ not_mine))
                 (suit ∙ suits) a b)
           ]
+
+  -- ---- where no class is reached in part
+  -- a card with none of the others between it and one that is reached is reached too, step by step
+  climb : ((c : PlayingCard) → has_card own c ≡ true → has_card reached (next_above c) ≡ true → has_card reached c ≡ true)
+      → (n : ℕ) (c t : PlayingCard) → t.rank ≡ c.rank + suc n → t.suit ≡ c.suit → has_card own c ≡ true → has_card reached t ≡ true → IsClear others c t → has_card reached c ≡ true
+  climb none zero c t e suit mine has clear =
+      none c mine (ap (λ x. has_card reached x) (same_card-eq (next_above c) t (and-both _ _ (eq-eqb _ _ (ap suit_code (sym suit))) (eq-eqb _ _ (omega (arith, e))))) ∙ has)
+  climb none (suc n) c t e suit mine has clear =
+      let real_c = own-real c mine in
+      let real_t = own-real t (reached-own t has) in
+      let next : has_card own (next_above c) ≡ true = else-own (next_above c) (omega (arith, real_c.0), omega (arith, real_t.1, e)) (λ h. clear (next_above c) h refl (omega arith) (omega (arith, e))) in
+      none c mine (climb none n (next_above c) t (omega (arith, e)) suit next has (λ x h same low high. clear x h same (omega (arith, low)) high))
+
+  -- so nothing joins
+  lower-ranks : ((c : PlayingCard) → has_card own c ≡ true → has_card reached (next_above c) ≡ true → has_card reached c ≡ true) → (c : PlayingCard) → has_card lower c ≡ true → has_card ranks c ≡ true
+  lower-ranks none c h =
+      let t = headed-by reached others c (lower-headed c h) in
+      reached-rank c (climb none (t.0.rank - c.rank - 1) c t.0 (let less = t.3 in omega (arith, less)) t.2 (legal-own c (lower-legal c h)) t.1 t.4)
+
+  -- and the ranks have whole classes
+  pub whole-already : ((c : PlayingCard) → has_card own c ≡ true → has_card reached (next_above c) ≡ true → has_card reached c ≡ true) → IsWhole (reach ranks) p
+  whole-already none t c top legal_c equal h =
+      let legal_t = and-right (is_top p t) (has_card (legal p) t) (sym (has_card-filter (is_top p) (legal p) t) ∙ top) in
+      let real_t = own-real t (legal-own t legal_t) in
+      let real_c = own-real c (legal-own c legal_c) in
+      let wide = widened-whole t c top legal_c equal (there-reach widened t (in-ranks t real_t (top-reach ranks t made.top real_t.1 h))) in
+      elim (in-one c (top-reach widened c widened-top real_c.1 wide)) [
+        | inl rank ↦ there-reach ranks c rank
+        | inr under ↦ there-reach ranks c (lower-ranks none c under)
+      ]

@@ -18,7 +18,7 @@ ghost use Rattle.dd_relative.specs.WinningRanks.{AreBefore};
 use crate::coming_start::ComingStart;
 use crate::known_start::KnownStart;
 use crate::relative_start::{closed_over, pack};
-use crate::runs::run_heads;
+use crate::runs::{have_none_below, run_heads};
 use crate::winning_card::{four_cards, winner};
 use crate::winning_ranks::{WinningRanks, before_trick};
 use dd_cards::{Card, Hand, Place, Seat, Suit};
@@ -172,6 +172,10 @@ impl<'a> PlacedTrick<'a> {
         // The proof reads here that these are cards of the pack.
         let _spades = top.holding(Suit::Spades);
         let reached = top.difference(others);
+        // Mostly no class is reached in part.
+        if have_none_below(reached, own) {
+            return ranks.copy();
+        }
         let lower = self.choices_at(played).headed(reached, others);
         ranks.with(lower)
     }
