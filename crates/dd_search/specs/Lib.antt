@@ -1,4 +1,3 @@
 pub mod ClaimsBy
 pub mod Budgets
-pub mod Moves
 pub mod Turns

@@ -1,31 +1,31 @@
 //! Which card looks best to a hand that has none of the suit led: a ruff or a discard. Each suit is rather tried once before
 //! one is tried again, and of a suit the lower card comes first.
-ghost use Rattle.std.specs.Prelude.{◌≡◌, true, IfSome};
+ghost use Rattle.std.specs.Prelude.{◌≡◌, true};
+ghost use Rattle.dd_cards.specs.PlayingCard.{PlayingCard};
 ghost use Rattle.dd_cards.specs.Cards.{has_card};
 
-use crate::holdings::{code_of_highest, lowest};
-use crate::suit_lanes::{LOWEST, at, greatest, nonempty, where_held};
+use crate::holdings::code_of_highest;
+use crate::suit_lanes::{LOWEST, at, greatest, nonempty, place, where_held};
 use crate::trick_view::TrickView;
 use crate::turn::Turn;
-use dd_cards::{Card, Hand, Holding, Rank, Suit};
+use dd_cards::Hand;
 
 /// What the cards of a hand are worth that has none of the suit led.
 #[derive(Clone, Copy, Debug)]
 pub(crate) struct Discarding {
-    // the trump suit, where it can ruff
-    trump: Option<Suit>,
+    // the bits of the trump suit, where it can ruff; of trumps those that beat what lies on the trick, and those that the next hand can't
+    // ruff higher: other suits' bits are no matter
+    trumps: u64,
+    beat: u64,
+    hold: u64,
     worth: DiscardWorth,
-    // from the rank above this one on a trump beats what lies on the trick
-    beaten: u8,
-    // from the rank above this one on the next hand can't ruff higher
-    overruffs: u8,
     // what four cards of a suit make each card of it worth more: a long suit can spare one
     four_to_spare: u8,
 }
 
-// What a card is worth, by hand.
+/// What a card is worth, by hand.
 #[derive(Clone, Copy, Debug)]
-struct DiscardWorth {
+pub(crate) struct DiscardWorth {
     discard: u8,
     // a trump that wins, and that the next hand can't beat
     holds: u8,
@@ -35,36 +35,36 @@ struct DiscardWorth {
     useless: u8,
 }
 
-// Partner wins, and a card that serves nowhere goes; a trump would take partner's trick.
-const ON_PARTNERS_TRICK: DiscardWorth = DiscardWorth {
+/// Partner wins, and a card that serves nowhere goes; a trump would take partner's trick.
+pub(crate) const ON_PARTNERS_TRICK: DiscardWorth = DiscardWorth {
     discard: 100,
     holds: 50,
     may_hold: 50,
     useless: 50,
 };
-// Second hand: partner does not win the trick by itself. Where the next hand can ruff higher partner is still to play.
-const SECOND_HAND: DiscardWorth = DiscardWorth {
+/// Second hand: partner does not win the trick by itself. Where the next hand can ruff higher partner is still to play.
+pub(crate) const SECOND_HAND: DiscardWorth = DiscardWorth {
     discard: 35,
     holds: 90,
     may_hold: 55,
     useless: 55,
 };
 // Third hand: a ruff that the next hand can beat costs it a high trump.
-const THIRD_HAND: DiscardWorth = DiscardWorth {
+pub(crate) const THIRD_HAND: DiscardWorth = DiscardWorth {
     discard: 55,
     holds: 110,
     may_hold: 80,
     useless: 25,
 };
 // Fourth hand: the trick is lost; a ruff would win it.
-const FOURTH_HAND: DiscardWorth = DiscardWorth {
+pub(crate) const FOURTH_HAND: DiscardWorth = DiscardWorth {
     discard: 54,
     holds: 100,
     may_hold: 100,
     useless: 20,
 };
 // Fourth hand: partner has won, and trumps are kept.
-const LAST_ON_PARTNERS_TRICK: DiscardWorth = DiscardWorth {
+pub(crate) const LAST_ON_PARTNERS_TRICK: DiscardWorth = DiscardWorth {
     discard: 84,
     holds: 54,
     may_hold: 54,
@@ -87,11 +87,34 @@ impl Discarding {
     #[inline]
     pub(crate) fn nothing() -> Discarding {
         Discarding {
-            trump: None,
+            trumps: 0,
+            beat: 0,
+            hold: 0,
             worth: SECOND_HAND,
-            beaten: 0,
-            overruffs: 0,
             four_to_spare: 0,
+        }
+    }
+
+    /// What the cards of a hand are worth that has none of the suit led, by the bits of the trump suit, where it can ruff, by those of trumps
+    /// that beat what lies on the trick, and of those that the next hand can't ruff higher; and whether there is a trump suit.
+    #[inline(always)]
+    pub(crate) fn by_bits(
+        trumps: u64,
+        beat: u64,
+        hold: u64,
+        worth: DiscardWorth,
+        has_trumps: bool,
+    ) -> Discarding {
+        Discarding {
+            trumps,
+            beat,
+            hold,
+            worth,
+            four_to_spare: if has_trumps {
+                FOUR_TO_SPARE_WITH_TRUMPS
+            } else {
+                FOUR_TO_SPARE_AT_NOTRUMP
+            },
         }
     }
 
@@ -116,48 +139,34 @@ impl Discarding {
             Turn::Fourth if view.partners => LAST_ON_PARTNERS_TRICK,
             Turn::Fourth => FOURTH_HAND,
         };
-        Discarding {
-            trump: view.trump,
-            worth,
-            beaten: if view.ruffed { best } else { 0 },
-            overruffs: view.next.trump,
-            four_to_spare: if view.has_trumps {
-                FOUR_TO_SPARE_WITH_TRUMPS
-            } else {
-                FOUR_TO_SPARE_AT_NOTRUMP
-            },
-        }
+        let (trumps, from) = match view.trump {
+            Some(trump) => (at(trump, 0xFFFF), place(trump)),
+            None => (0, 0),
+        };
+        let beat = above(from, if view.ruffed { best } else { 0 });
+        let hold = above(from, view.next.trump);
+        Discarding::by_bits(trumps, beat, hold, worth, view.has_trumps)
     }
 
-    /// The best of the choices of a hand with these lengths that were not tried yet.
+    /// Of the choices of a hand with these lengths that were not tried yet those of one suit of which the lowest is the best choice.
     // Four suits are weighed side by side, without a branch: which of them has a card to try would hardly be foreseen.
-    #[inline]
-    pub(crate) fn best(self, lengths: u64, choices: Hand, untried: Hand) -> Option<Card>
-        ensures { IfSome result (λ card. has_card untried card ≡ true) }
+    // A function of its own: with its code in each walk of a hand these would grow too large to be copied.
+    #[inline(never)]
+    pub(crate) fn best(&self, lengths: u64, choices: Hand, untried: Hand) -> Hand
+        ensures { (c : PlayingCard) → has_card result c ≡ true → has_card untried c ≡ true }
     {
-        let weights = self.discards(lengths, choices, untried);
-        let (ruffs, weights) = match self.trump {
-            Some(trump) => {
-                let (ruffs, worth) = self.ruffs(untried.holding(trump));
-                let more = (worth as u64).wrapping_sub(self.worth.discard as u64);
-                (ruffs, weights.wrapping_add(at(trump, more)))
-            }
-            None => (Holding::new(), weights),
-        };
+        let (ruffs, worth) = self.ruffs(untried.mask());
+        let more = (worth as u64).wrapping_sub(self.worth.discard as u64);
+        let weights = self
+            .discards(lengths, choices, untried)
+            .wrapping_add((self.trumps & LOWEST).wrapping_mul(more));
         let suit = greatest(where_held(weights, untried));
-        let ranks = untried.holding(suit);
-        let of_worth = if self.trump == Some(suit) {
-            ruffs
-        } else {
-            ranks
-        };
-        let rank = lowest(ranks.intersection(of_worth))?;
-        Some(Card { suit, rank })
+        untried.among(suit & (ruffs | !self.trumps))
     }
 
     // What a discard of each suit is worth.
     #[inline]
-    fn discards(self, lengths: u64, choices: Hand, untried: Hand) -> u64 {
+    fn discards(&self, lengths: u64, choices: Hand, untried: Hand) -> u64 {
         let tried = nonempty(choices.mask() ^ untried.mask());
         let spare = lengths.wrapping_mul(self.four_to_spare as u64);
         LOWEST
@@ -166,26 +175,24 @@ impl Discarding {
             .wrapping_add((spare >> 2) & LOWEST_SEVEN)
     }
 
-    // Of these trumps those that are worth most, and what each of them is worth.
+    // Of the trumps among these cards those that are worth most, and what each of them is worth.
     #[inline]
-    fn ruffs(self, ranks: Holding) -> (Holding, u8) {
-        let beats = above_code(ranks, self.beaten);
-        let holds = above_code(beats, self.overruffs);
-        if !holds.is_empty() {
+    fn ruffs(&self, cards: u64) -> (u64, u8) {
+        let ruffs = cards & self.trumps;
+        let beats = ruffs & self.beat;
+        let holds = beats & self.hold;
+        if holds != 0 {
             (holds, self.worth.holds)
-        } else if !beats.is_empty() {
+        } else if beats != 0 {
             (beats, self.worth.may_hold)
         } else {
-            (ranks, self.worth.useless)
+            (ruffs, self.worth.useless)
         }
     }
 }
 
-// Those of these ranks that are above the rank of this code, and all for 0.
+// The bits above that of the card of this code in the suit that begins there; for 0 those of all its cards.
 #[inline]
-fn above_code(ranks: Holding, code: u8) -> Holding {
-    match Rank::from_code(code) {
-        Some(rank) => ranks.above(rank),
-        None => ranks,
-    }
+fn above(from: u8, code: u8) -> u64 {
+    u64::MAX.wrapping_shl(from.wrapping_add(code).wrapping_add(1) as u32)
 }

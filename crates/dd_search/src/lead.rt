@@ -9,57 +9,51 @@ use crate::lead_weights::{
 };
 use crate::suit_lanes::{LOWEST, LOWEST_FOUR, at, has_lowest, nonzero, place, several};
 use crate::table::LeadHistory;
-use dd_cards::{Card, Hand, Holding, Rank, Strain, Suit};
+use dd_cards::{Hand, Holding, Place, Rank, Strain, Suit};
 use dd_play::Position;
 use dd_rank::{OwnerStrings, TwoHighest};
 use dd_relative::KnownStart;
-use std::marker::Model;
 
 /// A card to try, and how good it looks.
-#[derive(Clone, Copy, Debug)]
+// One number, 0 where there is no card: the weight over the eight bits of the card's place, of which the rank's are turned. So of cards that
+// look as good the greater number is that of the first suit, and in it the lowest card's.
+#[derive(Clone, Copy, Debug, Default)]
 pub(crate) struct Move {
-    pub(crate) card: Card,
-    pub(crate) weight: u16,
-}
-
-impl Model for Move {
-    ghost use Rattle.dd_search.specs.Moves.{WeighedCard};
-
-    ghost Value = { WeighedCard };
-
-    ghost view = { λ m. record { card = m.card; weight = m.weight } };
-
-    ghost inverse = { λ v. record { card = v.card; weight = v.weight } };
-}
-
-impl Default for Move {
-    fn default() -> Move {
-        Move {
-            card: Card::default(),
-            weight: 0,
-        }
-    }
+    number: u32,
 }
 
 impl Move {
+    // The card of this code, and how good it looks.
+    #[inline(always)]
+    fn of(suit: Suit, code: u8, weight: u16) -> Move {
+        let turned = place(suit) | (code ^ 15);
+        Move {
+            number: (weight as u32) << 8 | turned as u32,
+        }
+    }
+
     // The other one where it replaces this one.
     #[inline]
     fn replaced(self, replaces: bool, other: Move) -> Move {
         if replaces { other } else { self }
     }
 
-    // The better of two, and this one where they look as good.
+    // The better of two.
     #[inline]
     fn or(self, other: Move) -> Move {
-        if other.weight > self.weight {
-            other
-        } else {
-            self
+        Move {
+            number: self.number.max(other.number),
         }
+    }
+
+    // The card's bit, and one that no card has where there is none.
+    #[inline(always)]
+    fn bit(self) -> u64 {
+        1u64.wrapping_shl((self.number & 63) ^ 15)
     }
 }
 
-/// Of each suit the lead that looks best of those still to be tried, of weight 0 where there is none. Most searches need no
+/// Of each suit the lead that looks best of those still to be tried, and none where there is none. Most searches need no
 /// other: so the next of a suit is weighed where that failed.
 #[derive(Debug, Drop)]
 pub(crate) struct Leading {
@@ -179,15 +173,11 @@ impl Leading {
 
     /// The best lead that was not tried yet.
     #[inline]
-    pub(crate) fn best(&self, untried: Hand) -> Option<Card>
+    pub(crate) fn best(&self, untried: Hand) -> Option<Place>
         ensures { IfSome result (λ card. has_card untried card ≡ true) }
     {
         let best = self.spades.or(self.hearts).or(self.diamonds.or(self.clubs));
-        if untried.has(best.card) && best.weight > 0 {
-            Some(best.card)
-        } else {
-            None
-        }
+        untried.among(best.bit()).lowest_place()
     }
 }
 
@@ -338,7 +328,7 @@ fn settled(lead: Option<Suit>, weight: u64) -> u64 {
     }
 }
 
-// The card of this suit that looks best of these choices, of weight 0 where there is none; each weighs so much more.
+// The card of this suit that looks best of these choices; each weighs so much more.
 // Once for each suit: a call of its own for all costs 1.5 % instructions.
 #[inline(always)]
 fn best_of<L: LeadView>(
@@ -369,9 +359,9 @@ fn best_of<L: LeadView>(
         tops.cards.usual
     };
     let wins = !opponents && (partner || tops.first == PARTNER);
-    let card = Card { suit, rank: low };
     let rank_in_deal = position.rank_in_deal(suit, low);
-    weighed(card, rank_in_deal, weight, worth, wins)
+    let weight = weighed(rank_in_deal, weight, worth, wins);
+    Move::of(suit, low.code(), weight)
 }
 
 /// Who could ruff a suit at once.
@@ -381,12 +371,11 @@ pub(crate) struct Ruffs {
     partner: bool,
 }
 
-// A card of the suit, and how good it looks.
+// How good a card of the suit looks.
 #[inline]
-fn weighed(card: Card, rank_in_deal: u16, weight: u16, worth: LeadWorth, wins: bool) -> Move {
+fn weighed(rank_in_deal: u16, weight: u16, worth: LeadWorth, wins: bool) -> u16 {
     let worth = if wins { worth.wins } else { worth.loses };
-    let weight = weight.wrapping_add(worth).wrapping_sub(rank_in_deal);
-    Move { card, weight }
+    weight.wrapping_add(worth).wrapping_sub(rank_in_deal)
 }
 
 // The code of the best card that hands with these ranks of a suit could play to it, where a ruff is more than any rank.
@@ -432,8 +421,8 @@ pub(crate) fn best_by_rank_in_deal(
             tops.cards.usual
         };
         let wins = code.max(partner) > against;
-        let card = Card { suit, rank };
-        best = best.or(weighed(card, code as u16, weight, worth, wins));
+        let weight = weighed(code as u16, weight, worth, wins);
+        best = best.or(Move::of(suit, code, weight));
     }
     best
 }
@@ -484,34 +473,26 @@ pub(crate) fn best_by_relative_rank(
     let worth = tops.cards.usual;
     let loses = weight.wrapping_add(worth.loses);
     let wins = weight.wrapping_add(worth.wins);
-    let usual_loser = number_of_lowest(start, suit, usual & !winners, loses);
-    let usual_winner = number_of_lowest(start, suit, usual & winners, wins);
+    let usual_loser = lowest_of(start, suit, usual & !winners, loses);
+    let usual_winner = lowest_of(start, suit, usual & winners, wins);
     let worth = tops.cards.special;
     let loses = weight.wrapping_add(worth.loses);
     let wins = weight.wrapping_add(worth.wins);
-    let special_loser = number_of_lowest(start, suit, special & !winners, loses);
-    let special_winner = number_of_lowest(start, suit, special & winners, wins);
-    let best = usual_loser
-        .max(usual_winner)
-        .max(special_loser.max(special_winner));
-    match Rank::from_code((best & 15) as u8 ^ 15) {
-        Some(rank) => Move {
-            card: Card { suit, rank },
-            weight: ((best >> 4) & 0xFFFF) as u16,
-        },
-        None => Move::default(),
-    }
+    let special_loser = lowest_of(start, suit, special & !winners, loses);
+    let special_winner = lowest_of(start, suit, special & winners, wins);
+    usual_loser
+        .or(usual_winner)
+        .or(special_loser.or(special_winner))
 }
 
-// Of a group of ranks, by their bits, each of which has this weight but for its rank, the lowest as a number, and 0 where there is none: its
-// weight over four bits that are the greater the lower it is. So of two groups' cards that look as good the lower one has the greater number.
+// Of a group of ranks, by their bits, each of which has this weight but for its rank, the lowest.
 #[inline(always)]
-fn number_of_lowest(start: &KnownStart, suit: Suit, ranks: u32, weight: u16) -> u32 {
+fn lowest_of(start: &KnownStart, suit: Suit, ranks: u32, weight: u16) -> Move {
     match Rank::from_code(ranks.trailing_zeros() as u8) {
         Some(rank) => {
             let weight = weight.wrapping_sub(start.ranks().rank(suit, rank));
-            (weight as u32) << 4 | (rank.code() ^ 15) as u32
+            Move::of(suit, rank.code(), weight)
         }
-        None => 0,
+        None => Move::default(),
     }
 }

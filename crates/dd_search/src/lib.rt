@@ -17,6 +17,7 @@ mod lead_view;
 mod lead_weights;
 mod meter;
 mod order;
+mod placed_discard;
 mod placed_follow;
 mod placed_order;
 mod placed_untried;

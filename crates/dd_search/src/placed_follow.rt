@@ -151,24 +151,24 @@ fn winners(own: u64, led: Place, best: Place) -> u64 {
     if best.follows(led) { beats } else { 0 }
 }
 
-// The bits of the trumps, where another suit was led.
+/// The bits of the trumps, where another suit was led.
 #[inline(always)]
-fn trumps_beside(trick: &PlacedTrick<'_>, led: Place) -> u64 {
+pub(crate) fn trumps_beside(trick: &PlacedTrick<'_>, led: Place) -> u64 {
     match trick.start().start().strain() {
         Strain::Trump(trump) if trump != led.suit() => at(trump, 0xFFFF),
         _ => 0,
     }
 }
 
-// The card's bit.
+/// The card's bit.
 #[inline(always)]
-fn bit_of(place: Place) -> u64 {
+pub(crate) fn bit_of(place: Place) -> u64 {
     1 << place.number()
 }
 
-// Those of these cards of a suit that are above all of the others.
+/// Those of these cards of a suit that are above all of the others.
 #[inline(always)]
-fn above_highest(cards: u64, others: u64) -> u64 {
+pub(crate) fn above_highest(cards: u64, others: u64) -> u64 {
     // The lowest bit is no card's: where there are no others, all are above it.
     cards & !u64::MAX.wrapping_shr((others | 1).leading_zeros())
 }

@@ -1,18 +1,18 @@
 //! The order in which the cards of a trick by relative ranks are tried: that of `order.rt`, by the places of the cards. It bears on the
 //! time alone.
-ghost use Rattle.std.specs.Prelude.{◌≡◌, [], MatchOption, Some, None, true, length};
+ghost use Rattle.std.specs.Prelude.{◌≡◌, [], MatchOption, true, length};
 ghost use Rattle.dd_cards.specs.Cards.{has_card};
 ghost use Rattle.dd_search.specs.Turns.{cards_before};
 
 use crate::discard::Discarding;
 use crate::lead::Leading;
+use crate::placed_discard::discarding;
 use crate::placed_follow::PlacedFollowing;
-use crate::placed_view::view_of;
 use crate::second_hands::SecondHands;
 use crate::suit_lanes::LOWEST_FOUR;
 use crate::table::{Bounds, LeadHistory};
 use crate::turn::Turn;
-use dd_cards::{Card, Hand, Place, Suit};
+use dd_cards::{Hand, Place, Suit};
 use dd_relative::PlacedTrick;
 
 /// What a hand does.
@@ -66,7 +66,7 @@ impl PlacedPicker {
             },
             Phase::Discard => PlacedPicker {
                 following: PlacedFollowing::nothing(),
-                discarding: Discarding::of(&view_of(trick, turn)),
+                discarding: discarding(trick, turn),
             },
         }
     }
@@ -89,10 +89,11 @@ impl PlacedPicker {
             return None;
         }
         let best = match phase {
-            Phase::Lead => place_of(leading.best(untried)),
+            Phase::Lead => leading.best(untried),
             Phase::Follow => self.following.best(untried),
             Phase::Discard => {
-                place_of(self.discarding.best(lengths_of(trick, turn), tops, untried))
+                let cards = self.discarding.best(lengths_of(trick, turn), tops, untried);
+                cards.lowest_place()
             }
         };
         match best {
@@ -176,15 +177,4 @@ fn lengths_of(trick: &PlacedTrick<'_>, turn: Turn) -> u64 {
         Turn::Fourth => lengths >> 12,
     };
     own & LOWEST_FOUR
-}
-
-// The place of a card, where there is one.
-#[inline(always)]
-fn place_of(card: Option<Card>) -> Option<Place>
-    ensures { MatchOption card (result ≡ None) (λ c. result ≡ Some c) }
-{
-    match card {
-        Some(card) => Some(Place::of(card)),
-        None => None,
-    }
 }

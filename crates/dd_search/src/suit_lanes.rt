@@ -75,22 +75,22 @@ pub(crate) fn lengths(cards: u64) -> u64 {
     eights.wrapping_add(eights >> 8) & LOWEST_FOUR
 }
 
-/// The suit of the greatest number, the first of equals.
+/// The bits of the suit of the greatest number, the first of equals.
 #[inline]
-pub(crate) fn greatest(numbers: u64) -> Suit {
+pub(crate) fn greatest(numbers: u64) -> u64 {
     let spades = numbers >> 48;
     let hearts = (numbers >> 32) & 0xFFFF;
     let diamonds = (numbers >> 16) & 0xFFFF;
     let clubs = numbers & 0xFFFF;
     let (major, high) = if hearts > spades {
-        (Suit::Hearts, hearts)
+        (0xFFFF_0000_0000, hearts)
     } else {
-        (Suit::Spades, spades)
+        (0xFFFF_0000_0000_0000, spades)
     };
     let (minor, low) = if clubs > diamonds {
-        (Suit::Clubs, clubs)
+        (0xFFFF, clubs)
     } else {
-        (Suit::Diamonds, diamonds)
+        (0xFFFF_0000, diamonds)
     };
     if low > high { minor } else { major }
 }
