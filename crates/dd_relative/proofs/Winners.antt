@@ -1,9 +1,10 @@
 -- the card that wins a trick is the highest of those that decide it
-use Rattle.std.proofs.Common.{◌≡◌, ℕ, ◌≤◌, ◌⊎◌, Bool, true, false, refl, sym, ap, ◌∙◌, subst, arith, inl, inr, List, [], ◌∷◌, eq-eqb}
+use Rattle.std.proofs.Common.{◌≡◌, ℕ, zero, suc, ◌≤◌, get_or, ◌⊎◌, Bool, true, false, refl, sym, ap, ◌∙◌, subst, arith, inl, inr, List, [], ◌∷◌, eq-eqb}
 use Rattle.std.specs.Prelude.{filter, nat_le, ◌==◌, ◌||◌, ◌&&◌}
 use Rattle.std.specs.List.{list_all, position_or_len}
 use mathlib.Core.Path.{ap₂}
 use Rattle.std.proofs.lemmas.Bool.{eqb-true, le-leb, leb-true}
+use Rattle.dd_cards.specs.declared.seat.Seat.{Seat}
 use Rattle.dd_cards.specs.declared.seat.Seat.TheVariants.{North}
 use Rattle.dd_cards.specs.declared.strain.Strain.{Strain}
 use Rattle.dd_cards.specs.declared.strain.Strain.TheVariants.{Trump, Notrump}
@@ -13,7 +14,7 @@ use Rattle.dd_cards.specs.Suits.{suit_code}
 use Rattle.dd_cards.specs.Ranks.{IsRank}
 use Rattle.dd_cards.specs.Cards.{has_card, is_of, place_of, same_card, with_card}
 use Rattle.dd_cards.specs.Hands.{IsSet}
-use Rattle.dd_cards.specs.Seats.{seat_after}
+use Rattle.dd_cards.specs.Seats.{seat_after, seat_code}
 use Rattle.dd_cards.proofs.CallerLemmas.{IsSet-filter, IsSet-with_card, and-both, and-left, and-right, both-ways, has_card-filter, has_card-with_card, or-split, passes, real-set, same_card-eq, same_card-self, set-first, suit_code-lt}
 use Rattle.dd_play.specs.Tricks.{deciding, is_highest_of, is_trump, or_else, winner_of, winning_place}
 use Rattle.dd_play.proofs.CallerLemmas.{filter-has, filter-passes, has-first, in-rest, suit-of}
@@ -226,3 +227,35 @@ module _ (strain : Strain) (x y z d : PlayingCard) (cards : List PlayingCard) (r
 
     pub wins : (place : ℕ) → place ≡ position_or_len (same_card won) (x ∷ y ∷ z ∷ []) → seat_after North place ≡ winner_of trick North strain
     wins place e = ap (seat_after North) (e ∙ sym place-is)
+
+    -- it stands there
+    at-place : get_or trick (position_or_len (same_card won) (x ∷ y ∷ z ∷ [])) d ≡ won
+    at-place = go (same_card won x) (same_card won y) (same_card won z) refl refl refl
+      where
+        go : (a b c : Bool) → same_card won x ≡ a → same_card won y ≡ b → same_card won z ≡ c → get_or trick (position_or_len (same_card won) (x ∷ y ∷ z ∷ [])) d ≡ won
+        go true b c ea eb ec = rw ea (sym (same_card-eq won x ea))
+        go false true c ea eb ec = rw (ea, eb) (sym (same_card-eq won y eb))
+        go false false true ea eb ec = rw (ea, eb, ec) (sym (same_card-eq won z ec))
+        go false false false ea eb ec = rw (ea, eb, ec) (elim (or-split (same_card x won) _ (best-trick won won-best)) [
+          | inl e ↦ absurd (no x ea e)
+          | inr some ↦ elim (or-split (same_card y won) _ some) [
+            | inl e ↦ absurd (no y eb e)
+            | inr some ↦ elim (or-split (same_card z won) _ some) [
+              | inl e ↦ absurd (no z ec e)
+              | inr some ↦ elim (or-split (same_card d won) _ some) [ inl e ↦ same_card-eq d won e | inr never ↦ absurd (cc) ]
+            ]
+          ]
+        ])
+          where
+            no : (c : PlayingCard) → same_card won c ≡ false → same_card c won ≡ true → ⊥
+            no c f e = (let g : true ≡ false = sym (same_card-self won) ∙ ap (same_card won) (sym (same_card-eq c won e)) ∙ f in cc)
+
+    pub card-is : (seat : Seat) (place : ℕ) → place ≡ position_or_len (same_card won) (x ∷ y ∷ z ∷ []) → place ≤ 3 → seat ≡ seat_after North place → won ≡ get_or trick (seat_code seat) d
+    card-is seat place e few is = sym (ap (λ n. get_or trick n d) (ap seat_code is ∙ code place few ∙ e) ∙ at-place)
+      where
+        code : (n : ℕ) → n ≤ 3 → seat_code (seat_after North n) ≡ n
+        code zero h = refl
+        code (suc zero) h = refl
+        code (suc (suc zero)) h = refl
+        code (suc (suc (suc zero))) h = refl
+        code (suc (suc (suc (suc n)))) h = absurd (omega (arith, h))

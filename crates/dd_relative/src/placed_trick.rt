@@ -19,7 +19,7 @@ use crate::coming_start::ComingStart;
 use crate::known_start::KnownStart;
 use crate::relative_start::{closed_over, pack};
 use crate::runs::{have_none_below, run_heads};
-use crate::winning_card::{four_cards, winner};
+use crate::winning_card::{four_cards, winner, winner_with_card};
 use crate::winning_ranks::{WinningRanks, before_trick};
 use dd_cards::{Card, Hand, Place, Seat, Suit};
 use dd_play::TrickStart;
@@ -233,6 +233,30 @@ impl<'a> PlacedTrick<'a> {
             WinningRanks::new()
         } else {
             WinningRanks::down_to_place(won)
+        }
+    }
+
+    /// What `winner_with` and `contested` tell, where this legal card completes the trick.
+    #[inline]
+    pub fn outcome(&self, card: Place) -> (Seat, WinningRanks)
+        requires turn { length self.now.trick ≡ 3 }
+        requires card { has_card (legal self.now) card ≡ true }
+        ensures wins { result.0 ≡ winner_of (trick_with self.now card) self.now.first self.now.strain }
+        ensures first { result.0 ≡ (after self.now card).first }
+        ensures contested { (top : PlayingCard → Bool) → ((c : PlayingCard) → has_card result.1 c ≡ true → top c
+            ≡ true) → IsSettled top self.now card }
+        ensures board { IsBoard self.now }
+    {
+        let trick = self.trick;
+        let [first, second, third] = trick;
+        let (winner, won) = winner_with_card(first, second, third, card, self.start.strain());
+        let others = four_cards(first, second, third, card)
+            .of_suit_at(won)
+            .without_place(won);
+        if others.is_empty() {
+            (winner, WinningRanks::new())
+        } else {
+            (winner, WinningRanks::down_to_place(won))
         }
     }
 

@@ -1,14 +1,14 @@
 //! The card that wins a full trick, by the places of its cards.
-ghost use Rattle.std.specs.Prelude.{◌≡◌, ◌≤◌, ◌∷◌, [], filter};
+ghost use Rattle.std.specs.Prelude.{◌≡◌, ◌≤◌, ◌∷◌, [], filter, slice_index_or};
 ghost use Rattle.std.specs.List.{position_or_len};
 ghost use Rattle.dd_cards.specs.declared.seat.Seat.TheVariants.{North};
+ghost use Rattle.dd_cards.specs.Seats.{seat_code};
 ghost use Rattle.dd_cards.specs.Cards.{is_of, same_card, with_card};
 ghost use Rattle.dd_play.specs.Tricks.{is_trump, or_else, winner_of};
 
 use dd_cards::{Hand, Place, Seat, Strain};
 
 /// The seat that wins a full trick, to which North led the first card.
-// The highest bit of the cards that decide is the winner's: no card is measured against another.
 #[inline(always)]
 pub(crate) fn winner(
     first: Place,
@@ -18,6 +18,23 @@ pub(crate) fn winner(
     strain: Strain,
 ) -> Seat
     ensures { result ≡ winner_of (first ∷ second ∷ third ∷ fourth ∷ []) North strain }
+{
+    winner_with_card(first, second, third, fourth, strain).0
+}
+
+/// The same, and its card.
+// The highest bit of the cards that decide is the winner's: no card is measured against another.
+#[inline(always)]
+pub(crate) fn winner_with_card(
+    first: Place,
+    second: Place,
+    third: Place,
+    fourth: Place,
+    strain: Strain,
+) -> (Seat, Place)
+    ensures seat { result.0 ≡ winner_of (first ∷ second ∷ third ∷ fourth ∷ []) North strain }
+    ensures card { result.1
+        ≡ slice_index_or (first ∷ second ∷ third ∷ fourth ∷ []) (seat_code result.0) fourth }
 {
     // The proof reads here that these are cards of the pack.
     let _numbers = [
@@ -30,7 +47,10 @@ pub(crate) fn winner(
     let mut best = deciding(trick, first, strain);
     match best.take_first() {
         None => unreachable!(),
-        Some(won) => Seat::North.after(place_among(won, first, second, third)),
+        Some(won) => (
+            Seat::North.after(place_among(won, first, second, third)),
+            won,
+        ),
     }
 }
 

@@ -331,9 +331,8 @@ fn relative_by_trick<B: Bounds, M: Meter>(
 {
     // A copy stays in registers: so what is made of its cards before the question serves after it too.
     let own = trick.copy();
-    let winner = own.winner_with(card);
+    let (winner, contested) = own.outcome(card);
     let rest = rest_after(need, Some(winner));
-    let contested = own.contested(card, winner);
     let later = relative_after_trick(&own, card, winner, rest, table, meter)?;
     Ok(RankVerdict::new(later.is_yes(), &later.ranks().with_all(&contested)))
 }

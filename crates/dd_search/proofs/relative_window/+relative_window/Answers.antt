@@ -151,9 +151,9 @@ relative_by_trick-relative_after_trick-requires g t c κs within =
     let p = c.copy-own.result in
     let same = c.copy-own.ensures.same in
     let legal : IsLegal p c.args.card = subst (λ (q : Board). IsLegal q c.args.card) (sym same) c.requires.legal in
-    let fewer = cards_left-after p c.args.card c.winner_with-winner.ensures.board legal in
+    let fewer = cards_left-after p c.args.card c.outcome-winner.ensures.board legal in
     let as_many : cards_left p ≡ cards_left c.args.trick.now = ap cards_left same in
-    (omega (arith, fewer, as_many), (within.0, (within.1, (legal, (ap (λ (q : Board). length q.trick) same ∙ c.requires.turn, (c.winner_with-winner.ensures.first, c.winner_with-winner.ensures.board))))))
+    (omega (arith, fewer, as_many), (within.0, (within.1, (legal, (ap (λ (q : Board). length q.trick) same ∙ c.requires.turn, (c.outcome-winner.ensures.first, c.outcome-winner.ensures.board))))))
 
 pub relative_by_trick-returns-clause-found : goal.relative_by_trick-returns-clause-found
 relative_by_trick-returns-clause-found g t c =
@@ -162,12 +162,12 @@ relative_by_trick-returns-clause-found g t c =
     let later = c.in_ok-later.later in
     let legal : IsLegal p c.args.card = subst (λ (q : Board). IsLegal q c.args.card) (sym same) c.requires.legal in
     let full : completes p ≡ true = ap (λ n. n == 3) (ap (λ (q : Board). length q.trick) same ∙ c.requires.turn) in
-    let wins : Some c.winner_with-winner.result ≡ (if completes p then Some (winner_of (trick_with p c.args.card) p.first p.strain) else None) =
-    ap Some c.winner_with-winner.ensures.wins ∙ sym (ap (λ (b : Bool). (if b then Some (winner_of (trick_with p c.args.card) p.first p.strain) else None)) full) in
+    let wins : Some c.outcome-winner.result.0 ≡ (if completes p then Some (winner_of (trick_with p c.args.card) p.first p.strain) else None) =
+    ap Some c.outcome-winner.ensures.wins ∙ sym (ap (λ (b : Bool). (if b then Some (winner_of (trick_with p c.args.card) p.first p.strain) else None)) full) in
     let found = leads p (after p c.args.card) c.args.need c.rest_after-rest.result c.args.card later.cards c.with_all.result later.yes
-    c.winner_with-winner.ensures.board legal c.requires.low refl (needed-after p c.args.card _ _ _ c.rest_after-rest.ensures wins) c.in_ok-later.ensures.winning_ranks
+    c.outcome-winner.ensures.board legal c.requires.low refl (needed-after p c.args.card _ _ _ c.rest_after-rest.ensures wins) c.in_ok-later.ensures.winning_ranks
     (λ d has. c.with_all.ensures.left d (ap (λ cards. has_card cards d) c.ranks.ensures ∙ has))
-    (c.contested-contested.ensures (reach c.with_all.result) (λ d has. reach-in c.with_all.result d (c.with_all.ensures.right d has))) in
+    (c.outcome-winner.ensures.contested (reach c.with_all.result) (λ d has. reach-in c.with_all.result d (c.with_all.ensures.right d has))) in
     subst (λ (q : Board). IsAnswerAfter q c.args.need c.args.card c.new.result.cards c.new.result.yes) same
     (subst (λ (a : AnswerBy). IsAnswerAfter p c.args.need c.args.card a.cards a.yes) (sym c.new.ensures)
     (subst (λ (b : Bool). IsAnswerAfter p c.args.need c.args.card c.with_all.result b) (sym c.is_yes.ensures) found))
