@@ -11,11 +11,11 @@ use Rattle.dd_rank.specs.Lanes.{lane}
 use Rattle.dd_rank.proofs.FourLanes.{lane-of, lanes-small}
 use Rattle.dd_rank.proofs.TopPlaces.{tops-small}
 
-all_below : (ℕ → Bool) → ℕ → Bool
+unfoldable pub all_below : (ℕ → Bool) → ℕ → Bool
 all_below p zero = true
 all_below p (suc n) = p n && all_below p n
 
-all_below-at : (p : ℕ → Bool) (n i : ℕ) → all_below p n ≡ true → i < n → p i ≡ true
+pub all_below-at : (p : ℕ → Bool) (n i : ℕ) → all_below p n ≡ true → i < n → p i ≡ true
 unfolding all_below
 all_below-at p zero i all h = absurd (omega (arith, h))
 all_below-at p (suc n) i all h = elim (cases_lt i n) [

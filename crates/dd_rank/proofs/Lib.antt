@@ -30,5 +30,6 @@ pub mod Closed
 pub mod TopPlaces
 pub mod TopRanks
 pub mod DepthLanes
+pub mod HighestCards
 pub mod Highest
 pub mod CallerLemmas

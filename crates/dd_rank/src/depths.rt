@@ -133,6 +133,35 @@ impl Depths {
         )
     }
 
+    /// The same of cards with each of which all higher ones of its suit are there, at a start of which that holds too.
+    // Each bit of theirs is one of the depths then.
+    #[inline]
+    pub fn of_highest(start: &TrickStart, cards: Hand) -> Depths
+        requires start { (c d : PlayingCard) → has_card (all_cards start.now) c ≡ true → d.suit ≡ c.suit
+            → c.rank ≤ d.rank → d.rank ≤ 14 → has_card (all_cards start.now) d ≡ true }
+        requires cards { (c d : PlayingCard) → has_card cards c ≡ true → d.suit ≡ c.suit
+            → c.rank ≤ d.rank → d.rank ≤ 14 → has_card cards d ≡ true }
+        ensures depths { (u : SuitOf) → depth_in result u ≡ depths_of (reach cards) start.now u }
+        ensures within { (u : SuitOf) → depth_in result u ≤ count_of u (all_cards start.now) }
+        ensures real { (c : PlayingCard) → has_card cards c ≡ true → IsRank c.rank }
+    {
+        // The proof reads here that these are cards of the pack.
+        let _real = cards.holding(Suit::Spades);
+        let all = cards_left(start.position());
+        let others = all.difference(cards);
+        Depths::of_bits(all.difference(others))
+    }
+
+    // How many of these cards each suit has, where with each all higher ones of its suit are there.
+    #[inline]
+    fn of_bits(cards: Hand) -> Depths
+        requires { (c d : PlayingCard) → has_card cards c ≡ true → d.suit ≡ c.suit → c.rank ≤ d.rank
+            → d.rank ≤ 14 → has_card cards d ≡ true }
+        ensures { (u : SuitOf) → depth_in result u ≡ count_of u cards }
+    {
+        Depths { tops: cards.mask() }
+    }
+
     /// The lowest of the cards of these depths at a position, one of each suit of which there are some.
     pub fn cards(self, start: &TrickStart) -> Hand
         requires { (u : SuitOf) → depth_in self u ≤ count_of u (all_cards start.now) }

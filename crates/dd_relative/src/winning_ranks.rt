@@ -87,6 +87,16 @@ impl WinningRanks {
         }
     }
 
+    /// The depths of the cards at a start: how many of the cards left are one of them or higher than one.
+    #[inline(always)]
+    pub fn depths(&self, start: &RelativeStart) -> Depths
+        ensures depths { (u : SuitOf) → depth_in result u ≡ depths_of (reach self.now) start.now u }
+        ensures within { (u : SuitOf) → depth_in result u ≤ count_of u (all_cards start.now) }
+        ensures real { (c : PlayingCard) → has_card self.now c ≡ true → IsRank c.rank }
+    {
+        Depths::of_highest(start.as_trick_start(), self.cards)
+    }
+
     /// A card and all higher ones of its suit.
     #[inline(always)]
     pub fn down_to(card: Card) -> WinningRanks

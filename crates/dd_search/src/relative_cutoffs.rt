@@ -16,7 +16,7 @@ use crate::turn::Turn;
 use dd_cards::{Place, Seat};
 use dd_play::Interval;
 use dd_quick::{against_leader, for_leader, for_second_hand};
-use dd_rank::{Depths, OwnerStrings};
+use dd_rank::OwnerStrings;
 use dd_relative::{ComingStart, PlacedTrick, WinningRanks};
 
 // The leader is North, so that North and South's tricks are the leader's side's.
@@ -182,6 +182,6 @@ pub(crate) fn note_ranks<B: Bounds>(
             hi: need - 1,
         }
     };
-    let depths = Depths::of_cards(start, answer.ranks().cards());
+    let depths = answer.ranks().depths(relative);
     table.note_by(start, strings, depths, interval);
 }
