@@ -84,7 +84,8 @@ pub trait Analyst {
     /// `NoVulnerable` `unknown` is what that tag of the game says, `#` and `##` as they stand there; it is empty where the tag is
     /// missing, empty or `?`, and for other reasons. Of both the first 32 bytes are told.
     fn left(&mut self, game: u64, board: &[u8], reason: Reason, unknown: &[u8])
-        ensures { Self.way (Self.state self.old) (left_game game board.now reason unknown.now) (Self.state self.new) };
+        ensures { Self.way (Self.state self.old) (left_game game board.now reason unknown.now)
+            (Self.state self.new) };
 
     /// Is told at the end of the file how many games it has: each has a tag. No answer rests on it.
     fn ended(&mut self, games: u64)

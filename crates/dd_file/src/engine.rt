@@ -433,8 +433,10 @@ fn near_of(rest: &[u8]) -> &[u8]
 
 // Writes a text.
 fn write_text<W: Write>(writer: &mut CountedDevice<W>, text: &[u8]) -> Result<(), FileFault>
-    ensures ok { OnOk result (Appends (bytes_of W.contents writer.old) (bytes_of W.contents writer.new) text.now) }
-    ensures err { OnErr result (WroteText (bytes_of W.contents writer.old) (bytes_of W.contents writer.new) text.now) }
+    ensures ok { OnOk result (Appends (bytes_of W.contents writer.old)
+        (bytes_of W.contents writer.new) text.now) }
+    ensures err { OnErr result (WroteText (bytes_of W.contents writer.old)
+        (bytes_of W.contents writer.new) text.now) }
     ensures fault { StopsAtWrite writer.old writer.new result }
 {
     match write_whole(writer, text) {

@@ -109,11 +109,13 @@ impl Filler {
             (A.state analyst.old) (A.state analyst.new)
             (begins_now self.old.left self.old.mode is_all near.now) (slice_index near.now 0)
             out.old.items out.new.items) }
-        ensures notes { OnOk result (Notes self.old self.new (begins_now self.old.left self.old.mode is_all near.now)) }
+        ensures notes { OnOk result (Notes self.old self.new
+            (begins_now self.old.left self.old.mode is_all near.now)) }
         ensures passed { OnOk result (self.new.passed ≡ min (self.old.passed + 1) (2 ^ 64 - 1)) }
         ensures asks { ends self.old.state (begins_now self.old.left self.old.mode is_all near.now) ≡ false
             → analyst.new ≡ analyst.old }
-        ensures stops { OnErr result (StopsAt A.gives A.way self.old (A.state analyst.old) (A.state analyst.new)
+        ensures stops { OnErr result (StopsAt A.gives A.way self.old (A.state analyst.old)
+            (A.state analyst.new)
             (begins_now self.old.left self.old.mode is_all near.now)) }
     {
         let byte = near[0];
@@ -127,7 +129,8 @@ impl Filler {
     // Where a tag comes next there are none, and nothing is called.
     #[inline(always)]
     pub(crate) fn pass_quiet(&mut self, text: &[u8], out: &mut Vec<u8>) -> Result<usize, AllocError>
-        ensures passes { IfOk result (λ count. PassesQuiet self.old self.new text.now count out.old.items out.new.items) }
+        ensures passes { IfOk result
+            (λ count. PassesQuiet self.old self.new text.now count out.old.items out.new.items) }
         ensures counts { IfOk result (λ count. Counts self.old self.new count) }
     {
         if !self.begins_quiet(text) {
@@ -139,7 +142,8 @@ impl Filler {
     // The same of bytes of which the first comes out alone.
     #[inline(never)]
     fn pass_stretch(&mut self, text: &[u8], out: &mut Vec<u8>) -> Result<usize, AllocError>
-        ensures passes { IfOk result (λ count. PassesQuiet self.old self.new text.now count out.old.items out.new.items) }
+        ensures passes { IfOk result
+            (λ count. PassesQuiet self.old self.new text.now count out.old.items out.new.items) }
         ensures counts { IfOk result (λ count. Counts self.old self.new count) }
     {
         let count = text.len().saturating_sub(self.take_quiet(text).len());
@@ -158,7 +162,8 @@ impl Filler {
     ) -> Result<usize, AllocError>
         ensures passes { IfOk result (λ count. PassesTag A.gives A.way self.old self.new (notes_of self.new)
             (A.state analyst.old) (A.state analyst.new) text.now count out.old.items out.new.items) }
-        ensures counts { IfOk result (λ count. (0 < count → self.new.passed ≡ min (self.old.passed + count) (2 ^ 64 - 1))
+        ensures counts { IfOk result (λ count. (0 < count
+            → self.new.passed ≡ min (self.old.passed + count) (2 ^ 64 - 1))
             × (count ≡ 0 → KeepsCounts self.old self.new)) }
         ensures notes { IfOk result (λ count. NotesFirst self.old self.new text.now count) }
         ensures asks { IfOk result (λ count. AsksAtEnd self.old text.now analyst.old analyst.new) }
@@ -194,7 +199,8 @@ impl Filler {
         bytes: &[u8],
     ) -> Result<(), AllocError>
         requires { IfSome number (λ n. n < 19) }
-        ensures state { OnOk result (self.new.state ≡ with_line_bytes bytes.now (told number quoted.now self.old.state)) }
+        ensures state { OnOk result (self.new.state
+            ≡ with_line_bytes bytes.now (told number quoted.now self.old.state)) }
         ensures mode { OnOk result (self.new.mode ≡ Mode.Plain) }
         ensures left { OnOk result (self.new.left ≡ self.old.left) }
         ensures wanted { OnOk result (self.new.wanted ≡ self.old.wanted) }
@@ -347,9 +353,12 @@ impl Filler {
         ensures ends { OnOk result (EndsBefore A.gives A.way self.old self.new
             (A.state analyst.old) (A.state analyst.new) (shown mark.now) out.old.items out.new.items) }
         ensures passed { OnOk result (self.new.passed ≡ self.old.passed) }
-        ensures number { OnOk result (self.new.number ≡ number_here (ends self.old.state (shown mark.now)) self.old.number) }
-        ensures board { OnOk result (board_of self.new ≡ board_here (ends self.old.state (shown mark.now)) (board_of self.old)) }
-        ensures texts { OnOk result (unknown_of self.new ≡ texts_here (ends self.old.state (shown mark.now)) (unknown_of self.old)) }
+        ensures number { OnOk result (self.new.number
+            ≡ number_here (ends self.old.state (shown mark.now)) self.old.number) }
+        ensures board { OnOk result (board_of self.new
+            ≡ board_here (ends self.old.state (shown mark.now)) (board_of self.old)) }
+        ensures texts { OnOk result (unknown_of self.new
+            ≡ texts_here (ends self.old.state (shown mark.now)) (unknown_of self.old)) }
         ensures asks { ends self.old.state (shown mark.now) ≡ false → analyst.new ≡ analyst.old }
         ensures stops { OnErr result (A.state analyst.new ≡ A.state analyst.old) }
     {
@@ -408,7 +417,8 @@ impl Filler {
         ensures passed { OnOk result (self.new.passed ≡ min (self.old.passed + 1) (2 ^ 64 - 1)) }
         ensures number { OnOk result (self.new.number ≡ self.old.number) }
         ensures board { OnOk result (board_of self.new ≡ board_with (shown mark.now) (board_of self.old)) }
-        ensures texts { OnOk result (unknown_of self.new ≡ texts_with (shown mark.now) self.old.state (unknown_of self.old)) }
+        ensures texts { OnOk result (unknown_of self.new
+            ≡ texts_with (shown mark.now) self.old.state (unknown_of self.old)) }
     {
         self.tell(mark)?;
         self.state.pass(byte);
@@ -427,7 +437,8 @@ impl Filler {
         ensures passed { OnOk result (self.new.passed ≡ self.old.passed) }
         ensures number { OnOk result (self.new.number ≡ self.old.number) }
         ensures board { OnOk result (board_of self.new ≡ board_with (shown mark.now) (board_of self.old)) }
-        ensures texts { OnOk result (unknown_of self.new ≡ texts_with (shown mark.now) self.old.state (unknown_of self.old)) }
+        ensures texts { OnOk result (unknown_of self.new
+            ≡ texts_with (shown mark.now) self.old.state (unknown_of self.old)) }
     {
         match *mark {
             Mark::Tag { name, quoted, .. } => {
@@ -447,7 +458,8 @@ impl Filler {
         ensures place { OnOk result (KeepsPlace self.old self.new) }
         ensures passed { OnOk result (self.new.passed ≡ self.old.passed) }
         ensures number { OnOk result (self.new.number ≡ self.old.number) }
-        ensures board { OnOk result (board_of self.new ≡ board_told number (unescaped false quoted.now) (board_of self.old)) }
+        ensures board { OnOk result (board_of self.new
+            ≡ board_told number (unescaped false quoted.now) (board_of self.old)) }
         ensures unknown { OnOk result (self.new.unknown ≡ self.old.unknown) }
     {
         if is_board(number) {
@@ -542,7 +554,8 @@ impl Filler {
         requires { IsThirteen deal.now }
         ensures adds { OnOk result (AddsAnswer A.gives A.way
             (ask_with (Ok deal.now) (conditions_of self.now.state) (lacks self.now.wanted self.now.state))
-            (why_with (Ok deal.now) (lacks self.now.wanted self.now.state) self.now.state (unknown_of self.now))
+            (why_with (Ok deal.now) (lacks self.now.wanted self.now.state) self.now.state
+            (unknown_of self.now))
             self.now.wanted self.now.state (notes_of self.now)
             (A.state analyst.old) (A.state analyst.new) out.old.items out.new.items) }
         ensures stops { OnErr result (A.state analyst.new ≡ A.state analyst.old) }
@@ -590,7 +603,8 @@ impl Filler {
     // Tells that the game at hand has no end, or none at which a line can stand, where it lacks a tag.
     fn leave_open<A: Analyst>(&self, analyst: &mut A)
         ensures { (answer : Option Found) → Hears A.way (A.state analyst.old)
-            (left_of_game (notes_of self.now) (why false self.now.wanted self.now.state (unknown_of self.now) answer))
+            (left_of_game (notes_of self.now) (why false self.now.wanted self.now.state
+            (unknown_of self.now) answer))
             (A.state analyst.new) }
     {
         if !lacks_none(self.state.lacks(self.wanted)) {

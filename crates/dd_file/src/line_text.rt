@@ -116,7 +116,8 @@ fn push_contract_list(out: &mut Vec<u8>, contracts: &[ParContract]) -> Result<()
 
 // Each with `; ` before it.
 fn push_more_contracts(out: &mut Vec<u8>, contracts: &[ParContract]) -> Result<(), AllocError>
-    ensures { OnOk result (out.new.items ≡ out.old.items ++ flat_map (λ c. 59 ∷ 32 ∷ contract_text c) contracts.now) }
+    ensures { OnOk result (out.new.items ≡ out.old.items
+        ++ flat_map (λ c. 59 ∷ 32 ∷ contract_text c) contracts.now) }
 {
     for contract in contracts {
         out.extend_from_slice(b"; ")?;

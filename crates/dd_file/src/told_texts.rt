@@ -82,7 +82,8 @@ impl UnknownTexts {
         quoted: &[u8],
         state: &FillState,
     ) -> Result<(), AllocError>
-        ensures { OnOk result (texts_of self.new ≡ texts_told number (unescaped false quoted.now) state.now (texts_of self.old)) }
+        ensures { OnOk result (texts_of self.new ≡ texts_told number (unescaped false quoted.now) state.now
+            (texts_of self.old)) }
     {
         if !is_known(number, state) {
             let text = unescaped(alloc, quoted)?;

@@ -75,7 +75,8 @@ fn push_unescaped(
     is_behind_backslash: bool,
     byte: u8,
 ) -> Result<bool, AllocError>
-    ensures { IfOk result (λ behind. (rest : List ℕ) → text.old.items ++ unescaped is_behind_backslash (byte ∷ rest)
+    ensures { IfOk result (λ behind. (rest : List ℕ)
+        → text.old.items ++ unescaped is_behind_backslash (byte ∷ rest)
         ≡ text.new.items ++ unescaped behind rest) }
 {
     if !is_behind_backslash {

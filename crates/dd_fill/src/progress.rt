@@ -18,7 +18,8 @@ pub(crate) fn show_progress<E: Write>(
     bytes: u64,
     errors: &mut CountedDevice<E>,
 )
-    ensures { SaysAll (progress_texts shows_progress games bytes) (sink_of E.contents errors.old) (sink_of E.contents errors.new) }
+    ensures { SaysAll (progress_texts shows_progress games bytes) (sink_of E.contents errors.old)
+        (sink_of E.contents errors.new) }
 {
     if !shows_progress {
         return;
@@ -29,7 +30,8 @@ pub(crate) fn show_progress<E: Write>(
 
 /// Shows nothing in the last line, where that was to be shown.
 pub(crate) fn clear_progress<E: Write>(shows_progress: bool, errors: &mut CountedDevice<E>)
-    ensures { SaysAll (clear_texts shows_progress) (sink_of E.contents errors.old) (sink_of E.contents errors.new) }
+    ensures { SaysAll (clear_texts shows_progress) (sink_of E.contents errors.old)
+        (sink_of E.contents errors.new) }
 {
     if !shows_progress {
         return;
@@ -39,7 +41,8 @@ pub(crate) fn clear_progress<E: Write>(shows_progress: bool, errors: &mut Counte
 
 /// Says a line, in place of what is shown in the last one.
 pub(crate) fn say<E: Write>(line: &[u8], errors: &mut CountedDevice<E>, shows_progress: bool)
-    ensures { SaysAll (clear_texts shows_progress ++ line.now ∷ []) (sink_of E.contents errors.old) (sink_of E.contents errors.new) }
+    ensures { SaysAll (clear_texts shows_progress ++ line.now ∷ []) (sink_of E.contents errors.old)
+        (sink_of E.contents errors.new) }
 {
     clear_progress(shows_progress, errors);
     say_text(line, errors);

@@ -23,7 +23,8 @@ pub enum ListenFault {
 impl ListenFault {
     /// The fault that an error of this kind tells of.
     pub(crate) fn of(kind: ErrorKind) -> ListenFault
-        ensures no_address { (result ≡ NoAddress) ↔ ((kind ≡ ErrorKind.InvalidInput) ⊎ (kind ≡ ErrorKind.NotFound)) }
+        ensures no_address { (result ≡ NoAddress)
+            ↔ ((kind ≡ ErrorKind.InvalidInput) ⊎ (kind ≡ ErrorKind.NotFound)) }
         ensures in_use { (result ≡ InUse) ↔ (kind ≡ ErrorKind.AddrInUse) }
         ensures elsewhere { (result ≡ Elsewhere) ↔ (kind ≡ ErrorKind.AddrNotAvailable) }
         ensures not_permitted { (result ≡ NotPermitted) ↔ (kind ≡ ErrorKind.PermissionDenied) }

@@ -71,7 +71,8 @@ fn trumps_in(strain: Strain, cards: Hand) -> u8
 #[inline(always)]
 pub(crate) fn ranks_of(seen: &Seen, suit: Suit) -> Ranks
     ensures { (p : Board) → IsSeen p seen.now.own seen.now.left seen.now.partner seen.now.right
-        seen.now.left_trumps seen.now.right_trumps → AreRanks p p.first suit result.own result.left result.partner result.right }
+        seen.now.left_trumps seen.now.right_trumps
+        → AreRanks p p.first suit result.own result.left result.partner result.right }
 {
     Ranks {
         own: seen.own.holding(suit),

@@ -16,8 +16,10 @@ ghost use Rattle.dd_rank.specs.Strings.{string_in, Strings, ShapeOf, strings_of,
 
 /// Alike positions have one value for the leader's side: also where all seats are turned, and so where none is.
 pub fn alike_positions()
-    ensures turned { (p q : Board) → IsBoard p → IsBoard q → AreAlike p q → leaders_tricks q ≡ leaders_tricks p }
-    ensures unturned { (p q : Board) → IsBoard p → IsBoard q → IsAlike p q → leaders_tricks q ≡ leaders_tricks p }
+    ensures turned { (p q : Board) → IsBoard p → IsBoard q → AreAlike p q
+        → leaders_tricks q ≡ leaders_tricks p }
+    ensures unturned { (p q : Board) → IsBoard p → IsBoard q → IsAlike p q
+        → leaders_tricks q ≡ leaders_tricks p }
 {}
 
 /// What holds of all positions that one covers at depths, and claims by the cards that these depths reach, are the same.

@@ -100,7 +100,8 @@ impl Shape {
     /// A number of 64 bits of the strain, the leader's number of cards of each suit and a word.
     #[inline]
     pub(crate) fn outline_number(self, word: u64) -> u64
-        ensures { result ≡ mix (mix (strain_code self.strain) (bit_and self.lengths 0x000F000F000F000F)) word }
+        ensures { result ≡ mix (mix (strain_code self.strain)
+            (bit_and self.lengths 0x000F000F000F000F)) word }
     {
         mix(mix(self.strain.code() as u64, self.lengths & LEADERS), word)
     }

@@ -243,7 +243,8 @@ impl<'a> PlacedTrick<'a> {
         requires card { has_card (legal self.now) card ≡ true }
         ensures wins { result.0 ≡ winner_of (trick_with self.now card) self.now.first self.now.strain }
         ensures first { result.0 ≡ (after self.now card).first }
-        ensures contested { (top : PlayingCard → Bool) → ((c : PlayingCard) → has_card result.1 c ≡ true → top c
+        ensures contested { (top : PlayingCard → Bool)
+            → ((c : PlayingCard) → has_card result.1 c ≡ true → top c
             ≡ true) → IsSettled top self.now card }
         ensures board { IsBoard self.now }
     {

@@ -18,7 +18,8 @@ pub(crate) fn run_heads(cards: Hand) -> Hand
 /// Have the cards no next lower one among `own` but those that are theirs?
 #[inline(always)]
 pub(crate) fn have_none_below(cards: Hand, own: Hand) -> bool
-    ensures { IsTrue result → (c : PlayingCard) → has_card own c ≡ true → has_card cards (next_above c) ≡ true → has_card cards c ≡ true }
+    ensures { IsTrue result → (c : PlayingCard) → has_card own c ≡ true
+        → has_card cards (next_above c) ≡ true → has_card cards c ≡ true }
 {
     let mask = cards.mask();
     let next = (mask >> 1) & own.mask();

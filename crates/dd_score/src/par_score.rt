@@ -27,7 +27,8 @@ pub(crate) fn par_score(worths: &Worths, order: Order) -> i16
 #[tactic(auto, unfolding(crate::specs::Levels::level_offered))]
 fn level_offered(worths: &Worths, level: u8, asked: Asked, score: i16) -> i16
     requires { (1 ≤ level) × (level ≤ 7) }
-    ensures { result ≡ level_offered worths.now.tricks worths.now.vulnerable level (asked.first ∷ asked.second ∷ asked.third ∷ asked.fourth ∷ []) score }
+    ensures { result ≡ level_offered worths.now.tricks worths.now.vulnerable level
+        (asked.first ∷ asked.second ∷ asked.third ∷ asked.fourth ∷ []) score }
 {
     let score = offered(worths, level, Strain::Trump(Suit::Clubs), asked, score);
     let score = offered(worths, level, Strain::Trump(Suit::Diamonds), asked, score);
@@ -41,7 +42,8 @@ fn level_offered(worths: &Worths, level: u8, asked: Asked, score: i16) -> i16
 #[inline(always)]
 fn offered(worths: &Worths, level: u8, strain: Strain, asked: Asked, score: i16) -> i16
     requires { (1 ≤ level) × (level ≤ 7) }
-    ensures { result ≡ offered worths.now.tricks worths.now.vulnerable (bid_of level strain) (asked.first ∷ asked.second ∷ asked.third ∷ asked.fourth ∷ []) score }
+    ensures { result ≡ offered worths.now.tricks worths.now.vulnerable (bid_of level strain)
+        (asked.first ∷ asked.second ∷ asked.third ∷ asked.fourth ∷ []) score }
 {
     let score = chosen(worths, level, strain, asked.fourth, score);
     let score = chosen(worths, level, strain, asked.third, score);
@@ -53,7 +55,8 @@ fn offered(worths: &Worths, level: u8, strain: Strain, asked: Asked, score: i16)
 #[inline(always)]
 fn chosen(worths: &Worths, level: u8, strain: Strain, seat: Seat, score: i16) -> i16
     requires { (1 ≤ level) × (level ≤ 7) }
-    ensures { result ≡ better (side_of seat) (worth worths.now.tricks worths.now.vulnerable (bid_of level strain) seat) score }
+    ensures { result ≡ better (side_of seat) (worth worths.now.tricks worths.now.vulnerable
+        (bid_of level strain) seat) score }
 {
     let own = worths.at(level, strain, seat);
     if seat.is_north_south() {

@@ -406,7 +406,8 @@ fn ranks_here(
         → TakesBy (reach result) (side_of (after trick.now card).first) (after trick.now card) n }
     ensures others { (n : ℕ) → n ≤ tricks_left next.now
         → TakesBy (reach later.now) (other_side (side_of next.now.first)) next.now n
-        → TakesBy (reach result) (other_side (side_of (after trick.now card).first)) (after trick.now card) n }
+        → TakesBy (reach result) (other_side (side_of (after trick.now card).first))
+        (after trick.now card) n }
 {
     claims_before();
     let ranks = trick.ranks_before(card, later);

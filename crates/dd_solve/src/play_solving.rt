@@ -84,7 +84,8 @@ fn number_within<B: Bounds>(
     budget: Option<u64>,
 ) -> Option<u8>
     requires count { count ≤ length request.now.cards }
-    requires next { IfSome next (λ next. (count < length request.now.cards) × (next ≡ tricks_after request.now (count
+    requires next { IfSome next (λ next. (count < length request.now.cards)
+        × (next ≡ tricks_after request.now (count
         + 1))) }
     ensures number { IfSome result (λ tricks. tricks ≡ tricks_after request.now count) }
     ensures spent { IfNone result (IsSome budget) }
@@ -111,7 +112,8 @@ fn number_after<B: Bounds, M: Meter>(
     meter: &mut M,
 ) -> Result<u8, Halt>
     requires count { count ≤ length request.now.cards }
-    requires next { IfSome next (λ next. (count < length request.now.cards) × (next ≡ tricks_after request.now (count
+    requires next { IfSome next (λ next. (count < length request.now.cards)
+        × (next ≡ tricks_after request.now (count
         + 1))) }
     ensures number { IfOk result (λ tricks. tricks ≡ tricks_after request.now count) }
     ensures bound { IfOk result (λ tricks. tricks ≤ 13) }

@@ -93,7 +93,8 @@ impl SharedTable {
         ensures table { IsNoteOf self.now note.new }
         ensures slot { note.new.slot ≡ note.old.slot }
         ensures taken { IfOk result (λ taken. taken ≡ true
-            → (note.old.known ≡ None) × (note.new.known ≡ Some (record { board = start.now; value = value }))) }
+            → (note.old.known ≡ None) × (note.new.known
+            ≡ Some (record { board = start.now; value = value }))) }
         ensures some { IfOk result (λ taken. (e : Exact) × (note.new.known ≡ Some e)) }
         ensures same { IfSome note.old.known (λ e. note.new.known ≡ Some e) }
         ensures err { OnErr result (note.new ≡ note.old) }
@@ -116,7 +117,8 @@ impl SharedTable {
         ensures table { IsNoteOf self.now note.new }
         ensures slot { note.new.slot ≡ note.old.slot }
         ensures taken { IfOk result (λ taken. taken ≡ true
-            → (note.old.known ≡ None) × (note.new.known ≡ Some (record { board = start.now; value = value }))) }
+            → (note.old.known ≡ None) × (note.new.known
+            ≡ Some (record { board = start.now; value = value }))) }
         ensures some { IfOk result (λ taken. (e : Exact) × (note.new.known ≡ Some e)) }
         ensures same { IfSome note.old.known (λ e. note.new.known ≡ Some e) }
         ensures err { OnErr result (note.new ≡ note.old) }

@@ -67,7 +67,8 @@ pub(crate) fn is_play_key(key: &str) -> bool
 
 // The cards of the play: None where they are left out or no list of pairs.
 pub(crate) fn cards_at(object: &Map<String, Value>) -> Option<Option<Cards>>
-    ensures { let read = option_and_then list_of_pairs (get_member (codes "cards") (members_view object.now.entries)) in
+    ensures { let read = option_and_then list_of_pairs
+        (get_member (codes "cards") (members_view object.now.entries)) in
         MatchOption result (read ≡ None) (λ found. ReadsCards read (list_in found)) }
 {
     cards_of(member_at(object, "cards")?.as_array()?.as_slice())

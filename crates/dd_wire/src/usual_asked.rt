@@ -30,7 +30,8 @@ pub(crate) fn usual_asked(line: &[u8]) -> Option<Result<LineAsked, Fault>>
 
 // What they ask where they are those of one form, and no others.
 fn asked_of(fields: Fields<'_>) -> Option<Result<LineAsked, Fault>>
-    ensures { IfSome result (λ meaning. IsSome (wait_at (members_of fields.entry)) × MeansMembers (members_of fields.entry) meaning) }
+    ensures { IfSome result (λ meaning. IsSome (wait_at (members_of fields.entry))
+        × MeansMembers (members_of fields.entry) meaning) }
 {
     match fields.task? {
         Task::Par => Some(par_asked(fields_of_par(&fields)?)),
@@ -118,7 +119,8 @@ pub(crate) fn position_asked(fields: Fields<'_>) -> Option<Result<Asked, Fault>>
 
 fn fields_of_solve(fields: Fields<'_>) -> Option<SolveFields<'_>>
     requires { fields.task ≡ Some Task.Solve }
-    ensures { IfSome result (IsSolve (members_of fields.entry) fields.entry.target (wait_of fields.entry.wait)) }
+    ensures { IfSome result (IsSolve (members_of fields.entry) fields.entry.target
+        (wait_of fields.entry.wait)) }
 {
     absent(&fields.dealer)?;
     absent(&fields.job)?;

@@ -290,7 +290,8 @@ fn read_number(text: &[u8]) -> Option<(u64, &[u8])>
 // The same number with the digits that follow, up to nineteen in all, before what may follow a value.
 fn read_longer<'a>(front: u64, text: &'a [u8]) -> Option<(u64, &'a [u8])>
     requires { 0 < front }
-    ensures { IfSome result (λ found. (found.0 < 2 ^ 64) × (decimal front ++ text.now ≡ decimal found.0 ++ found.1.now)
+    ensures { IfSome result (λ found. (found.0 < 2 ^ 64)
+        × (decimal front ++ text.now ≡ decimal found.0 ++ found.1.now)
         × (ends_word found.1.now ≡ true)) }
 {
     let mut number = front;
@@ -423,7 +424,8 @@ fn read_row(text: &[u8]) -> Option<(Row, &[u8])>
 
 // The cards on the trick.
 fn read_played(text: &[u8]) -> Option<(OnTrick, &[u8])>
-    ensures { IfSome result (λ found. IsValue 2 text.now (array (items_of_pairs (map pair_of_card found.0.cards.items))) found.1.now) }
+    ensures { IfSome result (λ found. IsValue 2 text.now
+        (array (items_of_pairs (map pair_of_card found.0.cards.items))) found.1.now) }
 {
     let inside = opened(text)?;
     match closed(inside) {
@@ -434,7 +436,8 @@ fn read_played(text: &[u8]) -> Option<(OnTrick, &[u8])>
 
 // One card or more, up to the bracket of their list.
 fn read_cards(text: &[u8]) -> Option<(OnTrick, &[u8])>
-    ensures { IfSome result (λ found. AreItems 1 fresh text.now (items_of_pairs (map pair_of_card found.0.cards.items)) found.1.now) }
+    ensures { IfSome result (λ found. AreItems 1 fresh text.now
+        (items_of_pairs (map pair_of_card found.0.cards.items)) found.1.now) }
 {
     let (pair, mut rest) = read_pair(text)?;
     let mut cards = with_pair(Some(ArrayVec::new()), pair.0, pair.1)?;

@@ -21,7 +21,8 @@ use std::str::from_utf8;
 /// form.
 pub(crate) fn usual_want(line: &[u8]) -> Option<Result<SessionAsked, Fault>>
     ensures text { IfSome result (λ _. 0 < length line.now) }
-    ensures means { IfSome result (λ meaning. length line.now ≤ longest_line → (leave : Bool) → MeansWant leave line.now meaning) }
+    ensures means { IfSome result (λ meaning. length line.now ≤ longest_line → (leave : Bool)
+        → MeansWant leave line.now meaning) }
 {
     let fields = usual_fields(line)?;
     from_utf8(line).ok()?;
@@ -78,7 +79,8 @@ fn fetched_job(fields: &Fields<'_>) -> Option<u64>
 
 // Par of the results that these fields have, or their first fault.
 fn par_asked(fields: ParFields<'_>) -> Result<SessionAsked, Fault>
-    ensures { result ≡ asked_as SessionAsked.Par (table_par_of (given_of fields.entry.given) (fields_of fields.entry)) }
+    ensures { result ≡ asked_as SessionAsked.Par (table_par_of (given_of fields.entry.given)
+        (fields_of fields.entry)) }
 {
     Ok(SessionAsked::Par(table_par_asked(fields)?))
 }
