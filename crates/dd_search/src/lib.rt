@@ -44,5 +44,5 @@ pub use known_tricks::value_at_least;
 pub use laws::value_is_the_greatest_score;
 pub use meter::{Budget, Endless, Halt, Meter, Tick};
 pub use position_value::{value, value_from_guess};
-pub use start::{start_scores, start_value, start_value_for_first};
+pub use start::{start_scores, start_value, start_value_for_first, start_value_from_guess};
 pub use table::{Bounds, LeadHistory, NoTable, ProbeHint};

@@ -8,9 +8,10 @@ ghost use Rattle.dd_play.specs.Won.{won};
 ghost use Rattle.dd_search.specs.Budgets.{EndsAs, IsEndless};
 ghost use Rattle.dd_solve.specs.Results.{part_result};
 
+use crate::solving::note_value;
 use crate::table_request::{PARTS, TableRequest};
-use dd_play::Position;
-use dd_search::{Bounds, Halt, Meter, value, value_from_guess};
+use dd_play::{Position, TrickStart};
+use dd_search::{Bounds, Halt, Meter, start_value, start_value_from_guess};
 use std::marker::Model;
 
 /// A part of a table with its result.
@@ -141,14 +142,32 @@ fn tricks_of_leaders<B: Bounds, M: Meter>(
     table: &mut B,
     meter: &mut M,
 ) -> Result<u8, Halt>
-    ensures value { IfOk result
-        (λ tricks. tricks ≡ won (side_of (mover position.now)) position.now) }
-    ensures bound { IfOk result (λ tricks. tricks ≤ 13) }
+    requires start { position.now.trick ≡ [] }
+    ensures value { IfOk result (λ tricks. tricks ≡ leaders_tricks position.now) }
     ensures ends { EndsAs (M.says meter.new) result }
     ensures answers { IsEndless M.says → IsOk result }
 {
-    match first_guess {
-        Some(first_guess) => value_from_guess(position, first_guess, table, meter),
-        None => value(position, table, meter),
+    match TrickStart::of(position) {
+        Some(start) => value_at_start(&start, first_guess, table, meter),
+        None => unreachable!(),
     }
+}
+
+// The same of a start of a trick. Its value is noted, so that who asks again is told at once.
+fn value_at_start<B: Bounds, M: Meter>(
+    start: &TrickStart,
+    first_guess: Option<u8>,
+    table: &mut B,
+    meter: &mut M,
+) -> Result<u8, Halt>
+    ensures value { IfOk result (λ tricks. tricks ≡ leaders_tricks start.now) }
+    ensures ends { EndsAs (M.says meter.new) result }
+    ensures answers { IsEndless M.says → IsOk result }
+{
+    let (tricks, depths) = match first_guess {
+        Some(first_guess) => start_value_from_guess(start, first_guess, table, meter)?,
+        None => start_value(start, table, meter)?,
+    };
+    note_value(start, tricks, depths, table);
+    Ok(tricks)
 }
