@@ -1,4 +1,5 @@
 //! Tests of the workers.
+mod ahead;
 mod budgets;
 mod cancelled;
 mod gate;
