@@ -156,7 +156,7 @@ The table keeps what a line found for those that follow. An entry is a strain
 with the length of each suit in each hand, and has up to eight results. With
 65536 the program had 21 MB after all leads of 100 full deals, and 70 MB after
 their twenty results. A line by itself needs few entries: before the table
-stands a cache of some 27 MB, touched as it fills.
+stands a cache of some 21 MB, touched as it fills.
 
 With --workers N, threads answer ahead the lines of what was read, 65536 bytes
 at most. Replies are the same and keep their order. Each thread has a cache of

@@ -164,10 +164,16 @@ fn value_at_start<B: Bounds, M: Meter>(
     ensures ends { EndsAs (M.says meter.new) result }
     ensures answers { IsEndless M.says → IsOk result }
 {
-    let (tricks, depths) = match first_guess {
-        Some(first_guess) => start_value_from_guess(start, first_guess, table, meter)?,
-        None => start_value(start, table, meter)?,
-    };
-    note_value(start, tricks, depths, table);
-    Ok(tricks)
+    match first_guess {
+        Some(first_guess) => {
+            let (tricks, depths) = start_value_from_guess(start, first_guess, table, meter)?;
+            note_value(start, tricks, depths, table);
+            Ok(tricks)
+        }
+        None => {
+            let (tricks, depths) = start_value(start, table, meter)?;
+            note_value(start, tricks, depths, table);
+            Ok(tricks)
+        }
+    }
 }
