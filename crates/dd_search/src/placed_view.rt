@@ -3,7 +3,7 @@ ghost use Rattle.std.specs.Prelude.{◌≡◌, length};
 ghost use Rattle.dd_search.specs.Turns.{cards_before};
 
 use crate::turn::Turn;
-use dd_cards::{Place, Strain};
+use dd_cards::{Hand, Place, Strain};
 use dd_relative::PlacedTrick;
 
 /// The best card on the trick, and whether it is partner's.
@@ -25,35 +25,38 @@ impl BestCard {
                 partners: false,
             },
             Turn::Third => {
-                let (place, seconds) = better(strain, first, trick.card_at(1));
+                let both = Hand::new().with_place(first).with_place(trick.card_at(1));
+                let place = best_of(both, first, strain);
                 BestCard {
                     place,
-                    partners: !seconds,
+                    partners: place.number() == first.number(),
                 }
             }
             Turn::Fourth => {
-                let (place, seconds) = better(strain, first, trick.card_at(1));
-                let (place, thirds) = better(strain, place, trick.card_at(2));
+                let second = trick.card_at(1);
+                let both = Hand::new().with_place(first).with_place(second);
+                let place = best_of(both.with_place(trick.card_at(2)), first, strain);
                 BestCard {
                     place,
-                    partners: seconds && !thirds,
+                    partners: place.number() == second.number(),
                 }
             }
         }
     }
 }
 
-// The better of two cards on a trick, and whether it is the later one.
+// The best of the cards of a trick, to which this one was led.
+// The highest bit of those that decide: no card is measured against another.
 #[inline(always)]
-fn better(strain: Strain, earlier: Place, later: Place) -> (Place, bool) {
-    // All is asked, and one of two chosen: a branch would seldom be foreseen.
-    let follows = later.follows(earlier);
-    let is_higher = later.number() > earlier.number();
-    let ruffs = strain.code() == later.suit().code();
-    let wins = (follows & is_higher) | (!follows & ruffs);
-    if wins {
-        (later, true)
-    } else {
-        (earlier, false)
+fn best_of(cards: Hand, led: Place, strain: Strain) -> Place {
+    let followed = cards.of_suit_at(led);
+    let trumps = match strain {
+        Strain::Trump(trump) => cards.of_suit(trump),
+        Strain::Notrump => Hand::new(),
+    };
+    let deciding = if trumps.is_empty() { followed } else { trumps };
+    match deciding.highest_place() {
+        Some(place) => place,
+        None => led,
     }
 }
