@@ -48,82 +48,51 @@ pub fn a_reply_is_one_line()
 
 /// Lines worked by hand.
 pub fn worked_lines()
-    ensures best_cards { Means
-        (codes "{\"do\":\"solve\",\"deal\":\"N:A.2.. K.A.. Q.K.. J.Q..\",\"trump\":4,\"first\":1,\"solutions\":2}")
+    ensures best_cards { Means (codes "{\"do\":\"solve\",\"deal\":\"N:A.2.. K.A.. Q.K.. J.Q..\",\"trump\":4,\"first\":1,\"solutions\":2}")
         (Ok (LineAsked.Cards (Asked.Solve record { board = board_of two_suits Notrump East []; solutions = 2 }))) }
-    ensures every_card { Means
-        (codes "{\"deal\":\"[Deal \\\"e:k4... aq... 65... 32...\\\"]\",\"played\":[],\"trump\":0,\"first\":0,\"solutions\":3,\"do\":\"solve\"}")
-        (Ok (LineAsked.Cards (Asked.Solve record {
-          board = board_of eight_spades
-              (Trump Spades) North [];
-          solutions = 3;
-        }))) }
+    ensures every_card { Means (codes "{\"deal\":\"[Deal \\\"e:k4... aq... 65... 32...\\\"]\",\"played\":[],\"trump\":0,\"first\":0,\"solutions\":3,\"do\":\"solve\"}")
+        (Ok (LineAsked.Cards (Asked.Solve record { board = board_of eight_spades (Trump Spades) North []; solutions = 3 }))) }
     ensures table { Means (codes "{\"do\":\"table\",\"deal\":\"N:A.2.. K.A.. Q.K.. J.Q..\"}")
         (Ok (LineAsked.Cards (Asked.Table two_suits))) }
-    ensures trump_of_a_table { Means
-        (codes "{\"do\":\"table\",\"deal\":\"N:A.2.. K.A.. Q.K.. J.Q..\",\"trump\":4}")
+    ensures trump_of_a_table { Means (codes "{\"do\":\"table\",\"deal\":\"N:A.2.. K.A.. Q.K.. J.Q..\",\"trump\":4}")
         (Err Fault.WrongField) }
     ensures no_object { Means (codes "[]") (Err Fault.NotAnObject) }
-    ensures three_numbers { Means
-        (codes "{\"do\":\"solve\",\"deal\":\"N:A.2.. K.A.. Q.K.. J.Q..\",\"trump\":4,\"first\":0,\"solutions\":3,\"played\":[[0,14,1]]}")
+    ensures three_numbers { Means (codes "{\"do\":\"solve\",\"deal\":\"N:A.2.. K.A.. Q.K.. J.Q..\",\"trump\":4,\"first\":0,\"solutions\":3,\"played\":[[0,14,1]]}")
         (Err Fault.WrongField) }
-    ensures left_out { Means
-        (codes "{\"do\":\"solve\",\"deal\":\"N:A... - Q... J...\",\"trump\":4,\"first\":0,\"solutions\":3}")
+    ensures left_out { Means (codes "{\"do\":\"solve\",\"deal\":\"N:A... - Q... J...\",\"trump\":4,\"first\":0,\"solutions\":3}")
         (Err Fault.HandLeftOut) }
-    ensures two_aces { Means
-        (codes "{\"do\":\"solve\",\"deal\":\"N:AA... K2... Q3... J4...\",\"trump\":4,\"first\":0,\"solutions\":3}")
+    ensures two_aces { Means (codes "{\"do\":\"solve\",\"deal\":\"N:AA... K2... Q3... J4...\",\"trump\":4,\"first\":0,\"solutions\":3}")
         (Err Fault.CardTwice) }
-    ensures no_trump { Means
-        (codes "{\"do\":\"solve\",\"deal\":\"N:A.2.. K.A.. Q.K.. J.Q..\",\"trump\":5,\"first\":4,\"solutions\":3}")
+    ensures no_trump { Means (codes "{\"do\":\"solve\",\"deal\":\"N:A.2.. K.A.. Q.K.. J.Q..\",\"trump\":5,\"first\":4,\"solutions\":3}")
         (Err Fault.WrongTrump) }
     ensures no_seat { Means (codes "{\"do\":\"solve\",\"deal\":\"N:A.2.. K.A.. Q.K.. J.Q..\",\"trump\":4,\"first\":4,\"solutions\":3,\"played\":[[4,14]]}")
         (Err Fault.WrongFirst) }
     ensures no_card { Means (codes "{\"do\":\"solve\",\"deal\":\"N:A.2.. K.A.. Q.K.. J.Q..\",\"trump\":4,\"first\":0,\"solutions\":4,\"played\":[[4,14]]}")
         (Err Fault.WrongPlayed) }
-    ensures no_solutions { Means
-        (codes "{\"do\":\"solve\",\"deal\":\"N:A.2.. K.A.. Q.K.. J.Q..\",\"trump\":4,\"first\":0,\"solutions\":4,\"played\":[[0,14]]}")
+    ensures no_solutions { Means (codes "{\"do\":\"solve\",\"deal\":\"N:A.2.. K.A.. Q.K.. J.Q..\",\"trump\":4,\"first\":0,\"solutions\":4,\"played\":[[0,14]]}")
         (Err Fault.WrongSolutions) }
     ensures ace_led { Means (codes "{\"do\":\"solve\",\"deal\":\"N:A.2.. K.A.. Q.K.. J.Q..\",\"trump\":4,\"first\":0,\"solutions\":3,\"played\":[[0,14]]}")
         (Err Fault.CardTwice) }
-    ensures par_by_dealer { Means
-        (codes "{\"do\":\"par\",\"table\":[[5,8,5,8],[6,6,6,6],[5,7,5,7],[7,5,7,5],[6,6,6,13]],\"dealer\":1,\"vulnerable\":2}")
-        (Ok (LineAsked.Par record {
-          results = (5 ∷ 8 ∷ 5 ∷ 8 ∷ []) ∷ (6 ∷ 6 ∷ 6 ∷ 6 ∷ []) ∷
-              (5 ∷ 7 ∷ 5 ∷ 7 ∷ []) ∷ (7 ∷ 5 ∷ 7 ∷ 5 ∷ []) ∷
-              (6 ∷ 6 ∷ 6 ∷ 13 ∷ []) ∷ [];
-          conditions = record { vulnerable = Vulnerable.NorthSouth; order = Order.Dealer East };
-        })) }
-    ensures par_by_side { Means
-        (codes "{\"do\":\"par\",\"table\":[[5,8,5,8],[6,6,6,6],[5,7,5,7],[7,5,7,5],[6,6,6,13]],\"side\":1,\"vulnerable\":1}")
-        (Ok (LineAsked.Par record {
-          results = (5 ∷ 8 ∷ 5 ∷ 8 ∷ []) ∷ (6 ∷ 6 ∷ 6 ∷ 6 ∷ []) ∷
-              (5 ∷ 7 ∷ 5 ∷ 7 ∷ []) ∷ (7 ∷ 5 ∷ 7 ∷ 5 ∷ []) ∷
-              (6 ∷ 6 ∷ 6 ∷ 13 ∷ []) ∷ [];
-          conditions = record { vulnerable = Vulnerable.Both; order = Order.First Side.EastWest };
-        })) }
-    ensures dealer_and_side { Means
-        (codes "{\"do\":\"par\",\"table\":[[5,8,5,8],[6,6,6,6],[5,7,5,7],[7,5,7,5],[6,6,6,13]],\"dealer\":1,\"side\":1,\"vulnerable\":1}")
+    ensures par_by_dealer { Means (codes "{\"do\":\"par\",\"table\":[[5,8,5,8],[6,6,6,6],[5,7,5,7],[7,5,7,5],[6,6,6,13]],\"dealer\":1,\"vulnerable\":2}")
+        (Ok (LineAsked.Par record { results = (5 ∷ 8 ∷ 5 ∷ 8 ∷ []) ∷ (6 ∷ 6 ∷ 6 ∷ 6 ∷ []) ∷ (5 ∷ 7 ∷ 5 ∷ 7 ∷ []) ∷ (7 ∷ 5 ∷ 7 ∷ 5 ∷ []) ∷ (6 ∷ 6 ∷ 6 ∷ 13 ∷ []) ∷ []; conditions = record { vulnerable = Vulnerable.NorthSouth; order = Order.Dealer East } })) }
+    ensures par_by_side { Means (codes "{\"do\":\"par\",\"table\":[[5,8,5,8],[6,6,6,6],[5,7,5,7],[7,5,7,5],[6,6,6,13]],\"side\":1,\"vulnerable\":1}")
+        (Ok (LineAsked.Par record { results = (5 ∷ 8 ∷ 5 ∷ 8 ∷ []) ∷ (6 ∷ 6 ∷ 6 ∷ 6 ∷ []) ∷ (5 ∷ 7 ∷ 5 ∷ 7 ∷ []) ∷ (7 ∷ 5 ∷ 7 ∷ 5 ∷ []) ∷ (6 ∷ 6 ∷ 6 ∷ 13 ∷ []) ∷ []; conditions = record { vulnerable = Vulnerable.Both; order = Order.First Side.EastWest } })) }
+    ensures dealer_and_side { Means (codes "{\"do\":\"par\",\"table\":[[5,8,5,8],[6,6,6,6],[5,7,5,7],[7,5,7,5],[6,6,6,13]],\"dealer\":1,\"side\":1,\"vulnerable\":1}")
         (Err Fault.WrongField) }
-    ensures table_and_deal { Means
-        (codes "{\"do\":\"par\",\"table\":[[5,8,5,8],[6,6,6,6],[5,7,5,7],[7,5,7,5],[6,6,6,13]],\"deal\":\"\",\"dealer\":1,\"vulnerable\":1}")
+    ensures table_and_deal { Means (codes "{\"do\":\"par\",\"table\":[[5,8,5,8],[6,6,6,6],[5,7,5,7],[7,5,7,5],[6,6,6,13]],\"deal\":\"\",\"dealer\":1,\"vulnerable\":1}")
         (Err Fault.WrongField) }
-    ensures no_dealer { Means
-        (codes "{\"do\":\"par\",\"table\":[[5,8,5,8],[6,6,6,6],[5,7,5,7],[7,5,7,5],[6,6,6,14]],\"dealer\":4,\"vulnerable\":4}")
+    ensures no_dealer { Means (codes "{\"do\":\"par\",\"table\":[[5,8,5,8],[6,6,6,6],[5,7,5,7],[7,5,7,5],[6,6,6,14]],\"dealer\":4,\"vulnerable\":4}")
         (Err Fault.WrongOrder) }
-    ensures no_vulnerability { Means
-        (codes "{\"do\":\"par\",\"table\":[[5,8,5,8],[6,6,6,6],[5,7,5,7],[7,5,7,5],[6,6,6,14]],\"dealer\":3,\"vulnerable\":4}")
+    ensures no_vulnerability { Means (codes "{\"do\":\"par\",\"table\":[[5,8,5,8],[6,6,6,6],[5,7,5,7],[7,5,7,5],[6,6,6,14]],\"dealer\":3,\"vulnerable\":4}")
         (Err Fault.WrongVulnerable) }
-    ensures no_result { Means
-        (codes "{\"do\":\"par\",\"table\":[[5,8,5,8],[6,6,6,6],[5,7,5,7],[7,5,7,5],[6,6,6,14]],\"dealer\":3,\"vulnerable\":3}")
+    ensures no_result { Means (codes "{\"do\":\"par\",\"table\":[[5,8,5,8],[6,6,6,6],[5,7,5,7],[7,5,7,5],[6,6,6,14]],\"dealer\":3,\"vulnerable\":3}")
         (Err Fault.WrongResult) }
-    ensures nineteen_results { Means
-        (codes "{\"do\":\"par\",\"table\":[[5,8,5,8],[6,6,6,6],[5,7,5,7],[7,5,7,5],[6,6,6]],\"dealer\":4,\"vulnerable\":4}")
+    ensures nineteen_results { Means (codes "{\"do\":\"par\",\"table\":[[5,8,5,8],[6,6,6,6],[5,7,5,7],[7,5,7,5],[6,6,6]],\"dealer\":4,\"vulnerable\":4}")
         (Err Fault.WrongField) }
     ensures wait { Means (codes "{\"do\":\"table\",\"deal\":\"N:A.2.. K.A.. Q.K.. J.Q..\",\"wait\":9}")
         (Ok (LineAsked.Cards (Asked.Table two_suits))) }
     ensures health { Means (codes "{\"do\":\"health\"}") (Err Fault.WrongField) }
-    ensures wait_below_zero { Means
-        (codes "{\"do\":\"solve\",\"deal\":\"N:A... - Q... J...\",\"trump\":4,\"first\":0,\"solutions\":3,\"wait\":-1}")
+    ensures wait_below_zero { Means (codes "{\"do\":\"solve\",\"deal\":\"N:A... - Q... J...\",\"trump\":4,\"first\":0,\"solutions\":3,\"wait\":-1}")
         (Err Fault.WrongField) }
 {}
 
@@ -152,11 +121,9 @@ pub fn worked_explained_wants()
     ensures none { id_of (codes "{\"do\":\"health\"}") ≡ None }
     ensures blank { (leave : Bool) → fault_explained leave (codes " ") Fault.NotAnObject ≡
         codes "{\"fault\":1,\"text\":\"the line is blank\"}" }
-    ensures no_id { (leave : Bool) → fault_explained leave
-        (codes "{\"do\":\"health\",\"id\":true}") Fault.WrongField ≡
+    ensures no_id { (leave : Bool) → fault_explained leave (codes "{\"do\":\"health\",\"id\":true}") Fault.WrongField ≡
         codes "{\"fault\":3,\"field\":\"id\",\"text\":\"a field is missing, unknown or of the wrong kind\"}" }
-    ensures no_job { (leave : Bool) → fault_explained leave
-        (codes "{\"do\":\"fetch\",\"id\":7}") Fault.WrongField ≡
+    ensures no_job { (leave : Bool) → fault_explained leave (codes "{\"do\":\"fetch\",\"id\":7}") Fault.WrongField ≡
         codes "{\"id\":7,\"fault\":3,\"field\":\"job\",\"text\":\"a field is missing, unknown or of the wrong kind\"}" }
     ensures cancel_that_waits { (leave : Bool) → fault_explained leave
         (codes "{\"do\":\"cancel\",\"job\":7,\"wait\":1}") Fault.WrongField ≡
@@ -164,11 +131,9 @@ pub fn worked_explained_wants()
     ensures health_of_a_job { (leave : Bool) → fault_explained leave
         (codes "{\"do\":\"health\",\"job\":7}") Fault.WrongField ≡
         codes "{\"fault\":3,\"field\":\"job\",\"text\":\"a field is missing, unknown or of the wrong kind\"}" }
-    ensures no_leave { fault_explained false
-        (codes "{\"do\":\"stop\",\"id\":\"x\",\"job\":7}") Fault.WrongField ≡
+    ensures no_leave { fault_explained false (codes "{\"do\":\"stop\",\"id\":\"x\",\"job\":7}") Fault.WrongField ≡
         codes "{\"id\":\"x\",\"fault\":3,\"field\":\"do\",\"text\":\"a field is missing, unknown or of the wrong kind\"}" }
-    ensures stop_of_a_job { fault_explained true
-        (codes "{\"do\":\"stop\",\"id\":\"x\",\"job\":7}") Fault.WrongField ≡
+    ensures stop_of_a_job { fault_explained true (codes "{\"do\":\"stop\",\"id\":\"x\",\"job\":7}") Fault.WrongField ≡
         codes "{\"id\":\"x\",\"fault\":3,\"field\":\"job\",\"text\":\"a field is missing, unknown or of the wrong kind\"}" }
     ensures par_of_a_deal { (leave : Bool) → fault_explained leave
         (codes "{\"do\":\"par\",\"deal\":\"\",\"dealer\":0,\"vulnerable\":0}") Fault.WrongField ≡
@@ -185,8 +150,7 @@ pub fn worked_wants()
     ensures cancel { (leave : Bool) →
         MeansWant leave (codes "{\"job\":18446744073709551615,\"do\":\"cancel\"}")
         (Ok (SessionAsked.Book record { want = Want.Cancel 18446744073709551615; wait = 0 })) }
-    ensures stop { MeansWant true (codes "{\"do\":\"stop\"}")
-        (Ok (SessionAsked.Book record { want = Want.Stop; wait = 0 })) }
+    ensures stop { MeansWant true (codes "{\"do\":\"stop\"}") (Ok (SessionAsked.Book record { want = Want.Stop; wait = 0 })) }
     ensures no_leave { MeansWant false (codes "{\"do\":\"stop\"}") (Err Fault.WrongField) }
     ensures stop_of_a_job { MeansWant true (codes "{\"do\":\"stop\",\"job\":1}")
         (Err Fault.WrongField) }
@@ -201,22 +165,13 @@ pub fn worked_wants()
     ensures no_object { MeansWant true (codes "[1]") (Err Fault.NotAnObject) }
     ensures solve { (leave : Bool) → MeansWant leave
         (codes "{\"do\":\"solve\",\"deal\":\"N:A.2.. K.A.. Q.K.. J.Q..\",\"trump\":4,\"first\":1,\"solutions\":2}")
-        (Ok (SessionAsked.Book record {
-          want = Want.Submit
-              (Asked.Solve record { board = board_of two_suits Notrump East []; solutions = 2 });
-          wait = 0;
-        })) }
+        (Ok (SessionAsked.Book record { want = Want.Submit (Asked.Solve record { board = board_of two_suits Notrump East []; solutions = 2 }); wait = 0 })) }
     ensures table { (leave : Bool) → MeansWant leave
         (codes "{\"do\":\"table\",\"deal\":\"N:A.2.. K.A.. Q.K.. J.Q..\"}")
         (Ok (SessionAsked.Book record { want = Want.Submit (Asked.Table two_suits); wait = 0 })) }
     ensures par { (leave : Bool) → MeansWant leave
         (codes "{\"do\":\"par\",\"table\":[[5,8,5,8],[6,6,6,6],[5,7,5,7],[7,5,7,5],[6,6,6,13]],\"dealer\":1,\"vulnerable\":2}")
-        (Ok (SessionAsked.Par record {
-          results = (5 ∷ 8 ∷ 5 ∷ 8 ∷ []) ∷ (6 ∷ 6 ∷ 6 ∷ 6 ∷ []) ∷
-              (5 ∷ 7 ∷ 5 ∷ 7 ∷ []) ∷ (7 ∷ 5 ∷ 7 ∷ 5 ∷ []) ∷
-              (6 ∷ 6 ∷ 6 ∷ 13 ∷ []) ∷ [];
-          conditions = record { vulnerable = Vulnerable.NorthSouth; order = Order.Dealer East };
-        })) }
+        (Ok (SessionAsked.Par record { results = (5 ∷ 8 ∷ 5 ∷ 8 ∷ []) ∷ (6 ∷ 6 ∷ 6 ∷ 6 ∷ []) ∷ (5 ∷ 7 ∷ 5 ∷ 7 ∷ []) ∷ (7 ∷ 5 ∷ 7 ∷ 5 ∷ []) ∷ (6 ∷ 6 ∷ 6 ∷ 13 ∷ []) ∷ []; conditions = record { vulnerable = Vulnerable.NorthSouth; order = Order.Dealer East } })) }
     ensures par_of_a_deal { (leave : Bool) → MeansWant leave
         (codes "{\"do\":\"par\",\"deal\":\"\",\"dealer\":4,\"vulnerable\":4}") (Err Fault.WrongField) }
     ensures waits { (leave : Bool) →
@@ -235,11 +190,7 @@ pub fn worked_wants()
         (Err Fault.WrongField) }
     ensures solve_that_waits { (leave : Bool) → MeansWant leave
         (codes "{\"do\":\"solve\",\"deal\":\"N:A.2.. K.A.. Q.K.. J.Q..\",\"trump\":4,\"first\":1,\"solutions\":2,\"wait\":500}")
-        (Ok (SessionAsked.Book record {
-          want = Want.Submit
-              (Asked.Solve record { board = board_of two_suits Notrump East []; solutions = 2 });
-          wait = 500;
-        })) }
+        (Ok (SessionAsked.Book record { want = Want.Submit (Asked.Solve record { board = board_of two_suits Notrump East []; solutions = 2 }); wait = 500 })) }
     ensures health { (leave : Bool) → MeansWant leave (codes "{\"do\":\"health\"}")
         (Ok SessionAsked.Health) }
     ensures health_of_a_job { MeansWant true (codes "{\"do\":\"health\",\"job\":1}")
