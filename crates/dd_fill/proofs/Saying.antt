@@ -1,5 +1,5 @@
 -- What is said of a file, text by text.
-use Rattle.std.proofs.Common.{◌≡◌, ◌∙◌, ℕ, Bool, true, false, inl, inr, refl, ap, subst, sym, List, [], ◌∷◌, ◌++◌, Option, Result, Ok, Err}
+use Rattle.std.proofs.Common.{◌≡◌, ◌∙◌, ℕ, Bool, false, inl, inr, refl, ap, subst, sym, List, [], ◌∷◌, ◌++◌, Option, Result, Ok, Err}
 use Rattle.std.specs.Prelude.{IfErr, OnErr, OnOk}
 use Rattle.std.specs.Io.KnownBytes.{Appends}
 use Rattle.dd_lines.specs.CountedDevices.{bytes_of}
@@ -12,7 +12,7 @@ use Rattle.dd_file.specs.Notices.{Notice, Hears}
 use Rattle.dd_file.specs.Served.{FilledBeginning, FilledTelling, FillsTelling, FillsBeginning, StopsAtFirstFailure}
 use Rattle.dd_fill.specs.Ahead.{FillsSaying, SayingOf, SaysTold}
 use Rattle.dd_fill.specs.Said.{Says, SaysAll, SaysNotice, Sink, clear_texts, progress_texts, sink_of}
-use Rattle.dd_fill.specs.Served.{FilledSaying, Fills}
+use Rattle.dd_fill.specs.Served.{Fills}
 use Rattle.dd_fill.specs.Told.{IsTold}
 
 -- a text that was written as far as the device took it was said

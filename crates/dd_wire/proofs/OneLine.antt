@@ -3,14 +3,12 @@ use Rattle.std.proofs.Common.{◌≡◌, ◌⊎◌, ◌+◌, ◌/◌, ◌%◌, �
 use Rattle.std.specs.Prelude.{◌&&◌, codes, decimal, length, nat_le, nat_lt, MatchOption, option_and_then, Result, Ok, Err, not, is_some, if◌then◌else◌}
 use Rattle.std.specs.Bool.{MatchBool}
 use Rattle.std.specs.Fmt.{digit_glyph, digits, digits_onto, signed_decimal}
-use Rattle.std.specs.List.{join_with_byte, list_all, list_any, range_with_len}
-use Rattle.std.specs.Str.{bytes_eq}
+use Rattle.std.specs.List.{join_with_byte, list_all, range_with_len}
 use Rattle.std.proofs.lemmas.Bool.{and_from, and_parts}
 use Rattle.std.proofs.lemmas.Bool.Decides.{nat_tests}
-use Rattle.serde_json.specs.Data.{Data, Members, no_members, member}
+use Rattle.serde_json.specs.Data.{Data, Members}
 use Rattle.serde_json.specs.Find.{as_str, get_member}
 use Rattle.dd_lines.specs.Line.{longest_line}
-use Rattle.dd_pbn.specs.Reading.{◌>>=◌}
 use Rattle.dd_score.specs.declared.par_contract.Declarers.{Declarers}
 use Rattle.dd_score.specs.declared.par_contract.ParContract.{ParContract}
 use Rattle.dd_cards.specs.Strains.{strain_code}
@@ -23,8 +21,8 @@ use Rattle.dd_wire.specs.declared.fault_field.Task.{Task}
 use Rattle.dd_wire.specs.declared.fault_field.Task.TheVariants as task
 use Rattle.dd_wire.specs.declared.line_asked.LineAsked.{LineAsked}
 use Rattle.dd_wire.specs.declared.line_asked.LineAsked.TheVariants.{Cards, Par, ParOfDeal}
-use Rattle.dd_wire.specs.Explained.{IsBareReply, IsBareReplyTo, IsExplained, IsObjectReply, IsReplyWithId, IsUnreadReply}
-use Rattle.dd_wire.specs.FaultFields.{deal_alone, field_of, has_cards, has_key, has_number, has_text, keys_for, may_have_number, one_of_two, other_key, task_in, told_key, wrong_field, wrong_for, wrong_in, wrong_known, wrong_of_call, wrong_of_par, wrong_of_play, wrong_of_solve, wrong_of_table}
+use Rattle.dd_wire.specs.Explained.{IsBareReply, IsBareReplyTo, IsExplained, IsObjectReply, IsUnreadReply}
+use Rattle.dd_wire.specs.FaultFields.{deal_alone, field_of, has_cards, has_key, has_number, has_text, keys_for, may_have_number, one_of_two, other_key, task_in, told_key, wrong_field, wrong_for, wrong_known, wrong_of_call, wrong_of_par, wrong_of_play, wrong_of_solve}
 use Rattle.dd_wire.specs.Faults.{fault_number}
 use Rattle.dd_wire.specs.FaultWords.{explained_text, fault_told, field_member, has_mark, is_blank_line, words_of, words_of_line}
 use Rattle.dd_wire.specs.Ids.{id_text, is_plain, is_plain_byte, plain_id, quoted, with_id, without}
@@ -32,7 +30,7 @@ use Rattle.dd_wire.specs.LineReplies.{IsAnswer, IsReply, IsReplyTo}
 use Rattle.dd_wire.specs.ParLines.{first_in, given_in}
 use Rattle.dd_wire.specs.ParReplies.{contract_text, declarer_codes, declarers_text, par_text}
 use Rattle.dd_wire.specs.PlayReplies.{trace_text}
-use Rattle.dd_wire.specs.Replies.{answer_text, cards_member, class_text, fault_text, is_one_line, list_text, numbered_fault_text, of_strain, spent_text, table_member, table_text}
+use Rattle.dd_wire.specs.Replies.{answer_text, class_text, is_one_line, list_text, numbered_fault_text, of_strain, spent_text, table_text}
 use Rattle.dd_wire.specs.Requests.{object_of, pairs_at, wait_at, whole_number}
 
 -- ---- texts of texts
