@@ -5,7 +5,6 @@ use dd_pbn::read_deal;
 use dd_play::{Interval, Position, TrickStart};
 use dd_rank::{OwnerStrings, Shape};
 use dd_search::{Bounds, Endless, NoTable, ProbeHint, start_value};
-use dd_solve::{TableRequest, solve_table};
 use std::alloc::AllocError;
 use std::process::Abort;
 
@@ -197,23 +196,6 @@ fn what_was_read_ahead_settles_as_a_look_does(rt: HostRuntime) -> Result<(), All
             .is_some(),
     ];
     assert_eq!(rt; found, [true, true, false, false]);
-    Ok(())
-}
-
-// Each search for a result then visits the deal itself and no more: with a budget of one position all are found, and they are the
-// same.
-#[test]
-fn a_table_asked_again_is_known(rt: HostRuntime) -> Result<(), AllocError> {
-    let hands = read_deal(b"N:K82.A4.Q2. A43.K5.K3. QJT.Q2.A4. 765.J3.J5.").expect(
-        &rt,
-        "seven cards a hand",
-    );
-    let request = TableRequest::new(hands).expect(&rt, "as many in each hand");
-    let mut cache = Cache::new(rt.alloc(), NoTable)?;
-    assert!(rt; solve_table(&request, &mut cache, Some(1)).is_none());
-    let first = solve_table(&request, &mut cache, None).expect(&rt, "no budget");
-    let again = solve_table(&request, &mut cache, Some(1)).expect(&rt, "a position each");
-    assert!(rt; first.as_slice() == again.as_slice());
     Ok(())
 }
 

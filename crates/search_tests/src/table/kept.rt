@@ -1,10 +1,12 @@
 use crate::table::positions::{BEHIND, CAUGHT, CAUGHT_ANSWER, LOWER, answers, start};
 use dd_cache::Cache;
 use dd_cards::{Card, Rank, Seat, Suit};
+use dd_pbn::read_deal;
 use dd_play::{Interval, TrickStart};
 use dd_rank::OwnerStrings;
 use dd_search::{Bounds, Endless, NoTable, start_value};
 use dd_shard::Shard;
+use dd_solve::{TableRequest, solve_table};
 use dd_table::SharedTable;
 use std::alloc::AllocError;
 
@@ -67,5 +69,21 @@ fn the_cache_and_the_table_behind_it_remember_a_solved_position(
     );
     let (interval, _) = cache.behind().look(&lower).expect(&rt, "the table behind");
     assert!(rt; (interval.lo, interval.hi) == (2, 2));
+    Ok(())
+}
+
+// Each search for a result then visits the deal itself and no more: with a budget of one position all are found, and they are the
+// same.
+#[test]
+fn a_table_asked_again_is_known(rt: HostRuntime) -> Result<(), AllocError> {
+    let deal = b"N:K82.A4.Q2. A43.K5.K3. QJT.Q2.A4. 765.J3.J5.";
+    let hands = read_deal(deal).expect(&rt, "seven cards a hand");
+    let request = TableRequest::new(hands).expect(&rt, "as many in each hand");
+    let table = SharedTable::new(rt.alloc(), 1, 4096)?;
+    let mut cache = Cache::new(rt.alloc(), table.view(&rt))?;
+    assert!(rt; solve_table(&request, &mut cache, Some(1)).is_none());
+    let first = solve_table(&request, &mut cache, None).expect(&rt, "no budget");
+    let again = solve_table(&request, &mut cache, Some(1)).expect(&rt, "a position each");
+    assert!(rt; first.as_slice() == again.as_slice());
     Ok(())
 }
