@@ -1,4 +1,7 @@
 """Clients that go: the jobs that they leave open are cancelled and their searches given up, and none of another's."""
+import itertools
+import json
+import random
 import socket
 import struct
 import threading
@@ -7,8 +10,22 @@ from client import CLOSING, ONE_CARD, ONE_CARD_REPLY, STOP, Messages, Server, ch
 
 CONNECTIONS = 200
 WORKERS = 2
+RANKS = "AKQJT98765432"
+HEALTH = '{"do":"health"}'
 # The seconds within which a job of one card is done.
 SOON = 2.0
+
+
+def tables(seed):
+    """Requests for the tables of full deals, no two alike: a table that was asked before is done before its client has gone."""
+    draw = random.Random(seed)
+    pack = list(itertools.product(range(4), RANKS))
+    while True:
+        draw.shuffle(pack)
+        hands = [sorted(pack[first:first + 13], key=lambda card: RANKS.index(card[1])) for first in range(0, 52, 13)]
+        suits = [["".join(rank for suit, rank in hand if suit == which) for which in range(4)] for hand in hands]
+        deal = "N:" + " ".join(".".join(hand) for hand in suits)
+        yield json.dumps({"do": "table", "deal": deal}, separators=(",", ":"))
 
 
 def one_card(client, since):
@@ -25,8 +42,17 @@ def one_card(client, since):
     return fetches
 
 
+def settle(client):
+    """Waits until no job is open: a session notices a little later that its client has gone."""
+    since = time.monotonic()
+    while json.loads(client.ask(HEALTH))["jobs"]:
+        check("open jobs of clients that have gone", time.monotonic() - since < SOON, True)
+        time.sleep(0.001)
+
+
 def end(server, client, known, open_jobs):
     """Stops the program. Besides what is known each job that was left open has its cancel, and workers have claimed and finished."""
+    settle(client)
     check("a stop", client.ask(STOP), CLOSING)
     client.close()
     events, status, said = server.end()
@@ -40,11 +66,10 @@ def closed(websocket):
     """Clients submit tables of full deals and close. The next client needn't wait for them."""
     server = Server("--allow-stop", *(["--websocket"] if websocket else []), workers=WORKERS)
     connect = (lambda: Messages(server.stream())) if websocket else server.connect
-    requests = [request for request, _ in recorded("tables")]
     last = connect()
-    for place in range(CONNECTIONS):
+    for request in itertools.islice(tables(66), CONNECTIONS):
         client = connect()
-        number_of(client.ask(requests[place % len(requests)]))
+        number_of(client.ask(request))
         client.close()
     since = time.monotonic()
     fetches = one_card(last, since)
@@ -83,21 +108,22 @@ def many_jobs():
 def who_stays():
     """While others come and go, the job of one who stays is worked on to its end, and is right."""
     server = Server("--allow-stop", workers=WORKERS)
-    rows = recorded("tables", 4)
+    request, reply_to_it = recorded("tables", 4)[3]
     over = threading.Event()
     left = []
 
     def come_and_go():
+        requests = tables(67)
         while not over.is_set():
             with server.connect() as client:
-                left.append(number_of(client.ask(rows[len(left) % 3][0])))
+                left.append(number_of(client.ask(next(requests))))
 
     with server.connect() as client:
-        job = number_of(client.ask(rows[3][0]))
+        job = number_of(client.ask(request))
         others = threading.Thread(target=come_and_go)
         others.start()
         reply, fetches = client.until_done(job)
-        check("the table of one who stays", reply, done(rows[3][1], job))
+        check("the table of one who stays", reply, done(reply_to_it, job))
         since = time.monotonic()
         over.set()
         others.join()
