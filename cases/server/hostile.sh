@@ -9,7 +9,7 @@
 # stranger that uses up each event that is free while 64 clients have tables open (`kept`); 64 clients that connect anew at 15 where
 # runs are short (`anew`); and newcomers who are more than the worker can begin, beside an honest client. Words: which of `lines`,
 # `sockets`, `descriptors`, `strangers`, `memory`, `cancelled`, `hangs`, `passes`, `events`, `kept`, `anew`, `newcomers` to run
-# (all), or `fair`: a client with one card beside one with 64 tables, and beside a thousand with 64 tables each, which wants an idle
+# (all), or `fair`: a client with one card beside one with 64 tables, and beside a thousand with 16 tables each, which wants an idle
 # machine. It takes some twelve minutes, in most of which it waits: until those who never read are cut off, newcomers have come, or
 # memory is there again.
 set -eu

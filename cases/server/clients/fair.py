@@ -1,7 +1,8 @@
 """How long a client with one card waits beside others that want much. Words: `one`, `many`.
 
-`one`: beside a client with 64 tables of full deals. `many`: beside 1,000 connections with 64 tables each, of which no two clients
-have the same first ones; then all of these go. What is printed: the times of its requests, the program's memory, how many
+`one`: beside a client with 64 tables of full deals. `many`: beside 1,000 connections with 16 tables each, of which no two clients
+have the same first ones, and whose events, 42 a table, are no more than three quarters of a run's: so all of them are of one run;
+then all of these go. What is printed: the times of its requests, the program's memory, how many
 descriptors it has."""
 import random
 import sys
@@ -10,6 +11,8 @@ from client import CLOSING, ONE_CARD, ONE_CARD_REPLY, STOP, Server, check, done,
 
 WORKERS = 4
 TABLES = 64
+# How many tables each of the thousand has.
+EACH = 16
 CONNECTIONS = 1_000
 # How many of its tables are a connection's own.
 OWN = 4
@@ -67,12 +70,12 @@ def many():
     since = time.monotonic()
     for place in range(CONNECTIONS):
         holders.append(server.connect())
-        submit(holders[-1], [lines[(OWN * place + more) % len(lines)] for more in range(TABLES)])
+        submit(holders[-1], [lines[(OWN * place + more) % len(lines)] for more in range(EACH)])
     submitted = time.monotonic() - since
     times = [one_card(client) for _ in range(FEWER)]
     memory, descriptors = server.resident(), server.descriptors()
     check(f"beside many clients: {max(times):.3f} s", max(times) < LATER, True)
-    print(f"fair: beside {CONNECTIONS} connections with {TABLES} tables each, submitted in {submitted:.1f} s, {FEWER} requests of one card take {shown(times)}; {memory:.0f} MB, {descriptors} descriptors", flush=True)
+    print(f"fair: beside {CONNECTIONS} connections with {EACH} tables each, submitted in {submitted:.1f} s, {FEWER} requests of one card take {shown(times)}; {memory:.0f} MB, {descriptors} descriptors", flush=True)
     since = time.monotonic()
     for holder in holders:
         holder.close()

@@ -69,7 +69,7 @@ pub(crate) fn outcome_of_part<J: Naming, B: Bounds, R: Wait>(
     } = search_part(request, part, first_guess, table, budget, held);
     remembered.last = LastPart::of(job, &outcome);
     if part % 4 == 0 {
-        if remembered.is_to_search(budget) {
+        if remembered.is_to_search(budget) && held.has_few_jobs() {
             search_ahead(request, job, part, remembered.last, table, budget, held);
         }
     } else if first_guess.is_none() && !was_known {

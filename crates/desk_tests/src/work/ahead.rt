@@ -55,12 +55,30 @@ fn known<R: Wait + Abort>(
     Ok(told)
 }
 
-// What the table knows once a worker has handed in the first part.
+// Two callers submit the table so often in all.
+fn submit_often<J: Naming, R: Wait + Abort>(
+    rt: &R,
+    alloc: Global,
+    desk: &Desk<J>,
+    jobs: u64,
+) -> Result<(), AllocError> {
+    let (mut caller, mut other) = (enrol(rt, desk), enrol(rt, desk));
+    let submits = format!(in alloc; "submits {EIGHT_CARDS_TABLE}")?;
+    for job in 0..jobs {
+        let pass = if job < 60 { &mut caller } else { &mut other };
+        let told = ask(rt, alloc, desk, pass, submits.as_str())?;
+        assert!(rt; told.as_str().starts_with("job "));
+    }
+    Ok(())
+}
+
+// What the table knows once a worker has handed in the first part of so many tables.
 fn known_after_one<J: Naming, R: Wait + Clock + Abort>(
     rt: &R,
     alloc: Global,
     row: Row,
     budget: Option<u64>,
+    jobs: u64,
 ) -> Result<String, AllocError>
     requires cells { (map cell_name row.cells.items ≡ J.cells) × (J.all ≡ J.parts) }
     requires limits { row.limits ≡ J.limits }
@@ -68,10 +86,8 @@ fn known_after_one<J: Naming, R: Wait + Clock + Abort>(
     requires sum { (row.sum.name ≡ J.places) × (row.sum.parts ≡ J.parts) }
 {
     let desk = Desk::<J>::new(row);
-    let mut caller = enrol(rt, &desk);
     let hand = enrol(rt, &desk);
-    let submits = format!(in alloc; "submits {EIGHT_CARDS_TABLE}")?;
-    let _ = ask(rt, alloc, &desk, &mut caller, submits.as_str())?;
+    submit_often(rt, alloc, &desk, jobs)?;
     let table = SharedTable::new(alloc, 16, 4_096)?;
     let nothing = known(rt, alloc, &table)?;
     assert!(rt; nothing.as_str() == "--------------------");
@@ -86,26 +102,34 @@ fn known_at_a_row<R: Wait + Clock + Abort>(
     rt: &R,
     alloc: Global,
     budget: Option<u64>,
+    jobs: u64,
 ) -> Result<String, AllocError> {
-    let limits = Limits::new(64, 1_000, 8, 1_000).expect(rt, "limits in their ranges");
+    let limits = Limits::new(64, 1_000, 8, 10_000).expect(rt, "limits in their ranges");
     let row = Row::new(alloc, limits)?;
-    known_after_one::<Brand, R>(rt, alloc, row, budget)
+    known_after_one::<Brand, R>(rt, alloc, row, budget, jobs)
 }
 
 #[test]
 fn the_other_parts_of_a_strain_are_searched_before_the_first_is_handed_in(
     rt: HostRuntime,
 ) -> Result<(), AllocError> {
-    let told = known_at_a_row(&rt, rt.alloc(), None)?;
+    let told = known_at_a_row(&rt, rt.alloc(), None, 64)?;
     assert!(rt; told.as_str() == "kkkk----------------");
-    let told = known_at_a_row(&rt, rt.alloc(), Some(1_000_000))?;
+    let told = known_at_a_row(&rt, rt.alloc(), Some(1_000_000), 1)?;
     assert!(rt; told.as_str() == "kkkk----------------");
     Ok(())
 }
 
 #[test]
 fn below_a_million_positions_nothing_is_searched_ahead(rt: HostRuntime) -> Result<(), AllocError> {
-    let told = known_at_a_row(&rt, rt.alloc(), Some(999_999))?;
+    let told = known_at_a_row(&rt, rt.alloc(), Some(999_999), 1)?;
+    assert!(rt; told.as_str() == "k-------------------");
+    Ok(())
+}
+
+#[test]
+fn while_many_jobs_are_open_nothing_is_searched_ahead(rt: HostRuntime) -> Result<(), AllocError> {
+    let told = known_at_a_row(&rt, rt.alloc(), None, 65)?;
     assert!(rt; told.as_str() == "k-------------------");
     Ok(())
 }
