@@ -14,15 +14,12 @@ use std::sync::Wait;
 /// part is claimed.
 const LEAST_BUDGET_AHEAD: u64 = 1_000_000;
 
-/// How many strains a worker begins with no search ahead, once the table had lost what was searched ahead.
-const STRAINS_WITHOUT: u8 = 32;
-
 /// What a worker remembers of the tables that it works on. It bears on the time alone.
 #[derive(Clone, Copy, Debug)]
 pub(crate) struct Remembered {
     last: Option<LastPart>,
-    // How many strains are to begin before one is searched ahead.
-    without: u8,
+    // Since the last strain began a part behind its strain's first was not known: the table may keep too little.
+    is_lost: bool,
 }
 
 impl Remembered {
@@ -30,14 +27,14 @@ impl Remembered {
     pub(crate) fn new() -> Remembered {
         Remembered {
             last: None,
-            without: 0,
+            is_lost: false,
         }
     }
 
     // Is this strain, which begins, to be searched ahead?
     fn is_to_search(&mut self, budget: Option<u64>) -> bool {
-        if self.without > 0 {
-            self.without -= 1;
+        if self.is_lost {
+            self.is_lost = false;
             return false;
         }
         match budget {
@@ -73,7 +70,7 @@ pub(crate) fn outcome_of_part<J: Naming, B: Bounds, R: Wait>(
             search_ahead(request, job, part, remembered.last, table, budget, held);
         }
     } else if first_guess.is_none() && !was_known {
-        remembered.without = STRAINS_WITHOUT;
+        remembered.is_lost = true;
     }
     outcome
 }
