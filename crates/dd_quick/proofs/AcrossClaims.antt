@@ -177,10 +177,10 @@ next-more p u few many n within r =
     ap₂ (λ a b. a && b) (and-left (is_of u c && is_next p c) (reach few c) pass) (reach-within few many within c (and-right (is_of u c && is_next p c) (reach few c) pass))) in
     omega (arith, r, m)
 
--- All that the leader cashes, shares of the partner's tricks, one of them in a suit to cross in, and joint trumps: what crossing
--- rests on.
+-- Shares of what the leader cashes, all of it in a suit where the partner has a share; shares of the partner's tricks, one of them in a suit to
+-- cross in; and joint trumps: what crossing rests on.
 pub across-rests : (p : Board) (few cards : List PlayingCard) (s h di cl t u v w m : ℕ) (a b c d : Bool)
-    → s ≡ cashed p.strain p Spades → h ≡ cashed p.strain p Hearts → di ≡ cashed p.strain p Diamonds → cl ≡ cashed p.strain p Clubs
+    → (1 ≤ t → s ≡ cashed p.strain p Spades) → (1 ≤ u → h ≡ cashed p.strain p Hearts) → (1 ≤ v → di ≡ cashed p.strain p Diamonds) → (1 ≤ w → cl ≡ cashed p.strain p Clubs)
     → IsShared p Spades few s → IsShared p Hearts few h → IsShared p Diamonds few di → IsShared p Clubs few cl → ((e : PlayingCard) → has_card few e ≡ true → has_card cards e ≡ true)
     → IsNextShared p Spades cards a t → IsNextShared p Hearts cards b u → IsNextShared p Diamonds cards c v → IsNextShared p Clubs cards d w → SomeOf a b c d t u v w
     → s + h + di + cl + (t + u + v + w) + trumps_at p.strain p p.first ≤ tricks_left p → s + h + di + cl + (t + u + v + w) + trumps_at p.strain p (seat_after p.first 2) ≤ tricks_left p
@@ -203,7 +203,7 @@ across-rests p few cards s h di cl t u v w m a b c d s_is h_is d_is c_is sp he d
     marks Diamonds = c
     marks Clubs = d
 
-    all : (x : Suit) → n x ≡ cashed p.strain p x
+    all : (x : Suit) → 1 ≤ y x → n x ≡ cashed p.strain p x
     all Spades = s_is
     all Hearts = h_is
     all Diamonds = d_is
@@ -214,6 +214,10 @@ across-rests p few cards s h di cl t u v w m a b c d s_is h_is d_is c_is sp he d
     own Hearts = shared-more p Hearts few cards h more he
     own Diamonds = shared-more p Diamonds few cards di more dm
     own Clubs = shared-more p Clubs few cards cl more cb
+
+    -- of a suit no more than is cashed in it
+    fewer : (x : Suit) → n x ≤ cashed p.strain p x
+    fewer x = (let f = (own x).few in let e = (own x).cash.0 in omega (arith, f, e))
 
     his : (x : Suit) → IsNextShared p x cards (marks x) (y x)
     his Spades = sn
@@ -228,7 +232,7 @@ across-rests p few cards s h di cl t u v w m a b c d s_is h_is d_is c_is sp he d
     -- a suit in which the partner has some is not long, and the leader cashes its run alone
     short : (x : Suit) → 1 ≤ y x → n x ≤ run p p.first x
     short x some =
-        let e = all x in
+        let e = all x some in
         let most = cashed-le p.strain p x in
         let partner = in-longest p x 2 (omega arith) (omega arith) in
         let spare = partners-le p x in
@@ -241,13 +245,13 @@ across-rests p few cards s h di cl t u v w m a b c d s_is h_is d_is c_is sp he d
 
     -- and the whole run
     long-run : (x : Suit) → 1 ≤ y x → run p p.first x ≤ n x
-    long-run x some = (let l = less x in let r = run-cashed p x (omega (arith, l, some)) in let e = all x in omega (arith, r, e))
+    long-run x some = (let l = less x in let r = run-cashed p x (omega (arith, l, some)) in let e = all x some in omega (arith, r, e))
 
     -- an opponent with trumps follows suit to all
     follows : (i : ℕ) → IsOpposed i → (trumps_at p.strain p (seat_after p.first i) == 0) ≡ false → (x : Suit) → n x + y x ≤ length_at p (seat_after p.first i) x
     follows i opposed has x = elim (cases_lt 0 (y x)) [
       | inl some ↦ (let l = less x in let k = partners-follow p x i opposed has (omega (arith, l, some)) in let r = short x some in omega (arith, l, k, r))
-      | inr none ↦ (let e = all x in let k = cashed-follows p.strain p x i opposed has in omega (arith, none, e, k))
+      | inr none ↦ (let e = fewer x in let k = cashed-follows p.strain p x i opposed has in omega (arith, none, e, k))
     ]
 
     by : (e : Suit) → marks e ≡ is_entry p e → (marks e ≡ true) × (1 ≤ y e) → (e : Suit) × RestsAcross (reach cards) p (shares s h di cl) (λ x. min (shares t u v w x) (next_run p x)) (shares t u v w) e m
@@ -256,11 +260,11 @@ across-rests p few cards s h di cl t u v w m a b c d s_is h_is d_is c_is sp he d
       record {
         plain = λ x counted. elim (cases_lt 0 (y x)) [
           | inl some ↦ partners-plain p x (let l = less x in omega (arith, l, some))
-          | inr none ↦ cashed-plain p.strain p x (let l = all x in omega (arith, l, none, counted))
+          | inr none ↦ cashed-plain p.strain p x (let l = fewer x in omega (arith, l, none, counted))
         ];
         follows = λ i opposed. elim (eqb_tells (trumps_at p.strain p (seat_after p.first i)) 0) [ inl z ↦ inl z.1 | inr z ↦ inr (follows i opposed z.0) ];
         held = λ x. (
-            let e = all x in
+            let e = fewer x in
             let most = cashed-le p.strain p x in
             let r = run-length p p.first x in
             elim (long-or-run p x) [ inl l ↦ (let z = l.1 in omega (arith, e, most, z)) | inr l ↦ (let z = l.1 in omega (arith, e, most, z, r)) ]);

@@ -19,7 +19,7 @@ pub mod Highest
 pub mod Reached
 pub mod TrumpRanks
 pub mod Sequences
-pub mod Shares
+pub mod SharedOut
 pub mod Next
 pub mod LeadBack
 pub mod Led

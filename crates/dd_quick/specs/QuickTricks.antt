@@ -194,6 +194,10 @@ guards p i suit = ((nat_lt 0 (ahead p (seat_after p.first i) suit) && nat_lt (to
 abbrev pub rounds : Board → Suit → ℕ
 rounds p suit = (if guards p 1 suit || guards p 3 suit then tops p suit else longer p suit)
 
+-- how often that is, and one for the left and for the right opponent where it guards the suit
+abbrev pub IsLed : Board → Suit → ℕ → ℕ → ℕ → Type 0
+IsLed p suit n a b = (n ≡ rounds p suit) × (a ≡ (if guards p 1 suit then 1 else 0)) × (b ≡ (if guards p 3 suit then 1 else 0))
+
 -- and all suits
 abbrev pub all_rounds : Board → ℕ
 all_rounds p = rounds p Spades + rounds p Hearts + rounds p Diamonds + rounds p Clubs
@@ -255,6 +259,17 @@ IsNext p suit tricks entry = (tricks ≡ partners_cashed p.strain p suit) × (en
 -- so many of the leader's winners in the suit, as far as its run goes, are reached by these cards
 abbrev pub RestsOn : Board → Suit → List PlayingCard → ℕ → Type 0
 RestsOn p suit cards n = min n (run p p.first suit) ≤ length (filter (λ c. (is_of suit c && is_winner p p.first c) && reach cards c) (cards_at p p.first))
+
+-- The leader's side takes so many tricks by so many of each suit: the leader cashes these, its partner has other cards than trumps to throw to
+-- them, and the rest are joint trumps.
+pub record CanShare (p : Board) (a b d e n : ℕ) : Type 0 where
+  pub spades : a ≤ cashed p.strain p Spades
+  pub hearts : b ≤ cashed p.strain p Hearts
+  pub diamonds : d ≤ cashed p.strain p Diamonds
+  pub clubs : e ≤ cashed p.strain p Clubs
+  pub throws : a + b + d + e ≤ tricks_left p - trumps_at p.strain p (seat_after p.first 2)
+  pub within : a + b + d + e ≤ n
+  pub joint : n - (a + b + d + e) ≤ joint_trumps p.strain p p.first
 
 -- so many of the partner's cards next below the leader's run, as far as there are, are reached by these cards
 abbrev pub RestsOnNext : Board → Suit → List PlayingCard → ℕ → Type 0

@@ -109,17 +109,17 @@ pub(crate) fn has_trumps(position: &Position) -> bool
     !(none && nor)
 }
 
-// Is one of the four true?
+/// Is one of the four true?
 #[inline]
-fn any(a: bool, b: bool, c: bool, d: bool) -> bool
+pub(crate) fn any(a: bool, b: bool, c: bool, d: bool) -> bool
     ensures { result ≡ ((a || b) || (c || d)) }
 {
     (a | b) | (c | d)
 }
 
-// What the partner takes in the suit, and whether the leader can cross there.
+/// What the partner takes in the suit, and whether the leader can cross there.
 #[inline(always)]
-fn next(position: &Position, seen: &Seen, suit: Suit) -> Offer
+pub(crate) fn next(position: &Position, seen: &Seen, suit: Suit) -> Offer
     requires { IsSeen position.now seen.now.own seen.now.left seen.now.partner seen.now.right
         seen.now.left_trumps seen.now.right_trumps }
     ensures next { IsNext position.now suit result.tricks result.first }

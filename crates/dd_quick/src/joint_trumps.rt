@@ -3,7 +3,7 @@
 //! need cost the side none of them, and one that such a trump wins costs it one of them, two only where neither hand has
 //! another card to play; and where it is an opponent's, that one is gone. The leader's side keeps its trumps while it cashes
 //! side suits, so both numbers add up. Trumps that the leader draws first would not: two of them may fall on one trick.
-ghost use Rattle.std.specs.Prelude.{◌≡◌, ◌≤◌, ◌+◌, ◌-◌, ◌||◌, ℕ, true, false, MatchOption, filter, length, min, nat_le};
+ghost use Rattle.std.specs.Prelude.{◌≡◌, ◌≤◌, ◌+◌, ◌-◌, ◌||◌, ℕ, true, false, IfSome, IsSome, MatchOption, filter, length, min, nat_le};
 ghost use Rattle.dd_cards.specs.PlayingCard.{PlayingCard};
 ghost use Rattle.dd_cards.specs.Cards.{card_of, has_card};
 ghost use Rattle.dd_cards.specs.Ranks.{all_ranks, has_rank};
@@ -50,6 +50,38 @@ pub(crate) fn with_trumps(position: &Position, seat: Seat, cards: Hand, tricks: 
         Some(rank) => with_trump(cards, trump, rank),
         None => cards,
     }
+}
+
+/// The same where the joint trumps take so many tricks, and none where they don't.
+pub(crate) fn with_joint_trumps(
+    position: &Position,
+    seat: Seat,
+    cards: Hand,
+    tricks: u8,
+) -> Option<Hand>
+    ensures found { tricks ≤ joint_trumps position.now.strain position.now seat → IsSome result }
+    ensures few { IfSome result (λ h. tricks ≤ joint_trumps position.now.strain position.now seat) }
+    ensures more { IfSome result (λ h. (c : PlayingCard) → has_card cards c ≡ true
+        → has_card h c ≡ true) }
+    ensures trumps { IfSome result
+        (λ h. RestsOnTrumps position.now.strain position.now seat h tricks) }
+{
+    if tricks == 0 {
+        return Some(cards);
+    }
+    let Strain::Trump(trump) = position.strain() else {
+        return None;
+    };
+    let left = seat.left();
+    let right = seat.right();
+    let ours = of_side(position, seat, trump);
+    let theirs = of_side(position, left, trump);
+    let longer = longer(position, seat, trump);
+    let rank = lowest(ours, theirs, longer, tricks)?;
+    if length(position, right, trump) == 0 && length(position, left, trump) == 0 {
+        return Some(cards);
+    }
+    Some(with_trump(cards, trump, rank))
 }
 
 /// These cards and the trump of the rank.

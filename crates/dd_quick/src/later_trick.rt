@@ -13,13 +13,13 @@
 //!   each suit that it guards, are no more than the tricks left, which is as many cards as it has.
 //!
 //! An opponent with more such cards than it can keep would have to choose, and nothing is counted.
-ghost use Rattle.std.specs.Prelude.{◌≡◌, ◌≤◌, ◌+◌, ◌&&◌, ◌||◌, ◌==◌, [], true, nat_lt, if◌then◌else◌};
+ghost use Rattle.std.specs.Prelude.{◌≡◌, ◌≤◌, ◌+◌, ◌&&◌, ◌||◌, ◌==◌, [], true, nat_lt, IfSome, IsSome, if◌then◌else◌};
 ghost use Rattle.dd_cards.specs.declared.suit.Suit.TheVariants.{Spades, Hearts, Diamonds, Clubs};
 ghost use Rattle.dd_cards.specs.PlayingCard.{PlayingCard};
 ghost use Rattle.dd_cards.specs.Cards.{has_card};
 ghost use Rattle.dd_cards.specs.Sides.{side_of, other_side};
 ghost use Rattle.dd_play.specs.Reach.{reach, TakesBy};
-ghost use Rattle.dd_quick.specs.QuickTricks.{RestsOnGuard, guards, has_later_trick, rounds};
+ghost use Rattle.dd_quick.specs.QuickTricks.{IsLed, RestsOnGuard, guards, has_later_trick, rounds};
 
 use crate::crossing::has_trumps;
 use crate::winners::{
@@ -37,23 +37,86 @@ struct Led {
     right: u8,
 }
 
+// What is counted of each suit.
+#[derive(Clone, Copy)]
+struct AllLed {
+    spades: Led,
+    hearts: Led,
+    diamonds: Led,
+    clubs: Led,
+}
+
 /// Does the other side take at least one trick, since the leader's side has to lead to an honour that an opponent guards?
-#[tactic(auto, unfolding(crate::specs::QuickTricks::has_later_trick))]
 pub(crate) fn later_trick(position: &Position) -> bool
+    ensures { result ≡ has_later_trick position.now }
+{
+    is_later(position, all_led(position))
+}
+
+/// The cards that opponents guard, on which it rests that their side takes that trick, where it does.
+pub(crate) fn later_winners(position: &Position) -> Option<Hand>
+    requires { position.now.trick ≡ [] }
+    ensures found { has_later_trick position.now ≡ true → IsSome result }
+    ensures claim { IfSome result
+        (λ cards. TakesBy (reach cards) (other_side (side_of position.now.first)) position.now 1) }
+{
+    let led = all_led(position);
+    if is_later(position, led) {
+        Some(cards_of(position, led))
+    } else {
+        None
+    }
+}
+
+// The same of what is counted of the suits.
+#[tactic(auto, unfolding(crate::specs::QuickTricks::has_later_trick))]
+fn is_later(position: &Position, led: AllLed) -> bool
+    requires spades { IsLed position.now Spades led.spades.rounds led.spades.left led.spades.right }
+    requires hearts { IsLed position.now Hearts led.hearts.rounds led.hearts.left led.hearts.right }
+    requires diamonds { IsLed position.now Diamonds
+        led.diamonds.rounds led.diamonds.left led.diamonds.right }
+    requires clubs { IsLed position.now Clubs led.clubs.rounds led.clubs.left led.clubs.right }
+    requires rounds { (led.spades.rounds ≤ 26) × (led.hearts.rounds ≤ 26)
+        × (led.diamonds.rounds ≤ 26) × (led.clubs.rounds ≤ 26) }
+    requires left { (led.spades.left ≤ 1) × (led.hearts.left ≤ 1)
+        × (led.diamonds.left ≤ 1) × (led.clubs.left ≤ 1) }
+    requires right { (led.spades.right ≤ 1) × (led.hearts.right ≤ 1)
+        × (led.diamonds.right ≤ 1) × (led.clubs.right ≤ 1) }
     ensures { result ≡ has_later_trick position.now }
 {
     if has_trumps(position) {
         return false;
     }
-    let spades = by_suit(position, Suit::Spades);
-    let hearts = by_suit(position, Suit::Hearts);
-    let diamonds = by_suit(position, Suit::Diamonds);
-    let clubs = by_suit(position, Suit::Clubs);
-    let rounds = spades.rounds + hearts.rounds + diamonds.rounds + clubs.rounds;
-    let left = spades.left + hearts.left + diamonds.left + clubs.left;
-    let right = spades.right + hearts.right + diamonds.right + clubs.right;
+    let rounds = led.spades.rounds + led.hearts.rounds + led.diamonds.rounds + led.clubs.rounds;
+    let left = led.spades.left + led.hearts.left + led.diamonds.left + led.clubs.left;
+    let right = led.spades.right + led.hearts.right + led.diamonds.right + led.clubs.right;
     let tricks = position.tricks_left();
     rounds < tricks && (rounds + left <= tricks && rounds + right <= tricks)
+}
+
+// What is counted of each suit.
+fn all_led(position: &Position) -> AllLed
+    ensures spades { IsLed position.now Spades
+        result.spades.rounds result.spades.left result.spades.right }
+    ensures hearts { IsLed position.now Hearts
+        result.hearts.rounds result.hearts.left result.hearts.right }
+    ensures diamonds { IsLed position.now Diamonds
+        result.diamonds.rounds result.diamonds.left result.diamonds.right }
+    ensures clubs { IsLed position.now Clubs
+        result.clubs.rounds result.clubs.left result.clubs.right }
+    ensures rounds { (result.spades.rounds ≤ 26) × (result.hearts.rounds ≤ 26)
+        × (result.diamonds.rounds ≤ 26) × (result.clubs.rounds ≤ 26) }
+    ensures left { (result.spades.left ≤ 1) × (result.hearts.left ≤ 1)
+        × (result.diamonds.left ≤ 1) × (result.clubs.left ≤ 1) }
+    ensures right { (result.spades.right ≤ 1) × (result.hearts.right ≤ 1)
+        × (result.diamonds.right ≤ 1) × (result.clubs.right ≤ 1) }
+{
+    AllLed {
+        spades: by_suit(position, Suit::Spades),
+        hearts: by_suit(position, Suit::Hearts),
+        diamonds: by_suit(position, Suit::Diamonds),
+        clubs: by_suit(position, Suit::Clubs),
+    }
 }
 
 // What is counted of a suit.
@@ -114,20 +177,38 @@ pub(crate) fn later_cards(position: &Position) -> Hand
     requires later { has_later_trick position.now ≡ true }
     ensures { TakesBy (reach result) (other_side (side_of position.now.first)) position.now 1 }
 {
-    let cards = with_honour(position, Hand::new(), Suit::Spades);
-    let cards = with_honour(position, cards, Suit::Hearts);
-    let cards = with_honour(position, cards, Suit::Diamonds);
-    with_honour(position, cards, Suit::Clubs)
+    cards_of(position, all_led(position))
+}
+
+// The same of what is counted of the suits.
+fn cards_of(position: &Position, led: AllLed) -> Hand
+    requires start { position.now.trick ≡ [] }
+    requires later { has_later_trick position.now ≡ true }
+    requires spades { IsLed position.now Spades led.spades.rounds led.spades.left led.spades.right }
+    requires hearts { IsLed position.now Hearts led.hearts.rounds led.hearts.left led.hearts.right }
+    requires diamonds { IsLed position.now Diamonds
+        led.diamonds.rounds led.diamonds.left led.diamonds.right }
+    requires clubs { IsLed position.now Clubs led.clubs.rounds led.clubs.left led.clubs.right }
+    ensures { TakesBy (reach result) (other_side (side_of position.now.first)) position.now 1 }
+{
+    let cards = with_honour(position, Hand::new(), Suit::Spades, led.spades);
+    let cards = with_honour(position, cards, Suit::Hearts, led.hearts);
+    let cards = with_honour(position, cards, Suit::Diamonds, led.diamonds);
+    with_honour(position, cards, Suit::Clubs, led.clubs)
 }
 
 // These cards and that which an opponent guards in the suit.
-fn with_honour(position: &Position, cards: Hand, suit: Suit) -> Hand
+fn with_honour(position: &Position, cards: Hand, suit: Suit, led: Led) -> Hand
+    requires { IsLed position.now suit led.rounds led.left led.right }
     ensures more { (c : PlayingCard) → has_card cards c ≡ true → has_card result c ≡ true }
     ensures left { RestsOnGuard position.now 1 suit result }
     ensures right { RestsOnGuard position.now 3 suit result }
 {
+    // Most suits are guarded by nobody.
+    if led.left == 0 && led.right == 0 {
+        return cards;
+    }
     let ranks = ranks_at(position, position.first(), suit);
-    let led = by_suit(position, suit);
     let cards = with_highest(cards, suit, left_ahead(&ranks), led.left);
     with_highest(cards, suit, right_ahead(&ranks), led.right)
 }

@@ -52,9 +52,9 @@ pub(crate) fn cashed(position: &Position) -> Cashes
     }
 }
 
-// What the leader cashes in this suit: in trumps none.
+/// What the leader cashes in this suit: in trumps none.
 #[inline(always)]
-fn cash_suit(position: &Position, seen: &Seen, suit: Suit) -> Cash
+pub(crate) fn cash_suit(position: &Position, seen: &Seen, suit: Suit) -> Cash
     requires { IsSeen position.now seen.now.own seen.now.left seen.now.partner seen.now.right
         seen.now.left_trumps seen.now.right_trumps }
     ensures cash { IsCash position.now suit result.tricks result.depth }

@@ -22,7 +22,7 @@ use crate::crossing::{Partners, beside_trumps, crossing, with_partners};
 use crate::guarded_trump::guarded_trump;
 use crate::joint_trumps::{joint_trumps, with_trumps};
 use crate::kept_winners::{keeps, kept_cards, kept_winners};
-use crate::later_trick::{later_cards, later_trick, one_if};
+use crate::later_trick::{later_cards, later_trick, later_winners, one_if};
 use crate::long_suit::{Cashes, cashed, offers, with_shares};
 use crate::sharing::{Shares, share_out};
 use crate::winners::trumps;
@@ -88,8 +88,13 @@ pub fn against_leader(start: &TrickStart, need: u8) -> Option<Hand>
     if need <= others(position) {
         return Some(others_cards(position, need));
     }
-    if need == 1 && later_trick(position) {
-        return Some(later_cards(position));
+    let later = if need == 1 {
+        later_winners(position)
+    } else {
+        None
+    };
+    if let Some(cards) = later {
+        return Some(cards);
     }
     let left = position.first().left();
     let right = position.first().right();

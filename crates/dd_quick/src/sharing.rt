@@ -18,13 +18,13 @@ pub(crate) struct Offers {
     pub(crate) clubs: Offer,
 }
 
-/// A number of tricks in each suit.
-#[derive(Clone, Copy)]
-pub(crate) struct Shares {
-    pub(crate) spades: u8,
-    pub(crate) hearts: u8,
-    pub(crate) diamonds: u8,
-    pub(crate) clubs: u8,
+/// A number of tricks, 0 to 13, in each suit.
+#[derive(Clone, Copy, Debug)]
+pub struct Shares {
+    pub spades: u8,
+    pub hearts: u8,
+    pub diamonds: u8,
+    pub clubs: u8,
 }
 
 /// So many of these tricks. Of the suits that are asked first and have some one has a share, unless none is needed.

@@ -97,6 +97,15 @@ fn nonzero_bit(number: u8) -> u8 {
     if number == 0 { 0 } else { 1 }
 }
 
+/// Has a hand a trump?
+#[inline]
+pub(crate) fn has_trumps(shape: Shape) -> bool {
+    match shape.strain() {
+        Strain::Trump(trump) => (shape.lengths() >> place(trump)) & 0xFFFF != 0,
+        Strain::Notrump => false,
+    }
+}
+
 impl SuitsSeen {
     #[inline(always)]
     fn of(lengths: u64, tops: TwoHighest, strain: Strain, places: u8) -> SuitsSeen {

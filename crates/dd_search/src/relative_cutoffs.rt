@@ -1,23 +1,31 @@
 //! What is known of the value of a start by relative ranks before a card is tried, and what an answer makes known.
 ghost use Rattle.std.specs.Prelude.{◌≡◌, ◌≤◌, true, length, IfSome};
 ghost use Rattle.dd_cards.specs.Cards.{has_card};
+ghost use Rattle.dd_cards.specs.PlayingCard.{PlayingCard};
+ghost use Rattle.dd_cards.specs.Sides.{side_of, other_side};
 ghost use Rattle.dd_play.specs.Board.{IsBoard, tricks_left};
-ghost use Rattle.dd_play.specs.Play.{legal};
+ghost use Rattle.dd_play.specs.Play.{after, legal};
+ghost use Rattle.dd_play.specs.Reach.{reach, TakesBy};
 ghost use Rattle.dd_quick.specs.SecondHand.{Opposes};
 ghost use Rattle.dd_rank.specs.Strings.{strings_of};
 ghost use Rattle.dd_search.specs.ClaimsBy.{IsAnswerAfter, IsAnswerBy};
 ghost use Rattle.dd_search.specs.Turns.{cards_before};
 
-use crate::quick_limit::{may_have_quick_tricks, others_may_have};
+use crate::kept_count::others_keep;
+use crate::quick_count::QuickView;
+use crate::quick_limit::{has_trumps, others_may_have};
 use crate::rank_verdict::RankVerdict;
 use crate::second_hands::SecondHands;
 use crate::table::{Bounds, ProbeHint};
 use crate::turn::Turn;
-use dd_cards::{Place, Seat};
+use dd_cards::{Hand, Place, Seat, Strain, Suit};
 use dd_play::Interval;
-use dd_quick::{against_leader, for_leader, for_second_hand};
+use dd_quick::{
+    against_leader, for_leader_across, for_leader_by, for_second_hand, for_second_hand_across,
+    for_second_hand_by,
+};
 use dd_rank::OwnerStrings;
-use dd_relative::{ComingStart, PlacedTrick, WinningRanks};
+use dd_relative::{ComingStart, PlacedTrick, RelativeStart, WinningRanks};
 
 // The leader is North, so that North and South's tricks are the leader's side's.
 
@@ -47,7 +55,7 @@ pub(crate) fn told_ranks<B: Bounds>(
     }
 }
 
-/// The same where the quick tricks of a side settle it, by the winners that they are. They are counted where there may be so many.
+/// The same where the quick tricks of a side settle it, by the winners that they are. They are made sure of where so many are counted.
 #[inline]
 pub(crate) fn quick_ranks(
     coming: &ComingStart,
@@ -63,18 +71,41 @@ pub(crate) fn quick_ranks(
     let left = relative.tricks_left();
     let against = left + 1 - need;
     let shape = strings.shape();
-    let tops = strings.two_highest();
-    let strain = relative.strain();
-    if may_have_quick_tricks(shape.lengths(), tops, strain, 0, left, need) {
-        if let Some(cards) = for_leader(start, need) {
-            return Some(RankVerdict::new(true, &WinningRanks::reaching(cards)));
-        }
+    if let Some(cards) = leaders_winners(relative, shape.lengths(), need) {
+        return Some(RankVerdict::new(true, &WinningRanks::reaching(cards)));
     }
-    if !others_may_have(shape, tops, against) {
+    if !others_may_take(relative, strings, against) {
         return None;
     }
     let cards = against_leader(start, against)?;
     Some(RankVerdict::new(false, &WinningRanks::reaching(cards)))
+}
+
+// May the other side take so many tricks by the quick tricks that are counted of it?
+#[inline(always)]
+fn others_may_take(relative: &RelativeStart, strings: &OwnerStrings, need: u8) -> bool {
+    let shape = strings.shape();
+    if has_trumps(shape) {
+        others_may_have(shape, strings.two_highest(), need)
+    } else {
+        others_keep(relative, shape.lengths(), need)
+    }
+}
+
+// The winners by which the leader's side takes so many tricks, where all hands have these lengths.
+#[inline(always)]
+fn leaders_winners(relative: &RelativeStart, lengths: u64, need: u8) -> Option<Hand>
+    ensures { IfSome result
+        (λ cards. TakesBy (reach cards) (side_of relative.now.first) relative.now need) }
+{
+    let start = relative.as_trick_start();
+    let view = QuickView::of_leader(relative, lengths);
+    let cashed = view.cashed(need)?;
+    if cashed.takes(need) {
+        return for_leader_by(start, need, cashed.shares(need));
+    }
+    let (told, next) = view.crossed(cashed, need)?;
+    for_leader_across(start, need, told, next)
 }
 
 /// What is answered where this card is led, by quick tricks of an opponent that has the highest card left of its suit. It leads
@@ -145,15 +176,43 @@ fn ranks_of_second_hand(
     let leads = position.first().is_north_south();
     let left = position.tricks_left();
     let others = if leads { left + 1 - need } else { need };
-    if !seconds.may_take(position, seat, left, others) {
-        seconds.was_in_vain(position, seat, suit);
-        return None;
-    }
-    let Some(cards) = for_second_hand(position, seat, suit, others) else {
+    let Some(cards) = second_hands_winners(trick, seat, suit, others) else {
         seconds.was_in_vain(position, seat, suit);
         return None;
     };
     Some(RankVerdict::new(!leads, &WinningRanks::reaching(cards)))
+}
+
+// The winners by which this opponent's side takes so many tricks after each lead of the suit.
+#[inline(always)]
+fn second_hands_winners(trick: &PlacedTrick<'_>, seat: Seat, suit: Suit, need: u8) -> Option<Hand>
+    requires start { length trick.now.trick ≡ 0 }
+    requires opposes { Opposes trick.now seat }
+    ensures { IfSome result (λ cards. (card : PlayingCard) → has_card (legal trick.now) card ≡ true
+        → card.suit ≡ suit → TakesBy (reach cards) (other_side (side_of trick.now.first))
+        (after trick.now card) need) }
+{
+    let position = trick.at_lead().position();
+    let known = trick.start();
+    let relative = known.start();
+    let view = QuickView::of_opponent(relative, known.strings().shape().lengths(), seat);
+    if relative.strain() == Strain::Trump(suit) {
+        return if view.may_draw(suit, need) {
+            for_second_hand(position, seat, suit, need)
+        } else {
+            None
+        };
+    }
+    let cashed = view.cashed(need)?;
+    if !cashed.has(suit) {
+        return None;
+    }
+    if cashed.takes(need) {
+        let told = cashed.shares_from(suit, need);
+        return for_second_hand_by(position, seat, suit, need, told);
+    }
+    let (told, next) = view.crossed(cashed, need)?;
+    for_second_hand_across(position, seat, suit, need, told, next)
 }
 
 /// Hands over what an answer proves of the value.

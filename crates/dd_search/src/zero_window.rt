@@ -29,7 +29,7 @@ use dd_play::{Position, TrickStart};
 use dd_rank::{OwnerStrings, Shape};
 
 // With no more tricks left than this a search takes less time as it stands than to make it one by relative ranks.
-const FEW: u8 = 6;
+const FEW: u8 = 3;
 
 /// Do North and South take at least `need` of the tricks left? It ticks first; at a start of a trick a look or the quick
 /// bounds may settle it, and a lead second hand's winners; else play does, and what that taught at a start is noted.

@@ -49,7 +49,7 @@ impl FrontEntry {
         }
     }
 
-    /// The position that was told with the value. A search of more than six tricks tells the first start of a trick of each line of play as
+    /// The position that was told with the value. A search of more than three tricks tells the first start of a trick of each line of play as
     /// it stands in the deal, and those after it by relative ranks: alike to the deal's, with the seats turned so that North leads, and of
     /// each suit the highest cards in place of those left.
     pub fn start(&self) -> &TrickStart

@@ -1,5 +1,5 @@
-//! A search by relative ranks beside one by the ranks of the deal: on drawn starts of a trick, with more than six tricks left and
-//! with fewer. And both beside what is on record: tricks and depths were found before there was the first, positions are counted since.
+//! A search by relative ranks beside one by the ranks of the deal: on drawn starts of a trick, with more than three tricks left
+//! and with fewer. And both beside what is on record: tricks and depths were found before there was the first, positions are counted since.
 use dd_cache::Cache;
 use dd_cards::{Card, Hands, Rank, Seat, Strain, Suit};
 use dd_equal::classes;
@@ -399,7 +399,7 @@ fn others_of(start: &TrickStart, most: u64) -> Option<[u64; 2]> {
 }
 
 // Budgets that end in the first three tricks, and some that end later. A table is asked of starts of the deal alone, unless it says that
-// it takes others: there are such in most searches of more than six tricks, and none in others. The first question, which comes after two
+// it takes others: there are such in most searches of more than three tricks, and none in others. The first question, which comes after two
 // ticks, is of the deal's start in either form.
 #[test]
 fn both_forms_of_a_search_ask_their_table_alike(rt: HostRuntime) {
@@ -407,7 +407,7 @@ fn both_forms_of_a_search_ask_their_table_alike(rt: HostRuntime) {
     let mut with_few = 0u64;
     let mut with_more = 0u64;
     for number in 0..40u64 {
-        let tricks = 5 + number % 5;
+        let tricks = 2 + number % 8;
         let start = drawn(&mut state, tricks).expect(&rt, "a start");
         for most in [0, 1, 2, 3, 4, 5, 6, 7, 8, 9, 10, 11, 50, 200, 2_000] {
             let others = others_of(&start, most);
@@ -417,7 +417,7 @@ fn both_forms_of_a_search_ask_their_table_alike(rt: HostRuntime) {
             );
             if others.is_some_and(|others| others[1] > 0) {
                 assert!(rt; most > 2, "start {number}");
-                if tricks > 6 {
+                if tricks > 3 {
                     with_more = with_more.saturating_add(1);
                 } else {
                     with_few = with_few.saturating_add(1);

@@ -9,7 +9,7 @@ returns-clause-left c =
     let u = c.args.suit in
     let ranks = c.ranks_at-ranks.result in
     let are = subst (λ x. AreRanks p x u ranks.own ranks.left ranks.partner ranks.right) c.first.ensures c.ranks_at-ranks.ensures in
-    guard-more p 1 u c.with_highest-cards.result c.with_highest.result c.with_highest.ensures.more (guard-reached p 1 u c.left_ahead.result c.with_highest-cards.result c.by_suit-led.result.left (c.left_ahead.ensures p u are) c.by_suit-led.ensures.left c.with_highest-cards.ensures.most)
+    guard-more p 1 u c.with_highest-cards.result c.with_highest.result c.with_highest.ensures.more (guard-reached p 1 u c.left_ahead.result c.with_highest-cards.result c.args.led.left (c.left_ahead.ensures p u are) c.requires.1 c.with_highest-cards.ensures.most)
 
 pub returns-clause-right : goal.returns-clause-right
 returns-clause-right c =
@@ -17,4 +17,4 @@ returns-clause-right c =
     let u = c.args.suit in
     let ranks = c.ranks_at-ranks.result in
     let are = subst (λ x. AreRanks p x u ranks.own ranks.left ranks.partner ranks.right) c.first.ensures c.ranks_at-ranks.ensures in
-    guard-reached p 3 u c.right_ahead.result c.with_highest.result c.by_suit-led.result.right (c.right_ahead.ensures p u are) c.by_suit-led.ensures.right c.with_highest.ensures.most
+    guard-reached p 3 u c.right_ahead.result c.with_highest.result c.args.led.right (c.right_ahead.ensures p u are) c.requires.2 c.with_highest.ensures.most

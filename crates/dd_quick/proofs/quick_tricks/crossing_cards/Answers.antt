@@ -65,7 +65,7 @@ rests c =
     let all : of.spades.tricks + of.hearts.tricks + of.diamonds.tricks + of.clubs.tricks ≡ c.args.ours.side = omega (arith, side, many, few, of_left, s, h, d, k) in
     let joint = subst (λ x. c.args.ours.trumps ≤ joint_trumps p.strain p x → RestsOnTrumps p.strain p x cards c.args.ours.trumps) c.first.ensures c.with_trumps.ensures.trumps (omega (arith, trumps)) in
     let across = across-rests p c.with_shares-cards.result cards of.spades.tricks of.hearts.tricks of.diamonds.tricks of.clubs.tricks y.spades y.hearts y.diamonds y.clubs c.args.ours.trumps next.spades.first next.hearts.first next.diamonds.first next.clubs.first
-    s h d k
+    (λ some. s) (λ some. h) (λ some. d) (λ some. k)
     (record { tricks = of.spades.tricks; cards_of = of.spades.depth; cash = c.requires.spades; few = omega arith; rests = c.with_shares-cards.ensures.spades })
     (record { tricks = of.hearts.tricks; cards_of = of.hearts.depth; cash = c.requires.hearts; few = omega arith; rests = c.with_shares-cards.ensures.hearts })
     (record { tricks = of.diamonds.tricks; cards_of = of.diamonds.depth; cash = c.requires.diamonds; few = omega arith; rests = c.with_shares-cards.ensures.diamonds })

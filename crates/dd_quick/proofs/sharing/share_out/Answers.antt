@@ -1,4 +1,4 @@
-use Rattle.dd_quick.proofs.Shares.{shared, first-share}
+use Rattle.dd_quick.proofs.SharedOut.{shared, first-share}
 use Rattle.dd_quick.proofs.sharing.share_out.Goals as goal
 
 pub returns-clause-sum : goal.returns-clause-sum

@@ -10,8 +10,7 @@ use Rattle.dd_search.proofs.relative_cutoffs.quick_ranks.Goals as goal
 pub returns-in-Some-clause-answer : goal.returns-in-Some-clause-answer
 returns-in-Some-clause-answer c =
     let p = c.args.coming.now in
-    let same = c.as_trick_start-start.ensures.same ∙ c.start-relative.ensures.same in
-    let takes = subst (λ (r : Board). TakesBy (reach c.in-Some.cards) (side_of r.first) r c.args.need) same c.in-Some.ensures.claim in
+    let takes = subst (λ (r : Board). TakesBy (reach c.in-Some.cards) (side_of r.first) r c.args.need) c.start-relative.ensures.same c.in-Some.ensures in
     subst (λ (a : AnswerBy). IsAnswerBy p c.args.need a.cards a.yes) (sym c.new.ensures)
     (yes-north p c.args.need c.in-Some.cards c.reaching.result c.start-relative.ensures.relative.leader c.reaching.ensures takes)
 

@@ -1,12 +1,8 @@
 use Rattle.std.specs.Prelude.{◌-◌, if◌then◌else◌}
-use Rattle.std.proofs.Common.{◌≡◌, ◌+◌, ◌∙◌, Bool, true, ap, sym, subst}
+use Rattle.std.proofs.Common.{◌≡◌, ◌+◌, ◌∙◌, Bool, ap, sym, subst}
 use mathlib.Core.Bool.{not}
-use Rattle.dd_cards.specs.Cards.{has_card}
 use Rattle.dd_cards.specs.Seats.{is_north_south}
-use Rattle.dd_cards.specs.Sides.{side_of, other_side}
 use Rattle.dd_play.specs.Board.{Board, tricks_left}
-use Rattle.dd_play.specs.Play.{after, legal}
-use Rattle.dd_play.specs.Reach.{reach, TakesBy}
 use Rattle.dd_search.specs.ClaimsBy.{AnswerBy, IsAnswerAfter}
 use Rattle.dd_search.proofs.Relied.{leads-wider, led-against}
 use Rattle.dd_search.proofs.relative_cutoffs.ranks_of_second_hand.Goals.{then-leads, else-leads}
@@ -24,9 +20,7 @@ returns c =
       | then-leads w ↦ w.others-is ∙ ap (λ n. n + 1 - need) left ∙ sym (ap (λ (x : Bool). if x then tricks_left p + 1 - need else need) w.if-leads.true)
       | else-leads w ↦ w.others-is ∙ sym (ap (λ (x : Bool). if x then tricks_left p + 1 - need else need) w.if-leads.false)
     ] in
-    let legal_there = subst (λ (r : Board). has_card (legal r) c.args.card ≡ true) (sym same) c.requires.legal in
-    let takes = subst (λ (r : Board). TakesBy (reach c.in-Some.cards) (other_side (side_of r.first)) (after r c.args.card) c.if-leads.others) same
-    (c.in-Some.ensures c.args.card legal_there (sym c.suit-suit.ensures)) in
+    let takes = c.in-Some.ensures c.args.card c.requires.legal (sym c.suit-suit.ensures) in
     let found = led-against p c.args.card need c.if-leads.others c.in-Some.cards b c.at_lead.ensures.board c.requires.start c.requires.legal c.requires.low c.requires.high
     (c.is_north_south-leads.ensures ∙ ap is_north_south (c.first.ensures ∙ ap (λ (r : Board). r.first) same)) many takes in
     let wider = leads-wider p need c.args.card c.in-Some.cards c.reaching.result (not b) c.reaching.ensures found in

@@ -3,8 +3,8 @@ use Rattle.dd_cards.specs.declared.suit.Suit.TheVariants.{Spades, Hearts, Diamon
 use Rattle.dd_quick.specs.QuickTricks.{RestsOnGuard}
 use Rattle.dd_quick.proofs.LaterClaims.{later-claim}
 use Rattle.dd_quick.proofs.Reached.{guard-more}
-use Rattle.dd_quick.proofs.later_trick.later_cards.Goals as goal
-use Rattle.dd_quick.proofs.later_trick.later_cards.Goals.{After-with_honour}
+use Rattle.dd_quick.proofs.later_trick.cards_of.Goals as goal
+use Rattle.dd_quick.proofs.later_trick.cards_of.Goals.{After-with_honour}
 
 -- the cards of the left opponent
 on-left : (c : After-with_honour) (u : Suit) → RestsOnGuard c.args.position.now 1 u c.with_honour.result
