@@ -5,6 +5,7 @@ use dd_quick::{against_leader, bounds, for_leader};
 use std::process::Abort;
 
 mod second_hand;
+mod told;
 
 // Rows of a test are one text, so that its proof does not grow with them. A row begins with a position before a trick: the
 // hands of North, East, South and West, each with its spades, hearts, diamonds and clubs, then a letter of the strain, `n` for

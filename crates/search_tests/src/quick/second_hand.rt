@@ -17,7 +17,7 @@ fn after_spades(start: &TrickStart, need: u8) -> Option<Hand> {
 }
 
 // How many cards of each suit, a digit each.
-fn by_suit(cards: Hand) -> [u8; 4] {
+pub(super) fn by_suit(cards: Hand) -> [u8; 4] {
     [
         digit(cards.of_suit(Suit::Spades).len()),
         digit(cards.of_suit(Suit::Hearts).len()),
