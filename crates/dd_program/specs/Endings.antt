@@ -26,7 +26,9 @@ use Rattle.dd_file.specs.declared.wanted.Wanted.{Wanted}
 use Rattle.dd_fill.specs.Said.{Sink}
 use Rattle.dd_fill.specs.Served.{FilledInPart, FilledSaying}
 use Rattle.dd_fill.specs.Told.{MaySpend}
-use Rattle.dd_server.specs.Histories.{IsLengthOfHistory}
+use Rattle.dd_desk.specs.Events.{EventOf}
+use Rattle.dd_server.specs.Histories.{IsJournalOfRun}
+use Rattle.dd_server.specs.Runs.{AreTold}
 use Rattle.dd_server.specs.declared.args.ServeFault.{ServeFault}
 use Rattle.dd_server.specs.declared.terms.Terms.{Terms}
 use Rattle.dd_server.specs.declared.args.ServeFault.TheVariants.{Listen, OutOfMemory as NoMemoryLeft}
@@ -176,10 +178,10 @@ listening_text address = codes "listening on " ++ address ++ codes "\n"
 abbrev pub closed_text : ℕ → List ℕ
 closed_text events = codes "closed after " ++ decimal events ++ codes " events\n"
 
--- the same of runs, one line after another
-abbrev pub closed_texts : List ℕ → List ℕ
+-- the same of runs, each by its journal, one line after another
+abbrev pub closed_texts : List (List EventOf) → List ℕ
 closed_texts [] = []
-closed_texts (run ∷ runs) = closed_text run ++ closed_texts runs
+closed_texts (run ∷ runs) = closed_text (length run) ++ closed_texts runs
 
 -- the most that the book of a run and its callers may hold, with so many events
 abbrev pub limits_for : ℕ → LimitsOf
@@ -190,70 +192,83 @@ abbrev pub TellsText : List ℕ → Bool → Device → Device → Type 0
 TellsText text false old new = WritesAll text old new
 TellsText text true old new = WritesBeginning text old new
 
--- what is known of who tells of runs: the name of the reference to its output, the output, and whether a write failed
-pub record TellingOf : Type 0 where
-  pub reference : ℕ
+-- What is known of who tells of runs: the names of the references to its output and to who watches, the output, whether a write
+-- failed, and the state of who watches.
+pub record TellingOf (S : Type 0) : Type 0 where
+  pub references : ℕ × ℕ
   pub output : Device
   pub has_failed : Bool
+  pub watcher : S
 
--- after a write that failed nothing more is told; else the line of the run is
-abbrev pub TellsNext : Bool → ℕ → TellingOf → TellingOf → Type 0
-TellsNext true run before after = after ≡ before
-TellsNext false run before after = TellsText (closed_text run) after.has_failed before.output after.output
+-- after a write that failed nothing more is told; else the line of the run with this journal is
+abbrev pub TellsNext : {S : Type 0} → Bool → List EventOf → TellingOf S → TellingOf S → Type 0
+TellsNext true run before after = (after.output ≡ before.output) × (after.has_failed ≡ before.has_failed)
+TellsNext false run before after = TellsText (closed_text (length run)) after.has_failed before.output after.output
 
--- a run of so many events is told
-abbrev pub TellsRun : TellingOf → ℕ → TellingOf → Type 0
-TellsRun before run after = (after.reference ≡ before.reference) × TellsNext before.has_failed run before after
+-- a run with this journal is told, to who watches in its own way
+abbrev pub TellsRun : {S : Type 0} → (S → List EventOf → S → Type 0) → TellingOf S → List EventOf → TellingOf S → Type 0
+TellsRun way before run after =
+    (after.references ≡ before.references) × way before.watcher run after.watcher × TellsNext before.has_failed run before after
 
 -- what each run of the server is asked for by these options: how its sessions answer, and the budget of a search
 abbrev pub terms_for : Option ℕ → Bool → Bool → Terms
 terms_for budget allow_stop explain = record { manner = record { allow_stop = allow_stop; explain = explain }; budget = budget }
 
--- runs that were asked for so, with so many events at most, each with the number of events of a history of its own
-abbrev pub AreRuns : Terms → ℕ → List ℕ → Type 0
-AreRuns terms events runs = All (IsLengthOfHistory (limits_for events) terms) runs
+-- runs that were asked for so, with so many events at most, each by the journal that it left
+abbrev pub AreRuns : Terms → ℕ → List (List EventOf) → Type 0
+AreRuns terms events runs = All (IsJournalOfRun (limits_for events) terms) runs
 
--- the address was told, and of each run, at its end, how many events its journal has: of one at least
-pub record Serves (terms : Terms) (events : ℕ) (old new : Streams) : Type 0 where
+-- The address was told, and of each run, at its end, how many events its journal has: of one at least. Who watches was told of just
+-- these runs, each by that journal.
+pub record Serves {S : Type 0} (way : S → List EventOf → S → Type 0) (watcher watcher2 : S) (terms : Terms) (events : ℕ) (old new : Streams) : Type 0 where
   pub input : new.input ≡ old.input
   pub address : List ℕ
   pub between : Device
   pub listens : WritesAll (listening_text address) old.output between
-  pub runs : List ℕ
+  pub runs : List (List EventOf)
   pub are_runs : AreRuns terms events runs
   pub some : 0 < length runs
   pub closes : WritesAll (closed_texts runs) between new.output
+  pub watched : AreTold way watcher runs watcher2
   pub errors : new.errors ≡ old.errors
 
+-- nothing was told but a beginning of the address
+abbrev pub TellsNoRun : {S : Type 0} → S → S → Streams → Streams → Type 0
+TellsNoRun watcher watcher2 old new = (watcher2 ≡ watcher) × ((address : List ℕ) × WritesBeginning (listening_text address) old.output new.output)
+
+-- the address was told, and who watches was told of some runs, whose lines were told so
+abbrev pub TellsOfRuns : {S : Type 0} → (S → List EventOf → S → Type 0) → S → S → (List ℕ → Device → Device → Type 0) → Terms → ℕ → Streams → Streams → Type 0
+TellsOfRuns way watcher watcher2 Closes terms events old new =
+    (address : List ℕ) × (between : Device) × WritesAll (listening_text address) old.output between
+    × (runs : List (List EventOf)) × AreRuns terms events runs × AreTold way watcher runs watcher2 × Closes (closed_texts runs) between new.output
+
 -- one of these could not be told whole, and none after it was told
-pub record FailsToTell (terms : Terms) (events : ℕ) (old new : Streams) : Type 0 where
+pub record FailsToTell {S : Type 0} (way : S → List EventOf → S → Type 0) (watcher watcher2 : S) (terms : Terms) (events : ℕ) (old new : Streams) : Type 0 where
   pub input : new.input ≡ old.input
-  pub output : ((address : List ℕ) × WritesBeginning (listening_text address) old.output new.output)
-      ⊎ ((address : List ℕ) × (between : Device) × WritesAll (listening_text address) old.output between
-      × (runs : List ℕ) × AreRuns terms events runs × WritesBeginning (closed_texts runs) between new.output)
+  pub output : TellsNoRun watcher watcher2 old new ⊎ TellsOfRuns way watcher watcher2 WritesBeginning terms events old new
   pub said : Writes (line_of WriteFailed) old.errors new.errors
 
 -- it ended badly, perhaps after the address and runs were told, these as far as the device took them, and that was said
-pub record FailsToServe (terms : Terms) (events : ℕ) (ending : Ending) (old new : Streams) : Type 0 where
+pub record FailsToServe {S : Type 0} (way : S → List EventOf → S → Type 0) (watcher watcher2 : S) (terms : Terms) (events : ℕ) (ending : Ending) (old new : Streams) : Type 0 where
   pub input : new.input ≡ old.input
-  pub output : (new.output ≡ old.output) ⊎ ((address : List ℕ) × (between : Device) × WritesAll (listening_text address) old.output between
-      × (runs : List ℕ) × AreRuns terms events runs × Writes (closed_texts runs) between new.output)
+  pub output : ((watcher2 ≡ watcher) × (new.output ≡ old.output)) ⊎ TellsOfRuns way watcher watcher2 Writes terms events old new
   pub said : Writes (line_of ending) old.errors new.errors
 
 -- the address can't be listened at: nothing was told, and that was said
-pub record FailsToListen (fault : ListenFault) (old new : Streams) : Type 0 where
+pub record FailsToListen {S : Type 0} (watcher watcher2 : S) (fault : ListenFault) (old new : Streams) : Type 0 where
   pub input : new.input ≡ old.input
   pub output : new.output ≡ old.output
+  pub watched : watcher2 ≡ watcher
   pub said : Writes (line_of_fault fault) old.errors new.errors
 
--- clients are served by runs that are asked for so, of so many events, up to this ending
-abbrev pub ServesUntil : Terms → ℕ → Streams → Streams → Ending → Type 0
-ServesUntil terms events old new Closed = Serves terms events old new
-ServesUntil terms events old new WriteFailed = FailsToTell terms events old new
-ServesUntil terms events old new (CannotListen fault) = FailsToListen fault old new
-ServesUntil terms events old new ListenFailed = FailsToServe terms events ListenFailed old new
-ServesUntil terms events old new OutOfMemory = FailsToServe terms events OutOfMemory old new
-ServesUntil terms events old new _ = ⊥
+-- clients are served by runs that are asked for so, of so many events, up to this ending; who watches the runs is told of them
+abbrev pub ServesUntil : {S : Type 0} → (S → List EventOf → S → Type 0) → S → S → Terms → ℕ → Streams → Streams → Ending → Type 0
+ServesUntil way watcher watcher2 terms events old new Closed = Serves way watcher watcher2 terms events old new
+ServesUntil way watcher watcher2 terms events old new WriteFailed = FailsToTell way watcher watcher2 terms events old new
+ServesUntil way watcher watcher2 terms events old new (CannotListen fault) = FailsToListen watcher watcher2 fault old new
+ServesUntil way watcher watcher2 terms events old new ListenFailed = FailsToServe way watcher watcher2 terms events ListenFailed old new
+ServesUntil way watcher watcher2 terms events old new OutOfMemory = FailsToServe way watcher watcher2 terms events OutOfMemory old new
+ServesUntil way watcher watcher2 terms events old new _ = ⊥
 
 -- how it ends where the server ended so, and where telling of its runs failed or not; a failure is said
 abbrev pub EndsSo : Result (Unit {0}) ServeFault → Bool → Device → Device → Ending → Type 0
@@ -337,12 +352,15 @@ FillsWanted (Some wanted) budget shows old new ending = EndsFilling (MaySpend bu
 abbrev pub FillsUntil : List ℕ → Option ℕ → Bool → Streams → Streams → Ending → Type 0
 FillsUntil tags budget shows old new ending = FillsWanted (wanted_by tags) budget shows old new ending
 
--- what the arguments ask for is done, up to this ending; progress is shown where the standard error is a terminal
-abbrev pub AnswersUntil : Bool → Args → Streams → Streams → Ending → Type 0
-AnswersUntil is_terminal (Solve budget entries workers explain) old new ending = SolvesUntil (IsReplyAs explain budget) old new ending
-AnswersUntil is_terminal (Serve listen workers shards entries budget events idle websocket allow_stop explain) old new ending =
-    ServesUntil (terms_for budget allow_stop explain) events old new ending
-AnswersUntil is_terminal (Fill tags budget entries workers) old new ending = FillsUntil (string_bytes tags) budget is_terminal old new ending
+-- What the arguments ask for is done, up to this ending; progress is shown where the standard error is a terminal. Who watches is
+-- told of the runs of a server, and else of nothing.
+abbrev pub AnswersUntil : {S : Type 0} → (S → List EventOf → S → Type 0) → S → S → Bool → Args → Streams → Streams → Ending → Type 0
+AnswersUntil way watcher watcher2 is_terminal (Solve budget entries workers explain) old new ending =
+    (watcher2 ≡ watcher) × SolvesUntil (IsReplyAs explain budget) old new ending
+AnswersUntil way watcher watcher2 is_terminal (Serve listen workers shards entries budget events idle websocket allow_stop explain) old new ending =
+    ServesUntil way watcher watcher2 (terms_for budget allow_stop explain) events old new ending
+AnswersUntil way watcher watcher2 is_terminal (Fill tags budget entries workers) old new ending =
+    (watcher2 ≡ watcher) × FillsUntil (string_bytes tags) budget is_terminal old new ending
 
 -- ---- an error is shown
 
@@ -378,9 +396,9 @@ ShowsUntil error old new _ = ⊥
 -- ---- the run
 
 -- What a run does up to its ending: it answers lines, serves clients or fills a file where the arguments ask for that, and else shows their error; or memory ran
--- out before either.
-abbrev pub Runs : Words → Bool → Streams → Streams → Ending → Type 0
-Runs arguments is_terminal old new ending =
-    ((args : Args) × AskFor arguments args × AnswersUntil is_terminal args old new ending)
-    ⊎ ((error : ErrorKind) × AskForNothing arguments × HaveError arguments error × ShowsUntil error old new ending)
-    ⊎ ((ending ≡ OutOfMemory) × RunsOut old new)
+-- out before either. Who watches the runs of a server is told of these, and else of nothing.
+abbrev pub Runs : {S : Type 0} → (S → List EventOf → S → Type 0) → S → S → Words → Bool → Streams → Streams → Ending → Type 0
+Runs way watcher watcher2 arguments is_terminal old new ending =
+    ((args : Args) × AskFor arguments args × AnswersUntil way watcher watcher2 is_terminal args old new ending)
+    ⊎ ((watcher2 ≡ watcher) × ((error : ErrorKind) × AskForNothing arguments × HaveError arguments error × ShowsUntil error old new ending))
+    ⊎ ((watcher2 ≡ watcher) × (ending ≡ OutOfMemory) × RunsOut old new)

@@ -9,7 +9,9 @@ mod run;
 mod serving;
 mod tags;
 mod telling;
+mod watching;
 
 pub use ending::Ending;
 pub use listen_fault::ListenFault;
 pub use run::run_program;
+pub use watching::Unwatched;

@@ -15,7 +15,7 @@ use dd_cache::Cache;
 use dd_command::{Args, ArgumentsFault, not_text, read_args};
 use dd_lines::{CountedDevice, LineFault, write_whole};
 use dd_search::Bounds;
-use dd_server::ServeArgs;
+use dd_server::{KeepsRuns, ServeArgs, TellsRuns};
 use dd_table::SharedTable;
 use dd_tool::tell_lines;
 use std::alloc::{AllocError, Global};
@@ -44,12 +44,15 @@ const FILE_OF_LINES: &str =
 
 /// Does what the arguments ask for: answers the lines of the input on the output, serves the clients of an address, passes a
 /// file on with its lines, shows help or the version on the output, or says on the standard error what is wrong with the
-/// arguments. Where the standard error is a terminal it shows how far a file has been passed on.
+/// arguments. Where the standard error is a terminal it shows how far a file has been passed on. Who watches is shown the closed desk
+/// of each run of the server, and told of it when its line is told.
 pub fn run_program<
     W: Threads + Wait + Clock + Eprint + Net<Listener = TcpListener, Stream = TcpStream> + Sync,
     R: Read,
     O: Write,
     E: Write,
+    K: KeepsRuns + Send,
+    V: TellsRuns<K>,
 >(
     rt: &W,
     alloc: Global,
@@ -58,8 +61,9 @@ pub fn run_program<
     output: &mut CountedDevice<O>,
     errors: &mut CountedDevice<E>,
     is_terminal: bool,
+    watcher: &mut V,
 ) -> Ending
-    ensures { Runs (arguments_of arguments) is_terminal
+    ensures { Runs V.way (V.state watcher.old) (V.state watcher.new) (arguments_of arguments) is_terminal
         (streams (state_of R.remaining reader.old) (state_of O.contents output.old)
         (state_of E.contents errors.old))
         (streams (state_of R.remaining reader.new) (state_of O.contents output.new)
@@ -109,7 +113,16 @@ pub fn run_program<
                 idle: milliseconds(idle),
                 grace: GRACE,
             };
-            serve(rt, alloc, listen.as_str(), events, args, output, errors)
+            serve::<W, O, E, K, V>(
+                rt,
+                alloc,
+                listen.as_str(),
+                events,
+                args,
+                output,
+                errors,
+                watcher,
+            )
         }
         Ok(
             Args::Fill {

@@ -12,7 +12,7 @@ use crate::telling::{Telling, serve_told, tell};
 use dd_book::Limits;
 use dd_limits::{MOST_JOBS, MOST_OPEN_JOBS, MOST_PASSES};
 use dd_lines::CountedDevice;
-use dd_server::{ServeArgs, ServeFault};
+use dd_server::{KeepsRuns, ServeArgs, ServeFault, TellsRuns};
 use std::alloc::{AllocError, Global};
 use std::io::Write;
 use std::net::{Net, SocketAddr, TcpListener, TcpStream};
@@ -26,6 +26,8 @@ pub(crate) fn serve<
     W: Threads + Wait + Clock + Eprint + Net<Listener = TcpListener, Stream = TcpStream> + Sync,
     O: Write,
     E: Write,
+    K: KeepsRuns + Send,
+    V: TellsRuns<K>,
 >(
     rt: &W,
     alloc: Global,
@@ -34,11 +36,12 @@ pub(crate) fn serve<
     args: ServeArgs,
     output: &mut CountedDevice<O>,
     errors: &mut CountedDevice<E>,
+    watcher: &mut V,
 ) -> Ending
     requires events { IsEventCount events }
     requires workers { args.workers ≤ MOST_WORKERS }
     requires table { HasTableSize args }
-    ensures { (input : Device) → ServesUntil (terms_by args) events
+    ensures { (input : Device) → ServesUntil V.way (V.state watcher.old) (V.state watcher.new) (terms_by args) events
         (streams input (state_of O.contents output.old) (state_of E.contents errors.old))
         (streams input (state_of O.contents output.new) (state_of E.contents errors.new)) result }
 {
@@ -54,7 +57,9 @@ pub(crate) fn serve<
         return fail(errors, Ending::OutOfMemory);
     };
     match tell(listening.as_str(), output) {
-        Ok(()) => attend(rt, alloc, listener, events, args, output, errors),
+        Ok(()) => attend::<W, O, E, K, V>(
+            rt, alloc, listener, events, args, output, errors, watcher,
+        ),
         Err(_) => fail(errors, Ending::WriteFailed),
     }
 }
@@ -64,6 +69,8 @@ fn attend<
     W: Threads + Wait + Clock + Eprint + Net<Listener = TcpListener, Stream = TcpStream> + Sync,
     O: Write,
     E: Write,
+    K: KeepsRuns + Send,
+    V: TellsRuns<K>,
 >(
     rt: &W,
     alloc: Global,
@@ -72,18 +79,19 @@ fn attend<
     args: ServeArgs,
     output: &mut CountedDevice<O>,
     errors: &mut CountedDevice<E>,
+    watcher: &mut V,
 ) -> Ending
     requires events { IsEventCount events }
     requires workers { args.workers ≤ MOST_WORKERS }
     requires table { HasTableSize args }
     ensures { (input before : Device) (address : List ℕ)
         → WritesAll (listening_text address) before (state_of O.contents output.old)
-        → ServesUntil (terms_by args) events
+        → ServesUntil V.way (V.state watcher.old) (V.state watcher.new) (terms_by args) events
         (streams input before (state_of E.contents errors.old))
         (streams input (state_of O.contents output.new) (state_of E.contents errors.new)) result }
 {
-    let telling = Telling::new(output);
-    let telling = serve_told(rt, alloc, listener, limits_for(events), args, telling);
+    let telling = Telling::new(output, watcher);
+    let telling = serve_told::<W, O, K, V>(rt, alloc, listener, limits_for(events), args, telling);
     let (served, has_failed) = telling.end();
     end(served, has_failed, errors)
 }

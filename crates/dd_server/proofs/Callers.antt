@@ -44,7 +44,7 @@ works_alone budget before after none works =
 
 -- the pass of a port that was just made, when some lines were served over it and it was left
 clients-of : (limits : LimitsOf) (terms : Terms) (port : Option DeskPortOf) (refused : ℕ) (pass : Option PassOf) → before_by port ≡ 0 → pass ≡ pass_by port
-    → IfSome pass (λ p. told_in p.receipts ≡ told_by port) → IfSome pass (λ p. AreClients p.receipts)
+    → IfSome pass (λ p. told_in p.receipts ≡ told_by port) → IfSome pass (λ p. AreClients p.number p.receipts)
     → ThenLeaves (ServesMessages terms.manner (port_of [] 0)) (HasEndedBy limits port) (port_of (told_by port) (refusals_by refused port))
     → (terms.manner.allow_stop ≡ false → AsksNoStop [] (told_by port)) → IfSome pass (IsClients limits terms)
 clients-of limits terms None refused None begun is told calls asked leave = tt
@@ -62,7 +62,7 @@ clients-of limits terms (Some port) refused (Some p) begun is told calls asked l
     }
 
 pub clients_pass : (limits : LimitsOf) (terms : Terms) (workers : ℕ) (start after : LatePortOf) (pass : Option PassOf) → start ≡ new_late_port workers → before_by after.port ≡ 0 → pass ≡ pass_by after.port
-    → IfSome pass (λ p. told_in p.receipts ≡ told_by after.port) → IfSome pass (λ p. AreClients p.receipts)
+    → IfSome pass (λ p. told_in p.receipts ≡ told_by after.port) → IfSome pass (λ p. AreClients p.number p.receipts)
     → ThenLeaves (λ between. ServesMessages terms.manner (port_of (told_by start.port) (refusals_by start.refused start.port)) between) (HasEndedBy limits after.port)
     (port_of (told_by after.port) (refusals_by after.refused after.port))
     → (terms.manner.allow_stop ≡ false → AsksNoStop (told_by start.port) (told_by after.port)) → IfSome pass (IsClients limits terms)

@@ -17,7 +17,7 @@ AreShuts receipts = list_all (λ (r : ReceiptOf). is_shut r.call) receipts ≡ t
 -- them stands in the reply to its line, in the manner that was asked for; and then the jobs that it made were given up. Without
 -- leave it asked for no stop.
 pub record IsClients (limits : LimitsOf) (terms : Terms) (pass : PassOf) : Type 0 where
-  pub calls : AreClients pass.receipts
+  pub calls : AreClients pass.number pass.receipts
   pub refusals : ℕ
   pub asked : ThenLeaves (ServesMessages terms.manner (port_of [] 0)) (SawEnd limits 0 pass) (port_of (told_in pass.receipts) refusals)
   pub leave : terms.manner.allow_stop ≡ false → AsksNoStop [] (told_in pass.receipts)

@@ -1,5 +1,5 @@
 -- To be believed: what a run leaves.
-use Rattle.std.specs.Prelude.{◌≡◌, ◌≤◌, ℕ, List, length, true}
+use Rattle.std.specs.Prelude.{◌≡◌, ◌≤◌, List, length, true}
 use Rattle.dd_book.specs.Limits.{LimitsOf}
 use Rattle.dd_desk.specs.Answers.{AnswersAreRight}
 use Rattle.dd_desk.specs.Events.{AnswersAreOwn, EventOf, IsLegal}
@@ -24,11 +24,13 @@ pub record IsHistory (limits : LimitsOf) (journal : List EventOf) (passes : List
   pub theirs : AllTheirs journal passes
   pub callers : by_these (numbers_of passes) journal ≡ true
 
--- So many events has such a journal, of some passes, of which one is the run's own, and each other one a worker's or a client's, as
--- the run was asked for.
-pub record IsLengthOfHistory (limits : LimitsOf) (terms : Terms) (events : ℕ) : Type 0 where
-  pub journal : List EventOf
+-- A run may have left this journal: it is a history with some passes, of which one may be the run's own, and each other one is a
+-- worker's or a client's, as the run was asked for.
+pub record IsJournalOfRun (limits : LimitsOf) (terms : Terms) (journal : List EventOf) : Type 0 where
   pub passes : List PassOf
   pub history : IsHistory limits journal passes
   pub callers : AreCallers limits terms passes
-  pub count : events ≡ length journal
+
+-- a run left a journal, and of this something was made that is known so
+abbrev pub IsKept : LimitsOf → Terms → (List EventOf → Type 0) → Type 0
+IsKept limits terms made_of = (journal : List EventOf) × IsJournalOfRun limits terms journal × made_of journal

@@ -6,6 +6,7 @@ use crate::roster::Opening;
 use crate::run_end::RunLimits;
 use crate::run_state::RunState;
 use crate::runs::Runs;
+use crate::telling::KeepsRuns;
 use crate::terms::RunNaming;
 use std::io::Error;
 use std::net::TcpStream;
@@ -24,28 +25,30 @@ const REST: u64 = 100;
 /// Accepts connections, each served on a thread of its own, until the server is stopped, or the run is used up, by whomever, and
 /// the next one begins with the connection that came last. An accept that fails shuts the book and stops the server; one that may do better
 /// when a session ends is tried again while a session is open.
-pub(crate) fn accept_connections<'s, E, J, L, R>(
+pub(crate) fn accept_connections<'s, E, J, L, K, R>(
     rt: &'s R,
     scope: &Scope<'s, E>,
     state: &'s RunState<'s, J>,
-    runs: &Runs<L>,
+    runs: &Runs<L, K>,
     own: &mut OwnPass<J>,
     first: Option<TcpStream>,
 ) -> Result<(), ServeFault>
 where
     J: RunNaming + Send + Sync,
-    L: RunLimits + Send + Sync,
+    L: RunLimits,
+    K: KeepsRuns,
     R: Threads + Wait + Clock + Eprint + Sync,
 {
     if let Some(stream) = first {
         start_connection(rt, scope, state, stream);
     }
+    let looks = state.looks(rt);
     for stream in state.server.listener.incoming() {
         if state.server.stop.is_stopped() {
             break;
         }
         match stream {
-            Ok(stream) if state.is_used_up(rt) => match hand_over(rt, state, runs, stream) {
+            Ok(stream) if state.is_used_up(&looks) => match hand_over(rt, state, runs, stream) {
                 Some(stream) => start_connection(rt, scope, state, stream),
                 None => break,
             },
@@ -65,10 +68,10 @@ where
 
 // The next run begins with this connection, unless the server was stopped meanwhile. Where there is no room for it in time, or no
 // memory for its row, the connection comes back: this run tells it 15.
-fn hand_over<J: RunNaming, L: RunLimits, R: Wait + Clock>(
+fn hand_over<J: RunNaming, L: RunLimits, K: KeepsRuns, R: Wait + Clock>(
     rt: &R,
     state: &RunState<'_, J>,
-    runs: &Runs<L>,
+    runs: &Runs<L, K>,
     stream: TcpStream,
 ) -> Option<TcpStream> {
     let has_room = runs.make_room(rt, state.number);
@@ -86,10 +89,10 @@ fn hand_over<J: RunNaming, L: RunLimits, R: Wait + Clock>(
 }
 
 /// Waits until no session of the run is open, its time is over, or it is to end at once.
-pub(crate) fn wait_for_sessions<J: RunNaming, L: RunLimits, R: Wait + Clock>(
+pub(crate) fn wait_for_sessions<J: RunNaming, L: RunLimits, K: KeepsRuns, R: Wait + Clock>(
     rt: &R,
     state: &RunState<'_, J>,
-    runs: &Runs<L>,
+    runs: &Runs<L, K>,
 ) {
     for _ in 0..state.server.args.grace / REST {
         let is_hurried = state.server.stop.is_stopped() || runs.is_hurried(rt, state.number);
@@ -108,10 +111,10 @@ fn passes(error: &Error) -> bool {
 }
 
 // May an accept that lacked something find it later? A session may end meanwhile, of this run or of another.
-fn may_do_better<J: RunNaming, L: RunLimits, R: Wait>(
+fn may_do_better<J: RunNaming, L: RunLimits, K: KeepsRuns, R: Wait>(
     rt: &R,
     state: &RunState<'_, J>,
-    runs: &Runs<L>,
+    runs: &Runs<L, K>,
 ) -> bool {
     state.stop.streams().lock(rt).is_any_open() || runs.has_others(rt)
 }

@@ -1,8 +1,9 @@
 //! One connection.
-ghost use Rattle.std.specs.Prelude.{◌≡◌, IfSome, false};
+ghost use Rattle.std.specs.Prelude.{◌≡◌, IfSome, OnErr, OnOk, false};
 ghost use Rattle.dd_server.specs.Callers.{IsClients};
 ghost use Rattle.dd_session.specs.Leaving.{ThenLeaves};
 ghost use Rattle.dd_session.specs.Ports.{AsksNoStop, port_of};
+ghost use Rattle.dd_session.specs.Served.{ServesAll, ServesBeginning};
 ghost use Rattle.dd_session.specs.Sockets.{ServesMessages};
 
 use crate::opening::LineStream;
@@ -14,9 +15,10 @@ use crate::session_stream::SessionStream;
 use crate::socket_stream::SocketStream;
 use crate::terms::RunNaming;
 use dd_desk::{BlankPass, DeskFault, Pass};
-use dd_lines::{CountedDevice, write_whole};
+use dd_lines::{CountedDevice, LineFault, write_whole};
 use dd_session::{BookPort, serve_lines, serve_socket, write_refusal};
 use std::cell::Cell;
+use std::io::{Read, Write};
 use std::net::TcpStream;
 use std::sync::Wait;
 use std::time::{Clock, Duration};
@@ -89,8 +91,35 @@ fn serve_port<J: RunNaming, R: Wait + Clock, P: BookPort>(
         let _ = session.limit_reads();
         let mut reader = CountedDevice::new(LineStream::new(session));
         let mut writer = CountedDevice::new(ReplyStream::new(rt, stream, &state.stop));
-        let _ = serve_lines(alloc, &mut reader, &mut writer, port, manner);
+        let _ = serve_streams(state, &mut reader, &mut writer, port);
     }
+}
+
+// The session over lines, whatever streams they come and go by: each reply is in the manner that the run was asked for, explained or
+// not.
+fn serve_streams<J: RunNaming, S: Read, W: Write, P: BookPort>(
+    state: &RunState<'_, J>,
+    reader: &mut CountedDevice<S>,
+    writer: &mut CountedDevice<W>,
+    port: &mut P,
+) -> Result<(), LineFault>
+    ensures ok { OnOk result (ThenLeaves
+        (λ between. ServesAll S.remaining W.contents J.terms.manner
+        (port_of (P.told port.old) (P.refusals port.old)) between
+        reader.old reader.new writer.old writer.new)
+        (P.ended port.new) (port_of (P.told port.new) (P.refusals port.new))) }
+    ensures err { OnErr result (ThenLeaves
+        (λ between. ServesBeginning S.remaining W.contents J.terms.manner
+        (port_of (P.told port.old) (P.refusals port.old)) between
+        reader.old reader.new writer.old writer.new)
+        (P.ended port.new) (port_of (P.told port.new) (P.refusals port.new))) }
+    ensures asked { ThenLeaves (λ between. ServesMessages J.terms.manner
+        (port_of (P.told port.old) (P.refusals port.old)) between)
+        (P.ended port.new) (port_of (P.told port.new) (P.refusals port.new)) }
+    ensures leave { J.terms.manner.allow_stop ≡ false
+        → AsksNoStop (P.told port.old) (P.told port.new) }
+{
+    serve_lines(state.server.alloc, reader, writer, port, state.terms.manner)
 }
 
 // The one line of a connection for whose pass there is no memory.

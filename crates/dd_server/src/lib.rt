@@ -4,6 +4,7 @@
 mod accepting;
 mod args;
 mod connection;
+mod looks;
 mod new_pass;
 mod open_streams;
 mod opening;
@@ -30,7 +31,6 @@ mod worker_gate;
 mod working;
 
 pub use args::{ServeArgs, ServeFault};
-pub use run_end::{RunEnd, RunLimits};
 pub use server::run_server;
-pub use telling::TellsRuns;
+pub use telling::{KeepsRuns, TellsRuns};
 pub use terms::Terms;

@@ -1,10 +1,11 @@
 //! The runs of a server.
-ghost use Rattle.std.specs.Prelude.{◌≡◌, ◌+◌, ◌≤◌, true, IsErr, vec_len, vec_capacity};
+ghost use Rattle.std.specs.Prelude.{◌≡◌, ◌+◌, ◌<◌, ◌≤◌, [], ◌∷◌, ◌++◌, true, IfOk, IsErr, MatchOption, vec_len, vec_capacity};
 ghost use Rattle.dd_server.specs.declared.roster.TheConstants.{MOST_RUNS};
 ghost use Rattle.dd_server.specs.Worn.{is_crowded};
 
 use crate::args::ServeFault;
 use crate::run_end::{RunEnd, RunLimits};
+use crate::telling::KeepsRuns;
 use dd_desk::Row;
 use std::alloc::{AllocError, Global};
 use std::marker::PhantomData;
@@ -30,20 +31,20 @@ pub(crate) struct Begun {
 
 /// What there is to do for who begins the runs.
 #[derive(Drop)]
-pub(crate) enum News<L: RunLimits> {
+pub(crate) enum News<L: RunLimits, K: KeepsRuns> {
     /// Another run begins so.
     Opens(Opening<L>),
     /// A run has ended.
-    Ended(RunEnd<L>),
+    Ended(RunEnd<L, K>),
     /// No run serves any more.
     Over,
 }
 
 /// The runs of a server: how many serve, which have ended, and how the next one begins.
 #[derive(Drop)]
-pub(crate) struct Roster<L: RunLimits> {
+pub(crate) struct Roster<L: RunLimits, K: KeepsRuns> {
     // How those ended of which nobody was told yet.
-    ends: Vec<RunEnd<L>>,
+    ends: Vec<RunEnd<L, K>>,
     // How many serve, for whose ends there is room.
     live: usize,
     begun: u64,
@@ -88,9 +89,9 @@ impl Begun {
     }
 }
 
-impl<L: RunLimits> Roster<L> {
+impl<L: RunLimits, K: KeepsRuns> Roster<L, K> {
     /// No run has begun.
-    pub(crate) fn new(alloc: Global) -> Roster<L> {
+    pub(crate) fn new(alloc: Global) -> Roster<L, K> {
         Roster {
             ends: Vec::new(alloc),
             live: 0,
@@ -167,18 +168,32 @@ impl<L: RunLimits> Roster<L> {
     }
 
     /// What there is to do.
-    pub(crate) fn take_news(&mut self) -> News<L> {
+    pub(crate) fn take_news(&mut self) -> News<L, K> {
         if let Some(opening) = self.opening.take() {
             return News::Opens(opening);
         }
-        if self.ends.is_empty() {
-            return News::Over;
+        match self.first_end() {
+            Some(end) => News::Ended(end),
+            None => News::Over,
         }
-        News::Ended(self.ends.remove(0))
     }
 
-    /// A run that had begun has ended.
-    pub(crate) fn end(&mut self, _begun: Begun, end: Result<RunEnd<L>, ServeFault>) {
+    // How the run ended that is to be told next: the first of those of which nobody was told yet.
+    fn first_end(&mut self) -> Option<RunEnd<L, K>>
+        ensures { MatchOption result (self.old.ends.items ≡ [])
+            (λ end. self.old.ends.items ≡ end ∷ self.new.ends.items) }
+    {
+        if self.ends.is_empty() {
+            return None;
+        }
+        Some(self.ends.remove(0))
+    }
+
+    /// A run that had begun has ended: how, is told after those that ended before.
+    pub(crate) fn end(&mut self, _begun: Begun, end: Result<RunEnd<L, K>, ServeFault>)
+        ensures { IfOk end (λ ended. 0 < self.old.live
+            → self.new.ends.items ≡ self.old.ends.items ++ ended ∷ []) }
+    {
         let Roster {
             ends,
             live,

@@ -14,6 +14,7 @@ use crate::run_state::RunState;
 use crate::runs::Runs;
 use crate::server_state::ServerState;
 use crate::stop::RunStop;
+use crate::telling::KeepsRuns;
 use crate::terms::RunNaming;
 use crate::working::start_workers;
 use dd_desk::{Closed, Desk, Pass, Row};
@@ -28,12 +29,13 @@ use std::time::Clock;
 
 /// A run from its beginning to its end. Where it ends badly the server is stopped.
 pub(crate) fn run<
-    L: RunLimits + Send + Sync,
+    L: RunLimits,
+    K: KeepsRuns,
     R: Threads + Wait + Clock + Eprint + Sync,
     G: Gate + Sync,
->(rt: &R, server: &ServerState, runs: &Runs<L>, begun: Begun, opening: Opening<L>, gate: &G) {
+>(rt: &R, server: &ServerState, runs: &Runs<L, K>, begun: Begun, opening: Opening<L>, gate: &G) {
     let (row, stream) = opening.into_parts();
-    let end = end_of_run::<Brand, L, R, G>(rt, server, runs, begun.number(), row, stream, gate);
+    let end = end_of_run::<Brand, L, K, R, G>(rt, server, runs, begun.number(), row, stream, gate);
     if let Err(fault) = &end {
         server.stop.fail(*fault);
     }
@@ -43,38 +45,40 @@ pub(crate) fn run<
 // The same at a desk on this row: how it ended.
 fn end_of_run<
     J: RunNaming + Send + Sync,
-    L: RunLimits + Send + Sync,
+    L: RunLimits,
+    K: KeepsRuns,
     R: Threads + Wait + Clock + Eprint + Sync,
     G: Gate + Sync,
 >(
     rt: &R,
     server: &ServerState,
-    runs: &Runs<L>,
+    runs: &Runs<L, K>,
     number: u64,
     row: Row,
     stream: Option<TcpStream>,
     gate: &G,
-) -> Result<RunEnd<L>, ServeFault>
+) -> Result<RunEnd<L, K>, ServeFault>
     requires cells { (map cell_name row.cells.items ≡ J.cells) × (J.all ≡ J.parts) }
     requires limits { (row.limits ≡ J.limits) × (J.limits ≡ L.limits) }
     requires terms { J.terms ≡ L.terms }
     requires count { (row.count.name ≡ J.counts) × (row.count.parts ≡ J.parts) }
     requires sum { (row.sum.name ≡ J.places) × (row.sum.parts ≡ J.parts) }
 {
-    let closed = serve_row::<J, L, R, G>(rt, server, runs, number, row, stream, gate)?;
+    let closed = serve_row::<J, L, K, R, G>(rt, server, runs, number, row, stream, gate)?;
     Ok(RunEnd::of(&closed))
 }
 
 // The desk of the run when it is closed, with the passes of the run, of its workers and of its clients.
 fn serve_row<
     J: RunNaming + Send + Sync,
-    L: RunLimits + Send + Sync,
+    L: RunLimits,
+    K: KeepsRuns,
     R: Threads + Wait + Clock + Eprint + Sync,
     G: Gate + Sync,
 >(
     rt: &R,
     server: &ServerState,
-    runs: &Runs<L>,
+    runs: &Runs<L, K>,
     number: u64,
     row: Row,
     stream: Option<TcpStream>,
@@ -147,13 +151,14 @@ fn close<J: RunNaming>(desk: Desk<J>, passes: Vec<Pass<J>>) -> Result<Closed<J>,
 // Workers and connections, until all have ended: the run's own pass then, and how it ended.
 fn keep_open<
     J: RunNaming + Send + Sync,
-    L: RunLimits + Send + Sync,
+    L: RunLimits,
+    K: KeepsRuns,
     R: Threads + Wait + Clock + Eprint + Sync,
     G: Gate + Sync,
 >(
     rt: &R,
     state: &RunState<'_, J>,
-    runs: &Runs<L>,
+    runs: &Runs<L, K>,
     stream: Option<TcpStream>,
     gate: &G,
 ) -> Result<(Pass<J>, Result<(), ServeFault>), ServeFault>
@@ -176,18 +181,19 @@ fn keep_open<
 }
 
 // Workers, and connections until the run is worn or stopped. Then its book is shut, where no client did that.
-fn serve_clients<'s, E, J, L, R, G>(
+fn serve_clients<'s, E, J, L, K, R, G>(
     rt: &'s R,
     scope: &Scope<'s, E>,
     state: &'s RunState<'s, J>,
-    runs: &Runs<L>,
+    runs: &Runs<L, K>,
     own: &mut OwnPass<J>,
     stream: Option<TcpStream>,
     gate: &'s G,
 ) -> Result<(), ServeFault>
 where
     J: RunNaming + Send + Sync,
-    L: RunLimits + Send + Sync,
+    L: RunLimits,
+    K: KeepsRuns,
     R: Threads + Wait + Clock + Eprint + Sync,
     G: Gate + Sync,
 {

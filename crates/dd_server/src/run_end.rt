@@ -1,15 +1,16 @@
 //! How a run ended.
-ghost use Rattle.std.specs.Prelude.{◌≡◌, length};
+ghost use Rattle.std.specs.Prelude.{◌≡◌, List};
+ghost use Rattle.dd_desk.specs.Events.{EventOf};
 ghost use Rattle.dd_server.specs.Callers.{AreCallers};
-ghost use Rattle.dd_server.specs.Histories.{IsHistory, IsLengthOfHistory};
+ghost use Rattle.dd_server.specs.Histories.{IsHistory, IsKept};
 
-use crate::telling::TellsRuns;
+use crate::telling::{KeepsRuns, TellsRuns};
 use crate::terms::RunNaming;
 use dd_desk::Closed;
 use std::marker::{Brand, Model, PhantomData};
 
 /// Names the limits and the terms that the runs of a server have.
-pub trait RunLimits {
+pub(crate) trait RunLimits {
     ghost use Rattle.dd_book.specs.Limits.{LimitsOf};
     ghost use Rattle.dd_server.specs.declared.terms.Terms.{Terms};
 
@@ -27,54 +28,46 @@ impl RunLimits for Brand {
     ghost terms = { no_terms };
 }
 
-/// How a run of these limits and terms ended: so many events had the journal of its desk when this was closed. Nothing else gives one, and
-/// it can't be copied.
+/// What was kept of a run of these limits and terms when its desk was closed. Nothing else gives one, and it can't be copied.
 #[derive(Drop)]
-pub struct RunEnd<L: RunLimits> {
-    events: u64,
+pub(crate) struct RunEnd<L: RunLimits, K: KeepsRuns> {
+    kept: K,
     limits: PhantomData<L>,
 }
 
-impl<L: RunLimits> Model for RunEnd<L> {
-    ghost use Rattle.std.specs.Prelude.{ℕ};
-    ghost use Rattle.dd_server.specs.Histories.{IsLengthOfHistory};
+impl<L: RunLimits, K: KeepsRuns> Model for RunEnd<L, K> {
+    ghost use Rattle.dd_server.specs.Histories.{IsKept};
 
-    ghost Value = { ℕ };
+    ghost Value = { K };
 
-    ghost view = { λ e. e.events };
+    ghost view = { λ e. e.kept };
 
-    ghost invariant = { λ e. IsLengthOfHistory L.limits L.terms e.events };
+    ghost invariant = { λ e. IsKept L.limits L.terms (K.made_of e.kept) };
 }
 
-impl<L: RunLimits> RunEnd<L> {
+impl<L: RunLimits, K: KeepsRuns> RunEnd<L, K> {
     /// That of a run whose desk was closed so.
-    pub(crate) fn of<J: RunNaming>(closed: &Closed<J>) -> RunEnd<L>
+    #[tactic(auto, using(crate::proofs::Growing::kept_of))]
+    pub(crate) fn of<J: RunNaming>(closed: &Closed<J>) -> RunEnd<L, K>
         requires limits { J.limits ≡ L.limits }
         requires terms { J.terms ≡ L.terms }
         requires history { IsHistory J.limits closed.now.history.journal.items
             closed.now.passes.items }
         requires callers { AreCallers J.limits J.terms closed.now.passes.items }
-        ensures { result ≡ length closed.now.history.journal.items }
+        ensures { K.made_of result closed.now.history.journal.items }
     {
         RunEnd {
-            events: closed.journal().len() as u64,
+            kept: K::of(closed),
             limits: PhantomData,
         }
     }
 
     /// Lets it be told.
-    pub(crate) fn tell_to<T: TellsRuns>(self, teller: &mut T)
-        ensures said { T.way (T.state teller.old) self (T.state teller.new) }
-        ensures length { IsLengthOfHistory L.limits L.terms self }
+    pub(crate) fn tell_to<T: TellsRuns<K>>(self, teller: &mut T)
+        ensures { IsKept L.limits L.terms (λ journal.
+            T.way (T.state teller.old) journal (T.state teller.new)) }
     {
-        let _ = &self.events;
-        teller.tell(self);
-    }
-
-    /// How many events the journal has.
-    pub fn events(&self) -> u64
-        ensures { result ≡ self.now }
-    {
-        self.events
+        let RunEnd { kept, limits: _ } = self;
+        teller.tell(kept);
     }
 }

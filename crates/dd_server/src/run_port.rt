@@ -52,7 +52,7 @@ impl<'a, J: RunNaming, R: Wait + Clock> RunPort<'a, J, R> {
         ensures pass { result ≡ pass_by self.entry.port.port }
         ensures told { IfSome result (λ pass.
             told_in pass.receipts ≡ told_by self.entry.port.port) }
-        ensures clients { IfSome result (λ pass. AreClients pass.receipts) }
+        ensures clients { IfSome result (λ pass. AreClients pass.number pass.receipts) }
         ensures begun { before_by self.entry.port.port ≡ 0 }
     {
         let RunPort {
@@ -72,7 +72,8 @@ impl<'a, J: RunNaming, R: Wait + Clock> RunPort<'a, J, R> {
             → IsTrue result }
     {
         match self.port.last_place() {
-            Some(place) => are_events_used(self.limits, place) || self.state.takes_no_more(self.rt),
+            Some(place) => are_events_used(self.limits, place)
+                || self.state.takes_no_more(&self.state.looks(self.rt)),
             None => self.state.is_over(),
         }
     }

@@ -1,8 +1,9 @@
 //! What the threads of a run share.
 ghost use Rattle.std.specs.Prelude.{◌≡◌};
 ghost use Rattle.dd_server.specs.Callers.{IsWorkersOrClients};
-ghost use Rattle.dd_server.specs.Worn.{SeesFewFree, SeesFewLeft, SeesUsedUp};
+ghost use Rattle.dd_server.specs.Worn.{SeesFewFree, SeesFewLeft, SeesFewPasses, SeesUsedUp};
 
+use crate::looks::{DeskLooks, Looks};
 use crate::new_pass::NewPass;
 use crate::returned::Returned;
 use crate::server_state::ServerState;
@@ -96,18 +97,24 @@ impl<'a, J: RunNaming> RunState<'a, J> {
         self.worn.load(Ordering::SeqCst)
     }
 
-    /// Is the run to take no more connections? It is used up, by whomever. Its desk is asked, and a run that is used up takes no
-    /// more jobs from then on.
-    pub(crate) fn is_used_up<R: Wait>(&self, rt: &R) -> bool
-        ensures used_up { SeesUsedUp J.limits result }
-        ensures free { SeesFewFree J.limits result }
+    /// The desk, to be looked at.
+    pub(crate) fn looks<'b, R>(&'b self, rt: &'b R) -> DeskLooks<'b, J, R> {
+        DeskLooks {
+            rt,
+            desk: &self.desk,
+        }
+    }
+
+    /// Is the run to take no more connections? It is used up, by whomever, as its desk shows, and takes no more jobs from then on.
+    pub(crate) fn is_used_up<D: Looks>(&self, looks: &D) -> bool
+        ensures used_up { SeesUsedUp J.limits (D.saw_tally looks.now) result }
+        ensures free { SeesFewFree J.limits (D.saw_free looks.now) result }
+        ensures passes { SeesFewPasses J.limits (D.saw_given looks.now) result }
     {
-        let has_few_events = self.has_few_events(rt);
-        let has_few_free = self.has_few_free(rt);
-        let is_used_up = has_few_events
-            || has_few_free
-            || self.is_worn()
-            || self.has_few_passes(rt);
+        let has_few_events = self.has_few_events(looks);
+        let has_few_free = self.has_few_free(looks);
+        let has_few_passes = self.has_few_passes(looks);
+        let is_used_up = has_few_events || has_few_free || has_few_passes || self.is_worn();
         if is_used_up {
             self.note_used_up();
         }
@@ -115,16 +122,16 @@ impl<'a, J: RunNaming> RunState<'a, J> {
     }
 
     /// Does the run take no more jobs from who has had an event? Its desk is asked once for as many jobs as it surely has room for.
-    pub(crate) fn takes_no_more<R: Wait>(&self, rt: &R) -> bool {
+    pub(crate) fn takes_no_more<D: Looks>(&self, looks: &D) -> bool {
         let number = self.submits.fetch_add(1, Ordering::SeqCst);
-        self.is_worn() || (self.sure.load(Ordering::SeqCst) <= number && self.has_few_free(rt))
+        self.is_worn() || (self.sure.load(Ordering::SeqCst) <= number && self.has_few_free(looks))
     }
 
     // Are few events free, or would be if each connection that has asked nothing yet asked for a table? Then the run is used up.
-    fn has_few_free<R: Wait>(&self, rt: &R) -> bool
-        ensures { SeesFewFree J.limits result }
+    fn has_few_free<D: Looks>(&self, looks: &D) -> bool
+        ensures { SeesFewFree J.limits (D.saw_free looks.now) result }
     {
-        let free = self.desk.free(rt);
+        let free = looks.free();
         let beside = free.saturating_sub(self.expected_events());
         let has_few = are_few_left(self.limits, free) || are_few_left(self.limits, beside);
         if has_few {
@@ -159,14 +166,17 @@ impl<'a, J: RunNaming> RunState<'a, J> {
     }
 
     // Is no more than the last quarter of the events left? Clients and workers made the others.
-    fn has_few_events<R: Wait>(&self, rt: &R) -> bool
-        ensures { SeesFewLeft J.limits result }
+    fn has_few_events<D: Looks>(&self, looks: &D) -> bool
+        ensures { SeesFewLeft J.limits (D.saw_tally looks.now) result }
     {
-        are_few_left(self.limits, self.desk.tally(rt).events_left)
+        are_few_left(self.limits, looks.tally().events_left)
     }
 
-    fn has_few_passes<R: Wait>(&self, rt: &R) -> bool {
-        are_passes_used(self.limits, self.desk.given(rt))
+    // Are no more than the last of its passes left?
+    fn has_few_passes<D: Looks>(&self, looks: &D) -> bool
+        ensures { SeesFewPasses J.limits (D.saw_given looks.now) result }
+    {
+        are_passes_used(self.limits, looks.given())
     }
 
     /// The run is used up.

@@ -4,6 +4,7 @@ ghost use Rattle.std.specs.Prelude.{◌≡◌, IfOk};
 use crate::args::ServeFault;
 use crate::roster::{Begun, News, Opening, Roster};
 use crate::run_end::{RunEnd, RunLimits};
+use crate::telling::KeepsRuns;
 use crate::terms::Terms;
 use dd_book::Limits;
 use dd_desk::Row;
@@ -16,20 +17,20 @@ const MOST_WAIT: u64 = 1_000;
 
 /// The runs of a server under a lock, and the limits and the terms that each of them has.
 #[derive(Drop)]
-pub(crate) struct Runs<L: RunLimits> {
+pub(crate) struct Runs<L: RunLimits, K: KeepsRuns> {
     alloc: Global,
     limits: Limits,
     terms: Terms,
-    roster: Mutex<Roster<L>>,
+    roster: Mutex<Roster<L, K>>,
     // A run has ended, or the next one is to begin.
     changed: Condvar,
     ghost same: { limits ≡ L.limits },
     ghost asked: { terms ≡ L.terms },
 }
 
-impl<L: RunLimits> Runs<L> {
+impl<L: RunLimits, K: KeepsRuns> Runs<L, K> {
     /// No run has begun.
-    pub(crate) fn new(alloc: Global, limits: Limits, terms: Terms) -> Runs<L>
+    pub(crate) fn new(alloc: Global, limits: Limits, terms: Terms) -> Runs<L, K>
         requires limits { limits ≡ L.limits }
         requires terms { terms ≡ L.terms }
     {
@@ -74,11 +75,11 @@ impl<L: RunLimits> Runs<L> {
     }
 
     /// Waits until the run that accepts opens the next one, a run has ended, or none serves any more.
-    pub(crate) fn next<R: Wait>(&self, rt: &R) -> News<L> {
+    pub(crate) fn next<R: Wait>(&self, rt: &R) -> News<L, K> {
         let mut roster = self.changed.wait_while(
             rt,
             self.roster.lock(rt),
-            |roster: &mut Roster<L>| roster.is_quiet(),
+            |roster: &mut Roster<L, K>| roster.is_quiet(),
         );
         roster.take_news()
     }
@@ -98,7 +99,7 @@ impl<L: RunLimits> Runs<L> {
             rt,
             roster,
             Duration::from_millis(MOST_WAIT),
-            |roster: &mut Roster<L>| roster.is_crowded(),
+            |roster: &mut Roster<L, K>| roster.is_crowded(),
         );
         if waited.timed_out() {
             roster.stick();
@@ -123,7 +124,7 @@ impl<L: RunLimits> Runs<L> {
     }
 
     /// A run has ended.
-    pub(crate) fn end<R: Wait>(&self, rt: &R, begun: Begun, end: Result<RunEnd<L>, ServeFault>) {
+    pub(crate) fn end<R: Wait>(&self, rt: &R, begun: Begun, end: Result<RunEnd<L, K>, ServeFault>) {
         self.roster.lock(rt).end(begun, end);
         self.changed.notify_all();
     }

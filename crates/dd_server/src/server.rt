@@ -9,7 +9,7 @@ use crate::run::run;
 use crate::run_end::RunLimits;
 use crate::runs::Runs;
 use crate::server_state::ServerState;
-use crate::telling::TellsRuns;
+use crate::telling::{KeepsRuns, TellsRuns};
 use crate::terms::Terms;
 use dd_book::Limits;
 use dd_work::Gate;
@@ -23,7 +23,12 @@ use std::time::Clock;
 
 /// Serves the connections of the listener until a client stops it, by runs of these limits that follow one another. Each run
 /// that has ended is told, by who tells and comes back at the end.
-pub fn run_server<T: TellsRuns + Drop, R: Threads + Wait + Clock + Eprint + Sync, G: Gate + Sync>(
+pub fn run_server<
+    K: KeepsRuns + Send,
+    T: TellsRuns<K> + Drop,
+    R: Threads + Wait + Clock + Eprint + Sync,
+    G: Gate + Sync,
+>(
     rt: &R,
     alloc: Global,
     listener: TcpListener,
@@ -38,7 +43,7 @@ pub fn run_server<T: TellsRuns + Drop, R: Threads + Wait + Clock + Eprint + Sync
         (IsOk result.1) }
 {
     match ServerState::new(alloc, listener, limits, args) {
-        Ok(state) => serve_runs::<Brand, T, R, G>(rt, &state, gate, teller),
+        Ok(state) => serve_runs::<Brand, K, T, R, G>(rt, &state, gate, teller),
         Err(fault) => (teller, Err(fault)),
     }
 }
@@ -46,7 +51,8 @@ pub fn run_server<T: TellsRuns + Drop, R: Threads + Wait + Clock + Eprint + Sync
 // The same by runs whose limits and terms have this name.
 fn serve_runs<
     L: RunLimits + Send + Sync,
-    T: TellsRuns + Drop,
+    K: KeepsRuns + Send,
+    T: TellsRuns<K> + Drop,
     R: Threads + Wait + Clock + Eprint + Sync,
     G: Gate + Sync,
 >(rt: &R, server: &ServerState, gate: &G, teller: T) -> (T, Result<(), ServeFault>)
@@ -54,7 +60,7 @@ fn serve_runs<
     requires terms { terms_by server.now.args ≡ L.terms }
     ensures { TellsEach L.limits L.terms T.way (T.state teller) (T.state result.0) (IsOk result.1) }
 {
-    let runs = Runs::<L>::new(server.alloc, server.limits, Terms::of(&server.args));
+    let runs = Runs::<L, K>::new(server.alloc, server.limits, Terms::of(&server.args));
     let Ok(row) = runs.row() else {
         return (teller, Err(ServeFault::OutOfMemory));
     };
@@ -70,10 +76,18 @@ fn serve_runs<
 // Runs, until all have ended. Has one?
 fn keep_serving<
     L: RunLimits + Send + Sync,
-    T: TellsRuns + Drop,
+    K: KeepsRuns + Send,
+    T: TellsRuns<K> + Drop,
     R: Threads + Wait + Clock + Eprint + Sync,
     G: Gate + Sync,
->(rt: &R, server: &ServerState, runs: &Runs<L>, first: Opening<L>, gate: &G, teller: T) -> (T, bool)
+>(
+    rt: &R,
+    server: &ServerState,
+    runs: &Runs<L, K>,
+    first: Opening<L>,
+    gate: &G,
+    teller: T,
+) -> (T, bool)
     ensures { TellsEach L.limits L.terms T.way (T.state teller) (T.state result.0) (IsTrue result.1) }
 {
     thread::scope(
@@ -90,17 +104,18 @@ fn keep_serving<
 }
 
 // Begins each run that the one before it opens, and tells each that has ended.
-fn follow_runs<'s, E, L, T, R, G>(
+fn follow_runs<'s, E, L, K, T, R, G>(
     rt: &'s R,
     scope: &Scope<'s, E>,
     server: &'s ServerState,
-    runs: &'s Runs<L>,
+    runs: &'s Runs<L, K>,
     gate: &'s G,
     teller: T,
 ) -> (T, bool)
 where
     L: RunLimits + Send + Sync,
-    T: TellsRuns + Drop,
+    K: KeepsRuns + Send,
+    T: TellsRuns<K> + Drop,
     R: Threads + Wait + Clock + Eprint + Sync,
     G: Gate + Sync,
     ensures { TellsEach L.limits L.terms T.way (T.state teller) (T.state result.0) (IsTrue result.1) }
@@ -121,16 +136,17 @@ where
 }
 
 // A run, on a thread of its own.
-fn start_run<'s, E, L, R, G>(
+fn start_run<'s, E, L, K, R, G>(
     rt: &'s R,
     scope: &Scope<'s, E>,
     server: &'s ServerState,
-    runs: &'s Runs<L>,
+    runs: &'s Runs<L, K>,
     opening: Opening<L>,
     gate: &'s G,
 )
 where
     L: RunLimits + Send + Sync,
+    K: KeepsRuns + Send,
     R: Threads + Wait + Clock + Eprint + Sync,
     G: Gate + Sync,
 {

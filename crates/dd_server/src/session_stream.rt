@@ -1,8 +1,8 @@
 //! A connection's stream, as its session sees it.
 ghost use Rattle.std.specs.Prelude.{◌≡◌, ◌+◌, false, MatchOption, MatchResult};
 ghost use Rattle.std.specs.Io.{ReadsAtMost};
-ghost use Rattle.dd_desk.specs.Looks.{SeesOpen};
 
+use crate::looks::Looks;
 use crate::run_state::RunState;
 use crate::terms::RunNaming;
 use std::cell::Cell;
@@ -66,17 +66,7 @@ impl<'a, J: RunNaming, R> SessionStream<'a, J, R> {
 impl<J: RunNaming, R: Wait> SessionStream<'_, J, R> {
     // May the session be silent still?
     fn has_open_job(&self) -> bool {
-        self.is_open(self.caller.get())
-    }
-
-    // Has this caller an open job? Who has no pass has none.
-    fn is_open(&self, caller: Option<u64>) -> bool
-        ensures { MatchOption caller (result ≡ false) (λ number. SeesOpen J.limits number result) }
-    {
-        match caller {
-            Some(number) => self.state.desk.has_open(self.rt, number),
-            None => false,
-        }
+        is_open(&self.state.looks(self.rt), self.caller.get())
     }
 }
 
@@ -95,6 +85,16 @@ impl<J: RunNaming, R: Wait> Read for SessionStream<'_, J, R> {
             }
         }
         Err(Error::from(ErrorKind::TimedOut))
+    }
+}
+
+// Has this caller an open job? Who has no pass has none.
+fn is_open<D: Looks>(looks: &D, caller: Option<u64>) -> bool
+    ensures { MatchOption caller (result ≡ false) (λ number. D.saw_open looks.now number result) }
+{
+    match caller {
+        Some(number) => looks.has_open(number),
+        None => false,
     }
 }
 

@@ -125,7 +125,7 @@ module _ {limits : LimitsOf} where
         number = ap (λ (p : PassOf). p.number) answered.gained;
         gained = receipt (length answered.journal) (call.Cancel before.number job) reply ∷ [];
         receipts = ap (λ (p : PassOf). p.receipts) answered.gained;
-        clients = (refl, tt);
+        clients = (refl, refl, tt);
         refused = 0;
         gives_up = inr (inl (reply, [], finds, refl, (refl, refl)));
         counts = refl;
@@ -153,7 +153,7 @@ module _ {limits : LimitsOf} where
         number = then.number ∙ first.number;
         gained = first.gained ++ then.gained;
         receipts = then.receipts ∙ ap (λ (l : List ReceiptOf). l ++ then.gained) first.receipts ∙ append_assoc before.receipts first.gained then.gained;
-        clients = AreClients-append first.gained then.gained first.clients then.clients;
+        clients = AreClients-append before.number first.gained then.gained first.clients (subst (λ (k : ℕ). AreClients k then.gained) first.number then.clients);
         refused = first.refused + then.refused;
         gives_up = subst (λ (t : List Exchange). GivesUp (SeesEnd limits before) (jobs ++ more) t (first.refused + then.refused)) (sym (told_in-append first.gained then.gained))
             (gives-up-more (SeesEnd limits before) jobs more (told_in first.gained) (told_in then.gained) first.refused then.refused first.gives_up
@@ -212,15 +212,16 @@ module _ {limits : LimitsOf} where
   )
 
 -- a pass that gives up jobs gains clients' calls alone
-pub clients-given-up : {limits : LimitsOf} (before after : PassOf) (n count counted : ℕ) (jobs : List ℕ) → n ≤ length before.receipts → AreClients (drop n before.receipts)
-    → GivesUpAt limits jobs before count after counted → AreClients (drop n after.receipts)
+pub clients-given-up : {limits : LimitsOf} (before after : PassOf) (n count counted : ℕ) (jobs : List ℕ) → n ≤ length before.receipts → AreClients before.number (drop n before.receipts)
+    → GivesUpAt limits jobs before count after counted → AreClients after.number (drop n after.receipts)
 clients-given-up before after n count counted jobs within clients gives =
-    subst AreClients (sym (ap (λ (rs : List ReceiptOf). drop n rs) gives.receipts ∙ drop-append-le n before.receipts gives.gained within))
-    (AreClients-append (drop n before.receipts) gives.gained clients gives.clients)
+    subst (λ (k : ℕ). AreClients k (drop n after.receipts)) (sym gives.number)
+    (subst (AreClients before.number) (sym (ap (λ (rs : List ReceiptOf). drop n rs) gives.receipts ∙ drop-append-le n before.receipts gives.gained within))
+    (AreClients-append before.number (drop n before.receipts) gives.gained clients gives.clients))
 
 -- and the invariant of its port stays
-pub keeps_given_up : {limits : LimitsOf} (before after : PassOf) (n count counted : ℕ) (jobs : List ℕ) → n ≤ length before.receipts → AreClients (drop n before.receipts)
-    → GivesUpAt limits jobs before count after counted → (n ≤ length after.receipts) × AreClients (drop n after.receipts)
+pub keeps_given_up : {limits : LimitsOf} (before after : PassOf) (n count counted : ℕ) (jobs : List ℕ) → n ≤ length before.receipts → AreClients before.number (drop n before.receipts)
+    → GivesUpAt limits jobs before count after counted → (n ≤ length after.receipts) × AreClients after.number (drop n after.receipts)
 keeps_given_up before after n count counted jobs within clients gives =
     let longer : length after.receipts ≡ length before.receipts + length gives.gained = ap (λ (rs : List ReceiptOf). length rs) gives.receipts ∙ length-append before.receipts gives.gained in
     (omega (arith, within, longer), clients-given-up before after n count counted jobs within clients gives)

@@ -11,7 +11,7 @@ pub record GivesUpAt (limits : LimitsOf) (jobs : List ℕ) (before : PassOf) (co
   pub number : after.number ≡ before.number
   pub gained : List ReceiptOf
   pub receipts : after.receipts ≡ before.receipts ++ gained
-  pub clients : AreClients gained
+  pub clients : AreClients before.number gained
   pub refused : ℕ
   pub gives_up : GivesUp (SeesEnd limits before) jobs (told_in gained) refused
   pub counts : counted ≡ count_more count refused

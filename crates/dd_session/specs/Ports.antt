@@ -3,6 +3,7 @@ use Rattle.std.specs.Prelude.{◌≡◌, ℕ, zero, suc, Bool, true, false, List
 use Rattle.dd_book.specs.declared.call.Call.{Call}
 use Rattle.dd_book.specs.declared.call.Reply.{Reply}
 use Rattle.dd_desk.specs.declared.fault.DeskFault.{DeskFault}
+use Rattle.dd_desk.specs.Events.{IsBy}
 use Rattle.dd_desk.specs.Faults.{IsOfCall}
 use Rattle.dd_desk.specs.Receipts.{ReceiptOf, PassOf}
 use Rattle.dd_lines.specs.CountedDevices.{one_more}
@@ -80,10 +81,10 @@ is_clients (Call.Cancel caller job) = true
 is_clients (Call.Fetch caller job) = true
 is_clients Call.Shut = true
 
--- receipts of clients' calls, and of no worker's
-abbrev pub AreClients : List ReceiptOf → Type 0
-AreClients [] = Unit {0}
-AreClients (r ∷ rs) = (is_clients r.call ≡ true) × AreClients rs
+-- receipts of the calls of the client of this number, and of no worker's
+abbrev pub AreClients : ℕ → List ReceiptOf → Type 0
+AreClients number [] = Unit {0}
+AreClients number (r ∷ rs) = (is_clients r.call ≡ true) × IsBy number r.call × AreClients number rs
 
 -- a port over a desk: its pass, how many receipts this had when the port was made, how many calls were refused, and how many
 -- workers the desk has

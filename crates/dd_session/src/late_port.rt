@@ -98,7 +98,7 @@ impl<'a, J: Naming, R: Wait + Clock> LatePort<'a, J, R> {
     pub fn into_pass(self) -> Option<Pass<J>>
         ensures pass { result ≡ pass_by self.entry.port }
         ensures told { IfSome result (λ pass. told_in pass.receipts ≡ told_by self.entry.port) }
-        ensures clients { IfSome result (λ pass. AreClients pass.receipts) }
+        ensures clients { IfSome result (λ pass. AreClients pass.number pass.receipts) }
         ensures begun { before_by self.entry.port ≡ 0 }
     {
         let LatePort {

@@ -82,7 +82,7 @@ impl<'a, J: Naming, R: Wait + Clock> Model for DeskPort<'a, J, R> {
     ghost view = { λ p. record { pass = p.pass; before = p.before; refusals = p.refusals; workers = p.workers } };
 
     ghost invariant = { λ p. (p.before ≤ length p.pass.receipts)
-        × AreClients (drop p.before p.pass.receipts) };
+        × AreClients p.pass.number (drop p.before p.pass.receipts) };
 }
 
 impl<'a, J: Naming, R: Wait + Clock> DeskPort<'a, J, R> {

@@ -7,7 +7,7 @@
 
 use dd_command::given_arguments;
 use dd_lines::CountedDevice;
-use dd_program::run_program;
+use dd_program::{Unwatched, run_program};
 use std::io;
 use std::io::IsTerminal;
 use std::process::ExitCode;
@@ -18,7 +18,7 @@ fn main(rt: HostRuntime) -> ExitCode {
     let mut errors = CountedDevice::new(rt.stderr());
     let is_terminal = rt.stderr().is_terminal();
     let arguments = given_arguments(&rt);
-    run_program(
+    run_program::<_, _, _, _, Unwatched, Unwatched>(
         &rt,
         rt.alloc(),
         arguments,
@@ -26,6 +26,7 @@ fn main(rt: HostRuntime) -> ExitCode {
         &mut output,
         &mut errors,
         is_terminal,
+        &mut Unwatched,
     )
     .exit_code()
 }

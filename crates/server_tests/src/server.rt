@@ -9,5 +9,5 @@ mod pages;
 mod pieces;
 mod rows;
 mod runs;
-mod serving;
+pub mod serving;
 mod waits;

@@ -1,7 +1,7 @@
 //! Devices of memory, and a run over them.
 use dd_command::ArgumentsFault;
 use dd_lines::CountedDevice;
-use dd_program::{Ending, run_program};
+use dd_program::{Ending, Unwatched, run_program};
 use std::alloc::{AllocError, Global};
 use std::io;
 use std::io::{Error, ErrorKind, Read, Write};
@@ -109,7 +109,7 @@ pub fn run_over<
         taken: Vec::new(alloc),
         room: devices.errors,
     });
-    let ending = run_program(
+    let ending = run_program::<_, _, _, _, Unwatched, Unwatched>(
         rt,
         alloc,
         words,
@@ -117,6 +117,7 @@ pub fn run_over<
         &mut output,
         &mut errors,
         false,
+        &mut Unwatched,
     );
     Outcome {
         ending,

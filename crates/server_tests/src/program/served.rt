@@ -1,6 +1,7 @@
 //! The program as a server of two clients of the same process.
 use crate::program::devices::words_in;
 use crate::server::client::{Client, Way};
+use crate::server::serving::{RunEvents, Told};
 use dd_lines::CountedDevice;
 use dd_program::{Ending, run_program};
 use std::alloc::{AllocError, Global};
@@ -43,18 +44,19 @@ impl<'a, R: Wait> Write for Shared<'a, R> {
     }
 }
 
-// The program over the words of a line, with an empty input. All that it writes is put into one text.
+// The program over the words of a line, with an empty input, and what who watches is told. All that it writes is put into one text.
 fn run<W: Threads + Wait + Clock + Eprint + Net<Listener = TcpListener, Stream = TcpStream> + Sync>(
     rt: &W,
     alloc: Global,
     line: &str,
     text: &Mutex<Vec<u8>>,
-) -> Result<Ending, AllocError> {
+) -> Result<(Ending, Told), AllocError> {
     let words = words_in(alloc, line)?;
     let mut reader = CountedDevice::new(io::empty());
     let mut output = CountedDevice::new(Shared { rt, text });
     let mut errors = CountedDevice::new(Shared { rt, text });
-    Ok(run_program(
+    let mut told = Told { runs: 0, events: 0 };
+    let ending = run_program::<_, _, _, _, RunEvents, Told>(
         rt,
         alloc,
         Ok(words),
@@ -62,7 +64,9 @@ fn run<W: Threads + Wait + Clock + Eprint + Net<Listener = TcpListener, Stream =
         &mut output,
         &mut errors,
         false,
-    ))
+        &mut told,
+    );
+    Ok((ending, told))
 }
 
 // The address in the line that tells it.
@@ -122,17 +126,20 @@ fn converse<R: Wait + Clock + Net<Stream = TcpStream>>(
     }))
 }
 
+// How many events there are: beside the fetches of the job a submit, its claim and its finish, the other client's fetch, the shut, and
+// the last claim of each worker.
+fn events_of(talk: &Talk, workers: u32) -> u64 {
+    u64::from(talk.fetches) + 5 + u64::from(workers)
+}
+
 // Did the program tell its address and then how many events there are, and nothing else?
-fn has_told(alloc: Global, text: &[u8], talk: &Talk, workers: u32) -> Result<bool, AllocError> {
-    // Beside the fetches of the job a submit, its claim and its finish, the other client's fetch, the shut, and the last claim
-    // of each worker.
-    let events = u64::from(talk.fetches) + 5 + u64::from(workers);
+fn has_told(alloc: Global, text: &[u8], talk: &Talk, events: u64) -> Result<bool, AllocError> {
     let address = talk.address;
     let told = format!(in alloc; "listening on {address}\nclosed after {events} events\n")?;
     Ok(told.as_str().as_bytes() == text)
 }
 
-// A run of this line: what its clients were told, where the program ended well and told what it had to.
+// A run of this line: what its clients were told, where the program ended well and told what it had to, also to who watches.
 fn serve_line<
     W: Threads + Wait + Clock + Eprint + Net<Listener = TcpListener, Stream = TcpStream> + Sync,
 >(
@@ -144,7 +151,7 @@ fn serve_line<
     workers: u32,
 ) -> Result<Option<String>, AllocError> {
     let text = Mutex::new(Vec::new(alloc));
-    let (ending, talk) = thread::join(
+    let (ended, talk) = thread::join(
         rt,
         || run(rt, alloc, line, &text),
         || converse(rt, alloc, way, request, &text).ok(),
@@ -153,9 +160,11 @@ fn serve_line<
         return Ok(None);
     };
     let text = text.into_inner();
-    let has_ended = ending == Ok(Ending::Closed)
+    let events = events_of(&talk, workers);
+    let watched = Told { runs: 1, events };
+    let has_ended = ended == Ok((Ending::Closed, watched))
         && talk.address.ip().is_loopback()
-        && has_told(alloc, text.as_slice(), &talk, workers)?;
+        && has_told(alloc, text.as_slice(), &talk, events)?;
     Ok(has_ended.then_some(talk.replies))
 }
 

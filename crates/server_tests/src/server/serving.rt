@@ -1,6 +1,7 @@
 //! A server in a thread of its own.
 use dd_book::Limits;
-use dd_server::{RunEnd, RunLimits, ServeArgs, ServeFault, TellsRuns, run_server};
+use dd_desk::{Closed, Naming};
+use dd_server::{KeepsRuns, ServeArgs, ServeFault, TellsRuns, run_server};
 use dd_work::Gate;
 use std::alloc::Global;
 use std::net::TcpListener;
@@ -47,7 +48,23 @@ pub struct Told {
     pub events: u64,
 }
 
-impl TellsRuns for Told {
+/// How many events a run had.
+#[derive(Drop)]
+pub struct RunEvents {
+    events: u64,
+}
+
+impl KeepsRuns for RunEvents {
+    ghost made_of = { λ _ _. Unit {0} };
+
+    fn of<J: Naming>(closed: &Closed<J>) -> RunEvents {
+        RunEvents {
+            events: closed.journal().len() as u64,
+        }
+    }
+}
+
+impl TellsRuns<RunEvents> for Told {
     ghost use Rattle.std.specs.Prelude.{◌≡◌};
 
     ghost State = { Unit {0} };
@@ -56,9 +73,9 @@ impl TellsRuns for Told {
 
     ghost way = { λ before _ after. after ≡ before };
 
-    fn tell<L: RunLimits>(&mut self, end: RunEnd<L>) {
+    fn tell(&mut self, kept: RunEvents) {
         self.runs = self.runs.saturating_add(1);
-        self.events = self.events.saturating_add(end.events());
+        self.events = self.events.saturating_add(kept.events);
     }
 }
 
@@ -87,7 +104,7 @@ pub fn serve_runs<R: Threads + Wait + Clock + Eprint + Sync, G: Gate + Sync>(
         grace: run.grace,
     };
     let told = Told { runs: 0, events: 0 };
-    Some(run_server(rt, alloc, listener, limits, args, gate, told))
+    Some(run_server::<RunEvents, Told, R, G>(rt, alloc, listener, limits, args, gate, told))
 }
 
 /// The same of one run: the number of its events at the end.
