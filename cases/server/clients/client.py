@@ -16,7 +16,8 @@ import sys
 import time
 
 CASES = os.path.dirname(os.path.dirname(os.path.dirname(os.path.abspath(__file__))))
-PROGRAM = os.environ.get("DDSERVE") or os.path.join(os.path.dirname(CASES), "ddserve")
+# The built program, and not the script that builds it: that one's own tools would lack memory too where a case refuses it.
+PROGRAM = os.environ.get("DDSERVE") or os.path.join(os.path.dirname(CASES), "crates", "ddserve", "out", "ddserve")
 ONE_CARD = '{"do":"solve","deal":"N:A... K... Q... J...","trump":4,"first":0,"solutions":3}'
 ONE_CARD_REPLY = '{"cards":[{"equals":0,"rank":14,"score":1,"suit":0}]}'
 STOP = '{"do":"stop"}'
