@@ -2,8 +2,8 @@
 use super::second_hand::by_suit;
 use super::{number, start};
 use crate::rows::{is_line_feed, word};
-use dd_cards::{Hand, Seat, Suit};
-use dd_play::{Position, TrickStart};
+use dd_cards::{Hand, Suit};
+use dd_play::TrickStart;
 use dd_quick::{
     Shares, for_leader_across, for_leader_by, for_second_hand_across, for_second_hand_by,
 };
@@ -32,32 +32,23 @@ fn shares(digits: &[u8]) -> Option<Shares> {
     })
 }
 
-// The winners that are listed after a lead of spades for this opponent of the leader.
-fn after_spades(
-    position: &Position,
-    seat: Seat,
-    need: u8,
-    told: Shares,
-    next: Option<Shares>,
-) -> Option<Hand> {
-    match next {
-        Some(next) => for_second_hand_across(position, seat, Suit::Spades, need, told, next),
-        None => for_second_hand_by(position, seat, Suit::Spades, need, told),
+// The winners of either opponent of the leader that are listed after a lead of spades, the left one asked first.
+fn after_spades(start: &TrickStart, need: u8, told: Shares) -> Option<Hand> {
+    let position = start.position();
+    let leader = position.first();
+    match for_second_hand_by(position, leader.left(), Suit::Spades, need, told) {
+        Some(cards) => Some(cards),
+        None => for_second_hand_by(position, leader.right(), Suit::Spades, need, told),
     }
 }
 
-// The same for the left opponent, or else the right one.
-fn after_spades_for_either(
-    start: &TrickStart,
-    need: u8,
-    told: Shares,
-    next: Option<Shares>,
-) -> Option<Hand> {
+// The same where the partner's tricks are told too.
+fn across_after_spades(start: &TrickStart, need: u8, told: Shares, next: Shares) -> Option<Hand> {
     let position = start.position();
     let leader = position.first();
-    match after_spades(position, leader.left(), need, told, next) {
+    match for_second_hand_across(position, leader.left(), Suit::Spades, need, told, next) {
         Some(cards) => Some(cards),
-        None => after_spades(position, leader.right(), need, told, next),
+        None => for_second_hand_across(position, leader.right(), Suit::Spades, need, told, next),
     }
 }
 
@@ -69,10 +60,9 @@ fn listed(row: &[u8], whose: Told) -> Option<Option<Hand>> {
     Some(match whose {
         Told::Leader => for_leader_by(&start, need, told),
         Told::LeaderAndPartner => for_leader_across(&start, need, told, shares(word(row, 7))?),
-        Told::SecondHand => after_spades_for_either(&start, need, told, None),
+        Told::SecondHand => after_spades(&start, need, told),
         Told::SecondHandAndPartner => {
-            let next = shares(word(row, 7))?;
-            after_spades_for_either(&start, need, told, Some(next))
+            across_after_spades(&start, need, told, shares(word(row, 7))?)
         }
     })
 }
