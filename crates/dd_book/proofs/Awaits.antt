@@ -2,7 +2,7 @@
 use Rattle.std.proofs.Common.{◌≡◌, ℕ, zero, suc, ◌+◌, ◌<◌, ◌≤◌, Bool, true, false, cond, refl, sym, ap, ◌∙◌, arith, List, [], ◌∷◌, length, Some, None, inl, inr, nat_le}
 use Rattle.std.specs.Prelude.{Option, ◌||◌, option_and_then, option_map, slice_get}
 use Rattle.std.specs.List.{count_by, find, list_any, position, position_from, range_with_len}
-use Rattle.std.proofs.lemmas.Bool.{cases_eq}
+use Rattle.std.proofs.lemmas.Bool.{cases_eq, and_parts}
 use Rattle.std.proofs.lemmas.Bool.Decides.{nat_tests}
 use Rattle.std.proofs.lemmas.Iterator.Adapters.{position_from-zero}
 use Rattle.std.proofs.lemmas.List.Sums.{sum_by-cons}
@@ -19,7 +19,6 @@ use Rattle.dd_book.specs.Parts.{is_waiting}
 use Rattle.dd_book.proofs.Chosen.{chosen-at}
 use Rattle.dd_book.proofs.Counting.{of_job, one}
 use Rattle.dd_book.proofs.CountsAfter.{turn-counts}
-use Rattle.dd_book.proofs.Elements.{both}
 use Rattle.dd_book.proofs.Seats.{all-waiting, le-test}
 
 -- ---- where nothing passes a test
@@ -190,7 +189,7 @@ some-turn jobs some none = go (chosen jobs) refl none
     go None is e = some-chosen jobs some is
     go (Some place) is e =
         let at = chosen-at jobs place is in
-        of_part place at.0 (both (has_waiting at.0) _ at.2).0 (next_part at.0.asked (parts_of at.0.stage)) refl (sym (ap (option_and_then (turn_of place)) at.1) ∙ e)
+        of_part place at.0 (and_parts (has_waiting at.0) _ at.2).0 (next_part at.0.asked (parts_of at.0.stage)) refl (sym (ap (option_and_then (turn_of place)) at.1) ∙ e)
 
 -- no part of any job waits
 none-count : (parts : List Part) → list_any is_waiting parts ≡ false → count_by is_waiting parts ≡ 0

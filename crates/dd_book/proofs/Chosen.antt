@@ -1,17 +1,16 @@
 -- The job that is claimed next: of the owner that is due the first with a free part.
-use Rattle.std.proofs.Common.{◌≡◌, ℕ, ◌+◌, ◌<◌, ◌≤◌, Bool, true, false, refl, sym, ap, ◌∙◌, subst, arith, List, [], ◌∷◌, length, Some, None, inl, inr, ◌⊎◌, eq-eqb, nat_eq, nat_le, nat_lt}
+use Rattle.std.proofs.Common.{◌≡◌, ℕ, ◌+◌, ◌<◌, Bool, true, false, refl, sym, ap, ◌∙◌, subst, arith, List, [], ◌∷◌, length, Some, None, inl, inr, eq-eqb, nat_eq, nat_le}
 use Rattle.std.specs.Prelude.{Option, filter, ◌&&◌, option_and_then, option_map, unwrap_or, slice_get}
 use Rattle.std.specs.BTreeSet.{BTreeSet}
 use Rattle.std.specs.List.{position, list_all}
-use Rattle.std.proofs.lemmas.Bool.{cases_eq, eqb-true}
-use Rattle.std.proofs.lemmas.Bool.Decides.{nat_tests}
+use Rattle.std.proofs.lemmas.Bool.{cases_eq, eqb-true, and_parts, cases_lt}
 use Rattle.std.proofs.lemmas.Iterator.Adapters.{position_from-zero}
 use Rattle.std.proofs.lemmas.List.Quantifiers.{position-Some}
 use Rattle.std.proofs.lemmas.Option.{same_Some, slice_get-get_or, slice_get_within}
 use Rattle.dd_book.specs.Indexes.{waits_by}
 use Rattle.dd_book.specs.Jobs.{JobOf, chosen, chosen_from, has_free, has_waiting, is_due, is_free_by, last_turn_of}
 use Rattle.dd_book.specs.Waiting.{IsFirstFrom, IsNextPlace, has_place}
-use Rattle.dd_book.proofs.Elements.{both, position_from-first, position_from-none}
+use Rattle.dd_book.proofs.Elements.{position_from-first, position_from-none}
 use Rattle.dd_book.proofs.Seats.{waits_by-here, waits_by-job, waits_by-within}
 
 -- the job that is found, and that it passes
@@ -23,28 +22,10 @@ found-at test (x ∷ jobs) place is =
 
 -- ---- which job it is
 
--- none is due
-pub chosen-none : (jobs : List JobOf) → position (is_due jobs) jobs ≡ None → chosen jobs ≡ None
-chosen-none jobs is = ap (option_map (chosen_from jobs)) is
-
--- its owner has a free part
-pub chosen-free : (jobs : List JobOf) (due place : ℕ) (job : JobOf) → position (is_due jobs) jobs ≡ Some due → slice_get jobs due ≡ Some job → position (is_free_by job.owner) jobs ≡ Some place → chosen jobs ≡ Some place
-chosen-free jobs due place job is here free =
-    ap (option_map (chosen_from jobs)) is
-    ∙ ap (λ (o : Option JobOf). Some (unwrap_or (option_and_then (λ (j : JobOf). position (is_free_by j.owner) jobs) o) due)) here
-    ∙ ap (λ (o : Option ℕ). Some (unwrap_or o due)) free
-
--- and has none
-pub chosen-due : (jobs : List JobOf) (due : ℕ) (job : JobOf) → position (is_due jobs) jobs ≡ Some due → slice_get jobs due ≡ Some job → position (is_free_by job.owner) jobs ≡ None → chosen jobs ≡ Some due
-chosen-due jobs due job is here free =
-    ap (option_map (chosen_from jobs)) is
-    ∙ ap (λ (o : Option JobOf). Some (unwrap_or (option_and_then (λ (j : JobOf). position (is_free_by j.owner) jobs) o) due)) here
-    ∙ ap (λ (o : Option ℕ). Some (unwrap_or o due)) free
-
 -- a job of the owner that is due waits: it is due too
 due-like : (jobs : List JobOf) (job other : JobOf) → is_due jobs job ≡ true → other.owner ≡ job.owner → has_waiting other ≡ true → is_due jobs other ≡ true
 due-like jobs job other due own waits =
-    rw waits (subst (λ (o : ℕ). list_all (λ (y : JobOf). nat_le (last_turn_of o jobs) (last_turn_of y.owner jobs)) (filter has_waiting jobs) ≡ true) (sym own) (both (has_waiting job) _ due).1)
+    rw waits (subst (λ (o : ℕ). list_all (λ (y : JobOf). nat_le (last_turn_of o jobs) (last_turn_of y.owner jobs)) (filter has_waiting jobs) ≡ true) (sym own) (and_parts (has_waiting job) _ due).1)
 
 -- the job that is claimed next is due
 pub chosen-at : (jobs : List JobOf) (place : ℕ) → chosen jobs ≡ Some place → (job : JobOf) × (slice_get jobs place ≡ Some job) × (is_due jobs job ≡ true)
@@ -55,8 +36,8 @@ chosen-at jobs place h = first (position (is_due jobs) jobs) refl h
     of_owner due job None here passes is e = (job, ap (slice_get jobs) (sym (same_Some due place e)) ∙ here, passes)
     of_owner due job (Some p) here passes is e =
         let free = found-at (is_free_by job.owner) jobs p is in
-        let tells = both (nat_eq free.0.owner job.owner) (has_free free.0) free.2 in
-        (free.0, ap (slice_get jobs) (sym (same_Some p place e)) ∙ free.1, due-like jobs job free.0 passes (eqb-true free.0.owner job.owner tells.0) (both (has_waiting free.0) _ tells.1).0)
+        let tells = and_parts (nat_eq free.0.owner job.owner) (has_free free.0) free.2 in
+        (free.0, ap (slice_get jobs) (sym (same_Some p place e)) ∙ free.1, due-like jobs job free.0 passes (eqb-true free.0.owner job.owner tells.0) (and_parts (has_waiting free.0) _ tells.1).0)
 
     first : (o : Option ℕ) → position (is_due jobs) jobs ≡ o → option_map (chosen_from jobs) o ≡ Some place → (job : JobOf) × (slice_get jobs place ≡ Some job) × (is_due jobs job ≡ true)
     first None is e = absurd (cc)
@@ -77,7 +58,7 @@ chosen-owner jobs place job h here = first (position (is_due jobs) jobs) refl h
     of_owner due y None is at free e = (due, is, (y, at, ap (λ (j : JobOf). j.owner) (same_Some y job (sym at ∙ ap (slice_get jobs) (same_Some due place e) ∙ here))))
     of_owner due y (Some p) is at free e =
         let found = found-at (is_free_by y.owner) jobs p free in
-        let own = eqb-true found.0.owner y.owner (both (nat_eq found.0.owner y.owner) (has_free found.0) found.2).0 in
+        let own = eqb-true found.0.owner y.owner (and_parts (nat_eq found.0.owner y.owner) (has_free found.0) found.2).0 in
         (due, is, (y, at, sym own ∙ ap (λ (j : JobOf). j.owner) (same_Some found.0 job (sym found.1 ∙ ap (slice_get jobs) (same_Some p place e) ∙ here))))
 
     first : (o : Option ℕ) → position (is_due jobs) jobs ≡ o → option_map (chosen_from jobs) o ≡ Some place → DueBy jobs job.owner
@@ -95,16 +76,9 @@ chosen-within jobs place h = let at = chosen-at jobs place (sym h) in slice_get_
 pub chosen-waits : (jobs : List JobOf) (place : ℕ) (job : JobOf) → Some place ≡ chosen jobs → slice_get jobs place ≡ Some job → has_waiting job ≡ true
 chosen-waits jobs place job h here =
     let at = chosen-at jobs place (sym h) in
-    ap has_waiting (same_Some job at.0 (sym here ∙ at.1)) ∙ (both (has_waiting at.0) _ at.2).0
+    ap has_waiting (same_Some job at.0 (sym here ∙ at.1)) ∙ (and_parts (has_waiting at.0) _ at.2).0
 
 -- ---- an owner's jobs that wait, one by one
-
-less_or_from : (j from : ℕ) → (j < from) ⊎ (from ≤ j)
-less_or_from j from = go (nat_lt j from) refl
-  where
-    go : (b : Bool) → nat_lt j from ≡ b → (j < from) ⊎ (from ≤ j)
-    go true is = inl (grind (arith, nat_tests))
-    go false is = inr (grind (arith, nat_tests))
 
 -- none of the owner's jobs below this place has a free part
 abbrev pub NoneBelow : List JobOf → ℕ → ℕ → Type 0
@@ -117,8 +91,8 @@ not-free jobs owner j y here rests = go (is_free_by owner y) refl
     go : (b : Bool) → is_free_by owner y ≡ b → is_free_by owner y ≡ false
     go false is = is
     go true is =
-        let tells = both (nat_eq y.owner owner) (has_free y) is in
-        let waits = waits_by-here jobs j y here (both (has_waiting y) _ tells.1).0 in
+        let tells = and_parts (nat_eq y.owner owner) (has_free y) is in
+        let waits = waits_by-here jobs j y here (and_parts (has_waiting y) _ tells.1).0 in
         absurd (let e : true ≡ false = sym waits ∙ ap (λ o. waits_by jobs o j) (eqb-true y.owner owner tells.0) ∙ rests in cc)
 
 module _ (jobs : List JobOf) (waiting : BTreeSet (ℕ × ℕ)) (places : (o p : ℕ) → has_place waiting o p ≡ waits_by jobs o p) (owner from : ℕ) (below : NoneBelow jobs owner from) where
@@ -127,7 +101,7 @@ module _ (jobs : List JobOf) (waiting : BTreeSet (ℕ × ℕ)) (places : (o p : 
   next-within place next = waits_by-within jobs owner place (sym (places owner place) ∙ next.1)
 
   before : (place : ℕ) → IsFirstFrom (has_place waiting) owner from place → NoneBelow jobs owner place
-  before place next j y less here = elim (less_or_from j from) [
+  before place next j y less here = elim (cases_lt j from) [
     | inl low ↦ below j y low here
     | inr high ↦ not-free jobs owner j y here (sym (places owner j) ∙ next.2 j high less)
   ]
@@ -154,7 +128,7 @@ module _ (jobs : List JobOf) (waiting : BTreeSet (ℕ × ℕ)) (places : (o p : 
 
   -- no more job waits
   pub next-none : IsNextPlace waiting owner from None → position (is_free_by owner) jobs ≡ None
-  next-none none = position_from-zero (is_free_by owner) jobs ∙ position_from-none (is_free_by owner) 0 jobs (λ j y here. elim (less_or_from j from) [
+  next-none none = position_from-zero (is_free_by owner) jobs ∙ position_from-none (is_free_by owner) 0 jobs (λ j y here. elim (cases_lt j from) [
     | inl low ↦ below j y low here
     | inr high ↦ not-free jobs owner j y here (sym (places owner j) ∙ none j high)
   ])

@@ -26,10 +26,10 @@ use Rattle.dd_book.specs.Parts.{all_waiting, is_ended, is_running, is_waiting, r
 use Rattle.dd_book.specs.Jobs.{ArePartsOf, IsOwn, JobOf, Turn, chosen, first_parts, is_of_play, is_open, job_after, job_at, job_with, last_part, next_turn, own_job, parts_of, play_stage, stage_after, table_stage, turn, turn_at, turn_of, with_claim, with_job, with_stage}
 use Rattle.dd_book.specs.Calls.{jobs_after_finish, jobs_cancelled}
 use Rattle.dd_book.proofs.AsksKept.{own-is, there}
-use Rattle.dd_book.proofs.Elements.{both}
 use Rattle.dd_book.proofs.Finishes.{position-there}
 use Rattle.dd_book.proofs.NextPart.{next-waits}
 use Rattle.dd_book.proofs.Turns.{due-at}
+use Rattle.std.proofs.lemmas.Bool.{and_parts}
 
 abbrev pair : ℕ → ℕ → PartCounts
 pair waits runs = record { waiting = waits; running = runs }
@@ -86,7 +86,7 @@ running-not_ended (Number tricks) h = refl
 count-ended : (test : Part → Bool) (parts : List Part) → PassesNoEnded test → list_all is_ended parts ≡ true → count_by test parts ≡ 0
 count-ended test [] fails all = refl
 count-ended test (p ∷ parts) fails all =
-    let ended = both (is_ended p) (list_all is_ended parts) all in
+    let ended = and_parts (is_ended p) (list_all is_ended parts) all in
     let none : one test p ≡ 0 = rw (fails p ended.0) refl in
     let rest = count-ended test parts fails ended.1 in
     sum_by-cons (one test) p parts ∙ (omega arith)
@@ -301,13 +301,6 @@ turn-there jobs b told is_so = go (next_turn jobs) refl told
     go None is h = absurd (cc)
     go (Some t) is h = (t, is)
 
-pub turn-none : (jobs : List JobOf) (b : Bool) → MatchOption (next_turn jobs) (b ≡ false) (λ (t : Turn). b ≡ true) → b ≡ false → next_turn jobs ≡ None
-turn-none jobs b told is_so = go (next_turn jobs) refl told
-  where
-    go : (o : Option Turn) → next_turn jobs ≡ o → MatchOption o (b ≡ false) (λ (t : Turn). b ≡ true) → next_turn jobs ≡ None
-    go None is h = is
-    go (Some t) is h = absurd (cc)
-
 -- ---- finishes
 
 runs-there : (worker claim : ℕ) (p : Part) → runs_by worker claim p ≡ true → (is_waiting p ≡ false) × (is_running p ≡ true)
@@ -350,10 +343,6 @@ finish-staged jobs worker number claim part outcome job o here runs is =
 pub stage-there : (o : Option Stage) (recorded : Bool) → recorded ≡ is_some o → recorded ≡ true → (stage : Stage) × (o ≡ Some stage)
 stage-there None recorded is h = absurd (cc)
 stage-there (Some stage) recorded is h = (stage, refl)
-
-pub stage-none : (o : Option Stage) (recorded : Bool) → recorded ≡ is_some o → recorded ≡ false → o ≡ None
-stage-none None recorded is h = refl
-stage-none (Some stage) recorded is h = absurd (cc)
 
 module _ (jobs : List JobOf) (worker number claim part : ℕ) (job : JobOf) (here : job_at jobs number ≡ Some job) (runs : position (runs_by worker claim) (parts_of job.stage) ≡ Some part) where
   -- the outcome is of something else

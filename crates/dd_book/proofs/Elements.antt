@@ -1,15 +1,9 @@
 -- Elements of a list by their places, and of two tests each.
 use Rattle.std.proofs.Common.{◌≡◌, ℕ, zero, suc, ◌+◌, ◌<◌, Bool, true, false, refl, ap, ◌∙◌, arith, List, [], ◌∷◌, ◌++◌, length, Some, None, set}
-use Rattle.std.specs.Prelude.{slice_get, ◌&&◌}
+use Rattle.std.specs.Prelude.{slice_get}
 use Rattle.std.specs.List.{position_from}
 
 -- ---- two tests
-
--- both, so each
-pub both : (a b : Bool) → (a && b) ≡ true → (a ≡ true) × (b ≡ true)
-both true true h = (refl, refl)
-both true false h = absurd (cc)
-both false b h = absurd (cc)
 
 -- ---- elements by their places
 
@@ -52,3 +46,7 @@ position_from-first p i (suc k) (y ∷ xs) x here t below = rw (below 0 y (omega
 pub position_from-none : {X : Type 0} (p : X → Bool) (i : ℕ) (xs : List X) → ((j : ℕ) (y : X) → slice_get xs j ≡ Some y → p y ≡ false) → position_from p i xs ≡ None
 position_from-none p i [] below = refl
 position_from-none p i (y ∷ xs) below = rw (below 0 y refl) (position_from-none p (i + 1) xs (λ j z e. below (suc j) z e))
+
+-- two lists that are one have one head and one tail
+pub cons-parts : {A : Type 0} (x y : A) (xs ys : List A) → x ∷ xs ≡ y ∷ ys → (x ≡ y) × (xs ≡ ys)
+cons-parts x y xs ys e = (cc, cc)

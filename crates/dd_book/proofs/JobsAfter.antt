@@ -25,6 +25,7 @@ use Rattle.dd_book.proofs.Elements.{slice_get-end, slice_get-push_other, slice_g
 use Rattle.dd_book.proofs.Indexed.{open-from_part, open-from_place}
 use Rattle.dd_book.proofs.NextPart.{next-within}
 use Rattle.dd_book.proofs.Turns.{due-at}
+use Rattle.std.proofs.lemmas.Bool.{leb-false}
 
 -- ---- how long it is
 
@@ -34,9 +35,6 @@ not-full false true c h = absurd (cc)
 not-full false false true h = absurd (cc)
 not-full false false false h = refl
 
-le-not : (m n : ℕ) → nat_le m n ≡ false → n < m
-le-not m n h = grind (arith, nat_tests)
-
 -- a submit that isn't refused makes one job more, of which it tells the number, and there was room for it
 pub submit-length : (book : BookOf) (caller : ℕ) (asked : Asked) → refusal_of book caller ≡ None
     → (length (after book (call.Submit caller asked)).jobs ≡ length book.jobs + 1) × (reply_of book (call.Submit caller asked) ≡ Submitted (length book.jobs + 1)) × (length book.jobs < book.limits.jobs)
@@ -45,7 +43,7 @@ submit-length book caller asked taken =
     let is : (after book (call.Submit caller asked)).jobs ≡ book.jobs ++ job ∷ [] = ap (λ (o : Option Reply). (cond (is_some o) book (with_jobs book (book.jobs ++ job ∷ []))).jobs) taken in (
       ap length is ∙ length_push book.jobs job,
       ap (λ (o : Option Reply). unwrap_or o (Submitted (length book.jobs + 1))) taken,
-      le-not book.limits.jobs (length book.jobs) (not-full book.shut (nat_le book.limits.open_jobs (open_of caller book.jobs)) (nat_le book.limits.jobs (length book.jobs)) taken),
+      leb-false book.limits.jobs (length book.jobs) (not-full book.shut (nat_le book.limits.open_jobs (open_of caller book.jobs)) (nat_le book.limits.jobs (length book.jobs)) taken),
     )
 
 anew-none : (c : Call) (reply : Reply) → is_submitted reply ≡ false → asked_anew c reply ≡ []

@@ -2,7 +2,7 @@
 use Rattle.std.proofs.Common.{eq-eqb, ◌≡◌, ℕ, zero, suc, ◌-◌, ◌<◌, ◌≤◌, Bool, true, false, refl, sym, ap, ◌∙◌, arith, List, [], ◌∷◌, ◌++◌, length, map, max, Some, None, inl, inr, nat_eq}
 use Rattle.std.specs.Prelude.{Option, filter, option_map, unwrap_or, slice_get, ◌||◌}
 use Rattle.std.specs.List.{list_all}
-use Rattle.std.proofs.lemmas.Bool.{cases_eq, eqb-true}
+use Rattle.std.proofs.lemmas.Bool.{cases_eq, eqb-true, and_parts}
 use Rattle.std.proofs.lemmas.Bool.Decides.{eqb_tells}
 use Rattle.std.proofs.lemmas.List.Quantifiers.{position-Some}
 use Rattle.std.proofs.lemmas.Option.{get_or_from_slice_get, same_Some, slice_get-map, slice_get_within}
@@ -12,7 +12,7 @@ use Rattle.dd_book.specs.Calls.{BookOf, after, empty_book, run}
 use Rattle.dd_book.specs.Fairness.{IsHeldBack, NewcomersComeLast, job_waits, next_owner}
 use Rattle.dd_book.proofs.AsksKept.{there}
 use Rattle.dd_book.proofs.Chosen.{chosen-owner}
-use Rattle.dd_book.proofs.Elements.{both, slice_get-push_here, slice_get-push_other}
+use Rattle.dd_book.proofs.Elements.{slice_get-push_here, slice_get-push_other}
 use Rattle.dd_book.proofs.LastTurns.{Joins, Rests, Takes, by-change, last, owners, within-run}
 use Rattle.dd_book.proofs.Seats.{all-waiting, any-there, le-test, le-tested, one-waiting}
 use Rattle.dd_book.proofs.Turns.{turn-chosen}
@@ -134,7 +134,7 @@ not-late number one since late book s waits is = go (next_turn book.jobs) refl
         let found = position-Some (is_due book.jobs) book.jobs due.0 first.0 due.1 in
         let passes : is_due book.jobs first.0 ≡ true = sym (ap (is_due book.jobs) (get_or_from_slice_get book.jobs due.0 first.0 first.0 first.1)) ∙ found.1 in
         let all : list_all (is_no_later book.jobs y.0) (filter has_waiting book.jobs) ≡ true = all-waiting (is_no_later book.jobs y.0) book.jobs (λ j z is_there z_waits.
-        let le = le-tested _ _ (one-waiting (is_no_later book.jobs first.0) book.jobs j z (both (has_waiting first.0) _ passes).1 is_there z_waits) in
+        let le = le-tested _ _ (one-waiting (is_no_later book.jobs first.0) book.jobs j z (and_parts (has_waiting first.0) _ passes).1 is_there z_waits) in
         le-test _ _ (omega (arith, le, b.1, s.early, ap (λ o. last o book) mine, ap (λ o. last o book) whose))) in
         let is_due_too : is_due book.jobs y.0 ≡ true = rw (y.2, all) refl in
         let got = position-Some (is_due book.jobs) book.jobs due.0 y.0 due.1 in

@@ -1,6 +1,6 @@
 -- The part of a job that is claimed next is one that waits.
 use Rattle.std.proofs.Common.{◌≡◌, ℕ, zero, suc, ◌+◌, ◌-◌, ◌<◌, arith, Bool, true, false, cond, refl, sym, ap, ◌∙◌, subst, List, [], ◌∷◌, length, Some, None}
-use Rattle.std.specs.Prelude.{Option, ◌&&◌, not, slice_get}
+use Rattle.std.specs.Prelude.{Option, not, slice_get}
 use Rattle.std.specs.List.{find, list_any, position, range_with_len}
 use Rattle.std.proofs.lemmas.List.Quantifiers.{position-Some}
 use Rattle.std.proofs.lemmas.Option.{same_Some, slice_get-get_or, slice_get_within}
@@ -13,6 +13,7 @@ use Rattle.dd_book.specs.declared.job.Stage.TheVariants.{Open, Done, TableDone, 
 use Rattle.dd_book.specs.Jobs.{parts_of}
 use Rattle.dd_book.specs.Next.{from_last, is_free, next_part, of_strain, or_place, waits_at}
 use Rattle.dd_book.specs.Parts.{is_waiting, is_running}
+use Rattle.dd_cards.proofs.CallerLemmas.{and-left}
 
 -- what is found passes
 find-passes : (test : ℕ → Bool) (places : List ℕ) (place : ℕ) → find test places ≡ Some place → test place ≡ true
@@ -29,16 +30,12 @@ first-waits parts place h =
     let found = position-Some is_waiting parts place Waiting h in
     rw (slice_get-get_or parts place Waiting found.0, waits_at) found.1
 
-and-first : (a b : Bool) → (a && b) ≡ true → a ≡ true
-and-first true b h = refl
-and-first false b h = h
-
 table-waits : (parts : List Part) (place : ℕ) (free : Option ℕ) → find (is_free parts) (range_with_len 0 (length parts)) ≡ free
     → or_place free (position is_waiting parts) ≡ Some place → waits_at parts place ≡ true
 table-waits parts place None is h = first-waits parts place h
 table-waits parts place (Some p) is h =
     let passes = find-passes (is_free parts) (range_with_len 0 (length parts)) place (is ∙ h) in
-    and-first (waits_at parts place) (not (list_any is_running (of_strain parts place))) passes
+    and-left (waits_at parts place) (not (list_any is_running (of_strain parts place))) passes
 
 -- the part that is claimed next waits
 pub next-waits : (asked : Asked) (parts : List Part) (place : ℕ) → next_part asked parts ≡ Some place → waits_at parts place ≡ true

@@ -2,7 +2,7 @@
 use Rattle.std.proofs.Common.{◌≡◌, ℕ, ◌<◌, Bool, true, false, refl, sym, ap, ◌∙◌, arith, List, [], ◌∷◌, max, Some, None, inl, inr}
 use Rattle.std.specs.Prelude.{Option, option_map, nat_eq, ◌&&◌, ◌||◌}
 use Rattle.std.specs.List.{list_any}
-use Rattle.std.proofs.lemmas.Bool.{cases_eq, eqb-true}
+use Rattle.std.proofs.lemmas.Bool.{cases_eq, eqb-true, and_parts}
 use Rattle.std.proofs.lemmas.Bool.Decides.{eqb_tells}
 use Rattle.std.proofs.lemmas.Option.{same_Some}
 use Rattle.dd_book.specs.declared.call.Call.{Call}
@@ -10,7 +10,6 @@ use Rattle.dd_book.specs.declared.call.Call.TheVariants as call
 use Rattle.dd_book.specs.Jobs.{JobOf, Turn, has_job, has_waiting, is_no_later, next_turn}
 use Rattle.dd_book.specs.Calls.{BookOf, after, book_claimed, empty_book, run}
 use Rattle.dd_book.specs.Fairness.{ClaimsGoRound, IsPassedOver, is_claim, next_owner, owner_waits}
-use Rattle.dd_book.proofs.Elements.{both}
 use Rattle.dd_book.proofs.LastTurns.{IsWithin, Joins, Takes, by-change, last, takes, within-run}
 use Rattle.dd_book.proofs.Seats.{any-there, le-tested, one-waiting}
 use Rattle.dd_book.proofs.Turns.{due-at}
@@ -78,8 +77,8 @@ not-due book one other later waits is = go (next_turn book.jobs) refl
         let at = due-at book.jobs t some in
         let found = any-there (λ (job : JobOf). nat_eq job.owner other && has_waiting job) book.jobs waits in
         let y = found.1 in
-        let tells = both (nat_eq y.0.owner other) (has_waiting y.0) y.2 in
-        let le = le-tested _ _ (one-waiting (is_no_later book.jobs t.job) book.jobs found.0 y.0 (both (has_waiting t.job) _ at.2).1 y.1 tells.1) in
+        let tells = and_parts (nat_eq y.0.owner other) (has_waiting y.0) y.2 in
+        let le = le-tested _ _ (one-waiting (is_no_later book.jobs t.job) book.jobs found.0 y.0 (and_parts (has_waiting t.job) _ at.2).1 y.1 tells.1) in
         omega (arith, le, later, ap (λ o. last o book) own, ap (λ o. last o book) (eqb-true y.0.owner other tells.0))
 
 round : (cs : List Call) (book : BookOf) (one other : ℕ) → IsLater one other book → IsPassedOver other book cs → next_owner (run book cs) ≡ Some one → ⊥

@@ -4,16 +4,15 @@ use Rattle.std.specs.Prelude.{Option, option_map, unwrap_or, filter, slice_get, 
 use Rattle.std.specs.List.{position, list_all, list_any}
 use Rattle.std.specs.BTreeMap.{BTreeMap}
 use Rattle.std.specs.BTreeSet.{BTreeSet}
-use Rattle.std.proofs.lemmas.Bool.{cases_eq, eqb-true}
+use Rattle.std.proofs.lemmas.Bool.{cases_eq, eqb-true, or_left, or_right, and_parts}
 use Rattle.std.proofs.lemmas.Bool.Decides.{nat_tests, eqb_tells}
 use Rattle.std.proofs.lemmas.Iterator.Adapters.{position_from-zero}
 use Rattle.std.proofs.lemmas.Option.{same_Some, slice_get_within}
-use Rattle.dd_cards.proofs.CallerLemmas.{or-left, or-right}
 use Rattle.dd_book.specs.Jobs.{JobOf, first_turn, has_job, has_waiting, is_due, is_no_later, last_turn_of}
 use Rattle.dd_book.specs.Indexes.{AreOwners, ChangesOnly, IsKnown, count_of, waits_by}
 use Rattle.dd_book.specs.Tournaments.{IsFirstKey, key_at, with_key}
 use Rattle.dd_book.specs.Waiting.{IsFirstOf, IsFirstPlace, SetsOnly, has_place}
-use Rattle.dd_book.proofs.Elements.{both, position_from-first, position_from-none, slice_get-end, slice_get-push_here, slice_get-push_other, slice_get-set_here, slice_get-set_other}
+use Rattle.dd_book.proofs.Elements.{position_from-first, position_from-none, slice_get-end, slice_get-push_here, slice_get-push_other, slice_get-set_here, slice_get-set_other}
 use Rattle.dd_book.proofs.Winning.{key_at-set_here, key_at-set_other, key_at-within}
 
 never-both : {b : Bool} → b ≡ true → b ≡ false → ⊥
@@ -117,7 +116,7 @@ waits_in owner found = unwrap_or (option_map (waits_of owner) found) false
 
 pub waits_by-job : (jobs : List JobOf) (o p : ℕ) → waits_by jobs o p ≡ true → (job : JobOf) × (slice_get jobs p ≡ Some job) × (job.owner ≡ o) × (has_waiting job ≡ true)
 waits_by-job [] o p h = absurd (cc)
-waits_by-job (job ∷ jobs) o zero h = let t = both (nat_eq job.owner o) (has_waiting job) h in (job, refl, eqb-true job.owner o t.0, t.1)
+waits_by-job (job ∷ jobs) o zero h = let t = and_parts (nat_eq job.owner o) (has_waiting job) h in (job, refl, eqb-true job.owner o t.0, t.1)
 waits_by-job (job ∷ jobs) o (suc p) h = waits_by-job jobs o p h
 
 waits_by-one : (jobs : List JobOf) → OneOwner (waits_by jobs)
@@ -257,10 +256,6 @@ has_job-known : (jobs : List JobOf) (newest : BTreeMap ℕ ℕ) (o : ℕ) → ((
 has_job-known jobs newest o known has =
     let found = any-there (λ (job : JobOf). nat_eq job.owner o) jobs has in
     subst (IsKnown newest) (eqb-true found.1.0.owner o found.1.2) (known found.0 found.1.0 found.1.1)
-
--- where a new job of an owner's puts it in the order
-pub first_turn-known : (jobs : List JobOf) (waiting : BTreeSet (ℕ × ℕ)) (newest : BTreeMap ℕ ℕ) (keys : List (Option ℕ)) (o claims : ℕ) → AreOwners jobs waiting newest keys → IsKnown newest o → first_turn o jobs claims ≡ 0
-first_turn-known jobs waiting newest keys o claims x known = rw (x.alone o known) refl
 
 pub first_turn-new : (jobs : List JobOf) (waiting : BTreeSet (ℕ × ℕ)) (newest : BTreeMap ℕ ℕ) (keys : List (Option ℕ)) (o claims : ℕ) → AreOwners jobs waiting newest keys → (IsKnown newest o → ⊥) → first_turn o jobs claims ≡ claims
 first_turn-new jobs waiting newest keys o claims x none = go (has_job o jobs) refl
@@ -446,8 +441,8 @@ module _ (jobs : List JobOf) (owner : ℕ) (job : JobOf) (same : job.owner ≡ o
         | inr differ ↦ more j.owner (x.known p j (sym (slice_get-push_other jobs p job differ) ∙ is))
       ])
       (λ o is. has_job-push jobs job o ∙ elim (cases_eq o owner) [
-        | inl mine ↦ or-right (has_job o jobs) _ (eq-eqb job.owner o (same ∙ sym mine))
-        | inr other ↦ or-left (has_job o jobs) _ (x.alone o (less o is other))
+        | inl mine ↦ or_right (has_job o jobs) _ (eq-eqb job.owner o (same ∙ sym mine))
+        | inr other ↦ or_left (has_job o jobs) _ (x.alone o (less o is other))
       ])
       (omega (arith, length-append jobs (job ∷ []), room)) push-others
       (λ o other. last-pushed jobs job o ∙ elim (eqb_tells job.owner o) [ inl e ↦ absurd (other (sym e.1 ∙ same)) | inr differ ↦ rw differ.0 (omega arith) ])
@@ -510,11 +505,11 @@ one-waiting test (x ∷ jobs) zero y all there waits =
     let same : x ≡ y = same_Some x y there in
     let here : has_waiting x ≡ true = ap has_waiting same ∙ waits in
     let first : (test x && list_all test (filter has_waiting jobs)) ≡ true = subst (λ b. list_all test (cond b (x ∷ filter has_waiting jobs) (filter has_waiting jobs)) ≡ true) here all in
-    ap test (sym same) ∙ (both (test x) _ first).0
+    ap test (sym same) ∙ (and_parts (test x) _ first).0
 one-waiting test (x ∷ jobs) (suc j) y all there waits = one-waiting test jobs j y (go (has_waiting x) all) there waits
   where
     go : (b : Bool) → list_all test (cond b (x ∷ filter has_waiting jobs) (filter has_waiting jobs)) ≡ true → list_all test (filter has_waiting jobs) ≡ true
-    go true h = (both (test x) _ h).1
+    go true h = (and_parts (test x) _ h).1
     go false h = h
 
 pub le-test : (a b : ℕ) → a ≤ b → nat_le a b ≡ true

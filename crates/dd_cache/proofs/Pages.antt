@@ -18,14 +18,6 @@ place-of : {X : Type 0} (xs : List X) (count : ℕ) (t : X) → count ≤ length
 place-of xs count t within has =
     let below : has.0 < count = (let l = counted xs count within in let h = has.1 in omega (arith, l, h)) in (below, sym (get_or-take count xs has.0 t below) ∙ has.2)
 
--- bounds that stand needless at a counted place
-pub needless-counted : (told : List StoredBoundsOf) (count place : ℕ) (new : StoredBoundsOf) → count ≤ length told → place < count → MakesNeedless new (get_or told place new)
-    → StandsNeedless new (take count told) place
-needless-counted told count place new within below needless = record {
-  within = (let l = counted told count within in omega (arith, l, below));
-  needless = subst (MakesNeedless new) (sym (get_or-take count told place new below)) needless;
-}
-
 -- bounds that take the place of needless ones
 pub keeps-set : (told : List StoredBoundsOf) (count place : ℕ) (new : StoredBoundsOf) → count ≤ length told → StandsNeedless new (take count told) place
     → Keeps (take count told) (take count (set told place new)) new

@@ -5,8 +5,6 @@
 pub use Rattle.dd_cards.proofs.General.{and-left}
 -- both, so the second
 pub use Rattle.dd_cards.proofs.General.{and-right}
--- each of two, so both
-pub use Rattle.dd_cards.proofs.General.{and-both}
 -- a test and true is the test
 pub use Rattle.dd_cards.proofs.General.{and-true}
 -- a test and false is false
@@ -15,26 +13,8 @@ pub use Rattle.dd_cards.proofs.General.{and-false}
 pub use Rattle.dd_cards.proofs.General.{all-four}
 -- each of four, so all
 pub use Rattle.dd_cards.proofs.General.{four-all}
--- the first, so one of two
-pub use Rattle.dd_cards.proofs.General.{or-left}
--- the second, so one of two
-pub use Rattle.dd_cards.proofs.General.{or-right}
--- one of two: the first or the second
-pub use Rattle.dd_cards.proofs.General.{or-split}
--- none of two
-pub use Rattle.dd_cards.proofs.General.{or-false}
--- what holds turned does not hold
-pub use Rattle.dd_cards.proofs.General.{not-true}
--- what does not hold holds turned
-pub use Rattle.dd_cards.proofs.General.{false-not}
--- what is not true is false
-pub use Rattle.dd_cards.proofs.General.{else-false}
--- what is not false is true
-pub use Rattle.dd_cards.proofs.General.{else-true}
 -- two tests that imply each other are one
 pub use Rattle.dd_cards.proofs.General.{both-ways}
--- tests that agree keep the same part
-pub use Rattle.dd_cards.proofs.General.{filter-same}
 -- tests that agree on what a list has keep the same part of it
 pub use Rattle.dd_cards.proofs.General.{filter-where}
 -- two filters are one
@@ -160,3 +140,31 @@ pub use Rattle.dd_cards.proofs.SameLaws.{same_hands-is}
 pub use Rattle.dd_cards.proofs.SameLaws.{same_hands-told}
 -- the parts of four tests
 pub use Rattle.dd_cards.proofs.SameLaws.{four-of}
+-- where a card of a list passes a test, one of it does
+pub use Rattle.dd_cards.proofs.Heads.{any-some}
+-- where a card that stands in a list passes a test, one of it does
+pub use Rattle.dd_cards.proofs.Heads.{any-of}
+-- a card of a mask's list has a real rank
+pub use Rattle.dd_cards.proofs.Unions.{cards-real}
+-- all ranks are real
+pub use Rattle.dd_cards.proofs.Lanes.{real_ranks}
+-- a bit of an intersection is one of the first
+pub use Rattle.dd_cards.proofs.HandLists.{bit_of-and}
+-- a card of a mask's list is a bit of the mask
+pub use Rattle.dd_cards.proofs.HandLists.{has_card-cards_of}
+-- sameness of cards has no direction
+pub use Rattle.dd_cards.proofs.CardLists.{same_card-swap}
+-- a card stands in two lists as often as in both
+pub use Rattle.dd_cards.proofs.Sets.{times-append}
+-- a card that a list has stands in it at least once
+pub use Rattle.dd_cards.proofs.Sets.{times-has}
+-- a test that no card of a list passes, at one of them
+pub use Rattle.dd_cards.proofs.Heads.{none-at}
+-- a card that is there and passes is found
+pub use Rattle.dd_cards.proofs.Heads.{any-card}
+-- every real rank is among the thirteen
+pub use Rattle.dd_cards.proofs.RankLists.{has-all}
+-- the members of a part
+pub use Rattle.dd_cards.proofs.RankLists.{has-filter}
+-- two tests that agree on the members keep the same part
+pub use Rattle.dd_cards.proofs.RankLists.{filter-members}

@@ -1,6 +1,6 @@
 -- cards as suits and ranks, and the deck
 use Rattle.std.proofs.Common.{◌≡◌, ◌≢◌, ℕ, ◌<◌, Bool, true, false, cond, refl, sym, ap, ◌∙◌, subst, arith, List, [], ◌∷◌, ◌++◌, inl, inr, ◌⊎◌, eq-eqb, suc, zero}
-use Rattle.std.specs.Prelude.{map, ◌==◌, ◌||◌}
+use Rattle.std.specs.Prelude.{map, ◌==◌}
 use mathlib.Core.Path.{ap₂}
 use Rattle.std.specs.List.{list_any, list_all}
 use Rattle.std.proofs.lemmas.Bool.{eqb-true, leb-true}
@@ -13,6 +13,7 @@ use Rattle.dd_cards.specs.Ranks.{IsRank, is_rank, lowest_ranks, all_ranks, has_r
 use Rattle.dd_cards.specs.PlayingCard.{PlayingCard}
 use Rattle.dd_cards.specs.Cards.{same_card, card_of, suit_cards, deck, has_card, place_of}
 use Rattle.dd_cards.proofs.RankLists.{has_rank-lowest_ranks}
+use Rattle.std.proofs.Math.Bool.{or-true}
 
 -- the suit of a code
 pub suit_from : ℕ → Suit
@@ -79,14 +80,9 @@ same_card-eq c d h =
 any-left : {X : Type 0} (p : X → Bool) (xs ys : List X) → list_any p xs ≡ true → list_any p (xs ++ ys) ≡ true
 any-left p xs ys h = list_any-append p xs ys ∙ rw h refl
 
--- anything or true is true
-or_true : (b : Bool) → (b || true) ≡ true
-or_true true = refl
-or_true false = refl
-
 -- what the second part has, the whole has
 any-right : {X : Type 0} (p : X → Bool) (xs ys : List X) → list_any p ys ≡ true → list_any p (xs ++ ys) ≡ true
-any-right p xs ys h = list_any-append p xs ys ∙ rw h (or_true (list_any p xs))
+any-right p xs ys h = list_any-append p xs ys ∙ rw h (or-true (list_any p xs))
 
 -- a real card is among the thirteen of its suit
 has-suit_cards : (c : PlayingCard) → IsRank c.rank → has_card (suit_cards c.suit) c ≡ true
@@ -125,3 +121,10 @@ real_deck = refl
 -- what passes the test is a rank
 pub IsRank-from : (r : ℕ) → is_rank r ≡ true → IsRank r
 IsRank-from r h = (leb-true 2 r (grind (arith, nat_tests)), leb-true r 14 (grind (arith, nat_tests)))
+
+-- sameness of cards has no direction
+pub same_card-swap : (c d : PlayingCard) → same_card c d ≡ same_card d c
+same_card-swap c d = rw (swap (suit_code c.suit) (suit_code d.suit), swap c.rank d.rank) refl
+  where
+    swap : (a b : ℕ) → (a == b) ≡ (b == a)
+    swap a b = grind (arith, nat_tests)

@@ -13,7 +13,8 @@ use Rattle.dd_cards.specs.MaskLaws.{digit}
 use Rattle.dd_cards.specs.Cards.{deck, place_of}
 use Rattle.dd_cards.specs.HandMasks.{in_hand, cards_of, IsHandMask}
 use Rattle.dd_cards.proofs.RankLists.{length-cond, digit_count}
-use Rattle.dd_cards.proofs.General.{and-false, filter-filter, filter-map, filter-same}
+use Rattle.dd_cards.proofs.General.{and-false, filter-filter, filter-map}
+use Rattle.std.proofs.lemmas.List.Elements.{filter_agree}
 
 -- the k lowest places, from the top
 abbrev places : ℕ → List ℕ
@@ -66,6 +67,6 @@ length-cards_of m valid =
     ∙ ap length (sym (filter-map (in_mask m) place_of deck))
     ∙ ap (λ is. length (filter (in_mask m) is)) places-deck
     ∙ ap length (filter-filter (in_mask m) (λ i. is_rank (i % 16)) (places 64))
-    ∙ ap length (filter-same (λ i. is_rank (i % 16) && in_mask m i) (in_mask m) (λ i. set-is-rank m i valid) (places 64))
+    ∙ ap length (filter_agree (λ i. is_rank (i % 16) && in_mask m i) (in_mask m) (λ i. set-is-rank m i valid) (places 64))
     ∙ length-places m 64
     ∙ ap count_ones (mod-eq_of_lt (IsHandMask-small m valid))

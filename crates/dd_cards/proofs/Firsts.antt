@@ -3,7 +3,7 @@ use Rattle.std.proofs.Common.{◌≡◌, ◌≢◌, ℕ, ◌+◌, ◌-◌, ◌*�
 use Rattle.std.specs.Prelude.{filter, ◌&&◌, nat_lt}
 use Rattle.std.specs.List.{list_all}
 use Rattle.std.specs.Int.{bit_at, bit_not, leading_zeros}
-use Rattle.std.proofs.lemmas.Bool.{eqb-true, ltb-true, cases_lt}
+use Rattle.std.proofs.lemmas.Bool.{eqb-true, ltb-true, cases_lt, and_from}
 use Rattle.std.proofs.lemmas.Bool.Decides.{eqb_tells}
 use Rattle.std.proofs.lemmas.Nat.{leading_top, shl_whole, pow-add}
 use Rattle.std.proofs.lemmas.Nat.Bits.{bit_at-lt, bit_at_and, bit_at_mask_inside, bit_at_mask_below, bit_at_mask_above}
@@ -17,7 +17,7 @@ use Rattle.dd_cards.proofs.CardLists.{suit_from, suit_code-suit_from, suit_code-
 use Rattle.dd_cards.specs.Ranks.{IsRank}
 use Rattle.dd_cards.proofs.HandLists.{passes, filter-deck, cards_of-remove, place_of-lt}
 use Rattle.dd_cards.proofs.Masks.{IsHighest, highest_at}
-use Rattle.dd_cards.proofs.General.{and-both, and-false, and-left, and-right, and-true, filter-filter}
+use Rattle.dd_cards.proofs.General.{and-false, and-left, and-right, and-true, filter-filter}
 
 -- the places fall along the list
 abbrev pub falls : List PlayingCard → Bool
@@ -158,7 +158,7 @@ part-all t p [] all = refl
 part-all t p (c ∷ cards) all =
     let rest : list_all t (filter p cards) ≡ true = part-all t p cards (and-right (t c) (list_all t cards) all) in
     elim (p c) as (λ b. list_all t (cond b (c ∷ filter p cards) (filter p cards)) ≡ true) [
-      | true ↦ and-both (t c) (list_all t (filter p cards)) (and-left (t c) (list_all t cards) all) rest
+      | true ↦ and_from (t c) (list_all t (filter p cards)) (and-left (t c) (list_all t cards) all) rest
       | false ↦ rest
     ]
 
@@ -169,7 +169,7 @@ part-falls p (c ∷ cards) fall =
     let lower = λ (d : PlayingCard). nat_lt (place_of d) (place_of c) in
     let rest : falls (filter p cards) ≡ true = part-falls p cards (and-right (list_all lower cards) (falls cards) fall) in
     elim (p c) as (λ b. falls (cond b (c ∷ filter p cards) (filter p cards)) ≡ true) [
-      | true ↦ and-both (list_all lower (filter p cards)) (falls (filter p cards)) (part-all lower p cards (and-left (list_all lower cards) (falls cards) fall)) rest
+      | true ↦ and_from (list_all lower (filter p cards)) (falls (filter p cards)) (part-all lower p cards (and-left (list_all lower cards) (falls cards) fall)) rest
       | false ↦ rest
     ]
 

@@ -1,9 +1,10 @@
 -- Booleans and parts of lists: what the standard library lacks, for all crates
-use Rattle.std.proofs.Common.{◌≡◌, ◌≤◌, Bool, true, false, cond, refl, sym, ap, ◌∙◌, arith, List, [], ◌∷◌, length, ◌⊎◌, inl, inr}
+use Rattle.std.proofs.Common.{◌≡◌, ◌≤◌, Bool, true, false, cond, refl, sym, ap, ◌∙◌, arith, List, [], ◌∷◌, length}
 use Rattle.std.specs.Prelude.{filter, map, ◌&&◌, ◌||◌}
 use Rattle.std.specs.List.{list_all, list_any}
 use mathlib.Core.Bool.{not}
 use Rattle.std.proofs.lemmas.List.Filters.{length-filter_both}
+use Rattle.std.proofs.lemmas.List.Elements.{filter_agree}
 
 -- both, so the first
 pub and-left : (a b : Bool) → (a && b) ≡ true → a ≡ true
@@ -14,10 +15,6 @@ and-left false b h = h
 pub and-right : (a b : Bool) → (a && b) ≡ true → b ≡ true
 and-right true b h = h
 and-right false b h = absurd (cc)
-
--- each of two, so both
-pub and-both : (a b : Bool) → a ≡ true → b ≡ true → (a && b) ≡ true
-and-both a b h k = rw (h, k) refl
 
 -- the order of two tests does not matter
 pub and-swap : (a b : Bool) → (a && b) ≡ (b && a)
@@ -48,54 +45,11 @@ all-four false b c d h = absurd (cc)
 pub four-all : (a b c d : Bool) → a ≡ true → b ≡ true → c ≡ true → d ≡ true → (((a && b) && c) && d) ≡ true
 four-all a b c d p q r s = rw (p, q, r, s) refl
 
--- the first, so one of two
-pub or-left : (a b : Bool) → a ≡ true → (a || b) ≡ true
-or-left a b h = rw h refl
-
--- the second, so one of two
-pub or-right : (a b : Bool) → b ≡ true → (a || b) ≡ true
-or-right true b h = refl
-or-right false b h = h
-
--- one of two: the first or the second
-pub or-split : (a b : Bool) → (a || b) ≡ true → (a ≡ true) ⊎ (b ≡ true)
-or-split true b h = inl refl
-or-split false b h = inr h
-
--- none of two
-pub or-false : (a b : Bool) → (a || b) ≡ false → (a ≡ false) × (b ≡ false)
-or-false true b h = absurd (cc)
-or-false false b h = (refl, h)
-
--- what holds turned does not hold
-pub not-true : (b : Bool) → not b ≡ true → b ≡ false
-not-true true h = absurd (cc)
-not-true false h = refl
-
--- what does not hold holds turned
-pub false-not : (b : Bool) → b ≡ false → not b ≡ true
-false-not b e = rw e refl
-
--- what is not true is false
-pub else-false : (b : Bool) → (b ≡ true → ⊥) → b ≡ false
-else-false true h = absurd (h refl)
-else-false false h = refl
-
--- what is not false is true
-pub else-true : (b : Bool) → (b ≡ false → ⊥) → b ≡ true
-else-true true h = refl
-else-true false h = absurd (h refl)
-
 -- two tests that imply each other are one
 pub both-ways : (a b : Bool) → (a ≡ true → b ≡ true) → (b ≡ true → a ≡ true) → a ≡ b
 both-ways true b f g = sym (f refl)
 both-ways false true f g = g refl
 both-ways false false f g = refl
-
--- tests that agree keep the same part
-pub filter-same : {X : Type 0} (p q : X → Bool) → ((x : X) → p x ≡ q x) → (xs : List X) → filter p xs ≡ filter q xs
-filter-same p q e [] = refl
-filter-same p q e (x ∷ xs) = rw (e x, filter-same p q e xs) refl
 
 -- tests that agree on what a list has keep the same part of it
 pub filter-where : {X : Type 0} (t p q : X → Bool) → ((x : X) → t x ≡ true → p x ≡ q x) → (xs : List X) → list_all t xs ≡ true → filter p xs ≡ filter q xs
@@ -116,7 +70,7 @@ filter-filter p q (x ∷ xs) =
 
 -- two filters may be swapped
 pub filter-swap : {X : Type 0} (p q : X → Bool) (xs : List X) → filter p (filter q xs) ≡ filter q (filter p xs)
-filter-swap p q xs = filter-filter p q xs ∙ filter-same (λ x. q x && p x) (λ x. p x && q x) (λ x. and-swap (q x) (p x)) xs ∙ sym (filter-filter q p xs)
+filter-swap p q xs = filter-filter p q xs ∙ filter_agree (λ x. q x && p x) (λ x. p x && q x) (λ x. and-swap (q x) (p x)) xs ∙ sym (filter-filter q p xs)
 
 -- a filter of what a function gives
 pub filter-map : {X Y : Type 0} (p : Y → Bool) (f : X → Y) (xs : List X) → filter p (map f xs) ≡ map f (filter (λ x. p (f x)) xs)

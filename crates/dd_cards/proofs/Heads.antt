@@ -4,7 +4,7 @@ use Rattle.std.specs.Prelude.{filter, ◌&&◌, ◌||◌, nat_lt, nat_le}
 use Rattle.std.specs.List.{list_any}
 use Rattle.std.specs.Int.{bit_not}
 use mathlib.Core.Bool.{not}
-use Rattle.std.proofs.lemmas.Bool.{eqb-true, ltb-true, leb-true}
+use Rattle.std.proofs.lemmas.Bool.{eqb-true, ltb-true, leb-true, and_from, or_left, or_right, or_cases, not-true, not_from_false, false_from_ne_true}
 use Rattle.std.proofs.lemmas.Bool.Decides.{eqb_tells, nat_tests}
 use Rattle.dd_cards.specs.declared.suit.Suit.{Suit}
 use Rattle.dd_cards.specs.Suits.{suit_code, suit_shift}
@@ -17,7 +17,7 @@ use Rattle.dd_cards.proofs.CardLists.{suit_code-lt, suit_code-injective, same_ca
 use Rattle.dd_cards.proofs.HandLists.{filter-deck, has_card-cards_of, place_of-lt}
 use Rattle.dd_cards.proofs.SetLaws.{same_card-self}
 use Rattle.dd_cards.proofs.Unions.{cards-real}
-use Rattle.dd_cards.proofs.General.{and-left, and-right, and-both, or-left, or-right, or-split, not-true, false-not, else-false, both-ways, filter-filter}
+use Rattle.dd_cards.proofs.General.{and-left, and-right, both-ways, filter-filter}
 use Rattle.dd_cards.proofs.Sequences.{is_set, reaches, set-and, set-not}
 
 -- the bits of all cards
@@ -69,7 +69,7 @@ real-place : (s : Suit) (r : ℕ) → IsRank r → is_set pack (suit_shift s + r
 unfolding is_place
 real-place s r real =
     let at = rank-at s r (omega (arith, real.1)) in
-    place-in (suit_shift s + r) at.1 (rw at.0 (and-both (nat_le 2 r) (nat_le r 14) (le-true 2 r real.0) (le-true r 14 real.1)))
+    place-in (suit_shift s + r) at.1 (rw at.0 (and_from (nat_le 2 r) (nat_le r 14) (le-true 2 r real.0) (le-true r 14 real.1)))
   where
     le-true : (a b : ℕ) → a ≤ b → nat_le a b ≡ true
     le-true a b h = grind (arith, nat_tests)
@@ -98,7 +98,7 @@ found m n s zero r valid small real h = absurd (cc)
 found m n s (suc k) r valid small real h =
     let next : suit_shift s + r + 1 ≡ suit_shift s + (r + 1) = omega arith in
     let at = rank-at s (r + 1) (let t = real.1 in omega (arith, t)) in
-    elim (or-split (is_set m (suit_shift s + r + 1)) (is_set (free_of n) (suit_shift s + r + 1) && reaches (is_set m) (is_set (free_of n)) k (suit_shift s + r + 1)) h) [
+    elim (or_cases (is_set m (suit_shift s + r + 1)) (is_set (free_of n) (suit_shift s + r + 1) && reaches (is_set m) (is_set (free_of n)) k (suit_shift s + r + 1)) h) [
       | inl own ↦ (
           let v = valid (suit_shift s + r + 1) (eqb-true _ _ own) in
           let low = v.1 in
@@ -139,7 +139,7 @@ finds m n s (suc k) r q small real above near =
     let l = above.0 in
     let top = above.1.1 in
     elim (eqb_tells q (r + 1)) [
-      | inl same ↦ or-left (is_set m (suit_shift s + r + 1)) _ (ap (is_set m) (sym next) ∙ ap (λ y. is_set m (suit_shift s + y)) (sym same.1) ∙ above.2)
+      | inl same ↦ or_left (is_set m (suit_shift s + r + 1)) _ (ap (is_set m) (sym next) ∙ ap (λ y. is_set m (suit_shift s + y)) (sym same.1) ∙ above.2)
       | inr other ↦ (
           let o = other.1 in
           let higher : r + 1 < q = omega (arith, l, o) in
@@ -153,27 +153,27 @@ finds m n s (suc k) r q small real above near =
           ap (is_set (free_of n)) (sym next) ∙ free-set n (suit_shift s + (r + 1)) small at.1
           ∙ ap (λ b. b && not (is_set n (suit_shift s + (r + 1)))) (real-place s (r + 1) card)
           ∙ ap (λ b. true && not b) none in
-          or-right (is_set m (suit_shift s + r + 1)) _ (and-both (is_set (free_of n) (suit_shift s + r + 1)) _ gap rest))
+          or_right (is_set m (suit_shift s + r + 1)) _ (and_from (is_set (free_of n) (suit_shift s + r + 1)) _ gap rest))
     ]
 
 -- ---- of lists
 
-any-of : (t : PlayingCard → Bool) (d : PlayingCard) (cards : List PlayingCard) → has_card cards d ≡ true → t d ≡ true → list_any t cards ≡ true
+pub any-of : (t : PlayingCard → Bool) (d : PlayingCard) (cards : List PlayingCard) → has_card cards d ≡ true → t d ≡ true → list_any t cards ≡ true
 any-of t d [] has e = absurd (cc)
-any-of t d (c ∷ cards) has e = elim (or-split (same_card c d) (has_card cards d) has) [
-  | inl same ↦ or-left (t c) (list_any t cards) (ap t (same_card-eq c d same) ∙ e)
-  | inr later ↦ or-right (t c) (list_any t cards) (any-of t d cards later e)
+any-of t d (c ∷ cards) has e = elim (or_cases (same_card c d) (has_card cards d) has) [
+  | inl same ↦ or_left (t c) (list_any t cards) (ap t (same_card-eq c d same) ∙ e)
+  | inr later ↦ or_right (t c) (list_any t cards) (any-of t d cards later e)
 ]
 
-any-some : (t : PlayingCard → Bool) (cards : List PlayingCard) → list_any t cards ≡ true → (d : PlayingCard) × (has_card cards d ≡ true) × (t d ≡ true)
+pub any-some : (t : PlayingCard → Bool) (cards : List PlayingCard) → list_any t cards ≡ true → (d : PlayingCard) × (has_card cards d ≡ true) × (t d ≡ true)
 any-some t [] h = absurd (cc)
-any-some t (c ∷ cards) h = elim (or-split (t c) (list_any t cards) h) [
-  | inl here ↦ (c, or-left (same_card c c) (has_card cards c) (same_card-self c), here)
-  | inr later ↦ (let d = any-some t cards later in (d.0, or-right (same_card c d.0) (has_card cards d.0) d.1, d.2))
+any-some t (c ∷ cards) h = elim (or_cases (t c) (list_any t cards) h) [
+  | inl here ↦ (c, or_left (same_card c c) (has_card cards c) (same_card-self c), here)
+  | inr later ↦ (let d = any-some t cards later in (d.0, or_right (same_card c d.0) (has_card cards d.0) d.1, d.2))
 ]
 
 above-is : (s : Suit) (r q : ℕ) → r < q → is_above (card_of s r) (card_of s q) ≡ true
-above-is s r q h = and-both (is_of s (card_of s q)) (nat_lt r q) (eq-eqb (suit_code s) (suit_code s) refl) (lt r q h)
+above-is s r q h = and_from (is_of s (card_of s q)) (nat_lt r q) (eq-eqb (suit_code s) (suit_code s) refl) (lt r q h)
   where
     lt : (a b : ℕ) → a < b → nat_lt a b ≡ true
     lt a b h = grind (arith, nat_tests)
@@ -205,7 +205,7 @@ headed m n s r valid small real = both-ways _ _ there back
     there h =
         let q = found m n s 16 r valid small real h in
         let d : PlayingCard = card_of s q.0 in
-        any-of test d (cards_of m) (set-of m s q.0 q.1.1 ∙ q.1.2) (and-both (is_above c d) _ (above-is s r q.0 q.1.0) (false-not _ (else-false _ (λ some.
+        any-of test d (cards_of m) (set-of m s q.0 q.1.1 ∙ q.1.2) (and_from (is_above c d) _ (above-is s r q.0 q.1.0) (not_from_false _ (false_from_ne_true _ (λ some.
         let e = any-some (between d) (cards_of n) some in
         let up = above-tells s r e.0 (and-left (is_above c e.0) (is_above e.0 d) e.2) in
         let down : e.0.rank < q.0 = ltb-true e.0.rank q.0 (and-right _ (nat_lt e.0.rank q.0) (and-right (is_above c e.0) (is_above e.0 d) e.2)) in
@@ -224,11 +224,11 @@ headed m n s r valid small real = both-ways _ _ there back
           up.1,
           rank,
           sym (set-of m s d.0.rank rank) ∙ ap (has_card (cards_of m)) (sym up.0) ∙ d.1,
-          λ x a b. else-false _ (λ bit.
+          λ x a b. false_from_ne_true _ (λ bit.
               let low = real.0 in
               let card : IsRank x = (omega (arith, low, a), omega (arith, high, b)) in
               let there : list_any (between d.0) (cards_of n) ≡ true = any-of (between d.0) (card_of s x) (cards_of n) (set-of n s x card ∙ bit)
-              (and-both (is_above c (card_of s x)) _ (above-is s r x a) (ap (is_above (card_of s x)) up.0 ∙ above-is s x d.0.rank b)) in
+              (and_from (is_above c (card_of s x)) _ (above-is s r x a) (ap (is_above (card_of s x)) up.0 ∙ above-is s x d.0.rank b)) in
               (let no : true ≡ false = sym there ∙ none in cc)),
         ) (omega (arith, high))
 
@@ -265,3 +265,22 @@ cards_of-difference m n small =
     set-and m (bit_not w64 n) (place_of c)
     ∙ ap (λ b. in_hand m c && b) (set-not n (place_of c) small (place_of-lt c real) ∙ ap not (sym (has_card-cards_of n c real))))
     ∙ sym (filter-filter (λ c. not (has_card (cards_of n) c)) (in_hand m) deck)
+
+-- a test that no card of a list passes, at one of them
+pub none-at : (test : PlayingCard → Bool) (cards : List PlayingCard) (e : PlayingCard) → list_any test cards ≡ false → has_card cards e ≡ true → test e ≡ false
+none-at test [] e none has = absurd (cc)
+none-at test (d ∷ cards) e none has = go (same_card d e) (test d) refl refl (none-at test cards e)
+  where
+    go : (a b : Bool) → same_card d e ≡ a → test d ≡ b → (list_any test cards ≡ false → has_card cards e ≡ true → test e ≡ false) → test e ≡ false
+    go a true f g ih = absurd (let no : true ≡ false = rw g at none in cc)
+    go true false f g ih = ap test (sym (same_card-eq d e f)) ∙ g
+    go false false f g ih = ih (rw g at none) (rw f at has)
+
+-- a card that is there and passes is found
+pub any-card : (f : PlayingCard → Bool) (cards : List PlayingCard) (c : PlayingCard) → has_card cards c ≡ true → f c ≡ true → list_any f cards ≡ true
+any-card f [] c has h = absurd (cc)
+any-card f (d ∷ cards) c has h = go (same_card d c) refl (λ k. any-card f cards c k h) has
+  where
+    go : (b : Bool) → same_card d c ≡ b → (has_card cards c ≡ true → list_any f cards ≡ true) → (b || has_card cards c) ≡ true → list_any f (d ∷ cards) ≡ true
+    go true e ih k = rw (ap f (same_card-eq d c e) ∙ h) refl
+    go false e ih k = or_right (f d) _ (ih k)

@@ -5,7 +5,7 @@ use Rattle.std.specs.List.{list_all}
 use Rattle.std.specs.Int.{bit_at}
 use Rattle.std.proofs.lemmas.Nat.{and_le_r, and_mod, shr-shr}
 use Rattle.std.proofs.lemmas.Nat.Bits.{bit_at-lt, bit_at_and, bit_at_mask_inside}
-use Rattle.std.proofs.lemmas.List.Elements.{filter-append}
+use Rattle.std.proofs.lemmas.List.Elements.{filter-append, filter_agree}
 use Rattle.std.proofs.lemmas.Bool.Decides.{eqb_tells}
 use Rattle.dd_cards.specs.declared.suit.Suit.{Suit}
 use Rattle.dd_cards.specs.declared.suit.Suit.TheVariants.{Spades, Hearts, Diamonds, Clubs}
@@ -18,7 +18,7 @@ use Rattle.dd_cards.specs.HandMasks.{in_hand, cards_of}
 use Rattle.std.specs.Int.Bits.{and_zero_r}
 use Rattle.dd_cards.proofs.CardLists.{IsRank-from}
 use Rattle.dd_cards.specs.Ranks.{IsRank, is_rank}
-use Rattle.dd_cards.proofs.General.{and-false, and-true, filter-filter, filter-map, filter-same, filter-where}
+use Rattle.dd_cards.proofs.General.{and-false, and-true, filter-filter, filter-map, filter-where}
 
 -- a lane without its unused bits is the mask of a holding
 pub lane-mask : (x : ℕ) → IsMask (bit_and x 32764)
@@ -43,7 +43,7 @@ unfolding suit_cards
 block m s t same =
     let yes : (suit_code t == suit_code s) ≡ true = eq-eqb (suit_code t) (suit_code s) same in
     filter-map (λ c. in_hand m c && is_of s c) (card_of t) all_ranks
-    ∙ ap (map (card_of t)) (filter-same (λ r. in_hand m (card_of t r) && is_of s (card_of t r)) (λ r. in_hand m (card_of t r)) (λ r. rw yes (sym (and-true (in_hand m (card_of t r))))) all_ranks)
+    ∙ ap (map (card_of t)) (filter_agree (λ r. in_hand m (card_of t r) && is_of s (card_of t r)) (λ r. in_hand m (card_of t r)) (λ r. rw yes (sym (and-true (in_hand m (card_of t r))))) all_ranks)
 
 -- .. and of another suit
 other-block : (m : ℕ) (s t : Suit) → suit_code t ≢ suit_code s → filter (λ c. in_hand m c && is_of s c) (suit_cards t) ≡ []
@@ -54,7 +54,7 @@ other-block m s t other =
     ∙ ap (map (card_of t)) (filter-no (λ r. in_hand m (card_of t r) && is_of s (card_of t r)) all_ranks (λ r. rw no (sym (and-false (in_hand m (card_of t r))))))
 
 -- each of the thirteen is a rank
-real_ranks : list_all is_rank all_ranks ≡ true
+pub real_ranks : list_all is_rank all_ranks ≡ true
 unfolding all_ranks lowest_ranks
 real_ranks = refl
 

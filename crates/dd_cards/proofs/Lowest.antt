@@ -2,17 +2,12 @@
 use Rattle.std.proofs.Common.{◌≡◌, ◌≢◌, ℕ, zero, suc, ◌+◌, ◌-◌, ◌/◌, ◌%◌, ◌^◌, ◌<◌, ◌≤◌, Bool, true, false, refl, sym, ap, ◌∙◌, arith, List, [], ◌∷◌, ◌⊎◌, inl, inr, min, bit_and, w16, eq-eqb, cond}
 use Rattle.std.specs.Prelude.{filter, ◌==◌, ◌++◌, if◌then◌else◌}
 use Rattle.std.specs.Int.{bit_at, trailing_zeros}
-use Rattle.std.proofs.lemmas.Nat.{shr-shr}
-use Rattle.std.proofs.lemmas.Nat.Bits.{bit_at_and, bit_at-lt, bit_at-trailing_zeros}
+use Rattle.std.proofs.lemmas.Nat.Bits.{bit_at_and, bit_at-lt, bit_at-trailing_zeros, bit_at-suc}
 use Rattle.std.proofs.lemmas.Bool.{eqb-true, cases_lt}
 use Rattle.std.proofs.lemmas.Bool.Decides.{eqb_tells}
 use Rattle.dd_cards.specs.Ranks.{lowest_ranks, all_ranks}
 use Rattle.dd_cards.specs.Masks.{IsMask, in_mask, ranks_of}
 use Rattle.dd_cards.proofs.Masks.{DropsRank, two_le, le_14}
-
--- a bit one place on is a bit of the half
-next-bit : (m i : ℕ) → bit_at m (suc i) ≡ bit_at (m / 2) i
-next-bit m i = (let e : suc i ≡ 1 + i = omega arith in ap (λ j. m / 2 ^ j % 2) e ∙ sym (ap (λ x. x % 2) (shr-shr m 1 i)))
 
 -- t is the place of the lowest bit
 record IsLowest (m t : ℕ) : Type 0 where
@@ -21,7 +16,7 @@ record IsLowest (m t : ℕ) : Type 0 where
 
 -- half of it has its lowest bit one place lower
 half-lowest : (m t : ℕ) → IsLowest m (suc t) → IsLowest (m / 2) t
-half-lowest m t low = record { set = sym (next-bit m t) ∙ low.set; none = λ j less. sym (next-bit m j) ∙ low.none (suc j) (omega (arith, less)) }
+half-lowest m t low = record { set = sym (bit_at-suc m t) ∙ low.set; none = λ j less. sym (bit_at-suc m j) ∙ low.none (suc j) (omega (arith, less)) }
 
 -- .. and the number before is the same of the half
 half-before : (m t : ℕ) → IsLowest m (suc t) → (m - 1) / 2 ≡ m / 2 - 1
@@ -30,7 +25,7 @@ half-before m t low = (let even : m / 1 % 2 ≡ 0 = low.none zero (omega arith) 
 -- the number before has no bit at the lowest place
 before-at : (t m : ℕ) → IsLowest m t → bit_at (m - 1) t ≡ 0
 before-at zero m low = (let s : m / 1 % 2 ≡ 1 = low.set in omega (arith, s))
-before-at (suc t) m low = next-bit (m - 1) t ∙ ap (λ x. bit_at x t) (half-before m t low) ∙ before-at t (m / 2) (half-lowest m t low)
+before-at (suc t) m low = bit_at-suc (m - 1) t ∙ ap (λ x. bit_at x t) (half-before m t low) ∙ before-at t (m / 2) (half-lowest m t low)
 
 -- .. and the same bits above it
 before-above : (t m i : ℕ) → IsLowest m t → t < i → bit_at (m - 1) i ≡ bit_at m i
@@ -38,10 +33,10 @@ before-above zero m zero low h = absurd (omega (arith, h))
 before-above zero m (suc i) low h =
     let s : m / 1 % 2 ≡ 1 = low.set in
     let half : (m - 1) / 2 ≡ m / 2 = omega (arith, s) in
-    next-bit (m - 1) i ∙ ap (λ x. bit_at x i) half ∙ sym (next-bit m i)
+    bit_at-suc (m - 1) i ∙ ap (λ x. bit_at x i) half ∙ sym (bit_at-suc m i)
 before-above (suc t) m zero low h = absurd (omega (arith, h))
 before-above (suc t) m (suc i) low h =
-    next-bit (m - 1) i ∙ ap (λ x. bit_at x i) (half-before m t low) ∙ before-above t (m / 2) i (half-lowest m t low) (omega (arith, h)) ∙ sym (next-bit m i)
+    bit_at-suc (m - 1) i ∙ ap (λ x. bit_at x i) (half-before m t low) ∙ before-above t (m / 2) i (half-lowest m t low) (omega (arith, h)) ∙ sym (bit_at-suc m i)
 
 -- without its lowest bit a mask lacks that rank alone
 without-lowest : (m t : ℕ) → IsLowest m t → DropsRank m (bit_and m (m - 1)) t

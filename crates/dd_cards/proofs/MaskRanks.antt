@@ -7,8 +7,9 @@ use Rattle.std.proofs.lemmas.Bool.Decides.{eqb_tells}
 use Rattle.dd_cards.specs.Ranks.{IsRank, all_ranks, has_rank}
 use Rattle.dd_cards.specs.Masks.{IsMask, in_mask, ranks_of, mask_of}
 use Rattle.dd_cards.specs.MaskLaws.{mask_of-ranks}
-use Rattle.dd_cards.proofs.General.{filter-same, or-right}
 use Rattle.dd_cards.proofs.Masks.{AddsRank, AddsRank-or, IsMask-or}
+use Rattle.std.proofs.lemmas.Bool.{or_right}
+use Rattle.std.proofs.lemmas.List.Elements.{filter_agree}
 
 -- a mask that has these ranks and no others
 record MaskFor (ranks : List ℕ) : Type 0 where
@@ -20,7 +21,7 @@ record MaskFor (ranks : List ℕ) : Type 0 where
 mask-for : (ranks : List ℕ) → ((r : ℕ) → has_rank ranks r ≡ true → IsRank r) → MaskFor ranks
 mask-for [] real = record { mask = 0; valid = (omega arith, refl); has = λ r. rw (bit_at-zero r) refl }
 mask-for (x ∷ ranks) real =
-    let rest : MaskFor ranks = mask-for ranks (λ r h. real r (or-right (x == r) (has_rank ranks r) h)) in
+    let rest : MaskFor ranks = mask-for ranks (λ r h. real r (or_right (x == r) (has_rank ranks r) h)) in
     let own : IsRank x = real x (rw (eq-eqb x x refl) refl) in
     let new : ℕ = bit_or rest.mask (1 * 2 ^ x % 65536) in
     let adds : AddsRank rest.mask new x = AddsRank-or rest.mask x own.1 in
@@ -38,6 +39,6 @@ pub in_mask-mask_of : (ranks : List ℕ) → filter (has_rank ranks) all_ranks �
 unfolding ranks_of
 in_mask-mask_of ranks set real r =
     let made : MaskFor ranks = mask-for ranks real in
-    let same : ranks_of made.mask ≡ ranks = filter-same (in_mask made.mask) (has_rank ranks) made.has all_ranks ∙ set in
+    let same : ranks_of made.mask ≡ ranks = filter_agree (in_mask made.mask) (has_rank ranks) made.has all_ranks ∙ set in
     let mask : mask_of ranks ≡ made.mask = ap mask_of (sym same) ∙ mask_of-ranks made.mask made.valid in
     ap (λ m. in_mask m r) mask ∙ made.has r

@@ -7,13 +7,14 @@ use Rattle.std.proofs.lemmas.Nat.{ones_cat, mod_below, pow_pos}
 use Rattle.std.proofs.Math.Nat.{mod-eq_of_lt}
 use Rattle.dd_cards.specs.MaskLaws.{digit}
 use Rattle.std.proofs.lemmas.Nat.Bits.{bit_at-lt, bit_at_and, bit_at_or}
-use Rattle.std.proofs.lemmas.Bool.{cases_lt, eqb-true, lt-ltb, le-ltb}
+use Rattle.std.proofs.lemmas.Bool.{cases_lt, eqb-true, lt-ltb, le-ltb, or_left, or_right}
 use Rattle.std.proofs.lemmas.Bool.Decides.{eqb_tells}
 use Rattle.std.proofs.lemmas.Map.Views.{any-filter_same}
-use Rattle.dd_cards.specs.Ranks.{lowest_ranks, all_ranks, has_rank, with_rank}
+use Rattle.dd_cards.specs.Ranks.{lowest_ranks, all_ranks, has_rank, with_rank, IsRank}
 use Rattle.dd_cards.specs.Masks.{IsMask, in_mask, ranks_of}
 use Rattle.dd_cards.proofs.Masks.{Holds, AddsRank, DropsRank, IsHighest, IsPartAbove, AddsRank-or, DropsRank-and, IsPartAbove-and, below_bit, above_bit, two_le, le_14}
-use Rattle.dd_cards.proofs.General.{and-false, and-true, filter-filter, filter-same}
+use Rattle.dd_cards.proofs.General.{and-false, and-true, filter-filter}
+use Rattle.std.proofs.lemmas.List.Elements.{filter_agree}
 
 -- the first of what passes
 pub first-filter : {X : Type 0} (p : X → Bool) (xs : List X) → slice_get (filter p xs) 0 ≡ find p xs
@@ -47,7 +48,7 @@ ranks_of-zero = refl
 ranks_of-part : (m n : ℕ) (test : ℕ → Bool) → ((q : ℕ) → ((test q ≡ true) × (bit_at n q ≡ bit_at m q)) ⊎ ((test q ≡ false) × (bit_at n q ≡ 0))) → ranks_of n ≡ filter test (ranks_of m)
 unfolding ranks_of
 ranks_of-part m n test each =
-    filter-same (in_mask n) (λ q. in_mask m q && test q) (λ q. elim (each q) [
+    filter_agree (in_mask n) (λ q. in_mask m q && test q) (λ q. elim (each q) [
       | inl keep ↦ rw (keep.0, keep.1) (and-true (in_mask m q))
       | inr drop ↦ rw (drop.0, drop.1) (and-false (in_mask m q))
     ]) all_ranks
@@ -59,7 +60,7 @@ unfolding ranks_of
 ranks_of-insert m r h valid =
     let n : ℕ = bit_or m (1 * 2 ^ r % 65536) in
     let adds : AddsRank m n r = AddsRank-or m r h in
-    filter-same (in_mask n) (λ q. (q == r) || has_rank (ranks_of m) q) (λ q. rw (has_rank-ranks_of m q valid) (elim (eqb_tells q r) [
+    filter_agree (in_mask n) (λ q. (q == r) || has_rank (ranks_of m) q) (λ q. rw (has_rank-ranks_of m q valid) (elim (eqb_tells q r) [
       | inl same ↦ rw (same.0, same.1, adds.has) refl
       | inr other ↦ rw (other.0, adds.others q other.1) refl
     ])) all_ranks
@@ -96,7 +97,7 @@ ranks_of-above m r h valid =
 pub ranks_of-or : (m n : ℕ) → IsMask m → IsMask n → ranks_of (bit_or m n) ≡ filter (λ q. has_rank (ranks_of m) q || has_rank (ranks_of n) q) all_ranks
 unfolding ranks_of
 ranks_of-or m n valid valid' =
-    filter-same (in_mask (bit_or m n)) (λ q. has_rank (ranks_of m) q || has_rank (ranks_of n) q) (λ q. rw (has_rank-ranks_of m q valid, has_rank-ranks_of n q valid', bit_at_or m n q) (either (bit_at m q) (bit_at n q) (bit_at-lt m q) (bit_at-lt n q))) all_ranks
+    filter_agree (in_mask (bit_or m n)) (λ q. has_rank (ranks_of m) q || has_rank (ranks_of n) q) (λ q. rw (has_rank-ranks_of m q valid, has_rank-ranks_of n q valid', bit_at_or m n q) (either (bit_at m q) (bit_at n q) (bit_at-lt m q) (bit_at-lt n q))) all_ranks
   where
     either : (a b : ℕ) → a < 2 → b < 2 → (max a b == 1) ≡ ((a == 1) || (b == 1))
     either zero zero h k = refl
@@ -110,7 +111,7 @@ ranks_of-or m n valid valid' =
 pub ranks_of-and : (m n : ℕ) → IsMask n → ranks_of (bit_and m n) ≡ filter (has_rank (ranks_of n)) (ranks_of m)
 unfolding ranks_of
 ranks_of-and m n valid =
-    filter-same (in_mask (bit_and m n)) (λ q. in_mask m q && has_rank (ranks_of n) q) (λ q. rw (has_rank-ranks_of n q valid, bit_at_and m n q) (both (bit_at m q) (bit_at n q) (bit_at-lt m q) (bit_at-lt n q))) all_ranks
+    filter_agree (in_mask (bit_and m n)) (λ q. in_mask m q && has_rank (ranks_of n) q) (λ q. rw (has_rank-ranks_of n q valid, bit_at_and m n q) (both (bit_at m q) (bit_at n q) (bit_at-lt m q) (bit_at-lt n q))) all_ranks
     ∙ sym (filter-filter (has_rank (ranks_of n)) (in_mask m) all_ranks)
   where
     both : (a b : ℕ) → a < 2 → b < 2 → (min a b == 1) ≡ ((a == 1) && (b == 1))
@@ -206,3 +207,20 @@ length-below m (suc k) h =
 pub length-ranks_of : (m : ℕ) → IsMask m → length (ranks_of m) ≡ count_ones m
 unfolding ranks_of all_ranks
 length-ranks_of m valid = length-below m 13 valid.1 ∙ ap count_ones (mod-eq_of_lt valid.0)
+
+-- every real rank is among the thirteen
+pub has-all : (r : ℕ) → IsRank r → has_rank all_ranks r ≡ true
+unfolding all_ranks
+has-all r real = has_rank-lowest_ranks 13 r real.0 (omega (arith, real.1))
+
+-- the members of a part
+pub has-filter : (p : ℕ → Bool) (xs : List ℕ) (q : ℕ) → has_rank (filter p xs) q ≡ (p q && has_rank xs q)
+has-filter p xs q = any-filter_same (λ x. x == q) p (p q) (λ x e. ap p (eqb-true x q e)) xs
+
+-- two tests that agree on the ranks of a list
+pub filter-members : (f g : ℕ → Bool) (ranks : List ℕ) → ((q : ℕ) → has_rank ranks q ≡ true → f q ≡ g q) → filter f ranks ≡ filter g ranks
+filter-members f g [] each = refl
+filter-members f g (r ∷ ranks) each =
+    let here : f r ≡ g r = each r (or_left (r == r) (has_rank ranks r) (eq-eqb r r refl)) in
+    let rest = filter-members f g ranks (λ q h. each q (or_right (r == q) (has_rank ranks q) h)) in
+    rw (here, rest) refl

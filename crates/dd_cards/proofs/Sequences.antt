@@ -7,6 +7,7 @@ use mathlib.Core.Bool.{not}
 use Rattle.std.proofs.lemmas.Bool.{eqb-true, ltb-true, cases_lt}
 use Rattle.std.proofs.lemmas.Nat.{shr-shr}
 use Rattle.std.proofs.lemmas.Nat.Bits.{bit_at-lt, bit_at_and, bit_at_or, bit_at_not}
+use Rattle.dd_cards.proofs.General.{and-true}
 
 -- ---- a set of places that spreads down over free places
 
@@ -61,7 +62,7 @@ clear-sum free (suc k) m i =
 abbrev pub is_set : ℕ → ℕ → Bool
 is_set m i = bit_at m i == 1
 
-or-set : (a b : ℕ) → a < 2 → b < 2 → (max a b == 1) ≡ ((a == 1) || (b == 1))
+pub or-set : (a b : ℕ) → a < 2 → b < 2 → (max a b == 1) ≡ ((a == 1) || (b == 1))
 or-set zero zero h k = refl
 or-set zero (suc zero) h k = refl
 or-set (suc zero) zero h k = refl
@@ -104,15 +105,11 @@ or-and-false true b = refl
 or-and-false false true = refl
 or-and-false false false = refl
 
-and-true' : (b : Bool) → b ≡ (b && true)
-and-true' true = refl
-and-true' false = refl
-
 pub first-spread : (own gaps : ℕ) → Spreads own gaps 1 (own / 2 ^ 1) (gaps / 2 ^ 1)
 unfolding reaches clear
 first-spread own gaps = record {
   reached = λ i. set-shift own 1 i ∙ or-and-false (is_set own (i + 1)) (is_set gaps (i + 1));
-  cleared = λ i. set-shift gaps 1 i ∙ and-true' (is_set gaps (i + 1));
+  cleared = λ i. set-shift gaps 1 i ∙ and-true (is_set gaps (i + 1));
 }
 
 -- twice as far

@@ -16,7 +16,8 @@ use Rattle.dd_cards.proofs.CardLists.{same_card-eq, has_card-deck, real_deck, Is
 use Rattle.dd_cards.proofs.HandLists.{filter-deck, passes}
 use Rattle.dd_cards.proofs.Lanes.{parts, four-parts}
 use Rattle.dd_cards.proofs.Sets.{times-set}
-use Rattle.dd_cards.proofs.General.{and-swap, and-true, filter-filter, filter-map, filter-same, filter-swap, filter-true, length-filter-le}
+use Rattle.dd_cards.proofs.General.{and-swap, and-true, filter-filter, filter-map, filter-swap, filter-true, length-filter-le}
+use Rattle.std.proofs.lemmas.List.Elements.{filter_agree}
 
 -- a test that is always false keeps nothing
 pub filter-false : {X : Type 0} (xs : List X) → filter (λ _. false) xs ≡ []
@@ -51,7 +52,7 @@ IsSet-deck = filter-deck (has_card deck) (λ _. true) (λ c real. has_card-deck 
 -- any part of a set is a set
 pub IsSet-filter : (p : PlayingCard → Bool) (cards : List PlayingCard) → IsSet cards → IsSet (filter p cards)
 IsSet-filter p cards set =
-    filter-same (has_card (filter p cards)) (λ d. has_card cards d && p d) (λ d. has_card-filter p cards d ∙ and-swap (p d) (has_card cards d)) deck
+    filter_agree (has_card (filter p cards)) (λ d. has_card cards d && p d) (λ d. has_card-filter p cards d ∙ and-swap (p d) (has_card cards d)) deck
     ∙ sym (filter-filter p (has_card cards) deck)
     ∙ ap (filter p) set
 

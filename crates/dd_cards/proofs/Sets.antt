@@ -1,6 +1,6 @@
 -- a hand is a set
-use Rattle.std.proofs.Common.{◌≡◌, ℕ, ◌+◌, ◌≤◌, Bool, true, false, cond, refl, ap, ◌∙◌, subst, arith, List, [], ◌∷◌, length}
-use Rattle.std.specs.Prelude.{filter, nat_lt}
+use Rattle.std.proofs.Common.{◌≡◌, ℕ, ◌+◌, ◌≤◌, Bool, true, false, cond, refl, ap, ◌∙◌, subst, arith, List, [], ◌∷◌, length, ◌++◌}
+use Rattle.std.specs.Prelude.{filter, nat_lt, ◌||◌}
 use Rattle.std.specs.List.{list_all}
 use Rattle.std.proofs.lemmas.List.Filters.{length-filter_both}
 use Rattle.dd_cards.specs.PlayingCard.{PlayingCard}
@@ -101,3 +101,21 @@ at-most-one false false true true ab ac ad bc bd cd = absurd (cd refl refl)
 at-most-one false false true false ab ac ad bc bd cd = omega arith
 at-most-one false false false true ab ac ad bc bd cd = omega arith
 at-most-one false false false false ab ac ad bc bd cd = omega arith
+
+-- a card stands in two lists as often as in both
+pub times-append : (xs ys : List PlayingCard) (card : PlayingCard) → times (xs ++ ys) card ≡ times xs card + times ys card
+times-append [] ys card = omega arith
+times-append (x ∷ xs) ys card =
+    let ih = times-append xs ys card in
+    let one = times-cons x (xs ++ ys) card in
+    let two = times-cons x xs card in
+    omega arith
+
+-- a card that a list has stands in it at least once
+pub times-has : (cards : List PlayingCard) (c : PlayingCard) → has_card cards c ≡ true → 1 ≤ times cards c
+times-has [] c h = absurd (cc)
+times-has (d ∷ cards) c h =
+    rw (times-cons d cards c) (elim (same_card d c) as (λ b. (b || has_card cards c) ≡ true → 1 ≤ cond b 1 0 + times cards c) [
+      | true ↦ λ _. omega arith
+      | false ↦ λ k. (let i = times-has cards c k in omega arith)
+    ] h)

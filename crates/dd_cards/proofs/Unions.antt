@@ -1,11 +1,11 @@
 -- sets of cards put together, and the lowest rank of a holding
-use Rattle.std.proofs.Common.{◌≡◌, ◌≢◌, ℕ, zero, suc, ◌+◌, ◌-◌, ◌*◌, ◌/◌, ◌%◌, ◌^◌, ◌<◌, ◌≤◌, true, refl, sym, ap, ◌∙◌, arith, List, inl, inr, ◌⊎◌, bit_or, max, eq-eqb, w16}
-use Rattle.std.specs.Prelude.{filter, ◌==◌, ◌||◌}
+use Rattle.std.proofs.Common.{◌≡◌, ◌≢◌, ℕ, zero, ◌+◌, ◌-◌, ◌*◌, ◌/◌, ◌%◌, ◌^◌, ◌<◌, ◌≤◌, true, refl, sym, ap, ◌∙◌, arith, List, inl, inr, ◌⊎◌, bit_or, max, eq-eqb, w16}
+use Rattle.std.specs.Prelude.{filter, ◌||◌}
 use Rattle.std.specs.Int.{bit_at, trailing_zeros}
 use Rattle.std.proofs.lemmas.Nat.{shr-shr, pow_pos, div_below}
 use Rattle.std.proofs.lemmas.Map.Views.{any-filter_same}
 use Rattle.std.proofs.lemmas.Nat.Bits.{bit_at-lt, bit_at-zero, bit_at_or, bit_at-trailing_zeros}
-use Rattle.std.proofs.lemmas.Bool.{eqb-true, cases_lt}
+use Rattle.std.proofs.lemmas.Bool.{eqb-true, cases_lt, or_right}
 use Rattle.dd_cards.specs.PlayingCard.{PlayingCard}
 use Rattle.dd_cards.specs.Ranks.{IsRank, is_rank, has_rank}
 use Rattle.dd_cards.specs.Cards.{deck, has_card, place_of, same_card}
@@ -16,23 +16,15 @@ use Rattle.dd_cards.proofs.SetLaws.{has_card-filter}
 use Rattle.dd_cards.proofs.HandLists.{filter-deck, has_card-cards_of, place_of-lt, place_of-mod, bit_of-or, passes}
 use Rattle.dd_cards.proofs.Masks.{le_14}
 use Rattle.dd_cards.proofs.RankLists.{has_rank-ranks_of}
-use Rattle.dd_cards.proofs.General.{and-right, or-right}
-
--- a bit of either
-or-bit : (a b : ℕ) → a < 2 → b < 2 → (max a b == 1) ≡ ((a == 1) || (b == 1))
-or-bit zero zero h k = refl
-or-bit zero (suc zero) h k = refl
-or-bit (suc zero) zero h k = refl
-or-bit (suc zero) (suc zero) h k = refl
-or-bit (suc (suc a)) b h k = absurd (omega arith)
-or-bit a (suc (suc b)) h k = absurd (omega arith)
+use Rattle.dd_cards.proofs.General.{and-right}
+use Rattle.dd_cards.proofs.Sequences.{or-set}
 
 -- the bits of either mask are the cards of either
 pub cards_of-or : (m n : ℕ) → cards_of (bit_or m n) ≡ filter (λ c. has_card (cards_of m) c || has_card (cards_of n) c) deck
 unfolding cards_of
 cards_of-or m n =
     filter-deck (in_hand (bit_or m n)) (λ c. has_card (cards_of m) c || has_card (cards_of n) c) (λ c real.
-    rw (has_card-cards_of m c real, has_card-cards_of n c real, bit_at_or m n (place_of c)) (or-bit (bit_at m (place_of c)) (bit_at n (place_of c)) (bit_at-lt m (place_of c)) (bit_at-lt n (place_of c))))
+    rw (has_card-cards_of m c real, has_card-cards_of n c real, bit_at_or m n (place_of c)) (or-set (bit_at m (place_of c)) (bit_at n (place_of c)) (bit_at-lt m (place_of c)) (bit_at-lt n (place_of c))))
 
 pub IsHandMask-or : (m n : ℕ) → IsHandMask m → IsHandMask n → IsHandMask (bit_or m n)
 IsHandMask-or m n valid valid' i h = elim (one (bit_at m i) (bit_at n i) (sym (bit_at_or m n i) ∙ h)) [ inl a ↦ valid i a | inr b ↦ valid' i b ]
@@ -95,4 +87,4 @@ pub union-left : (m n : ℕ) (c : PlayingCard) → has_card (cards_of m) c ≡ t
 union-left m n c h = ap (λ l. has_card l c) (cards_of-or m n) ∙ has_card-filter (λ c. has_card (cards_of m) c || has_card (cards_of n) c) deck c ∙ rw (h, has_card-deck c (cards-real m c h)) refl
 
 pub union-right : (m n : ℕ) (c : PlayingCard) → has_card (cards_of n) c ≡ true → has_card (cards_of (bit_or m n)) c ≡ true
-union-right m n c h = ap (λ l. has_card l c) (cards_of-or m n) ∙ has_card-filter (λ c. has_card (cards_of m) c || has_card (cards_of n) c) deck c ∙ rw (or-right (has_card (cards_of m) c) (has_card (cards_of n) c) h, has_card-deck c (cards-real n c h)) refl
+union-right m n c h = ap (λ l. has_card l c) (cards_of-or m n) ∙ has_card-filter (λ c. has_card (cards_of m) c || has_card (cards_of n) c) deck c ∙ rw (or_right (has_card (cards_of m) c) (has_card (cards_of n) c) h, has_card-deck c (cards-real n c h)) refl

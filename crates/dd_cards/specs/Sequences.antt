@@ -1,4 +1,4 @@
--- Sequences: cards of one suit with none of the others between them.
+-- To be believed: which cards are above another, and sequences: cards of one suit with none of the others between them.
 use Rattle.std.specs.Prelude.{◌&&◌, Bool, List, filter, nat_lt}
 use Rattle.std.specs.List.{list_any}
 use mathlib.Core.Bool.{not}

@@ -27,8 +27,9 @@ use Rattle.dd_command.proofs.Lines.{Asked, asked-of, given-admitted, one-meaning
 use Rattle.dd_command.proofs.OtherWords.{IsNamedById, begins, row-left-out}
 use Rattle.dd_command.proofs.Programs.{Fills, IsOneOf, Serves, Solves, fill-rows, fill_rows, fill_rules, line-of, serve-rows, serve_rows, serve_rules, solve_rows, solves-free, subcommand-rows}
 use Rattle.dd_command.proofs.ServeWords.{given-one, limit-default, limit-fits, limit-one, no-first, no-row, none-given, number-default, number-fits, number-one, up-to-fits}
-use Rattle.dd_command.proofs.LeftOut.{Avoids, Each, neither}
+use Rattle.dd_command.proofs.LeftOut.{Avoids, Each}
 use Rattle.dd_command.proofs.Runs.{faultless-runs}
+use Rattle.std.proofs.lemmas.Bool.{or_parts}
 
 -- ---- the subcommand
 
@@ -285,7 +286,7 @@ gives-nothing : (o : SolveOption) (given : List (Given ℕ)) (words : List Text)
 gives-nothing o [] words gives out = refl
 gives-nothing o (explained ∷ given) words (rest, is, gives) out =
     let all-out = subst (λ ws. list_any (begins (word_of o)) ws ≡ false) is out in
-    gives-nothing o given rest gives (neither (begins (word_of o) (codes "--explain")) (list_any (begins (word_of o)) rest) all-out).1
+    gives-nothing o given rest gives (or_parts (begins (word_of o) (codes "--explain")) (list_any (begins (word_of o)) rest) all-out).1
 gives-nothing o (numbered p number ∷ given) words (text, rest, is, admits, forms, gives) out = go (same-or-other p o) (gives-nothing o given rest gives (later forms))
   where
     named : (words ≡ word_of p ∷ text ∷ rest) ⊎ (words ≡ (word_of p ++ codes "=" ++ text) ∷ rest) → list_any (begins (word_of p)) words ≡ true
@@ -295,11 +296,11 @@ gives-nothing o (numbered p number ∷ given) words (text, rest, is, admits, for
     later : (words ≡ word_of p ∷ text ∷ rest) ⊎ (words ≡ (word_of p ++ codes "=" ++ text) ∷ rest) → list_any (begins (word_of o)) rest ≡ false
     later (inl words-are) =
         let all-out = subst (λ ws. list_any (begins (word_of o)) ws ≡ false) words-are out in
-        let after-flag = (neither (begins (word_of o) (word_of p)) _ all-out).1 in
-        (neither (begins (word_of o) text) _ after-flag).1
+        let after-flag = (or_parts (begins (word_of o) (word_of p)) _ all-out).1 in
+        (or_parts (begins (word_of o) text) _ after-flag).1
     later (inr words-are) =
         let all-out = subst (λ ws. list_any (begins (word_of o)) ws ≡ false) words-are out in
-        (neither (begins (word_of o) (word_of p ++ codes "=" ++ text)) _ all-out).1
+        (or_parts (begins (word_of o) (word_of p ++ codes "=" ++ text)) _ all-out).1
 
     go : (p ≡ o) ⊎ (is_option p o ≡ false) → given_to o given ≡ None → given_to o (numbered p number ∷ given) ≡ None
     go (inl same) none = absurd (true≢false (sym (subst (λ q. list_any (begins (word_of q)) words ≡ true) same (named forms)) ∙ out))
@@ -314,25 +315,25 @@ gives-no-flag (numbered p number ∷ given) words (text, rest, is, admits, forms
     later : (words ≡ word_of p ∷ text ∷ rest) ⊎ (words ≡ (word_of p ++ codes "=" ++ text) ∷ rest) → list_any (begins (codes "--explain")) rest ≡ false
     later (inl words-are) =
         let all-out = subst (λ ws. list_any (begins (codes "--explain")) ws ≡ false) words-are out in
-        let after-flag = (neither (begins (codes "--explain") (word_of p)) _ all-out).1 in
-        (neither (begins (codes "--explain") text) _ after-flag).1
+        let after-flag = (or_parts (begins (codes "--explain") (word_of p)) _ all-out).1 in
+        (or_parts (begins (codes "--explain") text) _ after-flag).1
     later (inr words-are) =
         let all-out = subst (λ ws. list_any (begins (codes "--explain")) ws ≡ false) words-are out in
-        (neither (begins (codes "--explain") (word_of p ++ codes "=" ++ text)) _ all-out).1
+        (or_parts (begins (codes "--explain") (word_of p ++ codes "=" ++ text)) _ all-out).1
 
 -- nor does such a line
 line-gives-no-flag : (arguments : List Text) (given : List (Given ℕ)) → AsksToSolve arguments given → IsLeftOut (codes "--explain") arguments → gives_flag given ≡ false
 line-gives-no-flag arguments given asks out =
     let from-line = subst (λ ws. list_any (begins (codes "--explain")) ws ≡ false) asks.line out in
-    let after-program = (neither (begins (codes "--explain") asks.program) _ from-line).1 in
-    gives-no-flag given asks.words asks.gives (neither (begins (codes "--explain") (codes "solve")) _ after-program).1
+    let after-program = (or_parts (begins (codes "--explain") asks.program) _ from-line).1 in
+    gives-no-flag given asks.words asks.gives (or_parts (begins (codes "--explain") (codes "solve")) _ after-program).1
 
 -- so a line of which no word begins with an option gives it nothing
 line-gives-nothing : (o : SolveOption) (arguments : List Text) (given : List (Given ℕ)) → AsksToSolve arguments given → IsLeftOut (word_of o) arguments → given_to o given ≡ None
 line-gives-nothing o arguments given asks out =
     let from-line = subst (λ ws. list_any (begins (word_of o)) ws ≡ false) asks.line out in
-    let after-program = (neither (begins (word_of o) asks.program) _ from-line).1 in
-    gives-nothing o given asks.words asks.gives (neither (begins (word_of o) (codes "solve")) _ after-program).1
+    let after-program = (or_parts (begins (word_of o) asks.program) _ from-line).1 in
+    gives-nothing o given asks.words asks.gives (or_parts (begins (word_of o) (codes "solve")) _ after-program).1
 
 -- the rules of `serve` avoid a short flag or a place for this option, and have no default for it
 serve-avoids : (o : Text) → bytes_eq (codes "help") o ≡ false → Avoids serve_rules o

@@ -18,10 +18,11 @@ use Rattle.clap.proofs.ValueTestLemmas.{Accepts-accepts, accepts-Accepts}
 use Rattle.dd_limits.specs.declared.limits.TheConstants.{MOST_SHAPES}
 use Rattle.dd_command.specs.declared.command_line.TheConstants.{MOST_WORKERS}
 use Rattle.dd_command.specs.CommandLine.{SolveOption, Budget, Entries, Workers, numbered, explained, given_to, gives_flag, is_option, GivesEachOnce}
-use Rattle.dd_command.proofs.LeftOut.{neither}
 use Rattle.dd_command.proofs.Options.{flag_rule, name_of, rule_for}
 use Rattle.dd_command.proofs.Steps.{first-free, second-free}
 use Rattle.dd_command.proofs.Runs.{Leads, Use}
+use Rattle.std.proofs.lemmas.Bool.{or_parts}
+use Rattle.std.proofs.Math.Bool.{or-false}
 
 -- ---- options
 
@@ -87,7 +88,7 @@ row_of explained = record { id = codes "explain"; values = codes "true" ∷ []; 
 pub at-missing : (id : Text) (change : Row → List Row) (missing rows : List Row) → has_row id rows ≡ false → at_row id change missing rows ≡ rows ++ missing
 at-missing id change missing [] e = refl
 at-missing id change missing (r ∷ rs) e =
-    let parts = neither (bytes_eq r.id id) (has_row id rs) e in
+    let parts = or_parts (bytes_eq r.id id) (has_row id rs) e in
     rw parts.0 (ap (λ xs. r ∷ xs) (at-missing id change missing rs parts.1))
 
 -- a first use adds its row
@@ -104,15 +105,10 @@ use-adds Workers text rows lacks = set-adds (codes "workers") (reading_by (rule_
 flag-adds : (rows : List Row) → has_row (codes "explain") rows ≡ false → used flag_rule [] rows ≡ rows ++ row_of explained ∷ []
 flag-adds rows lacks = set-adds (codes "explain") (reading_by flag_rule) (codes "true") rows lacks
 
--- nothing more on the right
-alone : (b : Bool) → (b || false) ≡ b
-alone true = refl
-alone false = refl
-
 -- an option has a row where it had one, or is the one that was used
 row-added : (p o : SolveOption) (text : Text) (rows : List Row) → has_row (name_of p) (rows ++ row_of (numbered o text) ∷ []) ≡ (has_row (name_of p) rows || is_option o p)
 row-added p o text rows =
-    list_any-append (λ (r : Row). bytes_eq r.id (name_of p)) rows (row_of (numbered o text) ∷ []) ∙ ap (λ b. has_row (name_of p) rows || b) (alone (bytes_eq (name_of o) (name_of p)) ∙ same-name o p)
+    list_any-append (λ (r : Row). bytes_eq r.id (name_of p)) rows (row_of (numbered o text) ∷ []) ∙ ap (λ b. has_row (name_of p) rows || b) (or-false (bytes_eq (name_of o) (name_of p)) ∙ same-name o p)
 
 -- the flag's name is no option's
 pub flag-other : (o : SolveOption) → bytes_eq (codes "explain") (name_of o) ≡ false
@@ -128,12 +124,12 @@ other-flag Workers = refl
 -- so no row of an option comes by the flag
 row-flagged : (p : SolveOption) (rows : List Row) → has_row (name_of p) (rows ++ row_of explained ∷ []) ≡ has_row (name_of p) rows
 row-flagged p rows =
-    list_any-append (λ (r : Row). bytes_eq r.id (name_of p)) rows (row_of explained ∷ []) ∙ ap (λ b. has_row (name_of p) rows || b) (alone (bytes_eq (codes "explain") (name_of p)) ∙ flag-other p) ∙ alone (has_row (name_of p) rows)
+    list_any-append (λ (r : Row). bytes_eq r.id (name_of p)) rows (row_of explained ∷ []) ∙ ap (λ b. has_row (name_of p) rows || b) (or-false (bytes_eq (codes "explain") (name_of p)) ∙ flag-other p) ∙ or-false (has_row (name_of p) rows)
 
 -- nor the flag's by an option
 flag-kept : (o : SolveOption) (text : Text) (rows : List Row) → has_row (codes "explain") (rows ++ row_of (numbered o text) ∷ []) ≡ has_row (codes "explain") rows
 flag-kept o text rows =
-    list_any-append (λ (r : Row). bytes_eq r.id (codes "explain")) rows (row_of (numbered o text) ∷ []) ∙ ap (λ b. has_row (codes "explain") rows || b) (alone (bytes_eq (name_of o) (codes "explain")) ∙ other-flag o) ∙ alone (has_row (codes "explain") rows)
+    list_any-append (λ (r : Row). bytes_eq r.id (codes "explain")) rows (row_of (numbered o text) ∷ []) ∙ ap (λ b. has_row (codes "explain") rows || b) (or-false (bytes_eq (name_of o) (codes "explain")) ∙ other-flag o) ∙ or-false (has_row (codes "explain") rows)
 
 -- by the flag it has one
 flag-there : (rows : List Row) → has_row (codes "explain") (rows ++ row_of explained ∷ []) ≡ true

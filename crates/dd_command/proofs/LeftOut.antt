@@ -1,5 +1,5 @@
 -- An option that no word names gets no row.
-use Rattle.std.proofs.Common.{◌≡◌, ◌∙◌, ◌⊎◌, ℕ, zero, suc, Bool, cond, true, false, ◌||◌, refl, sym, subst, inl, inr, true≢false, List, [], ◌∷◌, ◌++◌, Option, Some, None}
+use Rattle.std.proofs.Common.{◌≡◌, ◌∙◌, ◌⊎◌, ℕ, zero, suc, Bool, cond, true, false, refl, sym, subst, inl, inr, List, [], ◌∷◌, ◌++◌, Option, Some, None}
 use Rattle.std.specs.Prelude.{⊤, ◌+◌, min, IfSome, unwrap_or, fold, slice_get, drop, length, encode_utf8, nat_lt}
 use Rattle.std.specs.List.{find}
 use Rattle.std.specs.Str.{bytes_eq, chars}
@@ -12,18 +12,9 @@ use Rattle.clap.specs.declared.builder.action.ArgAction.TheVariants.{Set, Append
 use Rattle.clap.specs.declared.parser.matches.ValueSource.{ValueSource}
 use Rattle.clap.specs.declared.builder.value_parser.Reading.{Reading}
 use Rattle.clap.specs.declared.parser.matches.ValueSource.TheVariants.{DefaultValue, CommandLine}
+use Rattle.std.proofs.lemmas.Bool.{or_parts, or_from}
 
 -- ---- tests
-
--- a choice that fails has two parts that fail
-pub neither : (a b : Bool) → (a || b) ≡ false → (a ≡ false) × (b ≡ false)
-neither true b e = absurd (true≢false e)
-neither false b e = (refl, e)
-
--- and so back
-fails-both : (a b : Bool) → a ≡ false → b ≡ false → (a || b) ≡ false
-fails-both true b e f = absurd (true≢false e)
-fails-both false b e f = f
 
 -- P holds of each element
 abbrev pub Each : {X : Type 0} → (X → Type 0) → List X → Type 0
@@ -57,23 +48,23 @@ at-row-lacks : (o id : Text) (change : Row → List Row) (missing rows : List Ro
     → has_row o missing ≡ false → has_row o rows ≡ false → has_row o (at_row id change missing rows) ≡ false
 at-row-lacks o id change missing [] keeps none e = none
 at-row-lacks o id change missing (r ∷ rs) keeps none e =
-    go (bytes_eq r.id id) (neither (bytes_eq r.id o) (has_row o rs) e) (at-row-lacks o id change missing rs keeps none)
+    go (bytes_eq r.id id) (or_parts (bytes_eq r.id o) (has_row o rs) e) (at-row-lacks o id change missing rs keeps none)
   where
     go : (b : Bool) → (bytes_eq r.id o ≡ false) × (has_row o rs ≡ false) → (has_row o rs ≡ false → has_row o (at_row id change missing rs) ≡ false)
         → has_row o (cond b (change r ++ rs) (r ∷ at_row id change missing rs)) ≡ false
-    go true parts later = list_any-append (λ (x : Row). bytes_eq x.id o) (change r) rs ∙ fails-both _ _ (keeps r parts.0) parts.1
-    go false parts later = fails-both _ _ parts.0 (later parts.1)
+    go true parts later = list_any-append (λ (x : Row). bytes_eq x.id o) (change r) rs ∙ or_from _ _ (keeps r parts.0) parts.1
+    go false parts later = or_from _ _ parts.0 (later parts.1)
 
 without-lacks : (o id : Text) (rows : List Row) → has_row o rows ≡ false → has_row o (without id rows) ≡ false
 without-lacks o id rows e = at-row-lacks o id (λ _. []) [] rows (λ r h. refl) refl e
 
 with-values-lacks : (o id : Text) (how : Reading) (s : ValueSource) (values : List Text) (rows : List Row) → bytes_eq id o ≡ false → has_row o rows ≡ false
     → has_row o (with_values id how s values rows) ≡ false
-with-values-lacks o id how s values rows other e = at-row-lacks o id (more_values s values) _ rows (λ r h. fails-both _ _ h refl) (fails-both _ _ other refl) e
+with-values-lacks o id how s values rows other e = at-row-lacks o id (more_values s values) _ rows (λ r h. or_from _ _ h refl) (or_from _ _ other refl) e
 
 with-count-lacks : (o id : Text) (how : Reading) (s : ValueSource) (n : ℕ) (rows : List Row) → bytes_eq id o ≡ false → has_row o rows ≡ false
     → has_row o (with_count id how s n rows) ≡ false
-with-count-lacks o id how s n rows other e = at-row-lacks o id (new_count s n) _ rows (λ r h. fails-both _ _ h refl) (fails-both _ _ other refl) e
+with-count-lacks o id how s n rows other e = at-row-lacks o id (new_count s n) _ rows (λ r h. or_from _ _ h refl) (or_from _ _ other refl) e
 
 -- a use of another option
 used-lacks : (o : Text) (a : Rule) (values : List Text) (rows : List Row) → bytes_eq a.id o ≡ false → has_row o rows ≡ false → has_row o (used a values rows) ≡ false

@@ -8,17 +8,13 @@ use Rattle.std.proofs.lemmas.Slice.Eq.{bytes_eq-Decides}
 use Rattle.clap.specs.Lexer.{long_of}
 use Rattle.clap.specs.Walk.{Rule, Text, arg_by_long, has_long, has_row, nothing_held, rows_after, walk_from, walked}
 use Rattle.dd_command.specs.CommandLine.{IsLeftOut}
-use Rattle.dd_command.proofs.LeftOut.{Avoids, Each, NamesOther, defaults-lack, find-has, neither, settled-lacks, walk-clean}
+use Rattle.dd_command.proofs.LeftOut.{Avoids, Each, NamesOther, defaults-lack, find-has, settled-lacks, walk-clean}
 use Rattle.dd_command.proofs.Words.{long_of-is, with_value}
+use Rattle.std.proofs.lemmas.Bool.{or_parts, and_parts}
 
 -- does the word begin with the option's name?
 abbrev pub begins : Text → Text → Bool
 begins option word = bytes_eq (take (length option) word) option
-
--- what two tests let through passes the second
-and-right : (a b : Bool) → (a && b) ≡ true → b ≡ true
-and-right true b e = e
-and-right false b e = absurd (true≢false (sym e))
 
 or-false : (a : Bool) → (a || false) ≡ true → a ≡ true
 or-false true e = refl
@@ -39,7 +35,7 @@ long-found : (c : List Rule) (name : Text) (a : Rule) → Each IsNamedById c →
 unfolding IsNamedById
 long-found c name a all e =
     let found = find-has (λ (r : Rule). not (is_some r.index) && has_long r name) IsNamedById c a e all in
-    let long : has_long a name ≡ true = and-right (not (is_some a.index)) (has_long a name) found.0 in
+    let long : has_long a name ≡ true = (and_parts (not (is_some a.index)) (has_long a name) found.0).1 in
     (bytes_eq-Decides a.id name).0 (or-false (bytes_eq a.id name) (rw (found.1.0, found.1.1) at long))
 
 -- a word that does not begin with the option's name names another, or none
@@ -67,7 +63,7 @@ word-other c o word all out = first (long_of word) refl
 arguments-other : (c : List Rule) (o : Text) (arguments : List Text) → Each IsNamedById c → list_any (begins (45 ∷ 45 ∷ o)) arguments ≡ false → Each (NamesOther c o) arguments
 arguments-other c o [] all out = tt
 arguments-other c o (word ∷ rest) all out =
-    let parts = neither (begins (45 ∷ 45 ∷ o) word) (list_any (begins (45 ∷ 45 ∷ o)) rest) out in
+    let parts = or_parts (begins (45 ∷ 45 ∷ o) word) (list_any (begins (45 ∷ 45 ∷ o)) rest) out in
     (word-other c o word all parts.0, arguments-other c o rest all parts.1)
 
 -- an option that is left out has no row
@@ -75,8 +71,8 @@ pub row-left-out : (c : List Rule) (arguments : List Text) (program name : Text)
     → Each (λ a. (bytes_eq a.id o ≡ false) ⊎ (a.defaults ≡ [])) c → IsLeftOut (45 ∷ 45 ∷ o) arguments → has_row o (rows_after c [] rest) ≡ false
 row-left-out c arguments program name rest o line avoids all none out =
     let from-line : list_any (begins (45 ∷ 45 ∷ o)) (program ∷ name ∷ rest) ≡ false = subst (λ ws. list_any (begins (45 ∷ 45 ∷ o)) ws ≡ false) line out in
-    let after-program = (neither (begins (45 ∷ 45 ∷ o) program) _ from-line).1 in
-    let after-name = (neither (begins (45 ∷ 45 ∷ o) name) (list_any (begins (45 ∷ 45 ∷ o)) rest) after-program).1 in
+    let after-program = (or_parts (begins (45 ∷ 45 ∷ o) program) _ from-line).1 in
+    let after-name = (or_parts (begins (45 ∷ 45 ∷ o) name) (list_any (begins (45 ∷ 45 ∷ o)) rest) after-program).1 in
     let end = walk-clean c o avoids rest (walk_from nothing_held) (arguments-other c o rest all after-name)
     (record { goes_on = refl; lacks = (refl, tt); waits_other = tt }) in
     defaults-lack o c _ none (settled-lacks c o (fold (walked c []) (walk_from nothing_held) rest).held end.lacks)

@@ -6,7 +6,7 @@ use Rattle.std.specs.Option.{option_map_or}
 use Rattle.std.specs.Str.{bytes_eq}
 use Rattle.std.specs.Str.Parse.{ParsesUnsigned}
 use Rattle.std.specs.Borrow.{Bor}
-use Rattle.std.proofs.lemmas.Bool.{leb-true}
+use Rattle.std.proofs.lemmas.Bool.{leb-true, or_from, and_parts}
 use Rattle.clap.specs.Matches.{ReadsOne}
 use Rattle.clap.specs.Walk.{Row, Rule, Text, first_of, has_row, one_of, row_text, rule_of}
 use Rattle.clap.specs.Words.{AddsArg, AddsSubcommand, App, Shape, app_of, shape_of, with_rule, with_subcommand}
@@ -65,14 +65,10 @@ given-read E G bits (Some t) None none some parses = λ u e fits.
 abbrev pub Holds : App → Command → Type 0
 Holds app command = (app_of command ≡ app) × ((out-Command command).has_globals ≡ false)
 
-either-false : (a b : Bool) → a ≡ false → b ≡ false → (a || b) ≡ false
-either-false true b e f = absurd (true≢false e)
-either-false false b e f = f
-
 -- one option more
 pub adds : (app : App) (rule : Rule) (old : Command) (a : Arg) (new : Command) → AddsArg old a new → IsOption a rule → Holds app old → Holds (with_rule app rule) new
 adds app rule old a new added is before =
-    (added.shape is.1 ∙ ap (λ x. with_rule x (rule_of a)) before.0 ∙ ap (with_rule app) is.0, added.globals ∙ either-false _ _ before.1 is.1)
+    (added.shape is.1 ∙ ap (λ x. with_rule x (rule_of a)) before.0 ∙ ap (with_rule app) is.0, added.globals ∙ or_from _ _ before.1 is.1)
 
 -- the last one
 pub adds-last : (app : App) (rule : Rule) (old : Command) (a : Arg) (result : Result Command AllocError) → IfOk result (λ new. AddsArg old a new) → IsOption a rule → Holds app old
@@ -116,11 +112,6 @@ limit-one option rows most default a b one other =
 
 -- ---- ranges
 
--- what two tests let through passes both
-both-pass : (a b : Bool) → (a && b) ≡ true → (a ≡ true) × (b ≡ true)
-both-pass true b e = (refl, e)
-both-pass false b e = absurd (true≢false (sym e))
-
 -- a number lies in its range where its default does
 pub number-fits : (least most default : ℕ) (given : Option ℕ) → least ≤ default → default ≤ most
     → (least ≤ number_in least most default given) × (number_in least most default given ≤ most)
@@ -129,7 +120,7 @@ number-fits least most default (Some number) low high = go (nat_le least number 
   where
     go : (b : Bool) → (nat_le least number && nat_le number most) ≡ b → (least ≤ cond b number default) × (cond b number default ≤ most)
     go true is =
-        let parts = both-pass (nat_le least number) (nat_le number most) is in
+        let parts = and_parts (nat_le least number) (nat_le number most) is in
         (leb-true least number parts.0, leb-true number most parts.1)
     go false is = (low, high)
 

@@ -3,22 +3,19 @@ use Rattle.std.proofs.Common.{◌≡◌, ℕ, zero, suc, ◌+◌, ◌<◌, ◌�
 use Rattle.std.specs.Prelude.{IsSome, slice_get}
 use Rattle.std.specs.Option.{option_map}
 use Rattle.std.proofs.lemmas.Option.{none-some, same_Some, slice_get-map, slice_get_within}
-use Rattle.std.proofs.lemmas.List.{length-map, take-append-le}
+use Rattle.std.proofs.lemmas.List.{length-map, take-append-le, map_push, length_push}
 use borrow.Author.Count.{below_more}
 use Rattle.dd_desk.specs.declared.entry.Entry.{Entry}
 use Rattle.dd_desk.specs.Entries.{AreBeginnings, LastHas, event_in, journal_in, seen_by}
 use Rattle.dd_desk.specs.Events.{EventOf}
 use Rattle.dd_desk.specs.Looks.{GoesOn}
 use Rattle.dd_desk.specs.Receipts.{HasReceipts, ReceiptOf, pass_of, told_by}
-use Rattle.dd_desk.proofs.Marks.{both_more, length-push, map-push}
+use Rattle.dd_desk.proofs.Marks.{both_more}
 use Rattle.dd_desk.proofs.Showing.{at_map}
-use Rattle.dd_desk.proofs.Untold.{get-push_before, get-push_here}
+use Rattle.dd_desk.proofs.Untold.{get-push_before}
+use Rattle.dd_book.proofs.CallerLemmas.{slice_get-push_here, cons-parts}
 
 -- ---- lists
-
--- two lists that are one have one head and one tail
-cons-parts : {A : Type 0} (x y : A) (xs ys : List A) → x ∷ xs ≡ y ∷ ys → (x ≡ y) × (xs ≡ ys)
-cons-parts x y xs ys e = (cc, cc)
 
 -- as many elements as there are
 take-whole : {A : Type 0} (n : ℕ) (xs : List A) → n ≡ length xs → take n xs ≡ xs
@@ -65,7 +62,7 @@ pub has-more : (js es : List EventOf) (number : ℕ) (rs rs' : List ReceiptOf) (
     → HasReceipts js (pass_of number rs) → HasReceipts es (pass_of number rs')
 has-more js es number rs rs' r now also next has =
     let before = has-also js es number rs (λ place e is. ap (λ l. slice_get l place) now ∙ get-push_before js place (told_by number r) (slice_get_within js place e is) ∙ is) has in
-    let here : slice_get es r.place ≡ Some (told_by number r) = (λ i. slice_get (now i) (next i)) ∙ get-push_here js (told_by number r) in
+    let here : slice_get es r.place ≡ Some (told_by number r) = (λ i. slice_get (now i) (next i)) ∙ slice_get-push_here js (told_by number r) in
     both_more (λ (s : ReceiptOf). slice_get es s.place) (λ (s : ReceiptOf). Some (told_by number s)) rs rs' r rs rs' r before also also here
 
 -- ---- one mark more
@@ -74,21 +71,21 @@ pub last-more : {N : Type 0} (f : N → Option (List EventOf)) (marks marks' : L
     → length marks ≡ length rs → marks' ≡ marks ++ note ∷ [] → rs' ≡ rs ++ r ∷ [] → f note ≡ Some es → HasReceipts es (pass_of number rs')
     → LastHas (map f marks') (pass_of number rs')
 last-more f marks marks' note number rs rs' r es same now also knows has = λ at journal end is.
-    let here : at ≡ length (map f marks) = omega (arith, end, ap length also, length-push rs r, length-map marks f, same) in
-    let there : slice_get (map f marks') at ≡ Some (f note) = (λ i. slice_get ((ap (map f) now ∙ map-push f marks note) i) (here i)) ∙ get-push_here (map f marks) (f note) in
+    let here : at ≡ length (map f marks) = omega (arith, end, ap length also, length_push rs r, length-map marks f, same) in
+    let there : slice_get (map f marks') at ≡ Some (f note) = (λ i. slice_get ((ap (map f) now ∙ map_push f marks note) i) (here i)) ∙ slice_get-push_here (map f marks) (f note) in
     subst (λ (j : List EventOf). HasReceipts j (pass_of number rs')) (same_Some es journal (sym knows ∙ same_Some (f note) (Some journal) (sym there ∙ is))) has
 
 pub beginnings-more : {N : Type 0} (f : N → Option (List EventOf)) (kept kept' : List N) (note : N) (js es : List EventOf) (e : EventOf)
     → length kept ≡ length js → kept' ≡ kept ++ note ∷ [] → es ≡ js ++ e ∷ [] → f note ≡ Some es → AreBeginnings (map f kept) js → AreBeginnings (map f kept') es
 beginnings-more f kept kept' note js es e same now longer knows before = λ place within.
     let many : length (map f kept) ≡ length js = length-map kept f ∙ same in
-    let all : map f kept' ≡ map f kept ++ f note ∷ [] = ap (map f) now ∙ map-push f kept note in
-    let long : length es ≡ length js + 1 = ap length longer ∙ length-push js e in
+    let all : map f kept' ≡ map f kept ++ f note ∷ [] = ap (map f) now ∙ map_push f kept note in
+    let long : length es ≡ length js + 1 = ap length longer ∙ length_push js e in
     below_more (λ k. slice_get (map f kept') k ≡ Some (Some (take (k + 1) es))) (length js)
     (λ k less.
     ap (λ l. slice_get l k) all ∙ get-push_before (map f kept) k (f note) (omega (arith, less, many)) ∙ before k less
     ∙ ap (λ (l : List EventOf). Some (Some l)) (sym (ap (take (k + 1)) longer ∙ take-append-le (k + 1) js (e ∷ []) (omega (arith, less)))))
-    ((λ i. slice_get (all i) (sym many i)) ∙ get-push_here (map f kept) (f note) ∙ ap Some knows
+    ((λ i. slice_get (all i) (sym many i)) ∙ slice_get-push_here (map f kept) (f note) ∙ ap Some knows
     ∙ ap (λ (l : List EventOf). Some (Some l)) (sym (take-whole (length js + 1) es (sym long))))
     place (omega (arith, within, long))
 

@@ -1,8 +1,8 @@
 -- What a call does to the number of jobs, and what its reply tells of their ends.
-use Rattle.std.proofs.Common.{◌≡◌, ℕ, zero, suc, ◌+◌, ◌-◌, ◌<◌, ◌≤◌, ◌⊎◌, inl, inr, Bool, true, false, cond, not, refl, sym, ap, ◌∙◌, subst, arith, eq-eqb, leb-false, List, [], ◌∷◌, ◌++◌, length, Option, Some, None, nat_le}
+use Rattle.std.proofs.Common.{◌≡◌, ℕ, suc, ◌+◌, ◌-◌, ◌<◌, ◌≤◌, ◌⊎◌, inl, inr, Bool, true, false, cond, not, refl, sym, ap, ◌∙◌, subst, arith, eq-eqb, leb-false, List, [], ◌∷◌, ◌++◌, length, Option, Some, None, nat_le}
 use Rattle.std.specs.Prelude.{◌==◌, option_and_then, option_map, unwrap_or, slice_get, slice_set}
 use Rattle.std.specs.Option.{is_some}
-use Rattle.std.proofs.lemmas.Bool.{cases_eq}
+use Rattle.std.proofs.lemmas.Bool.{cases_eq, not-false, not-true}
 use Rattle.std.proofs.lemmas.Option.{slice_get_within}
 use Rattle.dd_solve.specs.declared.asked.Asked.{Asked}
 use Rattle.dd_solve.specs.declared.asked.Asked.TheVariants.{Solve, Table, Target, Play}
@@ -23,16 +23,8 @@ use Rattle.dd_desk.specs.Counted.{AreFlags, IsNewJob, TellsOfJobs, flags_after}
 use Rattle.dd_desk.specs.Events.{EventOf, event}
 use Rattle.dd_desk.specs.Looks.{is_ended_job}
 use Rattle.dd_desk.specs.Reserve.{has_ended, is_told, untold}
-use Rattle.dd_desk.proofs.Untold.{TellsNone, TellsOne, cancel-tells, flags-kept, flags-pushed, flags-told, of-jobs-kept, of-jobs-told, state-tells, state-tells_none, untold-kept, untold-suc, untold-told}
-
-length-push : {X : Type 0} (xs : List X) (y : X) → length (xs ++ y ∷ []) ≡ length xs + 1
-length-push [] y = refl
-length-push (x ∷ xs) y = let rest = length-push xs y in omega (arith, rest)
-
-length-set_at : {X : Type 0} (xs : List X) (i : ℕ) (y : X) → length (slice_set xs i y) ≡ length xs
-length-set_at [] i y = refl
-length-set_at (x ∷ xs) zero y = refl
-length-set_at (x ∷ xs) (suc i) y = ap suc (length-set_at xs i y)
+use Rattle.dd_desk.proofs.Untold.{TellsNone, TellsOne, cancel-tells, flags-kept, flags-pushed, flags-told, of-jobs-kept, of-jobs-told, state-tells, state-tells_none, untold-kept, untold-suc, untold-told, length-set_at}
+use Rattle.std.proofs.lemmas.List.{length_push}
 
 -- no job begins, and of none it is told that it has ended
 pub record IsQuiet (book : BookOf) (c : Call) : Type 0 where
@@ -76,7 +68,7 @@ submit-begins book caller asked none =
     let taken = none-refused book.shut (nat_le book.limits.open_jobs (open_of caller book.jobs)) (nat_le book.limits.jobs (length book.jobs)) (reply.Fault ShuttingDown) (reply.Fault OpenJobs) (reply.Fault BookFull) none in
     let told : reply_of book (Submit caller asked) ≡ reply.Submitted (length book.jobs + 1) = ap (λ o. unwrap_or o (reply.Submitted (length book.jobs + 1))) taken.0 in
     record {
-      jobs = ap (λ (b : Bool). length (cond b book (with_jobs book (book.jobs ++ job ∷ []))).jobs) none ∙ length-push book.jobs job;
+      jobs = ap (λ (b : Bool). length (cond b book (with_jobs book (book.jobs ++ job ∷ []))).jobs) none ∙ length_push book.jobs job;
       room = leb-false book.limits.jobs (length book.jobs) taken.1;
       tells = subst TellsNone (sym told) (λ k. refl);
       flags = λ flags. ap (flags_after flags) told;
@@ -225,14 +217,6 @@ shown-open owner asked last (TargetDone solved) opened = absurd (cc)
 shown-open owner asked last (PlayDone tricks) opened = absurd (cc)
 shown-open owner asked last CancelledStage opened = absurd (cc)
 shown-open owner asked last Spent opened = absurd (cc)
-
-not-false : (b : Bool) → not b ≡ false → b ≡ true
-not-false true h = refl
-not-false false h = absurd (cc)
-
-not-true : (b : Bool) → not b ≡ true → b ≡ false
-not-true true h = absurd (cc)
-not-true false h = refl
 
 fetch-none : (number : ℕ) (own : Option JobOf) → is_ended_job own ≡ false → QuietReply (fetch_told number own)
 fetch-none number None goes = ((λ k. refl), (λ flags. refl), (λ new. new))

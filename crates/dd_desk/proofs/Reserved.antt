@@ -17,8 +17,8 @@ use Rattle.dd_desk.specs.Events.{EventOf, event, replay}
 use Rattle.dd_desk.specs.Reserve.{HasReserve, HasRoom, finishes_in, is_finish, journal_after, reserved, reserved_in, untold}
 use Rattle.dd_desk.proofs.Effects.{claim-quiet, with_event}
 use Rattle.dd_desk.proofs.Histories.{replay-more}
-use Rattle.dd_desk.proofs.Marks.{length-push}
 use Rattle.dd_desk.proofs.Untold.{untold-kept}
+use Rattle.std.proofs.lemmas.List.{length_push}
 
 -- ---- what is counted
 
@@ -69,19 +69,6 @@ limits-kept book (Cancel caller number) = refl
 limits-kept book (Fetch caller number) = refl
 limits-kept book Shut = refl
 
--- the number of claims, of which only a claim makes more
-pub claims-kept : (book : BookOf) (c : Call) → ((worker : ℕ) → c ≡ Claim worker → ⊥) → (after book c).claims ≡ book.claims
-claims-kept book (Submit caller asked) not = go (is_some (refusal_of book caller))
-  where
-    go : (b : Bool) → (cond b book (with_jobs book (book.jobs ++ new_job caller asked (first_turn caller book.jobs book.claims) ∷ []))).claims ≡ book.claims
-    go true = refl
-    go false = refl
-claims-kept book (Claim worker) not = absurd (not worker refl)
-claims-kept book (Finish worker number claim outcome) not = refl
-claims-kept book (Cancel caller number) not = refl
-claims-kept book (Fetch caller number) not = refl
-claims-kept book Shut not = refl
-
 -- whether it is shut, which only a shut changes
 pub shut-kept : (book : BookOf) (c : Call) → (c ≡ Shut → ⊥) → (after book c).shut ≡ book.shut
 shut-kept book (Submit caller asked) not = go (is_some (refusal_of book caller))
@@ -112,7 +99,7 @@ reserved-after limits counted book es caller c replayed k =
     ap (reserved limits) (after-is limits book es caller c replayed) ∙ sym (reserved-at limits counted (after book c) (with_event book es caller c) led (k caller))
 
 pub length-after : (limits : LimitsOf) (es : List EventOf) (caller : ℕ) (c : Call) → length (journal_after limits es caller c) ≡ length es + 1
-length-after limits es caller c = length-push es _
+length-after limits es caller c = length_push es _
 
 -- there is room
 pub has-room : (limits : LimitsOf) (counted : Counted) (book : BookOf) (es : List EventOf) (caller : ℕ) (c : Call) (left free : ℕ) → book ≡ replay limits es → IsCountedAfter counted book es c
@@ -129,9 +116,6 @@ no-room limits counted book es caller c left replayed k room is has =
     let r = reserved-after limits counted book es caller c replayed k in
     let l = length-after limits es caller c in
     omega (arith, r, l, room, is, has)
-
-pub full-has_no_room : (limits : LimitsOf) (es : List EventOf) (caller : ℕ) (c : Call) → limits.events ≤ length es → HasRoom limits es caller c → ⊥
-full-has_no_room limits es caller c full has = let l = length-after limits es caller c in omega (arith, l, full, has)
 
 -- the longer journal keeps its reserve
 pub reserve-more : (limits : LimitsOf) (book : BookOf) (es es' : List EventOf) (e : EventOf) → book ≡ replay limits es → e.reply ≡ reply_of book e.call → es' ≡ es ++ e ∷ [] → HasRoom limits es e.caller e.call → HasReserve limits es'
@@ -167,5 +151,5 @@ idle-claim limits book es caller worker replayed idle has =
     let left : untold (length here.jobs) (es ++ e ∷ []) ≡ untold (length here.jobs) es = untold-kept (length here.jobs) es e (λ number le. q.tells number) in
     let same : reserved limits (es ++ e ∷ []) ≡ reserved limits es =
     ap (λ b. reserved_in b (es ++ e ∷ [])) led ∙ (λ i. 2 * waiting_in here.jobs + max (running_in here.jobs) (here.claims - finishes i) + left i + cond here.shut 0 1) in
-    let l = length-push es e in
+    let l = length_push es e in
     omega (arith, same, l, has)

@@ -15,7 +15,7 @@ use Rattle.dd_book.specs.Asks.{AllTellOwn, ShowsOwn, TellsOwn, submitted}
 use Rattle.dd_desk.specs.Answers.{AnswersAreRight, ShowsRight, TellsRight}
 use Rattle.dd_desk.specs.Events.{AnswersAreOwn, EventOf, calls_in, replies_in}
 use Rattle.dd_desk.specs.Exact.{AllAreExact, answered_anew, told_anew}
-use Rattle.dd_desk.proofs.Marks.{map-push}
+use Rattle.std.proofs.lemmas.List.{map_push}
 
 -- no answer is told by no event
 pub exact-none : (es : List EventOf) → es ≡ [] → AllAreExact es
@@ -24,8 +24,8 @@ exact-none es none = ap (λ (xs : List EventOf). map told_anew (replies_in xs)) 
 -- one event more
 pub exact-more : (es es' : List EventOf) (e : EventOf) → es' ≡ es ++ e ∷ [] → AllAreExact es → told_anew e.reply ≡ e.reply → AllAreExact es'
 exact-more es es' e now all told =
-    let longer = ap replies_in now ∙ map-push (λ (x : EventOf). x.reply) es e in
-    ap (map told_anew) longer ∙ map-push told_anew (replies_in es) e.reply ∙ (λ i. all i ++ told i ∷ []) ∙ sym longer
+    let longer = ap replies_in now ∙ map_push (λ (x : EventOf). x.reply) es e in
+    ap (map told_anew) longer ∙ map_push told_anew (replies_in es) e.reply ∙ (λ i. all i ++ told i ∷ []) ∙ sym longer
 
 same-solved : (a b : SolvedQuestion) → shown.Done a ≡ shown.Done b → a ≡ b
 same-solved a b e = cc
@@ -39,7 +39,7 @@ same-target a b e = cc
 same-state : (number : ℕ) (a b : JobState) → State number a ≡ State number b → a ≡ b
 same-state number a b e = cc
 
-same-first : (x y : Reply) (xs ys : List Reply) → x ∷ xs ≡ y ∷ ys → (x ≡ y) × (xs ≡ ys)
+pub same-first : (x y : Reply) (xs ys : List Reply) → x ∷ xs ≡ y ∷ ys → (x ≡ y) × (xs ≡ ys)
 same-first x y xs ys e = (cc, cc)
 
 -- what is of the job's own request, and exact, is right

@@ -1,6 +1,6 @@
 -- What is reserved serves: each call that an event is reserved for has room.
-use Rattle.std.proofs.Common.{◌≡◌, ℕ, zero, suc, ◌+◌, ◌-◌, ◌<◌, ◌≤◌, ◌||◌, inl, inr, Bool, true, false, cond, not, refl, sym, ap, ◌∙◌, subst, arith, List, [], ◌∷◌, ◌++◌, length, Option, Some, None, nat_eq}
-use Rattle.std.specs.Prelude.{IsSome, option_and_then, slice_get, slice_set}
+use Rattle.std.proofs.Common.{◌≡◌, ℕ, ◌+◌, ◌-◌, ◌<◌, ◌≤◌, ◌||◌, inl, inr, Bool, true, false, cond, not, refl, sym, ap, ◌∙◌, subst, arith, List, [], ◌∷◌, ◌++◌, length, Option, Some, None, nat_eq}
+use Rattle.std.specs.Prelude.{IsSome, option_and_then}
 use Rattle.std.specs.Option.{is_some}
 use Rattle.std.proofs.lemmas.Bool.{cases_eq}
 use Rattle.std.proofs.lemmas.Option.{same_Some}
@@ -15,37 +15,21 @@ use Rattle.dd_book.specs.declared.job.Stage.TheVariants.{Cancelled as CancelledS
 use Rattle.dd_book.specs.Jobs.{JobOf, Turn, if_owned, is_open, is_open_job, job_at, next_turn, own_job, with_job, with_stage}
 use Rattle.dd_book.specs.Calls.{BookOf, after, book_claimed, empty_book, finish_reply, jobs_cancelled, refusal_of, replies, reply_of, run}
 use Rattle.dd_book.specs.Counts.{running_in, waiting_in}
-use Rattle.dd_book.proofs.CallerLemmas.{cancel-least, ended-stays, job_at-place, recorded-counts, stale-same, turn-counts}
+use Rattle.dd_book.proofs.CallerLemmas.{cancel-least, ended-stays, job_at-place, recorded-counts, stale-same, turn-counts, own-is}
 use Rattle.dd_desk.specs.Events.{EventOf, IsLegal, calls_in, event, replay, replies_in}
 use Rattle.dd_desk.specs.Looks.{is_ended_job}
 use Rattle.dd_desk.specs.Reserve.{IsReserved, ReserveServes, finishes_in, is_finish, is_told, reserved_in, tells_end, untold}
 use Rattle.dd_desk.proofs.Effects.{cancel-quiet, cancel-tells_end, claim-quiet, fetch-quiet, fetch-tells_end, finish-quiet, own-within, shut-quiet, submit-begins, submit-quiet, untold-ends, untold-quiet, with_event}
 use Rattle.dd_desk.proofs.Histories.{replay-more}
 use Rattle.dd_desk.proofs.Reserved.{finishes-more, length-after, shut-kept}
-use Rattle.dd_desk.proofs.Untold.{TellsOne, untold-some}
+use Rattle.dd_desk.proofs.Untold.{TellsOne, untold-some, get-set_here}
+use Rattle.dd_desk.proofs.Rightness.{same-first}
 
 -- ---- who was told that a job has ended is right
 
 -- the job of this number is there, and not open
 abbrev HasEnded : ℕ → List JobOf → Type 0
 HasEnded number jobs = (job : JobOf) × (job_at jobs number ≡ Some job) × (is_open job ≡ false)
-
--- the caller's own job is the job of that number
-own-at : (jobs : List JobOf) (caller number : ℕ) (job : JobOf) → own_job jobs caller number ≡ Some job → job_at jobs number ≡ Some job
-own-at jobs caller number job own = go (job_at jobs number) refl own
-  where
-    mine : (b : Bool) (found : JobOf) → job_at jobs number ≡ Some found → cond b (Some found) None ≡ Some job → job_at jobs number ≡ Some job
-    mine true found is e = is ∙ e
-    mine false found is e = absurd (cc)
-
-    go : (o : Option JobOf) → job_at jobs number ≡ o → option_and_then (if_owned caller) o ≡ Some job → job_at jobs number ≡ Some job
-    go None is e = absurd (cc)
-    go (Some found) is e = mine (nat_eq found.owner caller) found is e
-
-get-set_here : {X : Type 0} (xs : List X) (i : ℕ) (y : X) → i < length xs → slice_get (slice_set xs i y) i ≡ Some y
-get-set_here [] i y h = absurd (omega (arith, h))
-get-set_here (x ∷ xs) zero y h = refl
-get-set_here (x ∷ xs) (suc i) y h = get-set_here xs i y (omega (arith, h))
 
 -- the own open job that is cancelled
 cancel-closes : (book : BookOf) (caller number : ℕ) → is_open_job (own_job book.jobs caller number) ≡ true → HasEnded number (after book (Cancel caller number)).jobs
@@ -70,7 +54,7 @@ fetch-closed book caller number ended = go (own_job book.jobs caller number) ref
 
     go : (o : Option JobOf) → own_job book.jobs caller number ≡ o → is_ended_job o ≡ true → HasEnded number book.jobs
     go None is e = absurd (cc)
-    go (Some job) is e = (job, own-at book.jobs caller number job is, not-true (is_open job) e)
+    go (Some job) is e = (job, own-is book.jobs caller number job is, not-true (is_open job) e)
 
 -- a reply that tells of no end tells nothing of this one
 no-end : (number : ℕ) (told : Reply) → ((k : ℕ) → tells_end k told ≡ false) → tells_end number told ≡ true → ⊥
@@ -114,9 +98,6 @@ unfolding run
 stays-ended [] book number ended = ended
 stays-ended (c ∷ cs) book number ended = stays-ended cs (after book c) number (ended.0, ended-stays book c number ended.0 ended.1 ended.2, ended.2)
 
-same-first : (x y : Reply) (xs ys : List Reply) → x ∷ xs ≡ y ∷ ys → (x ≡ y) × (xs ≡ ys)
-same-first x y xs ys e = (cc, cc)
-
 -- of whom the replies from a book on tell it, the jobs have ended
 told-ended : (es : List EventOf) (book : BookOf) (number : ℕ) → replies_in es ≡ replies book (calls_in es) → is_told number es ≡ true → HasEnded number (run book (calls_in es)).jobs
 unfolding run replies
@@ -143,7 +124,7 @@ open-untold limits es caller number legal opened = go (is_told number es) refl
     go true is =
         let ended = told-ended es (empty_book limits) number legal is in
         let own = at (own_job (replay limits es).jobs caller number) refl opened in
-        let same = same_Some own.0 ended.0 (sym (own-at (replay limits es).jobs caller number own.0 own.1) ∙ ended.1) in
+        let same = same_Some own.0 ended.0 (sym (own-is (replay limits es).jobs caller number own.0 own.1) ∙ ended.1) in
         absurd (let no : true ≡ false = sym own.2 ∙ ap is_open same ∙ ended.2 in cc)
 
 -- ---- what is reserved falls by one at least

@@ -9,15 +9,9 @@ use Rattle.dd_book.specs.declared.call.Reply.TheVariants.{Cancelled, State}
 use Rattle.dd_desk.specs.Counted.{AreFlags, TellsOfJobs}
 use Rattle.dd_desk.specs.Events.{EventOf}
 use Rattle.dd_desk.specs.Reserve.{has_ended, is_told, tells_end, untold}
-use Rattle.dd_desk.proofs.Marks.{length-push}
-
-or-false : (b : Bool) → (b || false) ≡ b
-or-false true = refl
-or-false false = refl
-
-or-true : (b : Bool) → (b || true) ≡ true
-or-true true = refl
-or-true false = refl
+use Rattle.std.proofs.lemmas.List.{length_push}
+use Rattle.std.proofs.Math.Bool.{or-false, or-true}
+use Rattle.dd_book.proofs.CallerLemmas.{slice_get-push_here}
 
 -- a reply that tells of no job's end
 abbrev pub TellsNone : Reply → Type 0
@@ -106,7 +100,7 @@ untold-some (suc n) number es low high none = elim (cases_eq number (n + 1)) [
 
 -- ---- flags
 
-get-set_here : {X : Type 0} (xs : List X) (i : ℕ) (y : X) → i < length xs → slice_get (slice_set xs i y) i ≡ Some y
+pub get-set_here : {X : Type 0} (xs : List X) (i : ℕ) (y : X) → i < length xs → slice_get (slice_set xs i y) i ≡ Some y
 get-set_here [] i y h = absurd (omega (arith, h))
 get-set_here (x ∷ xs) zero y h = refl
 get-set_here (x ∷ xs) (suc i) y h = get-set_here xs i y (omega (arith, h))
@@ -118,16 +112,12 @@ get-set_other (x ∷ xs) zero (suc k) y h = refl
 get-set_other (x ∷ xs) (suc i) zero y h = refl
 get-set_other (x ∷ xs) (suc i) (suc k) y h = get-set_other xs i k y (λ e. h (ap suc e))
 
-pub get-push_here : {X : Type 0} (xs : List X) (y : X) → slice_get (xs ++ y ∷ []) (length xs) ≡ Some y
-get-push_here [] y = refl
-get-push_here (x ∷ xs) y = get-push_here xs y
-
 pub get-push_before : {X : Type 0} (xs : List X) (k : ℕ) (y : X) → k < length xs → slice_get (xs ++ y ∷ []) k ≡ slice_get xs k
 get-push_before [] k y h = absurd (omega (arith, h))
 get-push_before (x ∷ xs) zero y h = refl
 get-push_before (x ∷ xs) (suc k) y h = get-push_before xs k y (omega (arith, h))
 
-length-set_at : {X : Type 0} (xs : List X) (i : ℕ) (y : X) → length (slice_set xs i y) ≡ length xs
+pub length-set_at : {X : Type 0} (xs : List X) (i : ℕ) (y : X) → length (slice_set xs i y) ≡ length xs
 length-set_at [] i y = refl
 length-set_at (x ∷ xs) zero y = refl
 length-set_at (x ∷ xs) (suc i) y = ap suc (length-set_at xs i y)
@@ -149,10 +139,10 @@ flags-kept flags jobs es e none f = record {
 -- one that tells of a new job
 pub flags-pushed : (flags : List Bool) (jobs : ℕ) (es : List EventOf) (e : EventOf) → TellsNone e.reply → TellsOfJobs jobs es → AreFlags flags jobs es → AreFlags (flags ++ false ∷ []) (jobs + 1) (es ++ e ∷ [])
 flags-pushed flags jobs es e none of_jobs f = record {
-  length_is = length-push flags false ∙ ap (λ n. n + 1) f.length_is;
+  length_is = length_push flags false ∙ ap (λ n. n + 1) f.length_is;
   at = λ place within. elim (cases_eq place jobs) [
     | inl same ↦
-        let there : slice_get (flags ++ false ∷ []) place ≡ Some false = ap (slice_get (flags ++ false ∷ [])) (same ∙ sym f.length_is) ∙ get-push_here flags false in
+        let there : slice_get (flags ++ false ∷ []) place ≡ Some false = ap (slice_get (flags ++ false ∷ [])) (same ∙ sym f.length_is) ∙ slice_get-push_here flags false in
         there ∙ ap Some (sym (told-kept (place + 1) es e (none (place + 1)) ∙ of_jobs (place + 1) (omega (arith, same))))
     | inr differ ↦
         get-push_before flags place false (omega (arith, f.length_is, within, differ)) ∙ f.at place (omega (arith, within, differ))

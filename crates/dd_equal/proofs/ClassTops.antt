@@ -1,12 +1,12 @@
 -- a legal card wins as much as the highest card of its class
-use Rattle.std.proofs.Common.{◌≡◌, ℕ, zero, suc, ◌+◌, ◌<◌, ◌≤◌, Bool, true, false, refl, ap, ◌∙◌, arith, List, [], ◌∷◌}
+use Rattle.std.proofs.Common.{◌≡◌, ℕ, zero, suc, ◌+◌, ◌<◌, ◌≤◌, Bool, true, false, refl, ap, ◌∙◌, arith}
 use Rattle.std.specs.Prelude.{nat_lt, ◌&&◌}
 use Rattle.std.specs.List.{list_any}
 use mathlib.Core.Bool.{not}
 use Rattle.std.proofs.lemmas.Bool.{ltb-true}
 use Rattle.dd_cards.specs.PlayingCard.{PlayingCard}
 use Rattle.dd_cards.specs.Cards.{has_card}
-use Rattle.dd_cards.proofs.CallerLemmas.{and-left, and-right}
+use Rattle.dd_cards.proofs.CallerLemmas.{and-left, and-right, any-some}
 use Rattle.dd_cards.specs.Sides.{is_side}
 use Rattle.dd_cards.specs.declared.side.Side.{Side}
 use Rattle.dd_play.specs.Board.{Board, IsBoard, mover, tricks_left}
@@ -14,20 +14,10 @@ use Rattle.dd_play.specs.Play.{legal, after}
 use Rattle.dd_play.specs.Simulations.{IsLegal}
 use Rattle.dd_play.specs.Won.{trick_for, won}
 use Rattle.dd_play.specs.Claims.{Takes}
-use Rattle.dd_play.proofs.CallerLemmas.{card-real, every-card, filter-has, has-first, in-rest, own-card, won_with}
+use Rattle.dd_play.proofs.CallerLemmas.{card-real, every-card, filter-has, own-card, won_with}
 use Rattle.dd_equal.specs.EqualCards.{are_equal, is_top, tops}
 use Rattle.dd_equal.proofs.Equal.{tells-equal}
 use Rattle.dd_equal.proofs.Swaps.{equal-won}
-
--- where a card of the list passes a test, one such card
-pub some-card : (test : PlayingCard → Bool) (cards : List PlayingCard) → list_any test cards ≡ true → (d : PlayingCard) × (has_card cards d ≡ true) × (test d ≡ true)
-some-card test [] h = absurd (cc)
-some-card test (c ∷ cards) h = go (test c) refl (some-card test cards)
-  where
-    go : (b : Bool) → test c ≡ b → (list_any test cards ≡ true → (d : PlayingCard) × (has_card cards d ≡ true) × (test d ≡ true))
-        → (d : PlayingCard) × (has_card (c ∷ cards) d ≡ true) × (test d ≡ true)
-    go true e rest = (c, has-first c cards, e)
-    go false e rest = let d = rest (rw e at h) in (d.0, in-rest c d.0 cards d.1, d.2)
 
 -- a card that is the highest of its class and wins as much as c
 abbrev TopFor : Side → Board → PlayingCard → Type 0
@@ -42,7 +32,7 @@ climb (suc n) side p c valid has h = go (list_any (λ d. are_equal p c d && nat_
         → ((d : PlayingCard) → IsBoard p → IsLegal p d → 15 ≤ d.rank + n → TopFor side p d) → TopFor side p c
     go false e rest = (c, filter-has (is_top p) (legal p) c has (ap not e), refl)
     go true e rest =
-        let d = some-card (λ d. are_equal p c d && nat_lt c.rank d.rank) (legal p) e in
+        let d = any-some (λ d. are_equal p c d && nat_lt c.rank d.rank) (legal p) e in
         let equal : are_equal p c d.0 ≡ true = and-left (are_equal p c d.0) (nat_lt c.rank d.0.rank) d.2 in
         let higher : c.rank < d.0.rank = ltb-true c.rank d.0.rank (and-right (are_equal p c d.0) (nat_lt c.rank d.0.rank) d.2) in
         let t = rest d.0 valid d.1 (omega (arith, h, higher)) in

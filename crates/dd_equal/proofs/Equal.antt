@@ -10,7 +10,7 @@ use Rattle.dd_cards.specs.declared.seat.Seat.TheVariants.{North, East, South, We
 use Rattle.dd_cards.specs.PlayingCard.{PlayingCard}
 use Rattle.dd_cards.specs.Cards.{is_of, same_card, has_card}
 use Rattle.dd_cards.specs.Seats.{seat_after, is_north_south}
-use Rattle.dd_cards.proofs.CallerLemmas.{and-left, and-right, not-true, or-false, same_card-eq}
+use Rattle.dd_cards.proofs.CallerLemmas.{and-left, and-right, same_card-eq, none-at}
 use Rattle.dd_cards.specs.declared.side.Side.TheVariants.{NorthSouth}
 use Rattle.dd_play.specs.Board.{Board, IsBoard, cards_at, mover, tricks_left}
 use Rattle.dd_play.specs.Simulations.{IsLegal}
@@ -18,22 +18,13 @@ use Rattle.dd_play.specs.Value.{score}
 use Rattle.dd_play.proofs.CallerLemmas.{of-suit', own-card, suit-of, won-north-south}
 use Rattle.dd_equal.specs.EqualCards.{other_cards, is_between, are_equal}
 use Rattle.dd_equal.proofs.Swaps.{IsNotBetween, AreEqual, one-hand, not-on-trick, equal-won}
+use Rattle.std.proofs.lemmas.Bool.{or_parts, not-true}
 
 -- ---- no card passes a test
 
--- a test that no card of a list passes, at one of them
-pub none-at : (test : PlayingCard → Bool) (cards : List PlayingCard) (e : PlayingCard) → list_any test cards ≡ false → has_card cards e ≡ true → test e ≡ false
-none-at test [] e none has = absurd (cc)
-none-at test (d ∷ cards) e none has = go (same_card d e) (test d) refl refl (none-at test cards e)
-  where
-    go : (a b : Bool) → same_card d e ≡ a → test d ≡ b → (list_any test cards ≡ false → has_card cards e ≡ true → test e ≡ false) → test e ≡ false
-    go a true f g ih = absurd (let no : true ≡ false = rw g at none in cc)
-    go true false f g ih = ap test (sym (same_card-eq d e f)) ∙ g
-    go false false f g ih = ih (rw g at none) (rw f at has)
-
 -- none of two lists together is none of each
 none-of : (test : PlayingCard → Bool) (xs ys : List PlayingCard) → list_any test (xs ++ ys) ≡ false → (list_any test xs ≡ false) × (list_any test ys ≡ false)
-none-of test xs ys none = or-false (list_any test xs) (list_any test ys) (sym (list_any-append test xs ys) ∙ none)
+none-of test xs ys none = or_parts (list_any test xs) (list_any test ys) (sym (list_any-append test xs ys) ∙ none)
 
 -- ---- a card that is not between, by ranks
 

@@ -4,13 +4,13 @@ use Rattle.std.specs.Prelude.{filter, nat_lt, ◌&&◌, ◌||◌}
 use Rattle.std.specs.List.{list_any}
 use mathlib.Core.Bool.{not}
 use mathlib.Core.Path.{ap₂}
-use Rattle.std.proofs.lemmas.Bool.{eqb-true, ltb-true}
+use Rattle.std.proofs.lemmas.Bool.{eqb-true, ltb-true, and_from, or_left, or_right, or_cases}
 use Rattle.dd_cards.specs.PlayingCard.{PlayingCard}
 use Rattle.dd_cards.specs.Ranks.{IsRank}
 use Rattle.dd_cards.specs.Suits.{suit_code}
-use Rattle.dd_cards.specs.Cards.{deck, is_of, same_card, has_card}
+use Rattle.dd_cards.specs.Cards.{deck, is_of, has_card}
 use Rattle.dd_cards.specs.Sequences.{is_above, is_headed, heads}
-use Rattle.dd_cards.proofs.CallerLemmas.{and-left, and-right, and-both, or-left, or-right, or-split, both-ways, filter-same, has_card-deck, has_card-filter, real-set, same_card-eq}
+use Rattle.dd_cards.proofs.CallerLemmas.{and-left, and-right, both-ways, has_card-deck, has_card-filter, real-set, any-some, any-of}
 use Rattle.dd_cards.specs.declared.seat.Seat.{Seat}
 use Rattle.dd_cards.specs.declared.seat.Seat.TheVariants.{North, East, South, West}
 use Rattle.dd_cards.specs.Hands.{FourHands, hand_of}
@@ -19,15 +19,8 @@ use Rattle.dd_play.specs.Board.{Board, IsBoard, cards_at, mover}
 use Rattle.dd_play.specs.InPlay.{is_in_hands, is_in_play}
 use Rattle.dd_play.specs.Play.{legal}
 use Rattle.dd_equal.specs.EqualCards.{other_cards, is_between, are_equal, is_top, tops}
-use Rattle.dd_equal.proofs.ClassTops.{some-card}
 use Rattle.dd_equal.proofs.Suits.{others-differ, others-split}
-
-pub any-of : (t : PlayingCard → Bool) (d : PlayingCard) (cards : List PlayingCard) → has_card cards d ≡ true → t d ≡ true → list_any t cards ≡ true
-any-of t d [] has e = absurd (cc)
-any-of t d (c ∷ cards) has e = elim (or-split (same_card c d) (has_card cards d) has) [
-  | inl same ↦ or-left (t c) (list_any t cards) (ap t (same_card-eq c d same) ∙ e)
-  | inr later ↦ or-right (t c) (list_any t cards) (any-of t d cards later e)
-]
+use Rattle.std.proofs.lemmas.List.Elements.{filter_agree}
 
 any-same : (t u : PlayingCard → Bool) → ((d : PlayingCard) → t d ≡ u d) → (cards : List PlayingCard) → list_any t cards ≡ list_any u cards
 any-same t u e [] = refl
@@ -40,25 +33,25 @@ between-same c d xs ys same suits higher = both-ways _ _ there back
   where
     there : list_any (λ e. is_above c e && is_above e d) xs ≡ true → list_any (is_between c d) ys ≡ true
     there h =
-        let e = some-card (λ e. is_above c e && is_above e d) xs h in
+        let e = any-some (λ e. is_above c e && is_above e d) xs h in
         let up : is_above c e.0 ≡ true = and-left (is_above c e.0) (is_above e.0 d) e.2 in
         let down : is_above e.0 d ≡ true = and-right (is_above c e.0) (is_above e.0 d) e.2 in
         any-of (is_between c d) e.0 ys (sym (same e.0) ∙ e.1)
-        (and-both (is_of c.suit e.0) _ (and-left (is_of c.suit e.0) (nat_lt c.rank e.0.rank) up)
-        (or-left (nat_lt c.rank e.0.rank && nat_lt e.0.rank d.rank) _ (and-both _ _ (and-right (is_of c.suit e.0) (nat_lt c.rank e.0.rank) up) (and-right (is_of e.0.suit d) (nat_lt e.0.rank d.rank) down))))
+        (and_from (is_of c.suit e.0) _ (and-left (is_of c.suit e.0) (nat_lt c.rank e.0.rank) up)
+        (or_left (nat_lt c.rank e.0.rank && nat_lt e.0.rank d.rank) _ (and_from _ _ (and-right (is_of c.suit e.0) (nat_lt c.rank e.0.rank) up) (and-right (is_of e.0.suit d) (nat_lt e.0.rank d.rank) down))))
 
     back : list_any (is_between c d) ys ≡ true → list_any (λ e. is_above c e && is_above e d) xs ≡ true
     back h =
-        let e = some-card (is_between c d) ys h in
+        let e = any-some (is_between c d) ys h in
         let x : PlayingCard = e.0 in
         let of : is_of c.suit x ≡ true = and-left (is_of c.suit x) ((nat_lt c.rank x.rank && nat_lt x.rank d.rank) || (nat_lt d.rank x.rank && nat_lt x.rank c.rank)) e.2 in
         let either : ((nat_lt c.rank x.rank && nat_lt x.rank d.rank) || (nat_lt d.rank x.rank && nat_lt x.rank c.rank)) ≡ true = and-right (is_of c.suit x) _ e.2 in
         let one : suit_code x.suit ≡ suit_code c.suit = eqb-true _ _ of in
         let two : suit_code d.suit ≡ suit_code c.suit = eqb-true _ _ suits in
-        elim (or-split (nat_lt c.rank x.rank && nat_lt x.rank d.rank) (nat_lt d.rank x.rank && nat_lt x.rank c.rank) either) [
+        elim (or_cases (nat_lt c.rank x.rank && nat_lt x.rank d.rank) (nat_lt d.rank x.rank && nat_lt x.rank c.rank) either) [
           | inl up ↦ any-of (λ e. is_above c e && is_above e d) x xs (same x ∙ e.1)
-              (and-both (is_above c x) (is_above x d) (and-both (is_of c.suit x) _ of (and-left (nat_lt c.rank x.rank) _ up))
-              (and-both (is_of x.suit d) _ (eq-eqb (suit_code d.suit) (suit_code x.suit) (two ∙ sym one)) (and-right (nat_lt c.rank x.rank) _ up)))
+              (and_from (is_above c x) (is_above x d) (and_from (is_of c.suit x) _ of (and-left (nat_lt c.rank x.rank) _ up))
+              (and_from (is_of x.suit d) _ (eq-eqb (suit_code d.suit) (suit_code x.suit) (two ∙ sym one)) (and-right (nat_lt c.rank x.rank) _ up)))
           | inr down ↦ absurd (
               let a : d.rank < x.rank = ltb-true _ _ (and-left (nat_lt d.rank x.rank) _ down) in
               let b : x.rank < c.rank = ltb-true _ _ (and-right (nat_lt d.rank x.rank) _ down) in
@@ -86,7 +79,7 @@ headed-same p others c d same = go (is_of c.suit d) (nat_lt c.rank d.rank) refl 
 
 pub tops-heads : (p : Board) (cards others : List PlayingCard) → cards ≡ legal p → ((e : PlayingCard) → has_card others e ≡ has_card (other_cards p) e) → heads cards others ≡ tops p
 tops-heads p cards others are same =
-    rw are (filter-same (λ c. not (is_headed (legal p) others c)) (is_top p) (λ c. ap not (any-same _ _ (λ d. headed-same p others c d same) (legal p))) (legal p))
+    rw are (filter_agree (λ c. not (is_headed (legal p) others c)) (is_top p) (λ c. ap not (any-same _ _ (λ d. headed-same p others c d same) (legal p))) (legal p))
 
 -- ---- the other cards as a set
 

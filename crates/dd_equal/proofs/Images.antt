@@ -4,14 +4,14 @@ use Rattle.std.specs.Prelude.{nat_le, nat_lt, ◌&&◌, ◌||◌}
 use mathlib.Core.Bool.{not}
 use Rattle.std.specs.List.{list_any}
 use mathlib.Core.Path.{ap₂}
-use Rattle.std.proofs.lemmas.Bool.{le-leb, ltb-true}
+use Rattle.std.proofs.lemmas.Bool.{le-leb, ltb-true, false_from_ne_true}
 use Rattle.std.proofs.lemmas.Bool.Decides.{nat_tests}
 use Rattle.dd_cards.specs.declared.seat.Seat.{Seat}
 use Rattle.dd_cards.specs.declared.seat.Seat.TheVariants.{North, East, South, West}
 use Rattle.dd_cards.specs.PlayingCard.{PlayingCard}
 use Rattle.dd_cards.specs.Cards.{is_of, has_card}
 use Rattle.dd_cards.specs.Seats.{seat_code, seat_after}
-use Rattle.dd_cards.proofs.CallerLemmas.{and-left, and-right, else-false}
+use Rattle.dd_cards.proofs.CallerLemmas.{and-left, and-right, any-some}
 use Rattle.dd_cards.specs.Sides.{is_side}
 use Rattle.dd_cards.specs.declared.side.Side.{Side}
 use Rattle.dd_play.specs.Board.{Board, IsBoard, cards_at, mover, tricks_left}
@@ -24,7 +24,6 @@ use Rattle.dd_equal.specs.EqualCards.{other_cards, is_between, are_equal, is_top
 use Rattle.dd_equal.proofs.Swaps.{IsNotBetween, AreEqual, equal-won}
 use Rattle.dd_equal.proofs.Equal.{tells-equal}
 use Rattle.dd_equal.proofs.Suits.{others-split}
-use Rattle.dd_equal.proofs.ClassTops.{some-card}
 
 -- ---- equal top cards have equal images
 side-keeps : (top : PlayingCard → Bool) (to from : PlayingCard → PlayingCard) (e y : PlayingCard) → Pulled top to from (Keeps to top) e y → top (from e) ≡ true → top (from y) ≡ true → (from e).suit ≡ (from y).suit
@@ -154,7 +153,7 @@ highest-from (suc n) p c valid has h = go (list_any (λ d. are_equal p c d && na
         → ((d : PlayingCard) → IsBoard p → IsLegal p d → 15 ≤ d.rank + n → HighestOf p d) → HighestOf p c
     go false e rest = (c, filter-has (is_top p) (legal p) c has (ap not e), has, itself-equal p c (own-card p c has), omega arith)
     go true e rest =
-        let d = some-card (λ d. are_equal p c d && nat_lt c.rank d.rank) (legal p) e in
+        let d = any-some (λ d. are_equal p c d && nat_lt c.rank d.rank) (legal p) e in
         let equal : are_equal p c d.0 ≡ true = and-left (are_equal p c d.0) (nat_lt c.rank d.0.rank) d.2 in
         let higher : c.rank < d.0.rank = ltb-true c.rank d.0.rank (and-right (are_equal p c d.0) (nat_lt c.rank d.0.rank) d.2) in
         let t = rest d.0 valid d.1 (omega (arith, h, higher)) in
@@ -186,7 +185,7 @@ each-class-by top s p n up valid turn some whole each =
 
 -- a card on one side of both is not between
 not-apart : (c d e : PlayingCard) → IsNotBetween c d e → is_between c d e ≡ false
-not-apart c d e h = else-false _ (λ hit.
+not-apart c d e h = false_from_ne_true _ (λ hit.
     let suit : e.suit ≡ c.suit = suit-of c.suit e (and-left (is_of c.suit e) ((nat_lt c.rank e.rank && nat_lt e.rank d.rank) || (nat_lt d.rank e.rank && nat_lt e.rank c.rank)) hit) in
     let k = h suit in
     beside c.rank d.rank e.rank k.0 k.1 (and-right (is_of c.suit e) ((nat_lt c.rank e.rank && nat_lt e.rank d.rank) || (nat_lt d.rank e.rank && nat_lt e.rank c.rank)) hit))
@@ -224,7 +223,7 @@ equal-tells p c d a = rw (of-suit' c.suit d a.suit, none) refl
     ]
 
     none : list_any (is_between c d) (other_cards p) ≡ false
-    none = else-false _ (λ hit. let e = some-card (is_between c d) (other_cards p) hit in absurd (let z : false ≡ true = sym (not-apart c d e.0 (each e.0 e.1)) ∙ e.2 in cc))
+    none = false_from_ne_true _ (λ hit. let e = any-some (is_between c d) (other_cards p) hit in absurd (let z : false ≡ true = sym (not-apart c d e.0 (each e.0 e.1)) ∙ e.2 in cc))
 
 -- the law, in the words of the test
 pub each-class-whole : (top : PlayingCard → Bool) (s : Side) (p : Board) (n : ℕ) → IsUpward top → IsBoard p → is_side s (mover p) ≡ false → 1 ≤ tricks_left p

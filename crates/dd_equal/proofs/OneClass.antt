@@ -2,7 +2,7 @@
 use Rattle.std.proofs.Common.{◌≡◌, ◌≢◌, ℕ, zero, suc, ◌+◌, ◌<◌, ◌≤◌, Bool, true, false, refl, sym, ap, ◌∙◌, subst, arith, List, [], ◌∷◌, length, eq-eqb, inl, inr, ◌⊎◌}
 use Rattle.std.specs.Prelude.{filter, nat_lt, ◌&&◌, ◌||◌}
 use Rattle.std.specs.List.{list_any}
-use Rattle.std.proofs.lemmas.Bool.{lt-ltb, ltb-true}
+use Rattle.std.proofs.lemmas.Bool.{lt-ltb, ltb-true, and_from, or_right, or_cases, not-true, not_from_false, false_from_ne_true}
 use Rattle.std.proofs.lemmas.Bool.Decides.{nat_tests}
 use Rattle.std.proofs.lemmas.List.{length-map}
 use mathlib.Core.Bool.{not}
@@ -13,7 +13,7 @@ use Rattle.dd_cards.specs.PlayingCard.{PlayingCard}
 use Rattle.dd_cards.specs.Ranks.{IsRank, all_ranks, has_rank}
 use Rattle.dd_cards.specs.Masks.{in_mask}
 use Rattle.dd_cards.specs.Cards.{is_of, card_of, same_card, has_card}
-use Rattle.dd_cards.proofs.CallerLemmas.{IsSet-filter, and-both, and-left, and-right, and-true, any-filter, both-ways, else-false, false-not, filter-filter, filter-map, has_rank-holding, in_mask-mask_of, not-true, or-right, or-split, real-set, same_card-eq, same_card-self, suit-ranks, times-has_card}
+use Rattle.dd_cards.proofs.CallerLemmas.{IsSet-filter, and-left, and-right, and-true, any-filter, both-ways, filter-filter, filter-map, has_rank-holding, in_mask-mask_of, real-set, same_card-eq, same_card-self, suit-ranks, times-has_card, any-some, none-at, any-card, has-filter, filter-members}
 use Rattle.dd_play.specs.Board.{Board, IsBoard, mover}
 use Rattle.dd_play.specs.Play.{legal}
 use Rattle.dd_play.specs.Simulations.{IsLegal}
@@ -21,10 +21,7 @@ use Rattle.dd_play.proofs.CallerLemmas.{card-real, count-some, filter-has, filte
 use Rattle.dd_equal.specs.EqualCards.{EqualCards, other_cards, is_between, are_equal, is_top, tops, equals_of, class_of, classes_of, class_has}
 use Rattle.dd_equal.specs.SuitClasses.{is_separated, equal_ranks}
 use Rattle.dd_equal.proofs.EqualCards.{set-legal}
-use Rattle.dd_equal.proofs.Equal.{none-at}
-use Rattle.dd_equal.proofs.Suits.{AreRanks, any-card, between-ranks, class-ranks, others-differ, suit_ranks}
-use Rattle.dd_equal.proofs.ClassTops.{some-card}
-use Rattle.dd_equal.proofs.Walks.{filter-members, has-filter}
+use Rattle.dd_equal.proofs.Suits.{AreRanks, between-ranks, class-ranks, others-differ, suit_ranks}
 
 -- ---- equal cards, by ranks
 
@@ -38,8 +35,8 @@ record NoneBetween (p : Board) (c d : PlayingCard) : Type 0 where
 tells : (p : Board) (c d : PlayingCard) → are_equal p c d ≡ true → NoneBetween p c d
 tells p c d h = record {
   suit = suit-of c.suit d (and-left (is_of c.suit d) (not (list_any (is_between c d) (other_cards p))) h);
-  up = λ e has same low high. hit e has same (or-left' (nat_lt c.rank e.rank && nat_lt e.rank d.rank) _ (and-both (nat_lt c.rank e.rank) (nat_lt e.rank d.rank) (lt-ltb c.rank e.rank low) (lt-ltb e.rank d.rank high)));
-  down = λ e has same low high. hit e has same (or-right (nat_lt c.rank e.rank && nat_lt e.rank d.rank) (nat_lt d.rank e.rank && nat_lt e.rank c.rank) (and-both (nat_lt d.rank e.rank) (nat_lt e.rank c.rank) (lt-ltb d.rank e.rank low) (lt-ltb e.rank c.rank high)));
+  up = λ e has same low high. hit e has same (or-left' (nat_lt c.rank e.rank && nat_lt e.rank d.rank) _ (and_from (nat_lt c.rank e.rank) (nat_lt e.rank d.rank) (lt-ltb c.rank e.rank low) (lt-ltb e.rank d.rank high)));
+  down = λ e has same low high. hit e has same (or_right (nat_lt c.rank e.rank && nat_lt e.rank d.rank) (nat_lt d.rank e.rank && nat_lt e.rank c.rank) (and_from (nat_lt d.rank e.rank) (nat_lt e.rank c.rank) (lt-ltb d.rank e.rank low) (lt-ltb e.rank c.rank high)));
 }
   where
     or-left' : (a b : Bool) → a ≡ true → (a || b) ≡ true
@@ -50,17 +47,17 @@ tells p c d h = record {
 
     hit : (e : PlayingCard) → has_card (other_cards p) e ≡ true → e.suit ≡ c.suit → ((nat_lt c.rank e.rank && nat_lt e.rank d.rank) || (nat_lt d.rank e.rank && nat_lt e.rank c.rank)) ≡ true → ⊥
     hit e has same within =
-        let yes : is_between c d e ≡ true = and-both (is_of c.suit e) _ (of-suit' c.suit e same) within in
+        let yes : is_between c d e ≡ true = and_from (is_of c.suit e) _ (of-suit' c.suit e same) within in
         (let no : true ≡ false = sym yes ∙ none-at (is_between c d) (other_cards p) e none has in cc)
 
 -- and such cards are equal
 says : (p : Board) (c d : PlayingCard) → NoneBetween p c d → are_equal p c d ≡ true
-says p c d n = and-both (is_of c.suit d) _ (of-suit' c.suit d n.suit) (false-not _ (else-false _ (λ h.
-    let e = some-card (is_between c d) (other_cards p) h in
+says p c d n = and_from (is_of c.suit d) _ (of-suit' c.suit d n.suit) (not_from_false _ (false_from_ne_true _ (λ h.
+    let e = any-some (is_between c d) (other_cards p) h in
     let above : Bool = nat_lt c.rank e.0.rank && nat_lt e.0.rank d.rank in
     let below : Bool = nat_lt d.rank e.0.rank && nat_lt e.0.rank c.rank in
     let same : e.0.suit ≡ c.suit = suit-of c.suit e.0 (and-left (is_of c.suit e.0) (above || below) e.2) in
-    elim (or-split above below (and-right (is_of c.suit e.0) (above || below) e.2)) [
+    elim (or_cases above below (and-right (is_of c.suit e.0) (above || below) e.2)) [
       | inl u ↦ n.up e.0 e.1 same (ltb-true c.rank e.0.rank (and-left (nat_lt c.rank e.0.rank) (nat_lt e.0.rank d.rank) u)) (ltb-true e.0.rank d.rank (and-right (nat_lt c.rank e.0.rank) (nat_lt e.0.rank d.rank) u))
       | inr u ↦ n.down e.0 e.1 same (ltb-true d.rank e.0.rank (and-left (nat_lt d.rank e.0.rank) (nat_lt e.0.rank c.rank) u)) (ltb-true e.0.rank c.rank (and-right (nat_lt d.rank e.0.rank) (nat_lt e.0.rank c.rank) u))
     ])))
@@ -168,7 +165,7 @@ record Stands (p : Board) (t c : PlayingCard) : Type 0 where
 
 -- the card is the highest one, or a lower equal one
 has-card : (p : Board) (t c : PlayingCard) → IsBoard p → class_has (class_of p t) c ≡ true → (t ≡ c) ⊎ (IsLegal p c × NoneBetween p t c × (c.rank < t.rank))
-has-card p t c valid h = elim (or-split (same_card t c) (is_of t.suit c && in_mask (equals_of p t) c.rank) h) [
+has-card p t c valid h = elim (or_cases (same_card t c) (is_of t.suit c && in_mask (equals_of p t) c.rank) h) [
   | inl same ↦ inl (same_card-eq t c same)
   | inr there ↦ (
       let k : (has_card (legal p) c && (are_equal p t c && nat_lt c.rank t.rank)) ≡ true = sym (lower-card p t c valid) ∙ there in
@@ -180,8 +177,8 @@ has-card p t c valid h = elim (or-split (same_card t c) (is_of t.suit c && in_ma
 in-class : (p : Board) (t c : PlayingCard) → IsBoard p → IsLegal p c → (t ≡ c) ⊎ (NoneBetween p t c × (c.rank < t.rank)) → class_has (class_of p t) c ≡ true
 in-class p t c valid own (inl e) = rw (ap (λ x. same_card x c) e ∙ same_card-self c) refl
 in-class p t c valid own (inr k) =
-    or-right (same_card t c) (is_of t.suit c && in_mask (equals_of p t) c.rank)
-    (lower-card p t c valid ∙ and-both (has_card (legal p) c) (are_equal p t c && nat_lt c.rank t.rank) own (and-both (are_equal p t c) (nat_lt c.rank t.rank) (says p t c k.0) (lt-ltb c.rank t.rank k.1)))
+    or_right (same_card t c) (is_of t.suit c && in_mask (equals_of p t) c.rank)
+    (lower-card p t c valid ∙ and_from (has_card (legal p) c) (are_equal p t c && nat_lt c.rank t.rank) own (and_from (are_equal p t c) (nat_lt c.rank t.rank) (says p t c k.0) (lt-ltb c.rank t.rank k.1)))
 
 -- how it stands
 standing : (p : Board) (t c : PlayingCard) → IsBoard p → class_has (class_of p t) c ≡ true → Stands p t c
@@ -205,7 +202,7 @@ climb (suc n) p c valid has h = go (list_any (λ d. are_equal p c d && nat_lt c.
         → ((d : PlayingCard) → IsBoard p → IsLegal p d → 15 ≤ d.rank + n → SomeClass p d) → SomeClass p c
     go false e rest = (c, filter-has (is_top p) (legal p) c has (ap not e), inl refl)
     go true e rest =
-        let d = some-card (λ d. are_equal p c d && nat_lt c.rank d.rank) (legal p) e in
+        let d = any-some (λ d. are_equal p c d && nat_lt c.rank d.rank) (legal p) e in
         let near : NoneBetween p d.0 c = turned p c d.0 (tells p c d.0 (and-left (are_equal p c d.0) (nat_lt c.rank d.0.rank) d.2)) in
         let higher : c.rank < d.0.rank = ltb-true c.rank d.0.rank (and-right (are_equal p c d.0) (nat_lt c.rank d.0.rank) d.2) in
         let t = rest d.0 valid d.1 (omega (arith, h, higher)) in
@@ -226,7 +223,7 @@ no-higher p t u c top other low high less =
     }) in
     let legal_u : has_card (legal p) u ≡ true = any-filter (λ d. same_card d u) (is_top p) (legal p) other in
     let found : list_any (λ d. are_equal p t d && nat_lt t.rank d.rank) (legal p) ≡ true =
-    any-card (λ d. are_equal p t d && nat_lt t.rank d.rank) (legal p) u legal_u (and-both (are_equal p t u) (nat_lt t.rank u.rank) equal (lt-ltb t.rank u.rank less)) in
+    any-card (λ d. are_equal p t d && nat_lt t.rank d.rank) (legal p) u legal_u (and_from (are_equal p t u) (nat_lt t.rank u.rank) equal (lt-ltb t.rank u.rank less)) in
     (let no : true ≡ false = sym found ∙ not-true _ (filter-passes (is_top p) (legal p) t top) in cc)
 
 -- so they are one
@@ -250,7 +247,7 @@ one-top p t u c top other low high =
 -- tests that agree on a list's cards keep the same part
 same-part : (f g : PlayingCard → Bool) (cards : List PlayingCard) → ((c : PlayingCard) → has_card cards c ≡ true → f c ≡ g c) → filter f cards ≡ filter g cards
 same-part f g [] e = refl
-same-part f g (d ∷ cards) e = rw (e d (rw (same_card-self d) refl), same-part f g cards (λ c has. e c (or-right (same_card d c) (has_card cards c) has))) refl
+same-part f g (d ∷ cards) e = rw (e d (rw (same_card-self d) refl), same-part f g cards (λ c has. e c (or_right (same_card d c) (has_card cards c) has))) refl
 
 -- the classes that have a card, by their highest cards
 classes-by-top : (p : Board) (c : PlayingCard) → length (filter (λ class. class_has class c) (classes_of p)) ≡ length (filter (λ t. class_has (class_of p t) c) (tops p))
@@ -279,7 +276,7 @@ only-legal p c valid some =
 
 -- The mask of a class is without its highest card.
 pub mask-lower : (p : Board) (t : PlayingCard) → IsBoard p → in_mask (equals_of p t) t.rank ≡ false
-mask-lower p t valid = else-false _ (λ h.
+mask-lower p t valid = false_from_ne_true _ (λ h.
     let k = sym (lower-rank p t.suit t.rank t.rank valid) ∙ h in
     let m = and-right (has_card (legal p) t) (are_equal p t t && nat_lt t.rank t.rank) k in
     let less : t.rank < t.rank = ltb-true t.rank t.rank (and-right (are_equal p t t) (nat_lt t.rank t.rank) m) in

@@ -1,11 +1,10 @@
 -- one suit of a position: its legal ranks, the others' ranks, and the classes that these make
 use Rattle.std.proofs.Common.{◌≡◌, ℕ, ◌+◌, ◌<◌, ◌≤◌, Bool, true, false, cond, refl, sym, ap, ◌∙◌, arith, List, [], ◌∷◌, ◌++◌, length, take, get_or, inl, inr, eq-eqb, nat_lt, length-append}
 use Rattle.std.proofs.lemmas.List.{take_more, map-append}
-use Rattle.std.proofs.lemmas.List.Elements.{filter-append}
+use Rattle.std.proofs.lemmas.List.Elements.{filter-append, filter_agree}
 use Rattle.dd_cards.specs.declared.suit.Suit.TheVariants.{Spades, Hearts, Diamonds, Clubs}
 use Rattle.dd_cards.specs.Ranks.{with_rank}
-use Rattle.dd_cards.proofs.CallerLemmas.{and-left, and-right, both-ways, filter-filter, filter-map, filter-same, has_rank-holding, has_rank-lowest_ranks, or-right, ranks-from_cards, real-set, same_card-eq, set-by-suits, suit-ranks}
-use Rattle.dd_equal.proofs.Walks.{filter-members}
+use Rattle.dd_cards.proofs.CallerLemmas.{and-left, and-right, both-ways, filter-filter, filter-map, has_rank-holding, has_rank-lowest_ranks, ranks-from_cards, real-set, same_card-eq, set-by-suits, suit-ranks, times-has, any-card, has-all, has-filter, filter-members}
 use Rattle.std.specs.Prelude.{filter, map, ◌==◌, ◌&&◌, ◌||◌}
 use Rattle.std.specs.List.{list_any}
 use mathlib.Core.Bool.{not}
@@ -22,11 +21,12 @@ use Rattle.dd_cards.specs.Cards.{is_of, card_of, same_card, has_card}
 use Rattle.dd_cards.specs.Hands.{hand_of, times}
 use Rattle.dd_play.specs.Board.{Board, IsBoard, cards_at, mover}
 use Rattle.dd_play.specs.Play.{legal}
-use Rattle.dd_play.proofs.CallerLemmas.{in-following, times-has}
+use Rattle.dd_play.proofs.CallerLemmas.{in-following}
 use Rattle.dd_equal.specs.EqualCards.{EqualCards, other_cards, is_between, are_equal, is_top, class_of, classes_of}
 use Rattle.dd_equal.specs.SuitClasses.{is_separated, is_top_rank, equal_ranks, class_of_rank, descends, AreApart}
 use Rattle.dd_equal.proofs.EqualCards.{set-legal, ranks-of-suit}
-use Rattle.dd_equal.proofs.Walks.{descends-filter, descends-all, has-filter, any-member}
+use Rattle.dd_equal.proofs.Walks.{descends-filter, descends-all, any-member}
+use Rattle.std.proofs.lemmas.Bool.{or_right}
 
 -- a card of the list that passes
 pub record Found (f : PlayingCard → Bool) (cards : List PlayingCard) : Type 0 where
@@ -44,16 +44,7 @@ any-found f (c ∷ cards) h = go (f c) refl (λ k. any-found f cards k) h
 
     go : (b : Bool) → f c ≡ b → (list_any f cards ≡ true → Found f cards) → (b || list_any f cards) ≡ true → Found f (c ∷ cards)
     go true e ih h = record { card = c; has = rw self refl; passes = e }
-    go false e ih h = (let rest = ih h in record { card = rest.card; has = or-right (same_card c rest.card) _ rest.has; passes = rest.passes })
-
--- a card that is there and passes is found
-pub any-card : (f : PlayingCard → Bool) (cards : List PlayingCard) (c : PlayingCard) → has_card cards c ≡ true → f c ≡ true → list_any f cards ≡ true
-any-card f [] c has h = absurd (cc)
-any-card f (d ∷ cards) c has h = go (same_card d c) refl (λ k. any-card f cards c k h) has
-  where
-    go : (b : Bool) → same_card d c ≡ b → (has_card cards c ≡ true → list_any f cards ≡ true) → (b || has_card cards c) ≡ true → list_any f (d ∷ cards) ≡ true
-    go true e ih k = rw (ap f (same_card-eq d c e) ∙ h) refl
-    go false e ih k = or-right (f d) _ (ih k)
+    go false e ih h = (let rest = ih h in record { card = rest.card; has = or_right (same_card c rest.card) _ rest.has; passes = rest.passes })
 
 -- where some rank passes, there is such a rank
 pub record FoundRank (f : ℕ → Bool) (ranks : List ℕ) : Type 0 where
@@ -67,12 +58,7 @@ rank-found f (r ∷ ranks) h = go (f r) refl (λ k. rank-found f ranks k) h
   where
     go : (b : Bool) → f r ≡ b → (list_any f ranks ≡ true → FoundRank f ranks) → (b || list_any f ranks) ≡ true → FoundRank f (r ∷ ranks)
     go true e ih h = record { rank = r; has = rw (eq-eqb r r refl) refl; passes = e }
-    go false e ih h = (let rest = ih h in record { rank = rest.rank; has = or-right (r == rest.rank) _ rest.has; passes = rest.passes })
-
--- every real rank is among the thirteen
-has-all : (r : ℕ) → IsRank r → has_rank all_ranks r ≡ true
-unfolding all_ranks
-has-all r real = has_rank-lowest_ranks 13 r real.0 (omega (arith, real.1))
+    go false e ih h = (let rest = ih h in record { rank = rest.rank; has = or_right (r == rest.rank) _ rest.has; passes = rest.passes })
 
 -- the ranks of a suit among some cards
 abbrev pub suit_ranks : Suit → List PlayingCard → List ℕ
@@ -222,16 +208,16 @@ class-ranks p s own others r valid are = ap seen (ap mask_of (ap (map (λ c. c.r
 
     cards : filter (λ d. are_equal p (card_of s r) d && nat_lt d.rank r) (legal p) ≡ map (card_of s) (equal_ranks own others r)
     cards =
-        filter-same (λ d. are_equal p (card_of s r) d && nat_lt d.rank r) (λ d. is_of s d && g d) (λ d. and-assoc (is_of s d) _ (nat_lt d.rank r)) (legal p)
+        filter_agree (λ d. are_equal p (card_of s r) d && nat_lt d.rank r) (λ d. is_of s d && g d) (λ d. and-assoc (is_of s d) _ (nat_lt d.rank r)) (legal p)
         ∙ sym (filter-filter g (is_of s) (legal p)) ∙ ap (filter g) (sym are.of_mover) ∙ filter-map g (card_of s) own
-        ∙ ap (map (card_of s)) (filter-same (λ q. g (card_of s q)) (λ q. not (is_separated others r q) && nat_lt q r) (λ q. ap (λ b. not b && nat_lt q r) (between-ranks p s own others r q valid are)) own)
+        ∙ ap (map (card_of s)) (filter_agree (λ q. g (card_of s q)) (λ q. not (is_separated others r q) && nat_lt q r) (λ q. ap (λ b. not b && nat_lt q r) (between-ranks p s own others r q valid are)) own)
 
 -- the classes of a suit, by their ranks
 pub suit-classes : (p : Board) (s : Suit) (own others : List ℕ) → IsBoard p → AreRanks p s own others
     → map (class_of_rank s own others) (filter (is_top_rank own others) own) ≡ map (class_of p) (filter (is_top p) (filter (is_of s) (legal p)))
 suit-classes p s own others valid are =
     sym (ap (λ cards. map (class_of p) (filter (is_top p) cards)) (sym are.of_mover)
-    ∙ ap (map (class_of p)) (filter-map (is_top p) (card_of s) own ∙ ap (map (card_of s)) (filter-same (λ r. is_top p (card_of s r)) (is_top_rank own others) (λ r. top-ranks p s own others r valid are) own))
+    ∙ ap (map (class_of p)) (filter-map (is_top p) (card_of s) own ∙ ap (map (card_of s)) (filter_agree (λ r. is_top p (card_of s r)) (is_top_rank own others) (λ r. top-ranks p s own others r valid are) own))
     ∙ each (filter (is_top_rank own others) own))
   where
     each : (rs : List ℕ) → map (class_of p) (map (card_of s) rs) ≡ map (class_of_rank s own others) rs
@@ -311,7 +297,7 @@ ranks-more s x start ranks new items i within here e is_new = is_new ∙ go (is_
         plain false = refl
 
     go : (b : Bool) → is_of s x ≡ b → cond b (with_rank ranks x.rank) ranks ≡ filter (λ r. has_rank start r || has_card (take (i + 1) items) (card_of s r)) all_ranks
-    go false h = e ∙ filter-same before (λ r. has_rank start r || has_card (take (i + 1) items) (card_of s r)) (λ r. ap (λ b. has_rank start r || b) (sym (after r ∙ rw h (plain (has_card (take i items) (card_of s r)))))) all_ranks
+    go false h = e ∙ filter_agree before (λ r. has_rank start r || has_card (take (i + 1) items) (card_of s r)) (λ r. ap (λ b. has_rank start r || b) (sym (after r ∙ rw h (plain (has_card (take i items) (card_of s r)))))) all_ranks
       where
         plain : (b : Bool) → (b || false) ≡ b
         plain true = refl

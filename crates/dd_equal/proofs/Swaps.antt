@@ -8,13 +8,14 @@ use Rattle.dd_cards.specs.PlayingCard.{PlayingCard}
 use Rattle.dd_cards.specs.Cards.{same_card, has_card}
 use Rattle.dd_cards.specs.Seats.{seat_code, seat_after}
 use Rattle.dd_cards.specs.Hands.{times, hand_of}
-use Rattle.dd_cards.proofs.CallerLemmas.{else-false, same_card-eq, same_card-self}
+use Rattle.dd_cards.proofs.CallerLemmas.{same_card-eq, same_card-self, times-has}
 use Rattle.dd_cards.specs.declared.side.Side.{Side}
 use Rattle.dd_play.specs.Board.{Board, IsBoard, cards_at, mover, times_in}
 use Rattle.dd_play.specs.Play.{after}
 use Rattle.dd_play.specs.Simulations.{IsLegal}
 use Rattle.dd_play.specs.Covers.{Keeps, Answers, AllAnswer, IsCover, any_card}
-use Rattle.dd_play.proofs.CallerLemmas.{has-first, in-rest, same-or, stepped, times-hand, times-has, twins-won, won_with}
+use Rattle.dd_play.proofs.CallerLemmas.{has-first, in-rest, same-or, stepped, times-hand, twins-won, won_with}
+use Rattle.std.proofs.lemmas.Bool.{false_from_ne_true}
 
 -- e does not stand between c and d
 abbrev pub IsNotBetween : PlayingCard → PlayingCard → PlayingCard → Type 0
@@ -157,7 +158,7 @@ equal-cover s p c d good apart eq =
 
     -- neither of the two is elsewhere
     fixed : (e : PlayingCard) → ((x : PlayingCard) → has_card (cards_at p (mover p)) x ≡ true → e ≡ x → ⊥) → swap c d e ≡ e
-    fixed e never = swap-other c d e (else-false _ (λ h. never c eq.has_c (same_card-eq e c h))) (else-false _ (λ h. never d eq.has_d (same_card-eq e d h)))
+    fixed e never = swap-other c d e (false_from_ne_true _ (λ h. never c eq.has_c (same_card-eq e c h))) (false_from_ne_true _ (λ h. never d eq.has_d (same_card-eq e d h)))
 
     fixed-hand : (x : Seat) (e : PlayingCard) → x ≢ mover p → has_card (cards_at p x) e ≡ true → swap c d e ≡ e
     fixed-hand x e n h = fixed e (λ y hy i. n (one-hand p good x (mover p) e h (ap (has_card (cards_at p (mover p))) i ∙ hy)))

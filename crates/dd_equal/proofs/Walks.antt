@@ -8,12 +8,13 @@ use Rattle.dd_equal.specs.EqualCards.{EqualCards}
 use Rattle.std.specs.Prelude.{MatchOption, ◌++◌, filter, map, find, slice_get, ◌==◌, ◌&&◌, ◌||◌}
 use Rattle.std.specs.List.{list_any, list_all}
 use mathlib.Core.Bool.{not}
-use Rattle.std.proofs.lemmas.Bool.{cases_lt, eqb-true, lt-ltb, le-ltb}
+use Rattle.std.proofs.lemmas.Bool.{cases_lt, eqb-true, lt-ltb, le-ltb, or_right}
 use Rattle.std.proofs.lemmas.Bool.Decides.{eqb_tells}
 use Rattle.std.proofs.lemmas.Map.Views.{any-filter_same}
 use Rattle.dd_cards.specs.Ranks.{all_ranks, lowest_ranks, has_rank}
-use Rattle.dd_cards.proofs.CallerLemmas.{and-false, and-left, and-right, filter-filter, filter-same, length-filter-le, or-right}
+use Rattle.dd_cards.proofs.CallerLemmas.{and-false, and-left, and-right, filter-filter, length-filter-le, has-filter, filter-members}
 use Rattle.dd_equal.specs.SuitClasses.{is_separated, is_top_rank, equal_ranks, class_of_rank, descends, AreApart}
+use Rattle.std.proofs.lemmas.List.Elements.{filter_agree}
 
 -- a filter keeps what holds of all
 all-filter : (t p : ℕ → Bool) (xs : List ℕ) → list_all t xs ≡ true → list_all t (filter p xs) ≡ true
@@ -49,16 +50,12 @@ all-member t (x ∷ xs) q all has = elim (eqb_tells x q) [
   | inr other ↦ all-member t xs q (and-right (t x) _ all) (rw other.0 at has)
 ]
 
--- the members of a part
-pub has-filter : (p : ℕ → Bool) (xs : List ℕ) (q : ℕ) → has_rank (filter p xs) q ≡ (p q && has_rank xs q)
-has-filter p xs q = any-filter_same (λ x. x == q) p (p q) (λ x e. ap p (eqb-true x q e)) xs
-
 -- a member that passes is found
 pub any-member : (f : ℕ → Bool) (xs : List ℕ) (q : ℕ) → has_rank xs q ≡ true → f q ≡ true → list_any f xs ≡ true
 any-member f [] q has h = absurd (cc)
 any-member f (x ∷ xs) q has h = elim (eqb_tells x q) [
   | inl same ↦ rw (ap f same.1 ∙ h) refl
-  | inr other ↦ or-right (f x) _ (any-member f xs q (rw other.0 at has) h)
+  | inr other ↦ or_right (f x) _ (any-member f xs q (rw other.0 at has) h)
 ]
 
 -- the first element is a member, and so are those after it
@@ -66,17 +63,12 @@ has-first : (x : ℕ) (xs : List ℕ) → has_rank (x ∷ xs) x ≡ true
 has-first x xs = rw (eq-eqb x x refl) refl
 
 has-later : (x : ℕ) (xs : List ℕ) (q : ℕ) → has_rank xs q ≡ true → has_rank (x ∷ xs) q ≡ true
-has-later x xs q h = or-right (x == q) _ h
+has-later x xs q h = or_right (x == q) _ h
 
 -- where no member passes, none is found
 pub any-none : (f : ℕ → Bool) (xs : List ℕ) → ((q : ℕ) → has_rank xs q ≡ true → f q ≡ false) → list_any f xs ≡ false
 any-none f [] none = refl
 any-none f (x ∷ xs) none = rw (none x (has-first x xs)) (any-none f xs (λ q h. none q (has-later x xs q h)))
-
--- two tests that agree on the members keep the same part
-pub filter-members : (p t : ℕ → Bool) (xs : List ℕ) → ((q : ℕ) → has_rank xs q ≡ true → p q ≡ t q) → filter p xs ≡ filter t xs
-filter-members p t [] e = refl
-filter-members p t (x ∷ xs) e = rw (e x (has-first x xs), filter-members p t xs (λ q h. e q (has-later x xs q h))) refl
 
 -- ---- what separates two ranks
 -- a rank between two separates them
@@ -255,7 +247,7 @@ step own others rest tail equals next top n apart left e floor is_equals is_next
         part = is_next ∙ ap (λ xs. filter (λ q. nat_lt q n) (filter (λ q. nat_lt q top) xs)) left.part
             ∙ filter-filter (λ q. nat_lt q n) (λ q. nat_lt q top) (filter (λ q. nat_lt q left.bound) own)
             ∙ filter-filter (λ q. nat_lt q top && nat_lt q n) (λ q. nat_lt q left.bound) own
-            ∙ filter-same (λ q. nat_lt q left.bound && (nat_lt q top && nat_lt q n)) (λ q. nat_lt q n) under own;
+            ∙ filter_agree (λ q. nat_lt q left.bound && (nat_lt q top && nat_lt q n)) (λ q. nat_lt q n) under own;
         apart = λ q r has le lt. floor-apart own others top n q r apart floor has le lt;
       };
       shorter = (let le = length-filter-le (λ q. nat_lt q n) tail in let a : length next ≡ length (filter (λ q. nat_lt q n) tail) = ap length next-tail in let b : length rest ≡ suc (length tail) = ap length e in omega (arith, le, a, b));
@@ -323,7 +315,7 @@ taken own others (r ∷ tail) lower equals next top (Some f) apart left e is_low
     (parts.0 ∙ ap (filter (λ q. nat_lt f q)) is_lower) (parts.1 ∙ ap (filter (λ q. nat_lt q f)) is_lower)
 taken own others (r ∷ tail) lower equals next top None apart left e is_lower is_floor parts =
     step own others (r ∷ tail) tail equals next top 0 apart left (ap (λ x. x ∷ tail) same) (floor-none others top (apart.small top own-top).0 (sym is_floor))
-    (parts.0 ∙ is_lower ∙ sym (filter-members (λ q. nat_lt 0 q) (λ _. true) low positive ∙ keep low)) (parts.1 ∙ sym (filter-same (λ q. nat_lt q 0) (λ _. false) (λ q. le-ltb q 0 (omega arith)) low ∙ drop low))
+    (parts.0 ∙ is_lower ∙ sym (filter-members (λ q. nat_lt 0 q) (λ _. true) low positive ∙ keep low)) (parts.1 ∙ sym (filter_agree (λ q. nat_lt q 0) (λ _. false) (λ q. le-ltb q 0 (omega arith)) low ∙ drop low))
   where
     same : r ≡ top
     same = ap (λ (o : Option ℕ). elim o [ None ↦ r | Some y ↦ y ]) e

@@ -4,23 +4,21 @@ use Rattle.std.specs.Prelude.{filter, nat_lt, ◌&&◌, ◌||◌}
 use Rattle.std.specs.List.{list_any}
 use mathlib.Core.Bool.{not}
 use mathlib.Core.Path.{ap₂}
-use Rattle.std.proofs.lemmas.Bool.{cases_lt, lt-ltb, ltb-true}
+use Rattle.std.proofs.lemmas.Bool.{cases_lt, lt-ltb, and_from, not-true, not_from_false, false_from_ne_true}
 use Rattle.std.proofs.lemmas.Bool.Decides.{eqb_tells}
 use Rattle.dd_cards.specs.PlayingCard.{PlayingCard}
 use Rattle.dd_cards.specs.Suits.{suit_code}
 use Rattle.dd_cards.specs.Ranks.{IsRank}
 use Rattle.dd_cards.specs.Cards.{card_of, is_of, same_card, has_card, with_card, deck}
-use Rattle.dd_cards.specs.Sequences.{is_above, is_headed}
-use Rattle.dd_cards.proofs.CallerLemmas.{and-both, and-left, and-right, any-filter, else-false, false-not, has_card-deck, not-true, same_card-eq}
+use Rattle.dd_cards.specs.Sequences.{is_headed, is_above}
+use Rattle.dd_cards.proofs.CallerLemmas.{and-left, and-right, any-filter, has_card-deck, same_card-eq, any-some, any-of, any-card}
 use Rattle.dd_play.specs.Board.{Board, IsBoard}
 use Rattle.dd_play.specs.Play.{legal}
 use Rattle.dd_play.specs.Simulations.{IsLegal}
 use Rattle.dd_play.specs.Reach.{reach}
-use Rattle.dd_play.proofs.CallerLemmas.{filter-has, filter-passes, of-suit', own-card, reach-of, reach-some, suit-of}
+use Rattle.dd_play.proofs.CallerLemmas.{filter-has, filter-passes, of-suit', own-card, reach-of, reach-some, suit-of, above-is, above-suit, above-rank}
 use Rattle.dd_equal.specs.EqualCards.{other_cards, is_between, are_equal, is_top, IsWhole}
-use Rattle.dd_equal.proofs.ClassTops.{some-card}
-use Rattle.dd_equal.proofs.HeadCards.{any-of}
-use Rattle.dd_equal.proofs.Suits.{any-card, others-differ}
+use Rattle.dd_equal.proofs.Suits.{others-differ}
 
 -- ---- one card more
 
@@ -53,26 +51,17 @@ pub record AreLower (p : Board) (others reached less lower result : List Playing
   pub either : (c : PlayingCard) → has_card result c ≡ true → (has_card reached c ≡ true) ⊎ (has_card lower c ≡ true)
   pub more : (c : PlayingCard) → has_card lower c ≡ true → has_card result c ≡ true
 
-is-above : (c d : PlayingCard) → d.suit ≡ c.suit → c.rank < d.rank → is_above c d ≡ true
-is-above c d suit less = and-both (is_of c.suit d) (nat_lt c.rank d.rank) (of-suit' c.suit d suit) (lt-ltb c.rank d.rank less)
-
-above-suit : (c d : PlayingCard) → is_above c d ≡ true → d.suit ≡ c.suit
-above-suit c d h = suit-of c.suit d (and-left (is_of c.suit d) (nat_lt c.rank d.rank) h)
-
-above-less : (c d : PlayingCard) → is_above c d ≡ true → c.rank < d.rank
-above-less c d h = ltb-true c.rank d.rank (and-right (is_of c.suit d) (nat_lt c.rank d.rank) h)
-
 -- of one class, what is above the one card and no higher than the other is no other card
 between-own : (p : Board) (others reached less lower result : List PlayingCard) → AreLower p others reached less lower result → (t c : PlayingCard) → IsLegal p t → are_equal p t c ≡ true
     → (x : PlayingCard) → x.suit ≡ t.suit → c.rank < x.rank → x.rank ≤ t.rank → has_card others x ≡ false
-between-own p others reached less lower result are t c legal_t eq x suit low high = else-false _ (λ h.
+between-own p others reached less lower result are t c legal_t eq x suit low high = false_from_ne_true _ (λ h.
     let other : has_card (other_cards p) x ≡ true = sym (are.theirs x) ∙ h in
     elim (eqb_tells x.rank t.rank) [
       | inl same ↦ others-differ p x are.valid (ap (has_card _) (ap₂ (λ u r. card_of u r) suit same.1) ∙ own-card p t legal_t) other
       | inr differ ↦ (
           let below : x.rank < t.rank = (let n = differ.1 in omega (arith, n, high)) in
           let hit : list_any (is_between t c) (other_cards p) ≡ true = any-card (is_between t c) (other_cards p) x other
-          (and-both (is_of t.suit x) _ (of-suit' t.suit x suit) (or-right' (nat_lt t.rank x.rank && nat_lt x.rank c.rank) _ (and-both (nat_lt c.rank x.rank) (nat_lt x.rank t.rank) (lt-ltb c.rank x.rank low) (lt-ltb x.rank t.rank below)))) in
+          (and_from (is_of t.suit x) _ (of-suit' t.suit x suit) (or-right' (nat_lt t.rank x.rank && nat_lt x.rank c.rank) _ (and_from (nat_lt c.rank x.rank) (nat_lt x.rank t.rank) (lt-ltb c.rank x.rank low) (lt-ltb x.rank t.rank below)))) in
           let none : list_any (is_between t c) (other_cards p) ≡ false = not-true _ (and-right (is_of t.suit c) _ eq) in
           (let no : true ≡ false = sym hit ∙ none in cc))
     ])
@@ -107,11 +96,11 @@ whole-lower p others reached less lower result are t c top legal_c eq h =
     -- a card of these above c, with none of the others between, heads it
     heads-it : (x : PlayingCard) → has_card less x ≡ true → x.suit ≡ t.suit → c.rank < x.rank → ((e : PlayingCard) → has_card others e ≡ true → e.suit ≡ t.suit → c.rank < e.rank → e.rank < x.rank → ⊥) → is_headed less others c ≡ true
     heads-it x has same up clear = any-of (λ y. is_above c y && not (list_any (between c y) others)) x less has
-        (and-both (is_above c x) _ (is-above c x (same ∙ sym suit) up) (false-not _ (else-false _ (λ some.
-        let e = some-card (between c x) others some in
+        (and_from (is_above c x) _ (above-is c x (same ∙ sym suit) up) (not_from_false _ (false_from_ne_true _ (λ some.
+        let e = any-some (between c x) others some in
         let from = and-left (is_above c e.0) (is_above e.0 x) e.2 in
         let to = and-right (is_above c e.0) (is_above e.0 x) e.2 in
-        clear e.0 e.1 (above-suit c e.0 from ∙ suit) (above-less c e.0 from) (above-less e.0 x to)))))
+        clear e.0 e.1 (above-suit c e.0 from ∙ suit) (above-rank c e.0 from) (above-rank e.0 x to)))))
 
     contrary : (x : PlayingCard) → has_card others x ≡ true → has_card others x ≡ false → ⊥
     contrary x there none = (let k : true ≡ false = sym there ∙ none in cc)
@@ -122,16 +111,16 @@ whole-lower p others reached less lower result are t c top legal_c eq h =
           (λ e other of up down. contrary e other (none e of up (omega (arith, down, high))))
       | inr under ↦ (
           let headed = filter-passes (is_headed less others) (legal p) d (ap (λ xs. has_card xs d) (sym are.headed) ∙ under) in
-          let x = some-card (λ y. is_above d y && not (list_any (between d y) others)) less headed in
+          let x = any-some (λ y. is_above d y && not (list_any (between d y) others)) less headed in
           let up : is_above d x.0 ≡ true = and-left (is_above d x.0) _ x.2 in
           let clear : list_any (between d x.0) others ≡ false = not-true _ (and-right (is_above d x.0) _ x.2) in
-          let higher = above-less d x.0 up in
+          let higher = above-rank d x.0 up in
           let of : x.0.suit ≡ t.suit = above-suit d x.0 up ∙ same in
           heads-it x.0 x.1 of (omega (arith, above, higher)) (λ e other suits from to. elim (cases_lt d.rank e.rank) [
             | inr lower ↦ contrary e other (none e suits from (omega (arith, lower, high)))
             | inl beyond ↦ (
                 let hit : list_any (between d x.0) others ≡ true = any-of (between d x.0) e others other
-                (and-both (is_above d e) (is_above e x.0) (is-above d e (suits ∙ sym same) beyond) (is-above e x.0 (of ∙ sym suits) to)) in
+                (and_from (is_above d e) (is_above e x.0) (above-is d e (suits ∙ sym same) beyond) (above-is e x.0 (of ∙ sym suits) to)) in
                 (let k : true ≡ false = sym hit ∙ clear in cc))
           ]))
     ]

@@ -16,18 +16,11 @@ use Rattle.dd_file.proofs.AgainMiss.{Beside, IsAtStart}
 use Rattle.dd_file.proofs.AgainOver.{plain-nothing}
 use Rattle.dd_file.proofs.AgainStates.{Sound, sound-next}
 use Rattle.dd_file.proofs.Going.{asks-byte, filled-byte}
-
-head_of : List ℕ → ℕ
-head_of [] = 0
-head_of (x ∷ l) = x
+use Rattle.dd_file.proofs.AgainTags.{same-head}
 
 tail_of : List ℕ → List ℕ
 tail_of [] = []
 tail_of (x ∷ l) = l
-
-some-first : (x y : ℕ) (a b : List ℕ) → x ∷ a ≡ y ∷ b → x ≡ y
-unfolding head_of
-some-first x y a b e = ap head_of e
 
 some-rest : (x y : ℕ) (a b : List ℕ) → x ∷ a ≡ y ∷ b → a ≡ b
 unfolding tail_of
@@ -131,7 +124,7 @@ module _ (wanted : Wanted) where
   within-filled (y ∷ p) (x ∷ xs) r (suc left) mode state answers is few =
       let less : length p ≤ left = omega arith in
       let rest = within-filled p xs r left (next_mode mode x) (state_after (suc left) mode x xs state) answers (some-rest x y xs (p ++ r) is) less in
-      (rest.0, filled-step (suc left) mode x xs state answers ∙ ap (λ l. x ∷ l) rest.1 ∙ ap (λ z. z ∷ (p ++ rest.0)) (some-first x y xs (p ++ r) is))
+      (rest.0, filled-step (suc left) mode x xs state answers ∙ ap (λ l. x ∷ l) rest.1 ∙ ap (λ z. z ∷ (p ++ rest.0)) (same-head x y xs (p ++ r) is))
 
   -- within a tag that the end cuts off
   cut-filled : (bytes : List ℕ) (left : ℕ) (mode : Mode) (state : FillState) (answers : List (Option Found)) → length bytes < left → filled_from wanted answers state (marked left mode bytes) ≡ bytes
@@ -171,7 +164,7 @@ module _ (wanted : Wanted) where
   within-behind mode x xs state answers (y ∷ p) r is some few =
       let less : length p ≤ left_of (begins mode (x ∷ xs)) = omega arith in
       let rest = within-filled p xs r (left_of (begins mode (x ∷ xs))) (next_mode mode x) (state_after 0 mode x xs state) (answers_after (ends state (begins mode (x ∷ xs))) answers) (some-rest x y xs (p ++ r) is) less in
-      (rest.0, ap (λ l. x ∷ l) rest.1 ∙ ap (λ z. z ∷ (p ++ rest.0)) (some-first x y xs (p ++ r) is))
+      (rest.0, ap (λ l. x ∷ l) rest.1 ∙ ap (λ z. z ∷ (p ++ rest.0)) (same-head x y xs (p ++ r) is))
 
   pub behind-filled : (mode : Mode) (x : ℕ) (xs : List ℕ) (state : FillState) (answers : List (Option Found)) → Sound mode state → May 0 mode (x ∷ xs) state answers
       → Behind mode x xs (behind_at 0 mode x xs state answers)

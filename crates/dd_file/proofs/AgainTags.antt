@@ -109,7 +109,7 @@ head_of : List ℕ → ℕ
 head_of [] = 0
 head_of (x ∷ l) = x
 
-same-head : (x y : ℕ) (a b : List ℕ) → x ∷ a ≡ y ∷ b → x ≡ y
+pub same-head : (x y : ℕ) (a b : List ℕ) → x ∷ a ≡ y ∷ b → x ≡ y
 unfolding head_of
 same-head x y a b e = ap head_of e
 

@@ -1,8 +1,8 @@
 -- From place to place in a file.
-use Rattle.std.proofs.Common.{◌≡◌, ◌∙◌, ℕ, zero, suc, ◌+◌, ◌-◌, ◌<◌, ◌≤◌, Bool, true, false, List, [], ◌∷◌, ◌++◌, length, get_or, take, drop, refl, sym, ap, subst, arith, append_assoc, append-nil, length-append, length-drop, Option, Result, Ok, Err}
+use Rattle.std.proofs.Common.{◌≡◌, ◌∙◌, ℕ, zero, suc, ◌+◌, ◌-◌, ◌<◌, ◌≤◌, Bool, true, false, List, [], ◌∷◌, ◌++◌, length, get_or, take, drop, refl, sym, ap, subst, arith, append_assoc, append-nil, length-append, Option, Result, Ok, Err}
 use Rattle.std.specs.Prelude.{◌&&◌, nat_le, OnOk, if◌then◌else◌}
 use Rattle.std.proofs.lemmas.Bool.Decides.{nat_tests}
-use Rattle.std.proofs.lemmas.List.{drop-drop, take_all, take-append-le}
+use Rattle.std.proofs.lemmas.List.{take-append-le}
 use Rattle.dd_cards.specs.Hands.{FourHands}
 use Rattle.dd_file.specs.declared.fill_state.FillState.{FillState}
 use Rattle.dd_file.specs.declared.filler.Filler.{Filler}
@@ -20,6 +20,7 @@ use Rattle.dd_file.specs.Passing.{PassesByte, begins_now}
 use Rattle.dd_file.specs.Told.{GameNotes, TextsOf, games_in, next_notes, one_more, told_from, told_here, told_last, told_of}
 use Rattle.dd_file.specs.Windows.{Point, Place, place_of, point_of, marked_at, Follows, Passed, Ended, PassesFront}
 use Rattle.dd_file.proofs.Heard.{Hears-append, games_over-append}
+use Rattle.std.proofs.lemmas.Bool.{lt-leb}
 
 -- ---- answers
 -- one after another
@@ -76,9 +77,6 @@ last-told gives true false ask wanted state notes answers more right = refl
 last-told gives false false ask wanted state notes answers more right = refl
 
 -- ---- what begins
-nat_le-false : (n m : ℕ) → m < n → nat_le n m ≡ false
-nat_le-false n m less = grind (arith, nat_tests)
-
 -- what begins at a byte is seen by the bytes that are near
 begins-near : (mode : Mode) (is_all : Bool) (window rest : List ℕ) → (is_all ≡ false → NEAR < length window) → Follows is_all rest
     → begins mode (window ++ rest) ≡ mark_at mode (is_all && nat_le (length window) NEAR) (take NEAR window)
@@ -87,7 +85,7 @@ begins-near mode false window rest room follows =
     let long : NEAR < length window = room refl in
     let longer : NEAR < length (window ++ rest) = omega (arith, length-append {A = ℕ}) in
     let enough : NEAR ≤ length window = omega arith in
-    ap (λ b. mark_at mode b (take NEAR (window ++ rest))) (nat_le-false (length (window ++ rest)) NEAR longer) ∙ ap (mark_at mode false) (take-append-le NEAR window rest enough)
+    ap (λ b. mark_at mode b (take NEAR (window ++ rest))) (lt-leb (length (window ++ rest)) NEAR longer) ∙ ap (mark_at mode false) (take-append-le NEAR window rest enough)
 
 pub begins_within-near : (left : ℕ) (mode : Mode) (is_all : Bool) (window rest : List ℕ) → (is_all ≡ false → NEAR < length window) → Follows is_all rest
     → begins_within left mode (window ++ rest) ≡ begins_now left mode (is_all && nat_le (length window) NEAR) (take NEAR window)
@@ -355,13 +353,3 @@ PassesFront-then gives way is_all old mid new s t u b0 b1 b2 o0 o1 o2 first seco
 pub PassesFront-none : {S : Type 0} (gives : FourHands → Option (List (List ℕ)) → Type 0) (way : S → Notice → S → Type 0) (is_all : Bool) (old : Filler) (s : S) (before out : List ℕ) → PassesFront gives way is_all old old s s before before out out
 PassesFront-none gives way is_all old s before out =
     record { wanted = refl; text = []; appended = sym (append-nil out); passed = Passed-none gives way old.wanted is_all (place_of old s) before }
-
--- behind so many bytes of the window
-pub PassesFront-at : {S : Type 0} (gives : FourHands → Option (List (List ℕ)) → Type 0) (way : S → Notice → S → Type 0) (is_all : Bool) (old new : Filler) (s t : S) (window : List ℕ) (at : ℕ) (o0 o1 : List ℕ) → at ≤ length window
-    → PassesFront gives way is_all old new s t (take (length window - at) (drop at window)) (drop 1 (take (length window - at) (drop at window))) o0 o1
-    → PassesFront gives way is_all old new s t (drop at window) (drop (at + 1) window) o0 o1
-PassesFront-at gives way is_all old new s t window at o0 o1 within front =
-    let all : take (length window - at) (drop at window) ≡ drop at window = take_all (length window - at) (drop at window) (omega (arith, length-drop {A = ℕ})) in
-    let whole : PassesFront gives way is_all old new s t (drop at window) (drop 1 (drop at window)) o0 o1 =
-    subst (λ (l : List ℕ). PassesFront gives way is_all old new s t l (drop 1 l) o0 o1) all front in
-    subst (λ (l : List ℕ). PassesFront gives way is_all old new s t (drop at window) l o0 o1) (drop-drop 1 at window) whole

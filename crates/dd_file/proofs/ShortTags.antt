@@ -18,7 +18,7 @@ use Rattle.dd_file.specs.Games.{ends, has_name, is_required, told, with_byte, wi
 use Rattle.dd_file.specs.KnownTags.{known_number}
 use Rattle.dd_file.specs.Marked.{begins, begins_within, marked}
 use Rattle.dd_file.specs.Marks.{Begins, tag, line_mark, mark_read}
-use Rattle.dd_file.specs.Modes.{next_mode, outside_mode}
+use Rattle.dd_file.specs.Modes.{next_mode}
 use Rattle.dd_file.specs.Notes.{Notes, notes_of}
 use Rattle.dd_file.specs.Notices.{Notice, Hears}
 use Rattle.dd_file.specs.Passing.{EndsBefore, EndsHere}
@@ -27,7 +27,7 @@ use Rattle.dd_file.specs.Tags.{◌>>=◌, after_gap, after_name, after_string, b
 use Rattle.dd_file.specs.Told.{GameNotes, next_notes, told_from, told_here}
 use Rattle.dd_file.specs.Windows.{Passed, PassesFront, Place, Point, marked_at, place_of, point_of}
 use Rattle.dd_file.proofs.AgainMarks.{blank-stop, is_all, line-begins, line-read, plain-begins, take-over}
-use Rattle.dd_file.proofs.AgainMiss.{gap-step, gap-stop, name-step, name-stop, read-first, read_end, read_name, read_string, read_value, tag-steps}
+use Rattle.dd_file.proofs.AgainMiss.{gap-step, gap-stop, name-step, name-stop, read-first, read_end, read_name, read_string, read_value, tag-steps, outside-name, name-none}
 use Rattle.dd_file.proofs.AgainOver.{is_quiet, modes, modes-append, quiet-append, quiet-first, quiet-rest}
 use Rattle.dd_file.proofs.AgainTags.{as_tag, byte-found, front-is}
 use Rattle.dd_file.proofs.Calm.{calm-front, calm-unescaped, front-count, front-taken, quoted-stays, quoted-step, take-front}
@@ -84,12 +84,6 @@ name-other b c good bad = go (b == c) refl
     go false e = refl
     go true e = absurd (true≢false (sym good ∙ ap is_name (eqb-true b c e) ∙ bad))
 
-outside-name : (b : ℕ) → is_name b ≡ true → outside_mode b ≡ Plain
-outside-name b good =
-    ap (λ (t : Bool). if t then Start else if b == 59 then Remark else if b == 123 then Braced else if b == 34 then Quoted else Plain) (name-other b 10 good refl)
-    ∙ ap (λ (t : Bool). if t then Remark else if b == 123 then Braced else if b == 34 then Quoted else Plain) (name-other b 59 good refl)
-    ∙ ap (λ (t : Bool). if t then Braced else if b == 34 then Quoted else Plain) (name-other b 123 good refl) ∙ ap (λ (t : Bool). if t then Quoted else Plain) (name-other b 34 good refl)
-
 name-gap : (b : ℕ) → is_name b ≡ true → is_gap Plain b ≡ false
 name-gap b good =
     rw (name-other b 32 good refl, name-other b 9 good refl, name-other b 11 good refl, name-other b 12 good refl, name-other b 13 good refl, name-other b 10 good refl, name-other b 59 good refl, name-other b 123 good refl) refl
@@ -114,12 +108,8 @@ record NameFront (text : List ℕ) : Type 0 where
   split : text ≡ bytes ++ after_name text
   names : are_names bytes ≡ true
 
-after-none : after_name [] ≡ []
-unfolding after_name
-after-none = refl
-
 name-front : (text : List ℕ) → NameFront text
-name-front [] = record { bytes = []; split = sym after-none; names = refl }
+name-front [] = record { bytes = []; split = sym name-none; names = refl }
 name-front (b ∷ text) = go (is_name b) refl (name-front text)
   where
     go : (t : Bool) → is_name b ≡ t → NameFront text → NameFront (b ∷ text)

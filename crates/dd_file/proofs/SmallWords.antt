@@ -43,17 +43,6 @@ letter-same a b below small =
     letter-of (bit_or a 32) b small ∙ ap (λ (n : ℕ). n == b) folded ∙ sym (letter-of (to_ascii_lowercase a) b small) ∙ ap (λ (n : ℕ). to_ascii_lowercase a == n) (sym (lower-same b small))
 
 -- ---- a word
-pub other-length : (name word : List ℕ) → (length name ≡ length word → ⊥) → false ≡ is_word name word
-other-length [] [] other = absurd (other refl)
-other-length [] (b ∷ word) other = refl
-other-length (a ∷ name) [] other = refl
-other-length (a ∷ name) (b ∷ word) other =
-    go (to_ascii_lowercase a == to_ascii_lowercase b) (other-length name word (λ same. other (let more : length (a ∷ name) ≡ length (b ∷ word) = omega (arith, same) in more)))
-  where
-    go : (t : Bool) → false ≡ is_word name word → false ≡ (t && is_word name word)
-    go true more = more
-    go false more = refl
-
 small-at : (word : List ℕ) (at : ℕ) → at < length word → are_small word ≡ true → is_small (get_or word at 0) ≡ true
 small-at [] at inside small = absurd (omega arith)
 small-at (b ∷ word) zero inside small = (and_parts (is_small b) (are_small word) small).0

@@ -281,17 +281,6 @@ Takes-next old new b text rest plain quiet split states modes lefts wanted =
     }
 
 -- ---- what was passed on
-pub PassesQuiet-taken : (old mid new : Filler) (text after : List ℕ) (count : ℕ) (out_old out_new : List ℕ) → Takes old mid text after → count ≡ length text - length after
-    → new.wanted ≡ mid.wanted → point_of new ≡ point_of mid → out_new ≡ out_old ++ take count text → PassesQuiet old new text count out_old out_new
-PassesQuiet-taken old mid new text after count out_old out_new takes counted wanted point appended =
-    let is : take count text ≡ takes.bytes = ap (λ (n : ℕ). take n text) counted ∙ front-taken text takes.bytes after takes.split in
-    record {
-      within = omega arith;
-      wanted = wanted ∙ takes.wanted;
-      appended = appended;
-      stays = subst (λ (p : Point). Stays (point_of old) p (take count text)) (sym point) (subst (λ (l : List ℕ). Stays (point_of old) (point_of mid) l) (sym is) takes.stays);
-    }
-
 pub take-of-take : (n m : ℕ) (l : List ℕ) → n ≤ m → take n (take m l) ≡ take n l
 take-of-take zero m l few = refl
 take-of-take (suc n) zero l few = absurd (omega arith)

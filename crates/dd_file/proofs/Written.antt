@@ -1,5 +1,5 @@
 -- What was written of what comes out, and how a run goes on and ends.
-use Rattle.std.proofs.Common.{◌≡◌, ◌∙◌, ℕ, ◌+◌, ◌≤◌, Bool, true, false, List, [], ◌∷◌, ◌++◌, length, refl, sym, ap, subst, arith, append-nil, length-append, take, drop, Option, Result, Ok, Err}
+use Rattle.std.proofs.Common.{◌≡◌, ◌∙◌, ℕ, ◌+◌, ◌≤◌, Bool, true, false, List, [], ◌∷◌, ◌++◌, length, refl, sym, ap, subst, arith, append-nil, length-append, drop, Option, Result, Ok, Err}
 use Rattle.std.specs.Io.KnownBytes.{Consumes, Appends, Keeps, IsAtEnd}
 use Rattle.std.proofs.KnownBytes.{Appends-nil, Appends-trans, Consumes-nil, Consumes-trans, Consumes-kept}
 use Rattle.dd_cards.specs.Hands.{FourHands}
@@ -301,10 +301,6 @@ pub ended-any : {S : Type 0} (gives : FourHands → Option (List (List ℕ)) →
     {E : Type 0} (result : Result (Unit {0}) E) → OnOk result (Ended gives way wanted (place_of old s) t games before text) → OnErr result (Stops gives way true old s t before) → HearsSome way s t
 ended-any gives way wanted old s t games before text (Ok done) ended stops = record { notices = ended.notices; hears = ended.hears }
 ended-any gives way wanted old s t games before text (Err fault) ended stops = record { notices = stops.notices; hears = stops.hears }
-
--- where nothing came
-pub nothing_read : (old new : Option (List ℕ)) (count : ℕ) (buffer : List ℕ) → count ≡ 0 → Consumes old new (take count buffer) → Consumes old new []
-nothing_read old new count buffer none read = subst (λ n. Consumes old new (take n buffer)) none read
 
 -- a new filler stands before the first byte
 pub first-point : (filler : Filler) → filler.state ≡ first_state → filler.left ≡ 0 → filler.mode ≡ Head → point_of filler ≡ first_point

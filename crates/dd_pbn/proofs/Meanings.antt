@@ -11,7 +11,7 @@ use Rattle.dd_cards.specs.PlayingCard.{PlayingCard}
 use Rattle.dd_cards.specs.Ranks.{IsRank}
 use Rattle.dd_cards.specs.Cards.{has_card}
 use Rattle.dd_cards.specs.Hands.{hand_of, times, AreHands, FourHands, dealt}
-use Rattle.dd_cards.proofs.CallerLemmas.{AreHands-new, real-set, same-members}
+use Rattle.dd_cards.proofs.CallerLemmas.{AreHands-new, real-set, same-members, times-append}
 use Rattle.dd_pbn.specs.declared.hands_so_far.HandsSoFar.{HandsSoFar}
 use Rattle.dd_pbn.specs.Letters.{rank_of}
 use Rattle.dd_pbn.specs.Values.{HandText, suits, dash, Value}
@@ -20,7 +20,7 @@ use Rattle.dd_pbn.specs.Reading.{nothing, note}
 use Rattle.dd_pbn.proofs.Bytes.{rank_of-real}
 use Rattle.dd_pbn.proofs.HandTexts.{note_all, note_hand}
 use Rattle.dd_pbn.proofs.ValueTexts.{seen_of}
-use Rattle.dd_pbn.proofs.Noting.{AllReal, real-has, real-append, times-append, times-pile, has_double, doubled-some, doubled-none, doubled-past, pile, Sees, Sees-all, absent-all, others-all, holds-all}
+use Rattle.dd_pbn.proofs.Noting.{AllReal, real-has, real-append, times-pile, has_double, doubled-some, doubled-none, doubled-past, pile, Sees, Sees-all, absent-all, others-all, holds-all}
 
 -- ---- real cards
 -- the cards that letters spell are real

@@ -11,7 +11,7 @@ use Rattle.dd_cards.specs.PlayingCard.{PlayingCard}
 use Rattle.dd_cards.specs.Ranks.{IsRank}
 use Rattle.dd_cards.specs.Cards.{same_card, has_card, with_card}
 use Rattle.dd_cards.specs.Hands.{hand_of, with_hand, times, AreHands, FourHands}
-use Rattle.dd_cards.proofs.CallerLemmas.{AreHands-with_card, hand_of-with_hand, has_card-with_card, same_card-eq, same_card-self, times-cons}
+use Rattle.dd_cards.proofs.CallerLemmas.{AreHands-with_card, hand_of-with_hand, has_card-with_card, same_card-eq, same_card-self, times-cons, same_card-swap, times-has}
 use Rattle.dd_pbn.specs.declared.hands_so_far.HandsSoFar.{HandsSoFar}
 use Rattle.dd_pbn.specs.Reading.{is_free, note}
 use Rattle.dd_pbn.proofs.Steps.{lacks}
@@ -36,33 +36,7 @@ pub real-append : (xs ys : List PlayingCard) → AllReal xs → AllReal ys → A
 real-append [] ys x y = y
 real-append (card ∷ xs) ys x y = (x.0, real-append xs ys x.1 y)
 
--- sameness of cards has no direction
-same_card-swap : (c d : PlayingCard) → same_card c d ≡ same_card d c
-same_card-swap c d = rw (swap (suit_code c.suit) (suit_code d.suit), swap c.rank d.rank) refl
-  where
-    swap : (a b : ℕ) → (a == b) ≡ (b == a)
-    swap a b = grind (arith, nat_tests)
-
 -- ---- how often a card stands in a list
--- a card stands in two lists as often as in both
-pub times-append : (xs ys : List PlayingCard) (card : PlayingCard) → times (xs ++ ys) card ≡ times xs card + times ys card
-times-append [] ys card = omega arith
-times-append (x ∷ xs) ys card =
-    let ih = times-append xs ys card in
-    let one = times-cons x (xs ++ ys) card in
-    let two = times-cons x xs card in
-    omega arith
-
--- a card that a list has stands there
-has-times : (cards : List PlayingCard) (card : PlayingCard) → has_card cards card ≡ true → 1 ≤ times cards card
-has-times [] card has = absurd (cc)
-has-times (first ∷ cards) card has =
-    let e = times-cons first cards card in
-    elim (or_cases (same_card first card) (has_card cards card) has) [
-      | inl same ↦ let one : times (first ∷ cards) card ≡ 1 + times cards card = e ∙ rw same refl in omega arith
-      | inr later ↦ let more = has-times cards card later in omega arith
-    ]
-
 -- a card that a list lacks does not
 lacks-times : (cards : List PlayingCard) (card : PlayingCard) → has_card cards card ≡ false → times cards card ≡ 0
 lacks-times [] card none = refl
@@ -84,7 +58,7 @@ doubled-some (first ∷ cards) h =
       | inl again ↦ (
         first,
         (
-            let more = has-times cards first again in
+            let more = times-has cards first again in
             let one : times (first ∷ cards) first ≡ 1 + times cards first = times-cons first cards first ∙ rw (same_card-self first) refl in
             omega arith),
       )

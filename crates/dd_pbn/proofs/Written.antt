@@ -12,14 +12,14 @@ use Rattle.dd_cards.specs.PlayingCard.{PlayingCard}
 use Rattle.dd_cards.specs.Ranks.{is_rank}
 use Rattle.dd_cards.specs.Cards.{is_of, card_of, deck, has_card}
 use Rattle.dd_cards.specs.Hands.{hand_of, times, IsSet, AreHands, FourHands}
-use Rattle.dd_cards.proofs.CallerLemmas.{IsRank-from, at-most-one, real_deck, set-by-suits, suit_code-injective, times-has_card}
+use Rattle.dd_cards.proofs.CallerLemmas.{IsRank-from, at-most-one, real_deck, set-by-suits, suit_code-injective, times-has_card, times-append}
 use Rattle.dd_pbn.specs.Letters.{letter_of}
 use Rattle.dd_pbn.specs.Values.{HandText, suits, IsSuit, IsHand, hand_bytes, Value}
 use Rattle.dd_pbn.specs.Deals.{cards_of_suit, cards_of_hand, cards_of_value, DealText, suit_text, hand_text, text_of_deal}
 use Rattle.dd_pbn.proofs.Bytes.{is_letter, rank_of-letter}
 use Rattle.dd_pbn.proofs.HandTexts.{hand_bytes-right}
 use Rattle.dd_pbn.proofs.ValueTexts.{value-right}
-use Rattle.dd_pbn.proofs.Noting.{AllReal, times-append}
+use Rattle.dd_pbn.proofs.Noting.{AllReal}
 
 -- ---- the cards of a set are real
 -- cards that pass the test of ranks are real

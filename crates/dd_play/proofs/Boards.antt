@@ -2,9 +2,9 @@
 use Rattle.std.proofs.Common.{◌≡◌, ◌≢◌, ℕ, zero, suc, ◌+◌, ◌-◌, ◌%◌, ◌<◌, ◌≤◌, Bool, true, false, cond, refl, sym, ap, ◌∙◌, subst, arith, List, [], ◌∷◌, ◌++◌, length, length-append, inl, inr, eq-eqb, zero-le, max, min}
 use Rattle.std.specs.Prelude.{nat_lt, filter, map, fold, ◌||◌, ◌&&◌, if◌then◌else◌}
 use mathlib.Core.Bool.{not}
-use Rattle.dd_cards.proofs.CallerLemmas.{IsSet-without, hand_of-with_hand, or-right, real-set, same_card-eq, seat_code-injective, times-cons}
+use Rattle.dd_cards.proofs.CallerLemmas.{IsSet-without, hand_of-with_hand, real-set, same_card-eq, seat_code-injective, times-cons, seat_code-lt, times-has}
 use Rattle.std.proofs.lemmas.Bool.Decides.{eqb_tells, nat_tests}
-use Rattle.std.proofs.lemmas.Bool.{lt-ltb, le-ltb, eqb-true}
+use Rattle.std.proofs.lemmas.Bool.{lt-ltb, le-ltb, eqb-true, or_right}
 use Rattle.dd_cards.specs.declared.seat.Seat.{Seat}
 use Rattle.dd_cards.specs.declared.seat.Seat.TheVariants.{North, East, South, West}
 use Rattle.dd_cards.specs.PlayingCard.{PlayingCard}
@@ -20,7 +20,7 @@ use Rattle.dd_cards.specs.Sides.{side_of}
 use Rattle.dd_cards.specs.declared.side.Side.{Side}
 use Rattle.dd_cards.specs.declared.side.Side.TheVariants.{NorthSouth, EastWest}
 use Rattle.dd_play.specs.Value.{better, best, gain, ns_within, ns}
-use Rattle.dd_play.proofs.Values.{in-following, length-without, times-has}
+use Rattle.dd_play.proofs.Values.{in-following, length-without}
 use Rattle.std.proofs.lemmas.List.Folds.{list_any-append}
 
 -- the next seat clockwise has the next code
@@ -30,16 +30,9 @@ next-code East = refl
 next-code South = refl
 next-code West = refl
 
--- a seat has one of four codes
-pub code-lt : (s : Seat) → seat_code s < 4
-code-lt North = omega arith
-code-lt East = omega arith
-code-lt South = omega arith
-code-lt West = omega arith
-
 -- k seats on, the code is k more, round the table
 pub after-code : (s : Seat) (k : ℕ) → seat_code (seat_after s k) ≡ (seat_code s + k) % 4
-after-code s zero = let b = code-lt s in omega arith
+after-code s zero = let b = seat_code-lt s in omega arith
 after-code s (suc k) = next-code (seat_after s k) ∙ (let ih = after-code s k in omega arith)
 
 -- the hand that is written
@@ -111,8 +104,8 @@ closed_after p c = record { hands = hands_after p c; strain = p.strain; first = 
 -- each hand has one card fewer than the mover had
 closed-length : (p : Board) (c : PlayingCard) → IsBoard p → length p.trick ≡ 3 → length (without (cards_at p (mover p)) c) + 1 ≡ tricks_left p → (s : Seat) → length (hand_of (hands_after p c) s) + 1 ≡ tricks_left p
 closed-length p c valid full fewer s =
-    let a = code-lt p.first in
-    let b = code-lt s in
+    let a = seat_code-lt p.first in
+    let b = seat_code-lt s in
     let k : ℕ = (4 + seat_code s - seat_code p.first) % 4 in
     let within : k < 4 = omega arith in
     let own = after-code p.first k in
@@ -300,7 +293,7 @@ has-first c cards = rw (eq-eqb (suit_code c.suit) (suit_code c.suit) refl, eq-eq
 
 -- and the cards of the rest
 pub in-rest : (c d : PlayingCard) (cards : List PlayingCard) → has_card cards d ≡ true → has_card (c ∷ cards) d ≡ true
-in-rest c d cards h = or-right (same_card c d) (has_card cards d) h
+in-rest c d cards h = or_right (same_card c d) (has_card cards d) h
 
 -- ---- North and South take no more tricks than are left
 

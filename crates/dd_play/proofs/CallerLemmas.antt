@@ -3,13 +3,9 @@
 -- ---- what a card that is played does to the number of cards, and the value by one step
 -- a legal card is in the hand
 pub use Rattle.dd_play.proofs.Values.{in-following}
--- a card that a list has stands in it at least once
-pub use Rattle.dd_play.proofs.Values.{times-has}
 -- a legal card leaves one card fewer
 pub use Rattle.dd_play.proofs.Values.{cards_left-after}
 -- ---- playing a legal card leads from one legal state of play to another
--- a seat has one of four codes
-pub use Rattle.dd_play.proofs.Boards.{code-lt}
 -- k seats on, the code is k more, round the table
 pub use Rattle.dd_play.proofs.Boards.{after-code}
 -- when one hand is written anew each other hand is as it was
@@ -201,3 +197,21 @@ pub use Rattle.dd_play.proofs.Contests.{settled-alone}
 -- ---- what is the same by the tests
 -- the same hands, strain, leader and trick are one position
 pub use Rattle.dd_play.proofs.SameLaws.{same_board-is}
+-- while a trick is left there is a legal card
+pub use Rattle.dd_play.proofs.ClaimRules.{some-legal}
+-- tests that agree on the cards of a list find the same place
+pub use Rattle.dd_play.proofs.Strengths.{position-where}
+-- each of four cards with real ranks has one
+pub use Rattle.dd_play.proofs.Strengths.{real-four}
+-- boards with the same parts are one
+pub use Rattle.dd_play.proofs.SameLaws.{board-eq}
+-- a higher card of the suit is above
+pub use Rattle.dd_play.proofs.Plays.{above-is}
+-- a card above another is of its suit
+pub use Rattle.dd_play.proofs.Plays.{above-suit}
+-- and of a higher rank
+pub use Rattle.dd_play.proofs.Plays.{above-rank}
+-- of two cards of a suit both are trumps or none
+pub use Rattle.dd_play.proofs.Winners.{trump-suit}
+-- a card of a set is reached by it
+pub use Rattle.dd_play.proofs.Worth.{reach-in}

@@ -17,11 +17,12 @@ use Rattle.dd_play.specs.Tricks.{winner_of, winning_place}
 use Rattle.dd_play.specs.Strength.{strength}
 use Rattle.dd_play.specs.Play.{legal, completes, trick_with}
 use Rattle.dd_play.specs.Covers.{IsSettled, count_of}
-use Rattle.dd_play.proofs.Boards.{after-code, code-lt, flag_of}
+use Rattle.dd_play.proofs.Boards.{after-code, flag_of}
 use Rattle.dd_play.proofs.Counts.{count, count-cons}
 use Rattle.dd_play.proofs.Plays.{real-trick, of-suit'}
 use Rattle.dd_play.proofs.Strengths.{winning-strongest}
 use Rattle.dd_play.proofs.Winners.{place-within}
+use Rattle.dd_cards.proofs.CallerLemmas.{seat_code-lt}
 
 -- two places of a list that pass are counted
 one-place : (test : PlayingCard → Bool) (cards : List PlayingCard) (i : ℕ) (c : PlayingCard) → i < length cards → test (get_or cards i c) ≡ true → 1 ≤ count test cards
@@ -44,7 +45,7 @@ within strain led rest real = rw (winning-strongest strain (led ∷ rest) real) 
 from-seats : (first seat : Seat) (k place : ℕ) → k < 4 → seat ≡ seat_after first k → place ≡ (seat_code seat + 4 - seat_code first) % 4 → place ≡ k
 from-seats first seat k place h e is =
     let a : seat_code seat ≡ (seat_code first + k) % 4 = ap seat_code e ∙ after-code first k in
-    let b = code-lt first in
+    let b = seat_code-lt first in
     omega (arith, h, a, b, is)
 
 -- four cards and the seat of the winner among them

@@ -4,9 +4,9 @@ use Rattle.std.specs.Prelude.{filter}
 use Rattle.dd_cards.specs.PlayingCard.{PlayingCard}
 use Rattle.dd_cards.specs.Cards.{same_card, has_card, without}
 use Rattle.dd_cards.specs.Hands.{times}
-use Rattle.dd_cards.proofs.CallerLemmas.{else-false, has_card-without, same_card-eq, same_card-self, times-cons}
-use Rattle.dd_play.proofs.Values.{times-has}
+use Rattle.dd_cards.proofs.CallerLemmas.{has_card-without, same_card-eq, same_card-self, times-cons, times-has}
 use Rattle.dd_play.proofs.Boards.{flag_of, has-first, in-rest}
+use Rattle.std.proofs.lemmas.Bool.{false_from_ne_true}
 
 -- how many cards pass a test
 abbrev pub count : (PlayingCard → Bool) → List PlayingCard → ℕ
@@ -97,7 +97,7 @@ inject to from test tested (c ∷ cards) others once each = go (test c) refl (λ
         let back : from (to c) ≡ c = mine.2 in
         let r : count test cards ≤ count tested (without others (to c)) = ih (without others (to c)) (λ d has t.
         let his = each d (in-rest c d cards has) t in
-        let apart : same_card (to d) (to c) ≡ false = else-false _ (λ same.
+        let apart : same_card (to d) (to c) ≡ false = false_from_ne_true _ (λ same.
         let eq : d ≡ c = sym his.2 ∙ ap from (same_card-eq (to d) (to c) same) ∙ back in
         let two : 1 ≤ times cards c = subst (λ x. 1 ≤ times cards x) eq (times-has cards d has) in
         let k : times (c ∷ cards) c ≡ flag_of (same_card c c) + times cards c = times-cons c cards c in

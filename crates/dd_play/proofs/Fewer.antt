@@ -7,13 +7,13 @@ use Rattle.dd_cards.specs.declared.seat.Seat.{Seat}
 use Rattle.dd_cards.specs.PlayingCard.{PlayingCard}
 use Rattle.dd_cards.specs.Cards.{has_card, same_card}
 use Rattle.dd_cards.specs.Seats.{seat_after}
-use Rattle.dd_cards.proofs.CallerLemmas.{same_card-eq, seat_code-injective}
+use Rattle.dd_cards.proofs.CallerLemmas.{same_card-eq, seat_code-injective, seat_code-lt}
 use Rattle.dd_cards.specs.declared.side.Side.{Side}
 use Rattle.dd_play.specs.Board.{Board, IsBoard, cards_at}
 use Rattle.dd_play.specs.Play.{after}
 use Rattle.dd_play.specs.Covers.{ForMet, Keeps, IsOver, Answers, AllAnswer, IsCover}
 use Rattle.dd_play.specs.Reach.{IsStrict}
-use Rattle.dd_play.proofs.Boards.{after-code, code-lt, has-first, in-rest}
+use Rattle.dd_play.proofs.Boards.{after-code, has-first, in-rest}
 use Rattle.dd_play.proofs.Plays.{turn-turn, was-in}
 use Rattle.dd_play.proofs.Winners.{answer-length}
 
@@ -40,7 +40,7 @@ pub unturn : (x : Seat) (k : ℕ) → seat_after (seat_after x (3 * k)) k ≡ x
 unturn x k =
     let a = after-code x (3 * k) in
     let b = after-code (seat_after x (3 * k)) k in
-    let c = code-lt x in
+    let c = seat_code-lt x in
     seat_code-injective (seat_after (seat_after x (3 * k)) k) x (omega (arith, a, b, c))
 
 -- a top card on q's trick is the image of one on p's

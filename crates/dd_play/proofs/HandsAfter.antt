@@ -10,8 +10,7 @@ use Rattle.dd_play.specs.Board.{Board, IsBoard, cards_at, mover, times_in}
 use Rattle.dd_play.specs.Play.{hands_after}
 use Rattle.dd_play.specs.Simulations.{IsLegal}
 use Rattle.dd_play.proofs.Plays.{own-card}
-use Rattle.dd_play.proofs.Values.{times-has}
-use Rattle.dd_cards.proofs.CallerLemmas.{times-cons}
+use Rattle.dd_cards.proofs.CallerLemmas.{times-cons, times-has}
 
 -- cards without a card that is not among them
 without-absent : (cards : List PlayingCard) (c : PlayingCard) → times cards c ≡ 0 → without cards c ≡ cards

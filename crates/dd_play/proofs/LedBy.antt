@@ -10,7 +10,7 @@ use Rattle.dd_cards.specs.Seats.{seat_after}
 use Rattle.dd_cards.specs.Hands.{FourHands, hand_of, times, AreHands}
 use Rattle.dd_play.specs.InPlay.{is_in_hands, is_in_play}
 use Rattle.dd_play.specs.Board.{Board, IsBoard, board_of, cards_at, times_in, tricks_left}
-use Rattle.dd_play.proofs.Values.{times-has}
+use Rattle.dd_cards.proofs.CallerLemmas.{times-has}
 
 -- where all hands have as many cards, counted from one seat, each has
 each : (hands : FourHands) (first : Seat) (n : ℕ) → ((k : ℕ) → k < 4 → length (hand_of hands (seat_after first k)) ≡ n) → (s : Seat) → length (hand_of hands s) ≡ n

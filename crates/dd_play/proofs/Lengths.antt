@@ -9,11 +9,10 @@ use Rattle.dd_cards.specs.Suits.{suit_code}
 use Rattle.dd_cards.specs.PlayingCard.{PlayingCard}
 use Rattle.dd_cards.specs.Cards.{is_of, same_card, has_card, deck}
 use Rattle.dd_cards.specs.Hands.{times}
-use Rattle.dd_cards.proofs.CallerLemmas.{has_card-deck, length-deck, length-filter-le, real-set, times-cons}
+use Rattle.dd_cards.proofs.CallerLemmas.{has_card-deck, length-deck, length-filter-le, real-set, times-cons, same_card-swap, times-has}
 use Rattle.dd_play.specs.Board.{Board, IsBoard, cards_at, cards_left, mover, tricks_left}
 use Rattle.dd_play.specs.Tricks.{or_else}
 use Rattle.dd_play.specs.Play.{legal, following}
-use Rattle.dd_play.proofs.Values.{times-has}
 use Rattle.dd_play.proofs.Boards.{flag_of, has-first, in-rest}
 
 -- ---- no more cards than the deck has
@@ -21,13 +20,6 @@ use Rattle.dd_play.proofs.Boards.{flag_of, has-first, in-rest}
 tally : List PlayingCard → List PlayingCard → ℕ
 tally xs [] = 0
 tally xs (y ∷ ys) = times xs y + tally xs ys
-
--- sameness of cards has no direction
-pub same_card-swap : (c d : PlayingCard) → same_card c d ≡ same_card d c
-same_card-swap c d = rw (swap (suit_code c.suit) (suit_code d.suit), swap c.rank d.rank) refl
-  where
-    swap : (a b : ℕ) → (a == b) ≡ (b == a)
-    swap a b = grind (arith, nat_tests)
 
 -- one card more in the first list
 tally-cons : (x : PlayingCard) (xs ys : List PlayingCard) → tally (x ∷ xs) ys ≡ times ys x + tally xs ys

@@ -1,8 +1,8 @@
 -- what a legal card does to the hands, to the pairs that can meet, and which cards are legal
 use Rattle.std.proofs.Common.{◌≡◌, ◌≢◌, ℕ, ◌+◌, ◌<◌, ◌≤◌, Bool, true, false, refl, sym, ap, ◌∙◌, subst, arith, List, [], ◌∷◌, ◌++◌, length, length-append, inl, inr, ◌⊎◌, eq-eqb}
-use Rattle.std.specs.Prelude.{filter, if◌then◌else◌}
+use Rattle.std.specs.Prelude.{filter, if◌then◌else◌, nat_lt}
 use mathlib.Core.Bool.{not}
-use Rattle.std.proofs.lemmas.Bool.{eqb-true}
+use Rattle.std.proofs.lemmas.Bool.{eqb-true, lt-ltb, ltb-true}
 use Rattle.std.proofs.lemmas.Bool.Decides.{eqb_tells}
 use Rattle.dd_cards.specs.declared.seat.Seat.{Seat}
 use Rattle.dd_cards.specs.declared.suit.Suit.{Suit}
@@ -12,16 +12,17 @@ use Rattle.dd_cards.specs.Suits.{suit_code}
 use Rattle.dd_cards.specs.Cards.{is_of, same_card, has_card, without}
 use Rattle.dd_cards.specs.Seats.{seat_code, seat_after}
 use Rattle.dd_cards.specs.Hands.{hand_of, times, FourHands}
-use Rattle.dd_cards.proofs.CallerLemmas.{and-left, any-filter, has_card-filter, same_card-eq, same_card-self, seat_code-injective, suit_code-injective}
+use Rattle.dd_cards.proofs.CallerLemmas.{and-left, any-filter, has_card-filter, same_card-eq, same_card-self, seat_code-injective, suit_code-injective, seat_code-lt, times-has, and-right}
 use Rattle.dd_cards.specs.Ranks.{IsRank}
 use Rattle.dd_play.specs.Board.{Board, IsBoard, cards_at, mover, times_in}
 use Rattle.dd_play.specs.Tricks.{or_else, winner_of}
 use Rattle.dd_play.specs.Play.{following, completes, trick_with, hands_after, after}
-use Rattle.dd_play.proofs.Values.{in-following, times-has, hands-after}
-use Rattle.dd_play.proofs.Boards.{push-real, card-real, flag_of, code-lt, after-code, hand-same, hand-other, times-push, after-once, has-first, in-rest}
+use Rattle.dd_play.proofs.Values.{in-following, hands-after}
+use Rattle.dd_play.proofs.Boards.{push-real, card-real, flag_of, after-code, hand-same, hand-other, times-push, after-once, has-first, in-rest}
 use Rattle.dd_play.specs.Simulations.{IsLegal}
 use Rattle.dd_play.specs.Covers.{ForMet}
 use Rattle.dd_play.proofs.Counts.{in-without}
+use Rattle.dd_cards.specs.Sequences.{is_above}
 
 -- ---- seats
 
@@ -39,8 +40,8 @@ pub turn-apart : (x y : Seat) (k : ℕ) → seat_code x ≢ seat_code y → seat
 turn-apart x y k apart = λ e.
     let a = after-code x k in
     let b = after-code y k in
-    let c = code-lt x in
-    let d = code-lt y in
+    let c = seat_code-lt x in
+    let d = seat_code-lt y in
     apart (omega (arith, a, b, c, d, e))
 
 -- two seats are the same, or have two codes
@@ -247,3 +248,16 @@ legal-out (led ∷ rest) hand c has = λ d own suit. go (filter (is_of led.suit)
     go (x ∷ same) e d there =
         let h : has_card (filter (is_of led.suit) hand) c ≡ true = ap (λ cards. has_card cards c) e ∙ (let k : has_card (or_else (filter (is_of led.suit) hand) hand) c ≡ true = has in rw e at k) in
         suit-of led.suit c (filter-passes (is_of led.suit) hand c h)
+
+-- ---- a card above another
+-- a higher card of the suit is above
+pub above-is : (c e : PlayingCard) → e.suit ≡ c.suit → c.rank < e.rank → is_above c e ≡ true
+above-is c e suits h = rw (of-suit' c.suit e suits, lt-ltb c.rank e.rank h) refl
+
+-- a card above another is of its suit
+pub above-suit : (c e : PlayingCard) → is_above c e ≡ true → e.suit ≡ c.suit
+above-suit c e h = suit-of c.suit e (and-left (is_of c.suit e) (nat_lt c.rank e.rank) h)
+
+-- and of a higher rank
+pub above-rank : (c e : PlayingCard) → is_above c e ≡ true → c.rank < e.rank
+above-rank c e h = ltb-true c.rank e.rank (and-right (is_of c.suit e) (nat_lt c.rank e.rank) h)

@@ -14,7 +14,7 @@ use Rattle.dd_cards.proofs.CallerLemmas.{four-of, same_cards-is, same_hands-is, 
 use Rattle.dd_play.specs.Board.{Board, board_of}
 use Rattle.dd_play.specs.Same.{same_board}
 
-board-eq : (h h' : FourHands) (s s' : Strain) (f f' : Seat) (t t' : List PlayingCard) → h ≡ h' → s ≡ s' → f ≡ f' → t ≡ t' → board_of h s f t ≡ board_of h' s' f' t'
+pub board-eq : (h h' : FourHands) (s s' : Strain) (f f' : Seat) (t t' : List PlayingCard) → h ≡ h' → s ≡ s' → f ≡ f' → t ≡ t' → board_of h s f t ≡ board_of h' s' f' t'
 board-eq h h' s s' f f' t t' p q r u = rw (p, q, r, u) refl
 
 -- the same hands, strain, leader and trick are one position

@@ -3,20 +3,19 @@ use Rattle.std.proofs.Common.{◌≡◌, ◌≢◌, ℕ, ◌+◌, ◌*◌, ◌<�
 use Rattle.std.specs.Prelude.{◌&&◌, ◌==◌}
 use mathlib.Core.Bool.{not}
 use mathlib.Core.Path.{ap₂}
-use Rattle.std.proofs.lemmas.Bool.{le-leb}
+use Rattle.std.proofs.lemmas.Bool.{le-leb, and_from, not-true, not_from_false, false_from_ne_true}
 use Rattle.dd_cards.specs.declared.seat.Seat.{Seat}
 use Rattle.dd_cards.specs.declared.suit.Suit.{Suit}
 use Rattle.dd_cards.specs.PlayingCard.{PlayingCard}
 use Rattle.dd_cards.specs.Cards.{is_of, same_card, has_card, without}
 use Rattle.dd_cards.specs.Seats.{seat_code, seat_after}
 use Rattle.dd_cards.specs.Hands.{times}
-use Rattle.dd_cards.proofs.CallerLemmas.{and-both, and-left, and-right, else-false, false-not, not-true, same_card-eq}
+use Rattle.dd_cards.proofs.CallerLemmas.{and-left, and-right, same_card-eq, times-has}
 use Rattle.dd_cards.specs.Sides.{is_side}
 use Rattle.dd_cards.specs.declared.side.Side.{Side}
 use Rattle.dd_play.specs.Board.{Board, IsBoard, cards_at, mover}
 use Rattle.dd_play.specs.Tricks.{winner_of, winning_place}
 use Rattle.dd_play.specs.Play.{completes, trick_with, after}
-use Rattle.dd_play.proofs.Values.{times-has}
 use Rattle.dd_play.proofs.Boards.{flag_of, legal-leads}
 use Rattle.dd_play.specs.Won.{trick_for}
 use Rattle.dd_play.specs.Simulations.{IsLegal}
@@ -84,14 +83,14 @@ module _ (top : PlayingCard → Bool) (k : ℕ) (to from : PlayingCard → Playi
       go false e =
           let mine : List PlayingCard = cards_at p x in
           let his : List PlayingCard = cards_at q (seat_after x k) in
-          let low_here : 1 ≤ count (λ y. is_of c.suit y && not (top y)) mine = count-has (λ y. is_of c.suit y && not (top y)) mine c has (and-both _ _ (of-suit' c.suit c refl) (false-not (top c) e)) in
+          let low_here : 1 ≤ count (λ y. is_of c.suit y && not (top y)) mine = count-has (λ y. is_of c.suit y && not (top y)) mine c has (and_from _ _ (of-suit' c.suit c refl) (not_from_false (top c) e)) in
           let a : count (is_of c.suit) mine ≡ count (λ y. is_of c.suit y && top y) mine + count (λ y. is_of c.suit y && not (top y)) mine = count-split (is_of c.suit) top mine in
           let b : count (is_of c.suit) his ≡ count (λ y. is_of c.suit y && top (from y)) his + count (λ y. is_of c.suit y && not (top (from y))) his = count-split (is_of c.suit) (λ y. top (from y)) his in
           let same : count (is_of c.suit) his ≡ count (is_of c.suit) mine = r.lengths x c.suit in
           let tops : count (λ y. is_of c.suit y && top (from y)) his ≤ count (λ y. is_of c.suit y && top y) mine =
           inject from to (λ y. is_of c.suit y && top (from y)) (λ y. is_of c.suit y && top y) his mine (once-in q r.valid_q (seat_after x k)) (λ y hy ty.
           let g = r.back x y hy (and-right (is_of c.suit y) (top (from y)) ty) in
-          (g.0, and-both _ _ (of-suit' c.suit (from y) (r.from_suit y ∙ suit-of c.suit y (and-left (is_of c.suit y) (top (from y)) ty))) (and-right (is_of c.suit y) (top (from y)) ty), g.1)) in
+          (g.0, and_from _ _ (of-suit' c.suit (from y) (r.from_suit y ∙ suit-of c.suit y (and-left (is_of c.suit y) (top (from y)) ty))) (and-right (is_of c.suit y) (top (from y)) ty), g.1)) in
           let low_there : 1 ≤ count (λ y. is_of c.suit y && not (top (from y))) his = omega (arith, low_here, a, b, same, tops) in
           let d = count-some (λ y. is_of c.suit y && not (top (from y))) his low_there in (
             d.0,
@@ -114,14 +113,14 @@ module _ (top : PlayingCard → Bool) (k : ℕ) (to from : PlayingCard → Playi
       go false e =
           let mine : List PlayingCard = cards_at p x in
           let his : List PlayingCard = cards_at q (seat_after x k) in
-          let low_there : 1 ≤ count (λ y. is_of d.suit y && not (top (from y))) his = count-has (λ y. is_of d.suit y && not (top (from y))) his d has (and-both _ _ (of-suit' d.suit d refl) (false-not (top (from d)) e)) in
+          let low_there : 1 ≤ count (λ y. is_of d.suit y && not (top (from y))) his = count-has (λ y. is_of d.suit y && not (top (from y))) his d has (and_from _ _ (of-suit' d.suit d refl) (not_from_false (top (from d)) e)) in
           let a : count (is_of d.suit) mine ≡ count (λ y. is_of d.suit y && top y) mine + count (λ y. is_of d.suit y && not (top y)) mine = count-split (is_of d.suit) top mine in
           let b : count (is_of d.suit) his ≡ count (λ y. is_of d.suit y && top (from y)) his + count (λ y. is_of d.suit y && not (top (from y))) his = count-split (is_of d.suit) (λ y. top (from y)) his in
           let same : count (is_of d.suit) his ≡ count (is_of d.suit) mine = r.lengths x d.suit in
           let tops : count (λ y. is_of d.suit y && top y) mine ≤ count (λ y. is_of d.suit y && top (from y)) his =
           inject to from (λ y. is_of d.suit y && top y) (λ y. is_of d.suit y && top (from y)) mine his (once-in p r.valid_p x) (λ y hy ty.
           let g = r.forth x y hy (and-right (is_of d.suit y) (top y) ty) in
-          (g.0, and-both _ _ (of-suit' d.suit (to y) (r.to_suit y ∙ suit-of d.suit y (and-left (is_of d.suit y) (top y) ty))) (ap top g.1 ∙ and-right (is_of d.suit y) (top y) ty), g.1)) in
+          (g.0, and_from _ _ (of-suit' d.suit (to y) (r.to_suit y ∙ suit-of d.suit y (and-left (is_of d.suit y) (top y) ty))) (ap top g.1 ∙ and-right (is_of d.suit y) (top y) ty), g.1)) in
           let low_here : 1 ≤ count (λ y. is_of d.suit y && not (top y)) mine = omega (arith, low_there, a, b, same, tops) in
           let c = count-some (λ y. is_of d.suit y && not (top y)) mine low_here in (
             c.0,
@@ -247,7 +246,7 @@ stepped top k to from s p t q r c d has has' m settled =
     forth : (x : Seat) (e : PlayingCard) → has_card (cards_at (after p c) x) e ≡ true → top e ≡ true → (has_card (cards_at (after q d) (seat_after x k)) (to e) ≡ true) × (from (to e) ≡ e)
     forth x e he te =
         let f = r.forth x e (was-in p c r.valid_p x e he) te in
-        let apart : same_card (to e) d ≡ false = else-false _ (λ same.
+        let apart : same_card (to e) d ≡ false = false_from_ne_true _ (λ same.
         let eq : to e ≡ d = same_card-eq (to e) d same in
         let tc : top c ≡ true = sym m.kind ∙ ap (λ y. top (from y)) (sym eq) ∙ ap top f.1 ∙ te in
         let is_c : e ≡ c = sym f.1 ∙ ap from eq ∙ (m.same tc).1 in
@@ -257,7 +256,7 @@ stepped top k to from s p t q r c d has has' m settled =
     back : (x : Seat) (e : PlayingCard) → has_card (cards_at (after q d) (seat_after x k)) e ≡ true → top (from e) ≡ true → (has_card (cards_at (after p c) x) (from e) ≡ true) × (to (from e) ≡ e)
     back x e he te =
         let f = r.back x e (was-in q d r.valid_q (seat_after x k) e he) te in
-        let apart : same_card (from e) c ≡ false = else-false _ (λ same.
+        let apart : same_card (from e) c ≡ false = false_from_ne_true _ (λ same.
         let eq : from e ≡ c = same_card-eq (from e) c same in
         let tc : top c ≡ true = ap top (sym eq) ∙ te in
         let is_d : e ≡ d = sym f.1 ∙ ap to eq ∙ sym (m.same tc).0 in

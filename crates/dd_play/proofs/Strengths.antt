@@ -73,9 +73,6 @@ highest-power q power cards w decides c has = go (q c) refl
         (sym (all-fails (λ d. nat_le (power d) (power c)) cards w decides.some (decides.under c w has decides.some e decides.first)))
 
 -- ---- the numbers
-abbrev power_of : Bool → Bool → ℕ → ℕ
-power_of trump led rank = (if trump then 20 + rank else (if led then rank else 0))
-
 -- twenty more on both sides
 same-up : (m n : ℕ) → nat_le m n ≡ nat_le (20 + m) (20 + n)
 same-up m n = grind (arith, nat_tests)
@@ -167,7 +164,7 @@ four-cards (a ∷ b ∷ c ∷ d ∷ []) w x y z four = refl
 four-cards trick w x y z four = absurd (omega (arith, four))
 
 -- four real cards are a list of real cards
-real-four : (a b c d : PlayingCard) → IsRank a.rank → IsRank b.rank → IsRank c.rank → IsRank d.rank → (x : PlayingCard) → has_card (a ∷ b ∷ c ∷ d ∷ []) x ≡ true → IsRank x.rank
+pub real-four : (a b c d : PlayingCard) → IsRank a.rank → IsRank b.rank → IsRank c.rank → IsRank d.rank → (x : PlayingCard) → has_card (a ∷ b ∷ c ∷ d ∷ []) x ≡ true → IsRank x.rank
 real-four a b c d ra rb rc rd x has = go (same_card a x) (same_card b x) (same_card c x) (same_card d x) refl refl refl refl
   where
     same : (y : PlayingCard) → IsRank y.rank → same_card y x ≡ true → IsRank x.rank

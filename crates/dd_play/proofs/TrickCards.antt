@@ -5,17 +5,12 @@ use Rattle.std.specs.Prelude.{◌||◌, nat_lt, if◌then◌else◌}
 use Rattle.dd_cards.specs.PlayingCard.{PlayingCard}
 use Rattle.dd_cards.specs.Ranks.{IsRank}
 use Rattle.dd_cards.specs.Cards.{same_card, has_card, with_card, deck}
-use Rattle.dd_cards.proofs.CallerLemmas.{both-ways, has_card-with_card, or-split, real-set, same_card-eq, same_card-self, IsSet-deck, IsSet-filter}
+use Rattle.dd_cards.proofs.CallerLemmas.{both-ways, has_card-with_card, real-set, same_card-eq, IsSet-deck, IsSet-filter, same_card-swap}
+use Rattle.std.proofs.lemmas.Bool.{or_cases}
 
 -- each of these is a card of the pack
 abbrev AreReal : List PlayingCard → Type 0
 AreReal cards = (c : PlayingCard) → has_card cards c ≡ true → IsRank c.rank
-
-turned : (c d : PlayingCard) → same_card c d ≡ same_card d c
-turned c d = both-ways _ _ (λ h. turn c d (same_card-eq c d h)) (λ h. turn d c (same_card-eq d c h))
-  where
-    turn : (c d : PlayingCard) → c ≡ d → same_card d c ≡ true
-    turn c d e = ap (λ x. same_card x c) (sym e) ∙ same_card-self c
 
 real-with : (cards : List PlayingCard) (x : PlayingCard) → AreReal (with_card cards x)
 real-with cards x c h = real-set (with_card cards x) c (IsSet-filter (λ d. same_card d x || has_card cards d) deck IsSet-deck) h
@@ -25,10 +20,10 @@ with-has : (cards : List PlayingCard) (x d : PlayingCard) → AreReal cards → 
 with-has cards x d real rank = both-ways _ _ (λ h. sym (is (real-with cards x d h)) ∙ h) (λ h. is (card h) ∙ h)
   where
     is : IsRank d.rank → has_card (with_card cards x) d ≡ (same_card x d || has_card cards d)
-    is r = has_card-with_card cards x d r ∙ ap (λ b. b || has_card cards d) (turned d x)
+    is r = has_card-with_card cards x d r ∙ ap (λ b. b || has_card cards d) (same_card-swap d x)
 
     card : (same_card x d || has_card cards d) ≡ true → IsRank d.rank
-    card h = elim (or-split (same_card x d) (has_card cards d) h) [
+    card h = elim (or_cases (same_card x d) (has_card cards d) h) [
       | inl same ↦ subst (λ (y : PlayingCard). IsRank y.rank) (same_card-eq x d same) rank
       | inr before ↦ real d before
     ]

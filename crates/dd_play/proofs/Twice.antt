@@ -8,11 +8,9 @@ use Rattle.dd_cards.specs.PlayingCard.{PlayingCard}
 use Rattle.dd_cards.specs.Ranks.{IsRank}
 use Rattle.dd_cards.specs.Cards.{same_card, has_card, with_card, deck}
 use Rattle.dd_cards.specs.Hands.{hand_of, with_hand, times, IsSet, AreHands, FourHands}
-use Rattle.dd_cards.proofs.CallerLemmas.{IsSet-with_card, at-most-one, has_card-deck, has_card-filter, real-set, same_card-eq, same_card-self, times-cons, times-has_card}
+use Rattle.dd_cards.proofs.CallerLemmas.{IsSet-with_card, at-most-one, has_card-deck, has_card-filter, real-set, same_card-eq, same_card-self, times-cons, times-has_card, same_card-swap, times-has}
 use Rattle.dd_play.specs.Board.{times_in}
-use Rattle.dd_play.proofs.Values.{times-has}
 use Rattle.dd_play.proofs.Boards.{flag_of, hand-same, times-push, times_in-with_hand, push-real}
-use Rattle.dd_play.proofs.Lengths.{same_card-swap}
 
 -- a card is put into a set that lacks it
 times-with_card : (cards : List PlayingCard) (c d : PlayingCard) → IsSet cards → has_card cards c ≡ false → IsRank c.rank → times (with_card cards c) d ≡ times cards d + flag_of (same_card c d)

@@ -12,9 +12,10 @@ use Rattle.dd_cards.specs.Hands.{FourHands, hand_of, with_hand, times}
 use Rattle.dd_cards.specs.Sides.{side_of}
 use Rattle.dd_play.specs.Board.{Board, IsBoard, cards_at, mover, cards_left}
 use Rattle.dd_play.specs.Tricks.{or_else}
-use Rattle.dd_cards.proofs.CallerLemmas.{any-filter, or-right, times-cons, times-set}
+use Rattle.dd_cards.proofs.CallerLemmas.{any-filter, times-cons, times-set, times-has}
 use Rattle.dd_play.specs.Play.{legal, following, completes, hands_after, after}
 use Rattle.dd_play.specs.Value.{best, gain, ns_within, ns, ns_with}
+use Rattle.std.proofs.lemmas.Bool.{or_right}
 
 -- a legal card is in the hand
 pub in-following : (trick hand : List PlayingCard) (c : PlayingCard) → has_card (following trick hand) c ≡ true → has_card hand c ≡ true
@@ -24,15 +25,6 @@ in-following (led ∷ rest) hand c h = go (filter (is_of led.suit) hand) (λ k. 
     go : (same : List PlayingCard) → (has_card same c ≡ true → has_card hand c ≡ true) → has_card (or_else same hand) c ≡ true → has_card hand c ≡ true
     go [] f h = h
     go (d ∷ same) f h = f h
-
--- a card that a list has stands in it at least once
-pub times-has : (cards : List PlayingCard) (c : PlayingCard) → has_card cards c ≡ true → 1 ≤ times cards c
-times-has [] c h = absurd (cc)
-times-has (d ∷ cards) c h =
-    rw (times-cons d cards c) (elim (same_card d c) as (λ b. (b || has_card cards c) ≡ true → 1 ≤ cond b 1 0 + times cards c) [
-      | true ↦ λ _. omega arith
-      | false ↦ λ k. (let i = times-has cards c k in omega arith)
-    ] h)
 
 -- a card that stands once is taken out
 pub length-without : (cards : List PlayingCard) (c : PlayingCard) → times cards c ≤ 1 → has_card cards c ≡ true → length (without cards c) + 1 ≡ length cards
@@ -75,7 +67,7 @@ pub map-where : (f g : PlayingCard → ℕ) (cards : List PlayingCard) → ((c :
 map-where f g [] e = refl
 map-where f g (c ∷ cards) e =
     let here : has_card (c ∷ cards) c ≡ true = rw (eq-eqb (suit_code c.suit) (suit_code c.suit) refl, eq-eqb c.rank c.rank refl) refl in
-    rw (e c here, map-where f g cards (λ d has. e d (or-right (same_card c d) (has_card cards d) has))) refl
+    rw (e c here, map-where f g cards (λ d has. e d (or_right (same_card c d) (has_card cards d) has))) refl
 
 -- the value is the best of the values after each legal card
 pub ns-legal : (p : Board) → IsBoard p → ns p ≡ best (side_of (mover p)) (map (ns_with p) (legal p))

@@ -118,7 +118,7 @@ abbrev pub strength_by : Bool → Bool → ℕ → ℕ
 strength_by trump led rank = (if trump then 20 + rank else (if led then rank else 0))
 
 -- whether a card is a trump depends on its suit alone
-trump-suit : (strain : Strain) (c d : PlayingCard) → c.suit ≡ d.suit → is_trump strain c ≡ is_trump strain d
+pub trump-suit : (strain : Strain) (c d : PlayingCard) → c.suit ≡ d.suit → is_trump strain c ≡ is_trump strain d
 trump-suit (Trump u) c d e = ap (λ s. is_of u (let card : PlayingCard = record { suit = s; rank = 0 } in card)) e
 trump-suit Notrump c d e = refl
 

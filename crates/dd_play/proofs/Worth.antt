@@ -165,3 +165,7 @@ reach-upward cards c d above none suits = go (nat_le c.rank d.rank) refl
         let up : c.rank ≤ d.rank = leb-true c.rank d.rank e in
         let low = f.3 in
         absurd (let k : true ≡ false = sym (reach-of cards f.0 d f.1 (f.2 ∙ suits) (omega (arith, low, up))) ∙ none in cc)
+
+-- a card of a set is reached by it
+pub reach-in : (cards : List PlayingCard) (x : PlayingCard) → has_card cards x ≡ true → reach cards x ≡ true
+reach-in cards x has = reach-of cards x x has refl (omega arith)

@@ -3,7 +3,7 @@ use Rattle.std.proofs.Common.{◌≡◌, ◌≢◌, ℕ, zero, suc, ◌+◌, ◌
 use Rattle.std.specs.Prelude.{nat_le, nat_lt, ◌&&◌, ◌⊎◌}
 use mathlib.Core.Bool.{not}
 use mathlib.Core.Path.{ap₂}
-use Rattle.std.proofs.lemmas.Bool.{cases_lt, lt-ltb, le-leb, leb-true}
+use Rattle.std.proofs.lemmas.Bool.{cases_lt, lt-ltb, le-leb, leb-true, not-true, false_from_ne_true}
 use Rattle.dd_cards.specs.declared.seat.Seat.{Seat}
 use Rattle.dd_cards.specs.declared.suit.Suit.{Suit}
 use Rattle.dd_cards.specs.declared.side.Side.{Side}
@@ -11,21 +11,22 @@ use Rattle.dd_cards.specs.PlayingCard.{PlayingCard}
 use Rattle.dd_cards.specs.Cards.{is_of, card_of, has_card}
 use Rattle.dd_cards.specs.Seats.{seat_code, seat_after}
 use Rattle.dd_cards.specs.Sides.{side_of, is_side}
-use Rattle.dd_cards.proofs.CallerLemmas.{and-left, and-right, else-false, is-same, not-true, same-self}
+use Rattle.dd_cards.proofs.CallerLemmas.{and-left, and-right, is-same, same-self, seat_code-lt, none-at}
 use Rattle.dd_play.specs.Board.{Board, cards_at, tricks_left}
 use Rattle.dd_play.specs.Tricks.{is_trump}
 use Rattle.dd_play.specs.Won.{won}
 use Rattle.dd_play.specs.Covers.{IsCover}
 use Rattle.dd_play.specs.Reach.{TakesBy}
-use Rattle.dd_play.proofs.CallerLemmas.{after-code, code-lt, count, count-has, inject, of-suit', once-in, suit-of}
+use Rattle.dd_play.proofs.CallerLemmas.{after-code, count, count-has, inject, of-suit', once-in, suit-of}
 use Rattle.dd_quick.specs.QuickTricks.{is_next, is_under_low, is_unbeaten, is_winner, joint_trumps, length_at, run, trumps_at}
-use Rattle.dd_quick.proofs.Hands.{IsOpposed, and-fails, no-higher, none-of, none-over, one-hand}
+use Rattle.dd_quick.proofs.Hands.{IsOpposed, and-fails, no-higher, none-over, one-hand}
 use Rattle.dd_quick.proofs.Cashing.{IsMaster, hand_on, sure_of, total}
 use Rattle.dd_quick.proofs.JointTrumps.{place-of}
 use Rattle.dd_quick.proofs.Sound.{own-side, round, trumps-count}
-use Rattle.dd_quick.proofs.Covered.{IsJoint, RestsOnTops, joint-covered, count-image, left-same, length-same, no-trick, seat-same, trumps-same, unbeaten-image, winner-image}
+use Rattle.dd_quick.proofs.Covered.{IsJoint, RestsOnTops, joint-covered, count-image, left-same, length-same, seat-same, trumps-same, unbeaten-image, winner-image}
 use Rattle.dd_quick.proofs.Crossings.{NoTrumps}
 use Rattle.dd_quick.proofs.PartnersPlan.{CanCross, crossed-all}
+use Rattle.dd_rank.proofs.CallerLemmas.{no-trick}
 
 -- What crossing rests on: the leader has n cards of each side suit to cash, on top cards; its partner has y cards beside one for
 -- each lead, z of them winners next below the leader's whole run, top cards too, which are all or as many as leave no other hand
@@ -50,7 +51,7 @@ pub record RestsAcross (top : PlayingCard → Bool) (p : Board) (n z y : Suit �
 
 -- a position that is covered has no trumps where the one that covers it has none
 pub plain-covered : (top : PlayingCard → Bool) (k : ℕ) (to from : PlayingCard → PlayingCard) (s : Side) (p : Board) (t : Side) (q : Board) → IsCover top k to from s p t q → ((i : ℕ) → i < 4 → trumps_at p.strain p (seat_after p.first i) ≡ 0) → NoTrumps q
-plain-covered top k to from s p t q r plain x c has = else-false (is_trump q.strain c) (λ h.
+plain-covered top k to from s p t q r plain x c has = false_from_ne_true (is_trump q.strain c) (λ h.
     let at = place-of q.first x in
     let none = plain at.0 at.1 in
     let same = trumps-same top k to from s p t q r p.strain at.0 in
@@ -96,7 +97,7 @@ module _ (top : PlayingCard → Bool) (k : ℕ) (to from : PlayingCard → Playi
       tc = and-right (is_next p (from c)) (top (from c)) next_c
 
       other : seat_code (seat_after q.first 2) ≢ seat_code q.first
-      other = (let a = after-code q.first 2 in let b = code-lt q.first in omega (arith, a, b))
+      other = (let a = after-code q.first 2 in let b = seat_code-lt q.first in omega (arith, a, b))
 
       go : c.rank ≤ d.rank → (b : Bool) → top (from d) ≡ b → (d.rank < c.rank) ⊎ (sure d ≡ true)
       go over false low = inl (r.over_q.hands (seat_after q.first 2) q.first c d (λ z. other (ap seat_code z)) has hd tc low (sym suits))
@@ -104,11 +105,11 @@ module _ (top : PlayingCard → Bool) (k : ℕ) (to from : PlayingCard → Playi
           let a = came-from 2 c has tc in
           let b = came-from 0 d hd td in
           let same : (from d).suit ≡ (from c).suit = r.from_suit d ∙ suits ∙ sym (r.from_suit c) in
-          let apart : seat_code (seat_after p.first 2) ≢ seat_code p.first = (let x = after-code p.first 2 in let z = code-lt p.first in omega (arith, x, z)) in
+          let apart : seat_code (seat_after p.first 2) ≢ seat_code p.first = (let x = after-code p.first 2 in let z = seat_code-lt p.first in omega (arith, x, z)) in
           elim (cases_lt (from c).rank (from d).rank) [
             | inl higher ↦ (
                 let free : is_under_low p (from c) ≡ false = not-true (is_under_low p (from c)) (and-right (is_unbeaten p (seat_after p.first 2) (from c)) (not (is_under_low p (from c))) (and-left (is_next p (from c)) (top (from c)) next_c)) in
-                let fails = none-of (λ d. (is_of (from c).suit d && nat_lt (from c).rank d.rank) && not (is_winner p p.first d)) (cards_at p p.first) (from d) free b.0 in
+                let fails = none-at (λ d. (is_of (from c).suit d && nat_lt (from c).rank d.rank) && not (is_winner p p.first d)) (cards_at p p.first) (from d) free b.0 in
                 let above : (is_of (from c).suit (from d) && nat_lt (from c).rank (from d).rank) ≡ true = both-pass (of-suit' (from c).suit (from d) same) (lt-ltb (from c).rank (from d).rank higher) in
                 let wins = else-true (is_winner p p.first (from d)) (and-fails (is_of (from c).suit (from d) && nat_lt (from c).rank (from d).rank) (not (is_winner p p.first (from d))) above fails) in
                 inr (both-pass wins td))

@@ -2,25 +2,25 @@
 use Rattle.std.proofs.Common.{◌≡◌, ◌≢◌, ℕ, zero, suc, ◌+◌, ◌-◌, ◌<◌, ◌≤◌, Bool, true, false, refl, sym, ap, ◌∙◌, arith, List, inl, inr, min, zero-le}
 use Rattle.std.specs.Prelude.{nat_lt, ◌&&◌, ◌||◌, ◌==◌, ◌⊎◌, if◌then◌else◌}
 use mathlib.Core.Path.{ap₂}
-use Rattle.std.proofs.lemmas.Bool.{cases_lt, eqb-true, leb-true, ltb-true}
+use Rattle.std.proofs.lemmas.Bool.{cases_lt, eqb-true, leb-true, ltb-true, or_cases, false_from_ne_true}
 use Rattle.std.proofs.lemmas.Bool.Decides.{eqb_tells}
 use Rattle.dd_cards.specs.declared.suit.Suit.{Suit}
 use Rattle.dd_cards.specs.declared.suit.Suit.TheVariants.{Spades, Hearts, Diamonds, Clubs}
 use Rattle.dd_cards.specs.PlayingCard.{PlayingCard}
 use Rattle.dd_cards.specs.Cards.{is_of, card_of, has_card}
 use Rattle.dd_cards.specs.Seats.{seat_after}
-use Rattle.dd_cards.proofs.CallerLemmas.{and-left, and-right, else-false, or-split}
+use Rattle.dd_cards.proofs.CallerLemmas.{and-left, and-right}
 use Rattle.dd_play.specs.Board.{Board, tricks_left}
 use Rattle.dd_play.specs.Tricks.{is_trump}
 use Rattle.dd_play.specs.Reach.{reach}
 use Rattle.dd_play.proofs.CallerLemmas.{reach-within}
 use Rattle.dd_quick.specs.QuickTricks.{IsNext, RestsOnNext, RestsOnTrumps, all_partners, beside_trumps, cashed, crossed, has_entry, is_entry, is_next, is_partners_long, joint_trumps, length_at, longest_beside, next_run, no_trumps, partners_cashed, partners_tricks, run, suit_tricks, trumps_at}
 use Rattle.dd_quick.specs.Sharing.{SomeOf, shares}
-use Rattle.dd_quick.proofs.Plays.{count-where}
 use Rattle.dd_quick.proofs.Cashing.{hand_on}
 use Rattle.dd_quick.proofs.Hands.{IsOpposed}
 use Rattle.dd_quick.proofs.Claims.{IsShared, both_unruffed, cashed-follows, cashed-le, cashed-plain, in-longest, joint-rests, long-or-run, run-length, shared-more, shared-tops, unruffed-follows, unruffed-least, unruffed-most}
 use Rattle.dd_quick.proofs.Across.{RestsAcross}
+use Rattle.dd_rank.proofs.CallerLemmas.{count-le}
 
 -- ---- what is counted
 
@@ -68,7 +68,7 @@ partners-follow p u i opposed has some = go (is_trump p.strain (card_of u 0)) re
 
 -- the suit is not trumps
 pub partners-plain : (p : Board) (u : Suit) → 1 ≤ partners_cashed p.strain p u → is_trump p.strain (card_of u 0) ≡ false
-partners-plain p u some = else-false (is_trump p.strain (card_of u 0)) (λ e. let none : partners_cashed p.strain p u ≡ 0 = ap (λ b. if b then 0 else both_unruffed p.strain p u (run p p.first u + partners_tricks p u) - run p p.first u) e in omega (arith, none, some))
+partners-plain p u some = false_from_ne_true (is_trump p.strain (card_of u 0)) (λ e. let none : partners_cashed p.strain p u ≡ 0 = ap (λ b. if b then 0 else both_unruffed p.strain p u (run p p.first u + partners_tricks p u) - run p p.first u) e in omega (arith, none, some))
 
 -- what crossing adds, where there is a suit to cross in
 pub crossed-is : (p : Board) (t u v w : ℕ) (a b c d : Bool) (m : ℕ) → IsNext p Spades t a → IsNext p Hearts u b → IsNext p Diamonds v c → IsNext p Clubs w d → ((a || b) || (c || d)) ≡ true → m ≡ beside_trumps p → min (t + u + v + w) m ≡ crossed p
@@ -99,7 +99,7 @@ crossed-full p full = (let k = crossed-most p in let l = k.1 in omega (arith, l,
 
 -- where it adds some, there is a suit to cross in
 pub some-entry : (p : Board) (t u v w : ℕ) (a b c d : Bool) → IsNext p Spades t a → IsNext p Hearts u b → IsNext p Diamonds v c → IsNext p Clubs w d → 1 ≤ crossed p → SomeOf a b c d t u v w
-some-entry p t u v w a b c d s h di cl some = by (or-split (is_entry p Spades || is_entry p Hearts) (is_entry p Diamonds || is_entry p Clubs) marked)
+some-entry p t u v w a b c d s h di cl some = by (or_cases (is_entry p Spades || is_entry p Hearts) (is_entry p Diamonds || is_entry p Clubs) marked)
   where
     passes : (x : Bool) (n : ℕ) → 1 ≤ (if x then n else 0) → x ≡ true
     passes true n e = refl
@@ -117,8 +117,8 @@ some-entry p t u v w a b c d s h di cl some = by (or-split (is_entry p Spades ||
     )
 
     by : ((is_entry p Spades || is_entry p Hearts) ≡ true) ⊎ ((is_entry p Diamonds || is_entry p Clubs) ≡ true) → SomeOf a b c d t u v w
-    by (inl k) = elim (or-split (is_entry p Spades) (is_entry p Hearts) k) [ inl e ↦ inl (inl (at Spades t a s e)) | inr e ↦ inl (inr (at Hearts u b h e)) ]
-    by (inr k) = elim (or-split (is_entry p Diamonds) (is_entry p Clubs) k) [ inl e ↦ inr (inl (at Diamonds v c di e)) | inr e ↦ inr (inr (at Clubs w d cl e)) ]
+    by (inl k) = elim (or_cases (is_entry p Spades) (is_entry p Hearts) k) [ inl e ↦ inl (inl (at Spades t a s e)) | inr e ↦ inl (inr (at Hearts u b h e)) ]
+    by (inr k) = elim (or_cases (is_entry p Diamonds) (is_entry p Clubs) k) [ inl e ↦ inr (inl (at Diamonds v c di e)) | inr e ↦ inr (inr (at Clubs w d cl e)) ]
 
 -- ---- without trumps
 
@@ -173,7 +173,7 @@ pub record IsNextShared (p : Board) (u : Suit) (cards : List PlayingCard) (entry
 -- with more cards as many are reached
 pub next-more : (p : Board) (u : Suit) (few many : List PlayingCard) (n : ℕ) → ((c : PlayingCard) → has_card few c ≡ true → has_card many c ≡ true) → RestsOnNext p u few n → RestsOnNext p u many n
 next-more p u few many n within r =
-    let m = count-where (λ c. (is_of u c && is_next p c) && reach few c) (λ c. (is_of u c && is_next p c) && reach many c) (hand_on p 2) (λ c has pass.
+    let m = count-le (λ c. (is_of u c && is_next p c) && reach few c) (λ c. (is_of u c && is_next p c) && reach many c) (hand_on p 2) (λ c has pass.
     ap₂ (λ a b. a && b) (and-left (is_of u c && is_next p c) (reach few c) pass) (reach-within few many within c (and-right (is_of u c && is_next p c) (reach few c) pass))) in
     omega (arith, r, m)
 

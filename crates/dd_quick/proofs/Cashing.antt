@@ -6,20 +6,19 @@
 use Rattle.std.proofs.Common.{◌≡◌, ◌≢◌, ℕ, zero, suc, ◌+◌, ◌-◌, ◌<◌, ◌≤◌, Bool, true, false, refl, sym, ap, ◌∙◌, subst, arith, List, [], ◌∷◌, ◌++◌, length, length-append, inl, inr}
 use Rattle.std.specs.Prelude.{nat_lt, min, ◌&&◌, ◌==◌, ◌⊎◌}
 use mathlib.Core.Path.{ap₂}
-use Rattle.std.proofs.lemmas.Bool.{lt-ltb, eqb-true, cases_lt}
+use Rattle.std.proofs.lemmas.Bool.{lt-ltb, eqb-true, cases_lt, not-true, false_from_ne_true}
 use Rattle.std.proofs.lemmas.Bool.Decides.{eqb_tells}
 use Rattle.dd_cards.specs.declared.seat.Seat.{Seat}
 use Rattle.dd_cards.specs.declared.seat.Seat.TheVariants.{North, East, South, West}
 use Rattle.dd_cards.specs.declared.suit.Suit.{Suit}
 use Rattle.dd_cards.specs.declared.suit.Suit.TheVariants.{Spades, Hearts, Diamonds, Clubs}
 use Rattle.dd_cards.specs.declared.strain.Strain.{Strain}
-use Rattle.dd_cards.specs.declared.strain.Strain.TheVariants.{Trump, Notrump}
 use Rattle.dd_cards.specs.PlayingCard.{PlayingCard}
 use Rattle.dd_cards.specs.Suits.{suit_code}
 use Rattle.dd_cards.specs.Cards.{is_of, has_card}
 use Rattle.dd_cards.specs.Seats.{seat_code, seat_after}
 use mathlib.Core.Bool.{not}
-use Rattle.dd_cards.proofs.CallerLemmas.{and-left, and-right, else-false, not-true}
+use Rattle.dd_cards.proofs.CallerLemmas.{and-left, and-right, seat_code-lt}
 use Rattle.dd_cards.specs.Sides.{is_side}
 use Rattle.dd_cards.specs.declared.side.Side.{Side}
 use Rattle.dd_play.specs.Board.{Board, IsBoard, cards_at, mover, tricks_left}
@@ -28,7 +27,7 @@ use Rattle.dd_play.specs.Play.{completes, trick_with, after, following}
 use Rattle.dd_play.specs.Simulations.{IsLegal}
 use Rattle.dd_play.specs.Covers.{count_of}
 use Rattle.dd_play.specs.Won.{won, trick_for}
-use Rattle.dd_play.proofs.CallerLemmas.{Obeys, after-code, can, code-lt, count, count-cons, count-has, count-some, flag_of, hand-others, in-push, legal-in, legal-leads, legal-out, of-suit', own-card, strain-after, suit-of, trick-after, trick-closed, was-in, won_with}
+use Rattle.dd_play.proofs.CallerLemmas.{Obeys, after-code, can, count, count-cons, count-has, count-some, flag_of, hand-others, in-push, legal-in, legal-leads, legal-out, of-suit', own-card, strain-after, suit-of, trick-after, trick-closed, was-in, won_with, trump-suit as same-trump}
 use Rattle.dd_quick.proofs.Plays.{whoever, count-own}
 use Rattle.dd_quick.proofs.FirstCard.{IsWeaker, first-wins}
 use Rattle.dd_quick.proofs.Hands.{places-on}
@@ -132,11 +131,6 @@ record Cashing (strain : Strain) (aims : Aims) (n : Suit → ℕ) (p : Board) (m
   done : (i : ℕ) → 1 ≤ i → i < length p.trick → LetsCash strain aims n no_cards i (cards_at p p.first) (hand_on p i)
 
 -- ---- one card that follows
-
--- whether a card is a trump is told by its suit
-pub same-trump : (strain : Strain) (c d : PlayingCard) → c.suit ≡ d.suit → is_trump strain c ≡ is_trump strain d
-same-trump (Trump t) c d e = ap (λ u. suit_code u == suit_code t) e
-same-trump Notrump c d e = refl
 
 -- a card is one of its own suit in all
 pub one-total : (m : PlayingCard) → total (one_card m) ≡ 1
@@ -287,7 +281,7 @@ module _ (strain : Strain) (o : Board) (aims : Aims) (n : Suit → ℕ) (s : Sid
 
   -- the leader is not to play
   apart : seat_code p.first ≢ seat_code (mover p)
-  apart = (let a = after-code p.first (length p.trick) in let b = code-lt p.first in let k = begun in let h = from.valid.short in λ e. omega (arith, a, b, e, k, h))
+  apart = (let a = after-code p.first (length p.trick) in let b = seat_code-lt p.first in let k = begun in let h = from.valid.short in λ e. omega (arith, a, b, e, k, h))
 
   -- the card follows suit if the hand can
   suited : FollowsSuit m (cards_at p (mover p)) c
@@ -303,9 +297,9 @@ module _ (strain : Strain) (o : Board) (aims : Aims) (n : Suit → ℕ) (s : Sid
   -- it is no trump
   plain : is_trump strain c ≡ false
   plain = elim (eqb_tells (length p.trick) 2) [
-    | inl two ↦ else-false (is_trump strain c) (λ t. absurd (let k : true ≡ false = sym (from.trumps c t) ∙ (free two.1).0 in cc))
+    | inl two ↦ false_from_ne_true (is_trump strain c) (λ t. absurd (let k : true ≡ false = sym (from.trumps c t) ∙ (free two.1).0 in cc))
     | inr other ↦ elim (mover-lets.follows other.1) [
-      | inl none ↦ else-false (is_trump strain c) (λ t. let some = count-has (is_trump strain) (cards_at p (mover p)) c (own-card p c has) t in omega (arith, none, some))
+      | inl none ↦ false_from_ne_true (is_trump strain c) (λ t. let some = count-has (is_trump strain) (cards_at p (mover p)) c (own-card p c has) t in omega (arith, none, some))
       | inr each ↦ (
           let one : one_card m m.suit ≡ 1 = ap flag_of (of-suit' m.suit m refl) in
           let some = each m.suit in
@@ -458,7 +452,7 @@ by-suits test (c ∷ cards) =
     go Clubs false = refl
 
 -- where there are more of one kind than of another, there are more of it in one suit
-more-somewhere : (a b : Suit → ℕ) → total a + 1 ≤ total b → (u : Suit) × (a u + 1 ≤ b u)
+pub more-somewhere : (a b : Suit → ℕ) → total a + 1 ≤ total b → (u : Suit) × (a u + 1 ≤ b u)
 more-somewhere a b h = elim (cases_lt (a Spades) (b Spades)) [
   | inl l ↦ (Spades, omega (arith, l))
   | inr x ↦ elim (cases_lt (a Hearts) (b Hearts)) [
@@ -640,7 +634,7 @@ module _ (strain : Strain) (o : Board) (aims : Aims) (n : Suit → ℕ) (s : Sid
   others-led : (i : ℕ) → 1 ≤ i → i < 4 → hand_on (after p m) i ≡ hand_on p i
   others-led i l k =
       let a = after-code p.first i in
-      let b = code-lt p.first in
+      let b = seat_code-lt p.first in
       let here : seat_code (mover p) ≡ seat_code p.first = ap seat_code leads in
       let other : seat_code (seat_after p.first i) ≢ seat_code (mover p) = omega (arith, a, b, here, l, k) in
       ap (λ x. cards_at (after p m) (seat_after x i)) leader-stays ∙ hand-others p m (seat_after p.first i) other

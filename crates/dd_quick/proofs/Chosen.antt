@@ -2,19 +2,19 @@
 use Rattle.std.proofs.Common.{◌≡◌, ℕ, ◌+◌, ◌<◌, ◌≤◌, Bool, true, false, refl, sym, ap, ◌∙◌, arith, List, [], ◌∷◌, inl, inr}
 use Rattle.std.specs.Prelude.{◌&&◌}
 use mathlib.Core.Bool.{not}
-use Rattle.std.proofs.lemmas.Bool.{cases_lt}
+use Rattle.std.proofs.lemmas.Bool.{cases_lt, false_from_ne_true}
 use Rattle.dd_cards.specs.PlayingCard.{PlayingCard}
 use Rattle.dd_cards.specs.Cards.{same_card, has_card}
 use Rattle.dd_cards.specs.Hands.{times}
-use Rattle.dd_cards.proofs.CallerLemmas.{and-left, and-right, else-false}
-use Rattle.dd_play.proofs.CallerLemmas.{count, count-cons, flag_of, has-first, in-rest, times-has}
-use Rattle.dd_quick.proofs.Plays.{count-where}
+use Rattle.dd_cards.proofs.CallerLemmas.{and-left, and-right, times-has}
+use Rattle.dd_play.proofs.CallerLemmas.{count, count-cons, flag_of, has-first, in-rest}
+use Rattle.dd_rank.proofs.CallerLemmas.{count-le}
 
 -- two tests that agree on each card of a hand pass as many
 pub count-same : (test tested : PlayingCard → Bool) (cards : List PlayingCard) → ((c : PlayingCard) → has_card cards c ≡ true → test c ≡ tested c) → count test cards ≡ count tested cards
 count-same test tested cards each =
-    let a = count-where test tested cards (λ c has t. sym (each c has) ∙ t) in
-    let b = count-where tested test cards (λ c has t. each c has ∙ t) in
+    let a = count-le test tested cards (λ c has t. sym (each c has) ∙ t) in
+    let b = count-le tested test cards (λ c has t. each c has ∙ t) in
     omega (arith, a, b)
 
 -- where no card passes, none is counted
@@ -62,7 +62,7 @@ choose test (d ∷ cards) k once many = elim (cases_lt (count test cards) k) [ i
       kept = r.kept;
       within = λ c e. (in-rest d c cards (r.within c e).0, (r.within c e).1);
       many = (
-          let no : r.kept d ≡ false = else-false (r.kept d) (λ e.
+          let no : r.kept d ≡ false = false_from_ne_true (r.kept d) (λ e.
           let some = times-has cards d (r.within d e).0 in
           let one = once d in
           let cons : times (d ∷ cards) d ≡ flag_of (same_card d d) + times cards d = count-cons (λ y. same_card y d) d cards in

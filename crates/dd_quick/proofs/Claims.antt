@@ -2,7 +2,7 @@
 use Rattle.std.proofs.Common.{◌≡◌, ℕ, zero, suc, ◌+◌, ◌-◌, ◌<◌, ◌≤◌, Bool, true, false, refl, sym, ap, ◌∙◌, subst, arith, List, [], inl, inr, min, zero-le}
 use Rattle.std.specs.Prelude.{nat_le, ◌&&◌, ◌==◌, ◌⊎◌, if◌then◌else◌}
 use mathlib.Core.Path.{ap₂}
-use Rattle.std.proofs.lemmas.Bool.{cases_lt, leb-true}
+use Rattle.std.proofs.lemmas.Bool.{cases_lt, leb-true, true_from_ne_false}
 use Rattle.std.proofs.lemmas.Bool.Decides.{eqb_tells, nat_tests}
 use Rattle.dd_cards.specs.declared.seat.Seat.{Seat}
 use Rattle.dd_cards.specs.declared.suit.Suit.{Suit}
@@ -13,18 +13,18 @@ use Rattle.dd_cards.specs.PlayingCard.{PlayingCard}
 use Rattle.dd_cards.specs.Cards.{is_of, card_of, has_card}
 use Rattle.dd_cards.specs.Seats.{seat_after}
 use Rattle.dd_cards.specs.Sides.{side_of}
-use Rattle.dd_cards.proofs.CallerLemmas.{and-left, and-right, else-true}
+use Rattle.dd_cards.proofs.CallerLemmas.{and-left, and-right}
 use Rattle.dd_play.specs.Board.{Board, IsBoard, cards_at, tricks_left}
 use Rattle.dd_play.specs.Tricks.{is_trump}
 use Rattle.dd_play.specs.Reach.{TakesBy, reach}
 use Rattle.dd_play.proofs.CallerLemmas.{count, reach-upward, reach-within}
-use Rattle.dd_quick.specs.QuickTricks.{IsCash, RestsOn, RestsOnTrumps, cashed, is_long, is_winner, joint_trumps, length_at, longest, run, suit_tricks, trumps_at, unruffed}
+use Rattle.dd_quick.specs.QuickTricks.{IsCash, RestsOn, RestsOnTrumps, cashed, depth, is_long, is_winner, joint_trumps, length_at, longest, run, suit_tricks, trumps_at, unruffed}
 use Rattle.dd_quick.specs.Sharing.{shares}
 use Rattle.dd_quick.proofs.Hands.{IsOpposed}
-use Rattle.dd_quick.proofs.Plays.{count-where}
 use Rattle.dd_quick.proofs.Sound.{CanTake, joint-longer, length-left}
 use Rattle.dd_quick.proofs.TrumpRanks.{last-seat}
 use Rattle.dd_quick.proofs.Covered.{IsJoint, RestsOnTops, leader-by}
+use Rattle.dd_rank.proofs.CallerLemmas.{count-le}
 
 -- joint trumps that the cards reach are top cards
 pub joint-rests : (strain : Strain) (p : Board) (i : ℕ) (cards : List PlayingCard) (m : ℕ) → m ≤ joint_trumps strain p (seat_after p.first i) → RestsOnTrumps strain p (seat_after p.first i) cards m → IsJoint strain (reach cards) p i m
@@ -32,7 +32,7 @@ joint-rests Notrump p i cards m few rests = tt
 joint-rests (Trump t) p i cards m few rests = elim rests [
   | inl tops ↦ inl (elim tops [
     | inl none ↦ inl none
-    | inr rank ↦ inr (rank.0, rank.1, λ c suit over. else-true (reach cards c) (λ low. let under = reach-upward cards (card_of t rank.0) c rank.2 low (sym suit) in omega (arith, over, under)))
+    | inr rank ↦ inr (rank.0, rank.1, λ c suit over. true_from_ne_false (reach cards c) (λ low. let under = reach-upward cards (card_of t rank.0) c rank.2 low (sym suit) in omega (arith, over, under)))
   ])
   | inr none ↦ inr none
 ]
@@ -114,7 +114,7 @@ cashed-plain strain p u some = go (is_trump strain (card_of u 0)) refl
 
 -- a run is no longer than the suit
 pub run-length : (p : Board) (x : Seat) (u : Suit) → run p x u ≤ length_at p x u
-run-length p x u = count-where (λ c. is_of u c && is_winner p x c) (is_of u) (cards_at p x) (λ c has pass. and-left (is_of u c) (is_winner p x c) pass)
+run-length p x u = count-le (λ c. is_of u c && is_winner p x c) (is_of u) (cards_at p x) (λ c has pass. and-left (is_of u c) (is_winner p x c) pass)
 
 -- the tricks of a suit are the run, or all cards, where the run is as long as any other hand's suit
 pub long-or-run : (p : Board) (u : Suit) → ((longest p u ≤ run p p.first u) × (suit_tricks p u ≡ length_at p p.first u)) ⊎ ((run p p.first u < longest p u) × (suit_tricks p u ≡ run p p.first u))
@@ -148,7 +148,7 @@ pub record IsShared (p : Board) (u : Suit) (cards : List PlayingCard) (n : ℕ) 
 -- with more cards as many winners are reached
 pub rests-more : (p : Board) (u : Suit) (few many : List PlayingCard) (n : ℕ) → ((c : PlayingCard) → has_card few c ≡ true → has_card many c ≡ true) → RestsOn p u few n → RestsOn p u many n
 rests-more p u few many n within r =
-    let m = count-where (λ c. (is_of u c && is_winner p p.first c) && reach few c) (λ c. (is_of u c && is_winner p p.first c) && reach many c) (cards_at p p.first) (λ c has pass.
+    let m = count-le (λ c. (is_of u c && is_winner p p.first c) && reach few c) (λ c. (is_of u c && is_winner p p.first c) && reach many c) (cards_at p p.first) (λ c has pass.
     ap₂ (λ a b. a && b) (and-left (is_of u c && is_winner p p.first c) (reach few c) pass) (reach-within few many within c (and-right (is_of u c && is_winner p p.first c) (reach few c) pass))) in
     omega (arith, r, m)
 
@@ -229,3 +229,7 @@ pub leader-claim : (p : Board) (few cards : List PlayingCard) (s h di cl m : ℕ
 leader-claim p few cards s h di cl m start sp he dm cb more throws joint trumps =
     let sure = leader-sure p few cards s h di cl m start sp he dm cb more throws joint trumps in
     leader-by (reach cards) p (shares s h di cl) m start sure.can sure.tops sure.joint
+
+-- so many tricks that the leader cashes are a share
+pub cashed-share : (p : Board) (u : Suit) (few many : List PlayingCard) (n : ℕ) → n ≤ cashed p.strain p u → RestsOn p u few (min n (depth p u)) → ((e : PlayingCard) → has_card few e ≡ true → has_card many e ≡ true) → IsShared p u many n
+cashed-share p u few many n less rests more = record { tricks = cashed p.strain p u; cards_of = depth p u; cash = (refl, λ some. refl); few = less; rests = rests-more p u few many (min n (depth p u)) more rests }

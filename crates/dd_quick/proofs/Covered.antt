@@ -1,9 +1,8 @@
 -- the quick tricks of a position are those of each position that it covers with its winners
 use Rattle.std.proofs.Common.{◌≡◌, ◌≢◌, ℕ, ◌+◌, ◌-◌, ◌<◌, ◌≤◌, Bool, true, false, refl, sym, ap, ◌∙◌, subst, arith, List, [], ◌∷◌, ◌++◌, length, length-append, inl, inr, min, zero-le}
 use Rattle.std.specs.Prelude.{filter, nat_le, nat_lt, ◌&&◌, ◌||◌, ◌==◌, ◌⊎◌}
-use Rattle.std.specs.List.{list_any}
 use mathlib.Core.Bool.{not}
-use Rattle.std.proofs.lemmas.Bool.{cases_lt, le-leb, leb-true, ltb-true}
+use Rattle.std.proofs.lemmas.Bool.{cases_lt, le-leb, leb-true, ltb-true, false_from_ne_true}
 use Rattle.std.proofs.lemmas.Bool.Decides.{nat_tests}
 use Rattle.dd_cards.specs.declared.seat.Seat.{Seat}
 use Rattle.dd_cards.specs.declared.suit.Suit.{Suit}
@@ -17,31 +16,20 @@ use Rattle.dd_cards.specs.Cards.{is_of, card_of, has_card, same_card}
 use Rattle.dd_cards.specs.Suits.{suit_code}
 use Rattle.dd_cards.specs.Seats.{seat_code, seat_after}
 use Rattle.dd_cards.specs.Sides.{side_of, other_side, is_side}
-use Rattle.dd_cards.proofs.CallerLemmas.{and-left, and-right, any-filter, else-false, is-other, is-same, same-other, same-self}
+use Rattle.dd_cards.proofs.CallerLemmas.{and-left, and-right, any-filter, is-other, is-same, same-other, same-self, any-some, seat_code-lt}
 use Rattle.dd_play.specs.Board.{Board, IsBoard, cards_at, tricks_left}
 use Rattle.dd_play.specs.Tricks.{is_trump}
 use Rattle.dd_play.specs.Value.{leaders_tricks}
 use Rattle.dd_play.specs.Won.{won}
-use Rattle.dd_play.specs.Covers.{IsCover, AllAnswer, count_of}
+use Rattle.dd_play.specs.Covers.{IsCover, count_of}
 use Rattle.dd_play.specs.Reach.{TakesBy, reach}
-use Rattle.dd_play.proofs.CallerLemmas.{after-code, both, by-fewer, by-here, by-more, code-lt, count, count-cons, filter-has, filter-passes, flag_of, has-first, in-rest, inject, of-suit', once-in, reach-upward, reach-within, suit-of, turn-apart, turn-turn}
+use Rattle.dd_play.proofs.CallerLemmas.{after-code, both, by-fewer, by-here, by-more, count, count-cons, filter-has, filter-passes, flag_of, inject, of-suit', once-in, reach-upward, reach-within, suit-of, turn-apart, turn-turn}
 use Rattle.dd_rank.specs.Depths.{Covers, depths_of}
-use Rattle.dd_rank.proofs.CallerLemmas.{noted}
+use Rattle.dd_rank.proofs.CallerLemmas.{noted, count-le, no-trick}
 use Rattle.dd_quick.specs.QuickTricks.{beats, from_rank, is_winner, is_unbeaten, joint_trumps, length_at, run, taken_from, trumps_at}
 use Rattle.dd_quick.proofs.Hands.{IsOpposed, no-higher, none-over}
 use Rattle.dd_quick.proofs.Cashing.{total}
-use Rattle.dd_quick.proofs.Plays.{count-where}
 use Rattle.dd_quick.proofs.Sound.{CanTake, can-take, in-either, in-left, in-right, joint-longer, joint-sure, lowest, opponents-side, rank-joint}
-
--- a card of the list that passes
-pub some-card : (test : PlayingCard → Bool) (cards : List PlayingCard) → list_any test cards ≡ true → (d : PlayingCard) × (has_card cards d ≡ true) × (test d ≡ true)
-some-card test [] h = absurd (cc)
-some-card test (c ∷ cards) h = go (test c) refl (some-card test cards)
-  where
-    go : (b : Bool) → test c ≡ b → (list_any test cards ≡ true → (d : PlayingCard) × (has_card cards d ≡ true) × (test d ≡ true))
-        → (d : PlayingCard) × (has_card (c ∷ cards) d ≡ true) × (test d ≡ true)
-    go true e rest = (c, has-first c cards, e)
-    go false e rest = let d = rest (rw e at h) in (d.0, in-rest c d.0 cards d.1, d.2)
 
 -- ---- winners and their images
 
@@ -49,13 +37,13 @@ some-card test (c ∷ cards) h = go (test c) refl (some-card test cards)
 module _ (top : PlayingCard → Bool) (k : ℕ) (to from : PlayingCard → PlayingCard) (s : Side) (p : Board) (t : Side) (q : Board) (r : IsCover top k to from s p t q) where
   -- a seat that is i places on is another
   apart : (x : Seat) (i : ℕ) → 1 ≤ i → i < 4 → seat_code (seat_after x i) ≢ seat_code x
-  apart x i l m = λ e. (let a = after-code x i in let b = code-lt x in omega (arith, a, b, e, l, m))
+  apart x i l m = λ e. (let a = after-code x i in let b = seat_code-lt x in omega (arith, a, b, e, l, m))
 
   -- a hand that has no card above a top card has none above its image
   free-image : (x : Seat) (c : PlayingCard) (i : ℕ) → 1 ≤ i → i < 4 → has_card (cards_at p x) c ≡ true → top c ≡ true
       → ((e : PlayingCard) → has_card (cards_at p (seat_after x i)) e ≡ true → e.suit ≡ c.suit → e.rank < c.rank) → beats q (seat_after (seat_after x k) i) (to c) ≡ false
-  free-image x c i l m has tc below = else-false _ (λ h.
-      let e = some-card (λ d. is_of (to c).suit d && nat_lt (to c).rank d.rank) (cards_at q (seat_after (seat_after x k) i)) h in
+  free-image x c i l m has tc below = false_from_ne_true _ (λ h.
+      let e = any-some (λ d. is_of (to c).suit d && nat_lt (to c).rank d.rank) (cards_at q (seat_after (seat_after x k) i)) h in
       let suits = suit-of (to c).suit e.0 (and-left (is_of (to c).suit e.0) (nat_lt (to c).rank e.0.rank) e.2) in
       let higher = ltb-true (to c).rank e.0.rank (and-right (is_of (to c).suit e.0) (nat_lt (to c).rank e.0.rank) e.2) in
       let under = go e.0 (ap (λ y. has_card (cards_at q y) e.0) (turn-turn x i k) ∙ e.1) suits (top (from e.0)) refl in
@@ -134,12 +122,6 @@ module _ (top : PlayingCard → Bool) (k : ℕ) (to from : PlayingCard → Playi
   trumps-same Notrump i = refl
   trumps-same (Trump u) i = length-same i u
 
--- where no card was played to the one trick, none was to the other
-pub no-trick : (to from : PlayingCard → PlayingCard) (top : PlayingCard → Bool) (cs ds : List PlayingCard) → cs ≡ [] → AllAnswer to from top cs ds → ds ≡ []
-no-trick to from top [] [] e a = refl
-no-trick to from top [] (d ∷ ds) e a = absurd a
-no-trick to from top (c ∷ cs) ds e a = absurd (cc)
-
 -- a hand's cards by their suits
 pub by-suits : (cards : List PlayingCard) → total (λ u. count_of u cards) ≡ length cards
 by-suits [] = refl
@@ -182,11 +164,11 @@ IsJoint (Trump u) top p i k = ((k ≡ 0) ⊎ ((rank : ℕ) × (k ≤ taken_from 
 
 -- from the lowest rank on a hand has all its cards of the suit
 all-from : (p : Board) (x : Seat) (u : Suit) → length_at p x u ≤ from_rank p x u 0
-all-from p x u = count-where (is_of u) (λ c. is_of u c && nat_le 0 c.rank) (cards_at p x) (λ c has of_u. rw (of_u, le-leb 0 c.rank zero-le) refl)
+all-from p x u = count-le (is_of u) (λ c. is_of u c && nat_le 0 c.rank) (cards_at p x) (λ c has of_u. rw (of_u, le-leb 0 c.rank zero-le) refl)
 
 -- and never more than all
 from-all : (p : Board) (x : Seat) (u : Suit) (r : ℕ) → from_rank p x u r ≤ length_at p x u
-from-all p x u r = count-where (λ c. is_of u c && nat_le r c.rank) (is_of u) (cards_at p x) (λ c has pass. and-left (is_of u c) (nat_le r c.rank) pass)
+from-all p x u r = count-le (λ c. is_of u c && nat_le r c.rank) (is_of u) (cards_at p x) (λ c has pass. and-left (is_of u c) (nat_le r c.rank) pass)
 
 -- where trumps of a rank or higher are top cards, there is a rank from which on they and no others stand at a position that is covered
 module _ (top : PlayingCard → Bool) (k : ℕ) (to from : PlayingCard → PlayingCard) (s : Side) (p : Board) (t : Side) (q : Board) (r : IsCover top k to from s p t q) (u : Suit) (a : Seat) (rank : ℕ)
@@ -210,7 +192,7 @@ module _ (top : PlayingCard → Bool) (k : ℕ) (to from : PlayingCard → Playi
   -- of the two hands no fewer stand from there on
   own-from : (least : ℕ) → IsFrom least → (x : Seat) → (x ≡ a) ⊎ (x ≡ seat_after a 2) → from_rank p x u rank ≤ from_rank q (seat_after x k) u least
   own-from least low x mine =
-      let n = count-where high (λ c. high c && top c) (cards_at p x) (λ c has e. both-pass e (high-top c e)) in
+      let n = count-le high (λ c. high c && top c) (cards_at p x) (λ c has e. both-pass e (high-top c e)) in
       let m = count-image top k to from s p t q r high (λ c. is_of u c && nat_le least c.rank) x (λ c has e tc. both-pass (of-suit' u (to c) (r.to_suit c ∙ suit-of u c (and-left (is_of u c) (nat_le rank c.rank) e))) (le-leb least (to c).rank (low.each x mine c has e))) in
       omega (arith, n, m)
     where
@@ -303,7 +285,7 @@ module _ (top : PlayingCard → Bool) (k : ℕ) (to from : PlayingCard → Playi
   ]
     where
       two : (i j : ℕ) → i < 4 → j < 4 → i ≢ j → seat_code (seat_after a i) ≢ seat_code (seat_after a j)
-      two i j l m e = (let x = after-code a i in let y = after-code a j in let z = code-lt a in λ k. omega (arith, x, y, z, k, l, m, e))
+      two i j l m e = (let x = after-code a i in let y = after-code a j in let z = seat_code-lt a in λ k. omega (arith, x, y, z, k, l, m, e))
 
 -- a position that is covered has as many joint trumps, of those that are top cards
 pub joint-covered : (top : PlayingCard → Bool) (k : ℕ) (to from : PlayingCard → PlayingCard) (s : Side) (p : Board) (t : Side) (q : Board) → IsCover top k to from s p t q

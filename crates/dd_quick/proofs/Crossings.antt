@@ -4,7 +4,7 @@ use Rattle.std.proofs.Common.{◌≡◌, ◌≢◌, ℕ, ◌+◌, ◌<◌, ◌�
 use Rattle.std.specs.Prelude.{filter, nat_le, nat_lt, ◌&&◌, ◌==◌, ◌⊎◌}
 use Rattle.std.specs.List.{list_all}
 use mathlib.Core.Path.{ap₂}
-use Rattle.std.proofs.lemmas.Bool.{cases_lt, leb-true, lt-ltb}
+use Rattle.std.proofs.lemmas.Bool.{cases_lt, leb-true, lt-ltb, false_from_ne_true}
 use Rattle.std.proofs.lemmas.Bool.Decides.{eqb_tells}
 use Rattle.dd_cards.specs.declared.seat.Seat.{Seat}
 use Rattle.dd_cards.specs.declared.suit.Suit.{Suit}
@@ -14,17 +14,17 @@ use Rattle.dd_cards.specs.Cards.{is_of, same_card, has_card}
 use Rattle.dd_cards.specs.Seats.{seat_code, seat_after}
 use Rattle.dd_cards.specs.Sides.{is_side}
 use Rattle.dd_cards.specs.declared.side.Side.{Side}
-use Rattle.dd_cards.proofs.CallerLemmas.{and-left, and-right, else-false, passes, same_card-eq}
+use Rattle.dd_cards.proofs.CallerLemmas.{and-left, and-right, passes, same_card-eq, seat_code-lt}
 use Rattle.dd_play.specs.Board.{Board, IsBoard, cards_at, mover, tricks_left}
 use Rattle.dd_play.specs.Tricks.{is_trump, deciding, is_highest_of, winning_place, or_else, winner_of}
 use Rattle.dd_play.specs.Play.{completes, trick_with, after, following}
 use Rattle.dd_play.specs.Simulations.{IsLegal}
 use Rattle.dd_play.specs.Covers.{count_of}
 use Rattle.dd_play.specs.Won.{won, trick_for}
-use Rattle.dd_play.proofs.CallerLemmas.{Obeys, after-code, can, code-lt, count, count-has, count-some, filter-has, filter-passes, flag_of, hand-others, has-first, in-rest, legal-in, legal-leads, legal-out, of-suit', own-card, same-or, strain-after, suit-of, trick-after, trick-closed, was-in, won_with}
+use Rattle.dd_play.proofs.CallerLemmas.{Obeys, after-code, can, count, count-has, count-some, filter-has, filter-passes, flag_of, hand-others, has-first, in-rest, legal-in, legal-leads, legal-out, of-suit', own-card, same-or, strain-after, suit-of, trick-after, trick-closed, was-in, won_with, trump-suit as same-trump}
 use Rattle.dd_quick.proofs.Plays.{whoever, count-own}
 use Rattle.dd_quick.proofs.FirstCard.{IsWeaker, none-higher}
-use Rattle.dd_quick.proofs.Cashing.{FollowsSuit, hand_on, less, partner-too, same-trump, sure_of}
+use Rattle.dd_quick.proofs.Cashing.{FollowsSuit, hand_on, less, partner-too, sure_of}
 use Rattle.dd_quick.proofs.Hands.{IsOpposed}
 use Rattle.dd_quick.proofs.Chosen.{Chosen, count-same}
 
@@ -44,7 +44,7 @@ decided strain m rest each = ap (λ trumps. or_else trumps (filter (is_of m.suit
 
 -- a card of the trick that is weaker than another of the suit led is not the highest
 not-highest : (suit : Suit) (trick : List PlayingCard) (w e : PlayingCard) → has_card trick w ≡ true → w.suit ≡ suit → (e.suit ≡ suit → e.rank < w.rank) → is_highest_of (filter (is_of suit) trick) e ≡ false
-not-highest suit trick w e has of_suit low = else-false (is_highest_of (filter (is_of suit) trick) e) (λ h.
+not-highest suit trick w e has of_suit low = false_from_ne_true (is_highest_of (filter (is_of suit) trick) e) (λ h.
     let own = and-left (has_card (filter (is_of suit) trick) e) (list_all (λ d. nat_le d.rank e.rank) (filter (is_of suit) trick)) h in
     let all = and-right (has_card (filter (is_of suit) trick) e) (list_all (λ d. nat_le d.rank e.rank) (filter (is_of suit) trick)) h in
     let there = filter-has (is_of suit) trick w has (of-suit' suit w of_suit) in
@@ -160,7 +160,7 @@ module _ (s : Side) (q : Board) (m w : PlayingCard) (valid : IsBoard q) (start :
 
   -- two places are two seats
   two : (i j : ℕ) → i < 4 → j < 4 → i ≢ j → seat_code (seat_after q.first i) ≢ seat_code (seat_after q.first j)
-  two i j l k differs = λ e. (let a = after-code q.first i in let b = after-code q.first j in let c = code-lt q.first in omega (arith, a, b, c, e, l, k, differs))
+  two i j l k differs = λ e. (let a = after-code q.first i in let b = after-code q.first j in let c = seat_code-lt q.first in omega (arith, a, b, c, e, l, k, differs))
 
   -- another hand keeps its cards
   stays : (p : Board) (trick : List PlayingCard) (c : PlayingCard) (i : ℕ) → IsFrom w q p → p.trick ≡ trick → length trick < 4 → i < 4 → i ≢ length trick → cards_at (after p c) (seat_after q.first i) ≡ cards_at p (seat_after q.first i)
@@ -222,7 +222,7 @@ module _ (s : Side) (q : Board) (m w : PlayingCard) (valid : IsBoard q) (start :
 
       quiet : is_trump q.strain c ≡ false
       quiet = elim (follow (length trick) opposed) [
-        | inl none ↦ else-false (is_trump q.strain c) (λ t.
+        | inl none ↦ false_from_ne_true (is_trump q.strain c) (λ t.
             let one = count-has (is_trump q.strain) (cards_at p (mover p)) c (own-card p c has) t in
             let all : count (is_trump q.strain) (cards_at p (mover p)) ≡ 0 = ap (count (is_trump q.strain)) (whole p trick from on short) ∙ none in
             omega (arith, one, all))
@@ -324,4 +324,4 @@ chosen-many hand test k chosen u = count-same (λ c. is_of u c && (chosen c.suit
     agree c true f = ap (λ a. a && (chosen c.suit).kept c) f ∙ ap (λ v. (chosen v).kept c) (suit-of u c f)
     agree c false f =
         ap (λ a. a && (chosen c.suit).kept c) f
-        ∙ sym (else-false ((chosen u).kept c) (λ k. let other : is_of u c ≡ true = and-left (is_of u c) (test u c) ((chosen u).within c k).1 in let no : false ≡ true = sym f ∙ other in cc))
+        ∙ sym (false_from_ne_true ((chosen u).kept c) (λ k. let other : is_of u c ≡ true = and-left (is_of u c) (test u c) ((chosen u).within c k).1 in let no : false ≡ true = sym f ∙ other in cc))

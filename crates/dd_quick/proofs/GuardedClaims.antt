@@ -3,7 +3,7 @@ use Rattle.std.proofs.Common.{◌≡◌, ◌≢◌, ℕ, zero, suc, ◌<◌, ◌
 use Rattle.std.specs.Prelude.{filter, map, nat_le, nat_lt, ◌&&◌, ◌⊎◌}
 use mathlib.Core.Bool.{not}
 use mathlib.Core.Path.{ap₂}
-use Rattle.std.proofs.lemmas.Bool.{cases_lt, lt-ltb, ltb-true}
+use Rattle.std.proofs.lemmas.Bool.{cases_lt, lt-ltb, ltb-true, true_from_ne_false}
 use Rattle.std.proofs.lemmas.Bool.Decides.{eqb_tells, nat_tests}
 use Rattle.std.proofs.lemmas.List.{length-map}
 use Rattle.dd_cards.specs.declared.seat.Seat.{Seat}
@@ -13,19 +13,20 @@ use Rattle.dd_cards.specs.PlayingCard.{PlayingCard}
 use Rattle.dd_cards.specs.Cards.{is_of, card_of, same_card, has_card}
 use Rattle.dd_cards.specs.Seats.{seat_code, seat_after}
 use Rattle.dd_cards.specs.Sides.{side_of, other_side, is_side}
-use Rattle.dd_cards.proofs.CallerLemmas.{and-left, and-right, else-true, filter-filter, filter-map, is-other, same-other, same_card-eq, same_card-self}
+use Rattle.dd_cards.proofs.CallerLemmas.{and-left, and-right, filter-filter, filter-map, is-other, same-other, same_card-eq, same_card-self, seat_code-lt}
 use Rattle.dd_play.specs.Board.{Board, cards_at}
 use Rattle.dd_play.specs.Reach.{TakesBy, reach}
 use Rattle.dd_play.specs.Won.{won}
-use Rattle.dd_play.proofs.CallerLemmas.{after-code, code-lt, count, count-has, count-some, of-suit', reach-of, reach-upward, suit-of, turn-turn}
+use Rattle.dd_play.proofs.CallerLemmas.{after-code, count, count-has, count-some, of-suit', reach-of, reach-upward, suit-of, turn-turn}
 use Rattle.dd_quick.specs.QuickTricks.{length_at}
 use Rattle.dd_quick.specs.SecondHand.{Opposes}
 use Rattle.dd_quick.proofs.Chosen.{count-split}
-use Rattle.dd_quick.proofs.Covered.{no-trick, seat-same}
+use Rattle.dd_quick.proofs.Covered.{seat-same}
 use Rattle.dd_quick.proofs.GuardedTrump.{CanGuard, guarded-takes}
 use Rattle.dd_quick.proofs.Hands.{IsOpposed, one-hand}
 use Rattle.dd_quick.proofs.JointTrumps.{place-of}
 use Rattle.dd_quick.proofs.KeptClaims.{opponents-are}
+use Rattle.dd_rank.proofs.CallerLemmas.{no-trick}
 
 -- how many cards of the suit above this rank the seat holds
 abbrev pub above_rank : Board → Seat → Suit → ℕ → ℕ
@@ -62,7 +63,7 @@ guard-claim p i u rank cards opposed start strain is there k to from t q r stric
 
     -- from the trump on all are top cards
     high : (c : PlayingCard) → c.suit ≡ u → rank ≤ c.rank → reach cards c ≡ true
-    high c suit over = else-true (reach cards c) (λ low. let under = reach-upward cards (card_of u rank) c (reach-of cards (card_of u rank) (card_of u rank) there refl (omega arith)) low (sym suit) in omega (arith, over, under))
+    high c suit over = true_from_ne_false (reach cards c) (λ low. let under = reach-upward cards (card_of u rank) c (reach-of cards (card_of u rank) (card_of u rank) there refl (omega arith)) low (sym suit) in omega (arith, over, under))
 
     lo_top : reach cards (card_of u rank) ≡ true
     lo_top = high (card_of u rank) refl (omega arith)
@@ -164,7 +165,7 @@ guard-claim p i u rank cards opposed start strain is there k to from t q r stric
     taken = guarded-takes q (seat_after q.first i) u (to hi.0) (to (card_of u rank)) guard (r.strain ∙ strain) (no-trick to from (reach cards) p.trick q.trick start r.trick)
         (ap (λ w. has_card (cards_at q w) (to hi.0)) (ap (λ w. seat_after w 3) turned ∙ turn-turn (seat_after p.first i) k 3) ∙ hi_image.0)
         (let two = is.two in let same : length_at q (seat_after q.first i) u ≡ length_at q (seat_after (seat_after p.first i) k) u = ap (λ w. length_at q w u) turned in let long = r.lengths (seat_after p.first i) u in omega (arith, two, same, long))
-        (λ e. let a = after-code q.first i in let b = code-lt q.first in let f : seat_code q.first ≡ seat_code (seat_after q.first i) = ap seat_code e in elim opposed [ inl g ↦ omega (arith, a, b, f, g) | inr g ↦ omega (arith, a, b, f, g) ])
+        (λ e. let a = after-code q.first i in let b = seat_code-lt q.first in let f : seat_code q.first ≡ seat_code (seat_after q.first i) = ap seat_code e in elim opposed [ inl g ↦ omega (arith, a, b, f, g) | inr g ↦ omega (arith, a, b, f, g) ])
 
 -- So it is of an opponent's seat.
 pub guard-at : (p : Board) (seat : Seat) (u : Suit) (rank : ℕ) (cards : List PlayingCard) → Opposes p seat → p.trick ≡ [] → p.strain ≡ Trump u → IsGuarded p seat u rank → has_card cards (card_of u rank) ≡ true → TakesBy (reach cards) (other_side (side_of p.first)) p 1

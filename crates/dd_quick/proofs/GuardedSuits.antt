@@ -3,7 +3,7 @@ use Rattle.std.proofs.Common.{◌≡◌, ◌≢◌, ℕ, zero, suc, ◌+◌, ◌
 use Rattle.std.specs.Prelude.{nat_lt, ◌&&◌, ◌==◌, ◌⊎◌, if◌then◌else◌}
 use mathlib.Core.Bool.{not}
 use mathlib.Core.Path.{ap₂}
-use Rattle.std.proofs.lemmas.Bool.{cases_lt}
+use Rattle.std.proofs.lemmas.Bool.{not-true}
 use Rattle.std.proofs.lemmas.Bool.Decides.{nat_tests}
 use Rattle.dd_cards.specs.declared.seat.Seat.{Seat}
 use Rattle.dd_cards.specs.declared.suit.Suit.{Suit}
@@ -14,19 +14,20 @@ use Rattle.dd_cards.specs.Cards.{is_of, same_card, card_of, has_card}
 use Rattle.dd_cards.specs.Hands.{times}
 use Rattle.dd_cards.specs.Seats.{seat_code, seat_after}
 use Rattle.dd_cards.specs.Sides.{side_of, other_side, is_side}
-use Rattle.dd_cards.proofs.CallerLemmas.{and-left, and-right, not-true, same_card-self}
+use Rattle.dd_cards.proofs.CallerLemmas.{and-left, and-right, same_card-self, seat_code-lt}
 use Rattle.dd_play.specs.Board.{Board, IsBoard, cards_at, mover}
 use Rattle.dd_play.specs.Play.{after}
 use Rattle.dd_play.specs.Simulations.{IsLegal}
 use Rattle.dd_play.specs.Covers.{count_of}
-use Rattle.dd_play.proofs.CallerLemmas.{after-code, code-lt, count, count-some, flag_of, hand-others, of-suit', own-card, suit-of}
+use Rattle.dd_play.proofs.CallerLemmas.{after-code, count, count-some, flag_of, hand-others, of-suit', own-card, suit-of}
 use Rattle.dd_quick.proofs.Cashing.{total}
 use Rattle.dd_quick.proofs.Chosen.{count-split}
 use Rattle.dd_quick.proofs.Crossings.{NoTrumps}
 use Rattle.dd_quick.proofs.Hands.{IsOpposed, and-fails}
 use Rattle.dd_quick.proofs.JointTrumps.{place-of}
-use Rattle.dd_quick.proofs.Plays.{count-own, count-where}
+use Rattle.dd_quick.proofs.Plays.{count-own}
 use Rattle.dd_quick.proofs.Sound.{opponents-side}
+use Rattle.dd_rank.proofs.CallerLemmas.{count-le}
 
 -- ---- lists of cards
 
@@ -52,23 +53,13 @@ under honour u d at suit low other =
 pub other-card : (test : PlayingCard → Bool) (cards : List PlayingCard) (g : PlayingCard) → times cards g ≤ 1 → 2 ≤ count test cards → (d : PlayingCard) × (has_card cards d ≡ true) × (test d ≡ true) × (d ≢ g)
 other-card test cards g once many =
     let split = count-split test (λ c. same_card c g) cards in
-    let few = count-where (λ c. test c && same_card c g) (λ c. same_card c g) cards (λ c has pass. and-right (test c) (same_card c g) pass) in
+    let few = count-le (λ c. test c && same_card c g) (λ c. same_card c g) cards (λ c has pass. and-right (test c) (same_card c g) pass) in
     let d = count-some (λ c. test c && not (same_card c g)) cards (omega (arith, split, few, once, many)) in (
       d.0,
       d.1,
       and-left (test d.0) (not (same_card d.0 g)) d.2,
       λ e. (let k : same_card d.0 g ≡ false = not-true (same_card d.0 g) (and-right (test d.0) (not (same_card d.0 g)) d.2) in let z : true ≡ false = sym (same_card-self g) ∙ ap (λ c. same_card c g) (sym e) ∙ k in cc),
     )
-
--- where the sum over the suits is greater, so is that of one suit
-pub some-suit : (a b : Suit → ℕ) → total a + 1 ≤ total b → (u : Suit) × (a u + 1 ≤ b u)
-some-suit a b more = elim (cases_lt (a Spades) (b Spades)) [
-  | inl l ↦ (Spades, omega (arith, l))
-  | inr s ↦ elim (cases_lt (a Hearts) (b Hearts)) [
-    | inl l ↦ (Hearts, omega (arith, l))
-    | inr h ↦ elim (cases_lt (a Diamonds) (b Diamonds)) [ inl l ↦ (Diamonds, omega (arith, l)) | inr d ↦ (Clubs, omega (arith, s, h, d, more)) ]
-  ]
-]
 
 -- where no suit has more, and one has less, the sum is less
 pub total-more : (a b : Suit → ℕ) (v : Suit) → ((u : Suit) → a u ≤ b u) → a v + 1 ≤ b v → total a + 1 ≤ total b
@@ -146,7 +137,7 @@ module _ (o : Board) (guarded : Suit → Bool) (keeper : Suit → Seat) (honour 
           side i opposed = elim opposed [ inl k ↦ ap (λ n. is_side t (seat_after o.first n)) k ∙ (opponents-side o.first).0 | inr k ↦ ap (λ n. is_side t (seat_after o.first n)) k ∙ (opponents-side o.first).1 ]
 
       apart : (i j : ℕ) → i < 4 → j < 4 → i ≢ j → mover q ≡ seat_after o.first j → seat_code (seat_after o.first i) ≢ seat_code (mover q)
-      apart i j l m differs e = (let a = after-code o.first i in let b = after-code o.first j in let d = code-lt o.first in let s : seat_code (mover q) ≡ seat_code (seat_after o.first j) = ap seat_code e in λ z. omega (arith, a, b, d, l, m, differs, s, z))
+      apart i j l m differs e = (let a = after-code o.first i in let b = after-code o.first j in let d = seat_code-lt o.first in let s : seat_code (mover q) ≡ seat_code (seat_after o.first j) = ap seat_code e in λ z. omega (arith, a, b, d, l, m, differs, s, z))
 
       by : (i : ℕ) × (i < 4) × (mover q ≡ seat_after o.first i) → rounds (after q c) u + flag_of (test c) ≡ rounds q u
       by (zero, l, e) = (let a = moved o.first (sym e) in let b = stays two (apart 2 0 (omega arith) (omega arith) (λ z. omega (arith, z)) e) in omega (arith, now_is, was_is, a, b))

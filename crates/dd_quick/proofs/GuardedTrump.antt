@@ -5,7 +5,7 @@ use Rattle.std.proofs.Common.{◌≡◌, ◌≢◌, ℕ, zero, suc, ◌+◌, ◌
 use Rattle.std.specs.Prelude.{nat_le, ◌&&◌, ◌⊎◌}
 use mathlib.Core.Bool.{not}
 use mathlib.Core.Path.{ap₂}
-use Rattle.std.proofs.lemmas.Bool.{cases_lt, eqb-true, leb-true, le-leb}
+use Rattle.std.proofs.lemmas.Bool.{cases_lt, eqb-true, leb-true, le-leb, not-true, false_from_ne_true}
 use Rattle.dd_cards.specs.declared.seat.Seat.{Seat}
 use Rattle.dd_cards.specs.declared.suit.Suit.{Suit}
 use Rattle.dd_cards.specs.declared.side.Side.{Side}
@@ -14,21 +14,22 @@ use Rattle.dd_cards.specs.PlayingCard.{PlayingCard}
 use Rattle.dd_cards.specs.Cards.{is_of, same_card, has_card}
 use Rattle.dd_cards.specs.Seats.{seat_code, seat_after}
 use Rattle.dd_cards.specs.Sides.{side_of, is_side}
-use Rattle.dd_cards.proofs.CallerLemmas.{and-left, and-right, else-false, has_card-without, length-filter-le, not-true, same_card-eq, same_card-self}
+use Rattle.dd_cards.proofs.CallerLemmas.{and-left, and-right, has_card-without, length-filter-le, same_card-eq, same_card-self, seat_code-lt}
 use Rattle.dd_play.specs.Board.{Board, IsBoard, cards_at, cards_left, tricks_left, mover}
 use Rattle.dd_play.specs.Tricks.{winning_place, winner_of}
 use Rattle.dd_play.specs.Play.{after, completes, following, trick_with}
 use Rattle.dd_play.specs.Simulations.{IsLegal}
 use Rattle.dd_play.specs.Covers.{count_of}
 use Rattle.dd_play.specs.Won.{trick_for, won}
-use Rattle.dd_play.proofs.CallerLemmas.{after-code, can, cards-tricks, cards_left-after, code-lt, count, count-has, count-some, flag_of, has-at, has-first, hand-others, hand-own, in-push, legal-in, legal-leads, of-suit', once-in, own-card, real-trick, same-or, strain-after, suit-of, trick-after, trick-closed, was-in, won_with}
+use Rattle.dd_play.proofs.CallerLemmas.{after-code, can, cards-tricks, cards_left-after, count, count-has, count-some, flag_of, has-at, has-first, hand-others, hand-own, in-push, legal-in, legal-leads, of-suit', once-in, own-card, real-trick, same-or, strain-after, suit-of, trick-after, trick-closed, was-in, won_with}
 use Rattle.dd_quick.specs.QuickTricks.{from_rank, joint_trumps}
 use Rattle.dd_quick.proofs.Chosen.{count-never, count-split}
 use Rattle.dd_quick.proofs.Hands.{one-hand}
 use Rattle.dd_quick.proofs.JointPlans.{is_top}
 use Rattle.dd_quick.proofs.JointTrumps.{hand-in, place-of, top-wins}
-use Rattle.dd_quick.proofs.Plays.{count-own, count-where, place-push, whoever}
+use Rattle.dd_quick.proofs.Plays.{count-own, place-push, whoever}
 use Rattle.dd_quick.proofs.Sound.{in-left, in-right, joint-sure, own-side, partners-side, rank-joint}
+use Rattle.dd_rank.proofs.CallerLemmas.{count-le}
 
 -- y's trump is below none but the highest, in the hand before it
 pub record CanGuard (o : Board) (y : Seat) (u : Suit) (hi lo : PlayingCard) : Type 0 where
@@ -67,7 +68,7 @@ module _ (o : Board) (y : Seat) (u : Suit) (hi lo : PlayingCard) (guard : CanGua
 
   -- a card put on a trick that lacks another card
   push-lacks : (trick : List PlayingCard) (c d : PlayingCard) → has_card trick d ≡ false → c ≢ d → has_card (trick ++ c ∷ []) d ≡ false
-  push-lacks trick c d none differs = else-false (has_card (trick ++ c ∷ []) d) (λ h. elim (in-push trick c d h) [ inl k ↦ (let z : false ≡ true = sym none ∙ k in cc) | inr k ↦ differs k ])
+  push-lacks trick c d none differs = false_from_ne_true (has_card (trick ++ c ∷ []) d) (λ h. elim (in-push trick c d h) [ inl k ↦ (let z : false ≡ true = sym none ∙ k in cc) | inr k ↦ differs k ])
 
   -- before a trick
   begins : (p : Board) → IsBoard p → p.strain ≡ Trump u → p.trick ≡ [] → ((z : Seat) (c : PlayingCard) → has_card (cards_at p z) c ≡ true → has_card (cards_at o z) c ≡ true) → has_card (cards_at p x) hi ≡ true → has_card (cards_at p y) lo ≡ true → 2 ≤ count_of u (cards_at p y) → p.first ≢ y
@@ -95,13 +96,13 @@ module _ (o : Board) (y : Seat) (u : Suit) (hi lo : PlayingCard) (guard : CanGua
     hi-on : HiIs (after q c) (q.trick ++ c ∷ [])
     hi-on = elim now.hi_is [
       | inl at ↦ elim (same-or x (mover q)) [ inl e ↦ by-x at.0 at.1 e (same_card hi c) refl | inr apart ↦ inl (ap (λ cards. has_card cards hi) (hand-others q c x apart) ∙ at.0, push-lacks q.trick c hi at.1 (λ e. one-hand q now.valid x (mover q) hi apart at.0 (subst (λ d. has_card (cards_at q (mover q)) d ≡ true) e own))) ]
-      | inr gone ↦ inr (λ z. else-false (has_card (cards_at (after q c) z) hi) (λ h. let k : false ≡ true = sym (gone z) ∙ was-in q c now.valid z hi h in cc))
+      | inr gone ↦ inr (λ z. false_from_ne_true (has_card (cards_at (after q c) z) hi) (λ h. let k : false ≡ true = sym (gone z) ∙ was-in q c now.valid z hi h in cc))
     ]
       where
         by-x : has_card (cards_at q x) hi ≡ true → has_card q.trick hi ≡ false → x ≡ mover q → (b : Bool) → same_card hi c ≡ b → HiIs (after q c) (q.trick ++ c ∷ [])
         by-x at none e true f = inr (λ z. elim (same-or z (mover q)) [
           | inl k ↦ ap (λ w. has_card (cards_at (after q c) w) hi) k ∙ ap (λ cards. has_card cards hi) (hand-own q c now.valid) ∙ has_card-without (cards_at q (mover q)) c hi ∙ ap (λ b. not b && has_card (cards_at q (mover q)) hi) f
-          | inr apart ↦ else-false (has_card (cards_at (after q c) z) hi) (λ h. one-hand q now.valid z (mover q) hi apart (was-in q c now.valid z hi h) (subst (λ w. has_card (cards_at q w) hi ≡ true) e at))
+          | inr apart ↦ false_from_ne_true (has_card (cards_at (after q c) z) hi) (λ h. one-hand q now.valid z (mover q) hi apart (was-in q c now.valid z hi h) (subst (λ w. has_card (cards_at q w) hi ≡ true) e at))
         ])
         by-x at none e false f = inl (
           ap (λ w. has_card (cards_at (after q c) w) hi) e ∙ ap (λ cards. has_card cards hi) (hand-own q c now.valid) ∙ has_card-without (cards_at q (mover q)) c hi ∙ ap₂ (λ a b. not a && b) f (ap (λ w. has_card (cards_at q w) hi) (sym e) ∙ at),
@@ -133,7 +134,7 @@ module _ (o : Board) (y : Seat) (u : Suit) (hi lo : PlayingCard) (guard : CanGua
               ap (λ cards. has_card cards lo) same ∙ k.1,
               elim k.2 [
                 | inl two ↦ inl (subst (λ cards. 2 ≤ count_of u cards) (sym same) two)
-                | inr gone ↦ inr (λ z. else-false (has_card (cards_at (after q c) z) hi) (λ h. let e : false ≡ true = sym (gone z) ∙ was-in q c now.valid z hi h in cc))
+                | inr gone ↦ inr (λ z. false_from_ne_true (has_card (cards_at (after q c) z) hi) (λ h. let e : false ≡ true = sym (gone z) ∙ was-in q c now.valid z hi h in cc))
               ],
             )))
             | inr k ↦ (let less = k.0 in
@@ -154,7 +155,7 @@ module _ (o : Board) (y : Seat) (u : Suit) (hi lo : PlayingCard) (guard : CanGua
             let a = after-code q.first i in
             let b = after-code q.first (length q.trick) in
             let d = after-code y 3 in
-            let e = code-lt q.first in
+            let e = seat_code-lt q.first in
             let f : seat_code y ≡ seat_code (seat_after q.first i) = ap seat_code now.place.2 in
             let low = now.place.0 in
             let short = now.valid.short in
@@ -164,7 +165,7 @@ module _ (o : Board) (y : Seat) (u : Suit) (hi lo : PlayingCard) (guard : CanGua
     y-spends : mover q ≡ y → c ≡ lo → i ≡ length q.trick → has_card (cards_at q x) hi ≡ true → has_card q.trick hi ≡ false → YIs i (after q c) (q.trick ++ c ∷ [])
     y-spends turn is here at none =
         let long = length-append q.trick (c ∷ []) in
-        let apart : seat_code x ≢ seat_code (mover q) = (let a = after-code y 3 in let b = code-lt y in let e : seat_code (mover q) ≡ seat_code y = ap seat_code turn in λ z. omega (arith, a, b, e, z)) in
+        let apart : seat_code x ≢ seat_code (mover q) = (let a = after-code y 3 in let b = seat_code-lt y in let e : seat_code (mover q) ≡ seat_code y = ap seat_code turn in λ z. omega (arith, a, b, e, z)) in
         inr (inr (
           omega (arith, long, here),
           ap (λ d. has_card (q.trick ++ c ∷ []) d) (sym is) ∙ in-right q.trick (c ∷ []) c (has-first c []),
@@ -181,7 +182,7 @@ module _ (o : Board) (y : Seat) (u : Suit) (hi lo : PlayingCard) (guard : CanGua
           omega (arith, long, here),
           there,
           elim why [
-            | inl gone ↦ inr (λ z. else-false (has_card (cards_at (after q c) z) hi) (λ h. let e : false ≡ true = sym (gone z) ∙ was-in q c now.valid z hi h in cc))
+            | inl gone ↦ inr (λ z. false_from_ne_true (has_card (cards_at (after q c) z) hi) (λ h. let e : false ≡ true = sym (gone z) ∙ was-in q c now.valid z hi h in cc))
             | inr side ↦ inl (subst (λ w. 2 ≤ count_of u (cards_at (after q c) w)) turn (let k = count-own (is_of u) q c now.valid has in let f : flag_of (is_of u c) ≡ 0 = ap flag_of side.0 in let two : 2 ≤ count_of u (cards_at q (mover q)) = subst (λ w. 2 ≤ count_of u (cards_at q w)) (sym turn) side.1 in omega (arith, k, f, two)))
           ],
         ))
@@ -197,7 +198,7 @@ module _ (o : Board) (y : Seat) (u : Suit) (hi lo : PlayingCard) (guard : CanGua
         (c.0, legal c.0 (legal-in (m ∷ tail) (cards_at q y) c.0 c.1 (λ e his suits. suit)), differs c.0 (and-right (is_of m.suit c.0) (not (same_card c.0 lo)) c.2)))
     | inr none ↦ (
         let split = count-split (is_of u) (λ c. same_card c lo) (cards_at q y) in
-        let least = count-where (λ c. is_of u c && same_card c lo) (λ c. same_card c lo) (cards_at q y) (λ c his e. and-right (is_of u c) (same_card c lo) e) in
+        let least = count-le (λ c. is_of u c && same_card c lo) (λ c. same_card c lo) (cards_at q y) (λ c his e. and-right (is_of u c) (same_card c lo) e) in
         let once : count (λ c. same_card c lo) (cards_at q y) ≤ 1 = once-in q valid y lo in
         let c = count-some (λ c. is_of u c && not (same_card c lo)) (cards_at q y) (omega (arith, split, least, once, two)) in
         (c.0, legal c.0 (legal-in (m ∷ tail) (cards_at q y) c.0 c.1 (λ e his suits. void none c.0 c.1 c.2 e his suits)), differs c.0 (and-right (is_of u c.0) (not (same_card c.0 lo)) c.2)))
@@ -207,7 +208,7 @@ module _ (o : Board) (y : Seat) (u : Suit) (hi lo : PlayingCard) (guard : CanGua
       legal d e = ap₂ (λ trick w. has_card (following trick (cards_at q w)) d) led turn ∙ e
 
       differs : (d : PlayingCard) → not (same_card d lo) ≡ true → same_card lo d ≡ false
-      differs d e = else-false (same_card lo d) (λ k. let z : true ≡ false = sym (same_card-self lo) ∙ ap (λ a. same_card a lo) (same_card-eq lo d k) ∙ not-true (same_card d lo) e in cc)
+      differs d e = false_from_ne_true (same_card lo d) (λ k. let z : true ≡ false = sym (same_card-self lo) ∙ ap (λ a. same_card a lo) (same_card-eq lo d k) ∙ not-true (same_card d lo) e in cc)
 
       -- where it has none of the suit led but its trump, its other trump may be played
       void : count (λ c. is_of m.suit c && not (same_card c lo)) (cards_at q y) ≤ 0 → (c : PlayingCard) → has_card (cards_at q y) c ≡ true → (is_of u c && not (same_card c lo)) ≡ true → (e : PlayingCard) → has_card (cards_at q y) e ≡ true → e.suit ≡ m.suit → c.suit ≡ m.suit
@@ -246,8 +247,8 @@ module _ (o : Board) (y : Seat) (u : Suit) (hi lo : PlayingCard) (guard : CanGua
                 let c = count-some (is_of m.suit) (cards_at q y) l in
                 let suit = suit-of m.suit c.0 c.2 in
                 let may = legal c.0 (legal-in (m ∷ tail) (cards_at q y) c.0 c.1 (λ d his suits. suit)) in
-                let plain : is_of u c.0 ≡ false = else-false (is_of u c.0) (λ k. let z : true ≡ false = sym (of-suit' m.suit lo (guard.lo_suit ∙ sym (suit-of u c.0 k) ∙ suit)) ∙ f in cc) in
-                let other : same_card lo c.0 ≡ false = else-false (same_card lo c.0) (λ k. let z : true ≡ false = sym (of-suit' m.suit lo (ap (λ (d : PlayingCard). d.suit) (same_card-eq lo c.0 k) ∙ suit)) ∙ f in cc) in
+                let plain : is_of u c.0 ≡ false = false_from_ne_true (is_of u c.0) (λ k. let z : true ≡ false = sym (of-suit' m.suit lo (guard.lo_suit ∙ sym (suit-of u c.0 k) ∙ suit)) ∙ f in cc) in
+                let other : same_card lo c.0 ≡ false = false_from_ne_true (same_card lo c.0) (λ k. let z : true ≡ false = sym (of-suit' m.suit lo (ap (λ (d : PlayingCard). d.suit) (same_card-eq lo c.0 k) ∙ suit)) ∙ f in cc) in
                 record { card = c.0; may = may; then_is = y-keeps i q c.0 now may turn here w.1 other (inr (plain, w.2)) })
             | inr l ↦ absurd (let k : false ≡ true = sym e ∙ legal-in (m ∷ tail) (cards_at q y) lo w.1 (λ d his suits. absurd (let one = count-has (is_of m.suit) (cards_at q y) d his (of-suit' m.suit d suits) in omega (arith, one, l))) in cc)
           ]
@@ -272,8 +273,8 @@ module _ (o : Board) (y : Seat) (u : Suit) (hi lo : PlayingCard) (guard : CanGua
       long = count-has (is_of u) (cards_at z y) lo mine (of-suit' u lo guard.lo_suit)
 
       none : (j : ℕ) → (j ≡ 1) ⊎ (j ≡ 3) → from_rank z (seat_after y j) u lo.rank ≡ 0
-      none j opposed = count-never (λ c. is_of u c && nat_le lo.rank c.rank) (cards_at z (seat_after y j)) (λ c has. else-false (is_of u c && nat_le lo.rank c.rank) (λ e.
-          let away : seat_code (seat_after y j) ≢ seat_code y = (let a = after-code y j in let b = code-lt y in elim opposed [ inl r ↦ (λ d. omega (arith, a, b, d, r)) | inr r ↦ (λ d. omega (arith, a, b, d, r)) ]) in
+      none j opposed = count-never (λ c. is_of u c && nat_le lo.rank c.rank) (cards_at z (seat_after y j)) (λ c has. false_from_ne_true (is_of u c && nat_le lo.rank c.rank) (λ e.
+          let away : seat_code (seat_after y j) ≢ seat_code y = (let a = after-code y j in let b = seat_code-lt y in elim opposed [ inl r ↦ (λ d. omega (arith, a, b, d, r)) | inr r ↦ (λ d. omega (arith, a, b, d, r)) ]) in
           elim (guard.lower (seat_after y j) c away (part (seat_after y j) c has) (suit-of u c (and-left (is_of u c) (nat_le lo.rank c.rank) e))) [
             | inl k ↦ (let f : false ≡ true = sym (gone (seat_after y j)) ∙ ap (has_card (cards_at z (seat_after y j))) (sym k) ∙ has in cc)
             | inr f ↦ (let over = leb-true lo.rank c.rank (and-right (is_of u c) (nat_le lo.rank c.rank) e) in omega (arith, over, f))
@@ -387,7 +388,7 @@ module _ (o : Board) (y : Seat) (u : Suit) (hi lo : PlayingCard) (guard : CanGua
           let d : seat_code (seat_after q.first (length q.trick)) ≡ seat_code (seat_after q.first i) = ap seat_code (turn ∙ now.place.2) in
           let short = now.valid.short in
           let less = now.place.1 in
-          let e = code-lt q.first in
+          let e = seat_code-lt q.first in
           omega (arith, a, b, d, short, less, e)
 
       begun : (trick : List PlayingCard) → q.trick ≡ trick → i ≡ length q.trick → (m : PlayingCard) × (tail : List PlayingCard) × (q.trick ≡ m ∷ tail)

@@ -10,9 +10,9 @@ use Rattle.dd_cards.specs.PlayingCard.{PlayingCard}
 use Rattle.dd_cards.specs.Cards.{is_of, same_card, card_of, has_card}
 use Rattle.dd_cards.specs.Seats.{seat_code, seat_after}
 use Rattle.dd_cards.specs.Hands.{hand_of, with_hand, times, FourHands}
-use Rattle.dd_cards.proofs.CallerLemmas.{same_card-eq, seat_code-injective}
+use Rattle.dd_cards.proofs.CallerLemmas.{same_card-eq, seat_code-injective, seat_code-lt, times-has, none-at}
 use Rattle.dd_play.specs.Board.{Board, IsBoard, cards_at, times_in}
-use Rattle.dd_play.proofs.CallerLemmas.{after-code, code-lt, hand-other, of-suit', times-hand, times-has, times_in-with_hand}
+use Rattle.dd_play.proofs.CallerLemmas.{after-code, hand-other, of-suit', times-hand, times_in-with_hand}
 use Rattle.dd_quick.specs.QuickTricks.{beats, is_winner, is_unbeaten}
 
 -- a card of one hand is in no other hand
@@ -30,21 +30,11 @@ one-hand p valid x h c apart hx hh =
 -- every other seat is one, two or three places after a seat
 pub places-on : (h x : Seat) → seat_code x ≢ seat_code h → (i : ℕ) × (1 ≤ i) × (i < 4) × (x ≡ seat_after h i)
 places-on h x apart =
-    let a = code-lt h in
-    let b = code-lt x in
+    let a = seat_code-lt h in
+    let b = seat_code-lt x in
     let i : ℕ = (4 + seat_code x - seat_code h) % 4 in
     let on = after-code h i in
     (i, omega (arith, apart), omega arith, sym (seat_code-injective (seat_after h i) x (omega (arith, on))))
-
--- what is not true of a list is true of none of its cards
-pub none-of : (test : PlayingCard → Bool) (cards : List PlayingCard) (c : PlayingCard) → list_any test cards ≡ false → has_card cards c ≡ true → test c ≡ false
-none-of test [] c none has = absurd (cc)
-none-of test (d ∷ cards) c none has = go (test d) (same_card d c) refl refl (λ n h. none-of test cards c n h)
-  where
-    go : (a b : Bool) → test d ≡ a → same_card d c ≡ b → (list_any test cards ≡ false → has_card cards c ≡ true → test c ≡ false) → test c ≡ false
-    go true b e f ih = absurd (let k : true ≡ false = rw e at none in cc)
-    go false true e f ih = ap test (sym (same_card-eq d c f)) ∙ e
-    go false false e f ih = ih (rw e at none) (rw f at has)
 
 -- a card that none of three seats beats is beaten by none of them
 three : (a b c : Bool) → not (a || b || c) ≡ true → (a ≡ false) × (b ≡ false) × (c ≡ false)
@@ -79,7 +69,7 @@ and-fails false b e h = absurd (cc)
 pub lower : (p : Board) → IsBoard p → (h x : Seat) (c e : PlayingCard) → seat_code x ≢ seat_code h → beats p x c ≡ false → has_card (cards_at p h) c ≡ true
     → has_card (cards_at p x) e ≡ true → e.suit ≡ c.suit → e.rank < c.rank
 lower p valid h x c e apart free own his suit =
-    let fails : (is_of c.suit e && nat_lt c.rank e.rank) ≡ false = none-of (λ d. is_of c.suit d && nat_lt c.rank d.rank) (cards_at p x) e free his in
+    let fails : (is_of c.suit e && nat_lt c.rank e.rank) ≡ false = none-at (λ d. is_of c.suit d && nat_lt c.rank d.rank) (cards_at p x) e free his in
     let under : nat_lt c.rank e.rank ≡ false = and-fails (is_of c.suit e) (nat_lt c.rank e.rank) (of-suit' c.suit e suit) fails in
     let least : e.rank ≤ c.rank = not-over c.rank e.rank under in
     let differs : e.rank ≢ c.rank = λ ranks. one-hand p valid x h c apart (subst (λ (y : PlayingCard). has_card (cards_at p x) y ≡ true) (same suit ranks) his) own in
@@ -117,4 +107,4 @@ none-over p valid h i c e opposed free own his suit = lower p valid h (seat_afte
     here = elim opposed [ inl k ↦ ap (λ j. beats p (seat_after h j) c) k ∙ at.0 | inr k ↦ ap (λ j. beats p (seat_after h j) c) k ∙ at.1 ]
 
     apart : seat_code (seat_after h i) ≢ seat_code h
-    apart = (let a = after-code h i in let b = code-lt h in elim opposed [ inl k ↦ (omega (arith, a, b, k)) | inr k ↦ (omega (arith, a, b, k)) ])
+    apart = (let a = after-code h i in let b = seat_code-lt h in elim opposed [ inl k ↦ (omega (arith, a, b, k)) | inr k ↦ (omega (arith, a, b, k)) ])

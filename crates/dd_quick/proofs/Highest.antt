@@ -1,12 +1,12 @@
 -- taking the highest ranks of a list, one by one
 use Rattle.std.proofs.Common.{◌≡◌, ℕ, suc, ◌+◌, ◌≤◌, Bool, true, false, refl, sym, ap, ◌∙◌, subst, arith, List, [], ◌∷◌, ◌++◌, length, length-append, append_assoc, inl, inr, zero-le}
 use Rattle.std.specs.Prelude.{filter, min, ◌||◌, ◌==◌, ◌⊎◌}
-use Rattle.std.proofs.lemmas.Bool.{eq-eqb, eqb-true}
+use Rattle.std.proofs.lemmas.Bool.{eq-eqb, eqb-true, or_right}
 use Rattle.dd_cards.specs.declared.suit.Suit.{Suit}
 use Rattle.dd_cards.specs.PlayingCard.{PlayingCard}
 use Rattle.dd_cards.specs.Ranks.{IsRank, has_rank, is_rank}
 use Rattle.dd_cards.specs.Cards.{card_of, deck, has_card, same_card, with_card}
-use Rattle.dd_cards.proofs.CallerLemmas.{IsRank-from, any-filter, has_card-with_card, or-right, passes, real_deck, same_card-self}
+use Rattle.dd_cards.proofs.CallerLemmas.{IsRank-from, any-filter, has_card-with_card, passes, real_deck, same_card-self}
 
 -- Of these ranks the first i are gone, or all: the cards kept have them, and all that were there before.
 pub record IsTaken (suit : Suit) (cards : List PlayingCard) (ranks : List ℕ) (kept : List PlayingCard) (rest : List ℕ) (i : ℕ) : Type 0 where
@@ -23,7 +23,7 @@ none-taken suit cards ranks real = record { gone = []; parts = refl; each = λ q
 
 -- cards that are put in stay
 pub with-more : (cards : List PlayingCard) (x : PlayingCard) → ((d : PlayingCard) → has_card cards d ≡ true → IsRank d.rank) → (c : PlayingCard) → has_card cards c ≡ true → has_card (with_card cards x) c ≡ true
-with-more cards x real c h = has_card-with_card cards x c (real c h) ∙ or-right (same_card c x) (has_card cards c) h
+with-more cards x real c h = has_card-with_card cards x c (real c h) ∙ or_right (same_card c x) (has_card cards c) h
 
 -- a rank of a list with a last rank is that rank or one before it
 last-or : (gone : List ℕ) (r q : ℕ) → has_rank (gone ++ r ∷ []) q ≡ true → (has_rank gone q ≡ true) ⊎ (r ≡ q)
@@ -64,7 +64,7 @@ all-taken suit cards ranks kept rest i after now none empty = record { gone = no
 gone-pass : (test : ℕ → Bool) (gone rest : List ℕ) → ((q : ℕ) → has_rank gone q ≡ true → test q ≡ true) → length gone ≤ length (filter test (gone ++ rest))
 gone-pass test [] rest each = zero-le
 gone-pass test (x ∷ gone) rest each =
-    let ih = gone-pass test gone rest (λ q h. each q (or-right (x == q) (has_rank gone q) h)) in
+    let ih = gone-pass test gone rest (λ q h. each q (or_right (x == q) (has_rank gone q) h)) in
     let here : test x ≡ true = each x (eq-has x gone) in
     let e : length (filter test (x ∷ gone ++ rest)) ≡ suc (length (filter test (gone ++ rest))) = rw here refl in
     omega (arith, ih, e)

@@ -16,7 +16,7 @@ use Rattle.dd_play.specs.Tricks.{is_trump}
 use Rattle.dd_play.specs.Play.{after, completes, following}
 use Rattle.dd_play.specs.Simulations.{IsLegal}
 use Rattle.dd_play.specs.Won.{won}
-use Rattle.dd_play.proofs.CallerLemmas.{after-code, code-lt, count, count-has, flag_of, hand-others, in-following, legal-leads, own-card, strain-after, trick-after, was-in}
+use Rattle.dd_play.proofs.CallerLemmas.{after-code, count, count-has, flag_of, hand-others, in-following, legal-leads, own-card, strain-after, trick-after, was-in}
 use Rattle.dd_quick.specs.SecondHand.{unled}
 use Rattle.dd_quick.proofs.Cashing.{IsMaster, hand_on, is_plain}
 use Rattle.dd_quick.proofs.Chosen.{count-never}
@@ -27,6 +27,7 @@ use Rattle.dd_quick.proofs.JointTrumps.{place-of}
 use Rattle.dd_quick.proofs.LeadBack.{board-back, is-back, was-back}
 use Rattle.dd_quick.proofs.SecondTrump.{any-card}
 use Rattle.dd_quick.proofs.TakenTrick.{Allows, trick-taken}
+use Rattle.dd_cards.proofs.CallerLemmas.{seat_code-lt}
 
 -- ---- sides
 
@@ -105,7 +106,7 @@ head-wins q m g h i valid none empty has opposed at own suit high =
     ]
 
     apart : seat_code h ≢ seat_code (mover q)
-    apart = (let a = after-code q.first i in let b = code-lt q.first in let c : seat_code h ≡ seat_code (seat_after q.first i) = ap seat_code at in let l : seat_code (mover q) ≡ seat_code q.first = ap seat_code leads in
+    apart = (let a = after-code q.first i in let b = seat_code-lt q.first in let c : seat_code h ≡ seat_code (seat_after q.first i) = ap seat_code at in let l : seat_code (mover q) ≡ seat_code q.first = ap seat_code leads in
         elim opposed [ inl e ↦ (λ z. omega (arith, a, b, c, l, e, z)) | inr e ↦ (λ z. omega (arith, a, b, c, l, e, z)) ])
 
     there : has_card (cards_at (unled (after q m) m h) h) g ≡ true

@@ -4,27 +4,26 @@ use Rattle.std.proofs.Common.{◌≡◌, ◌≢◌, ℕ, ◌-◌, ◌<◌, ◌�
 use Rattle.std.specs.Prelude.{filter, nat_le, nat_lt, ◌&&◌, ◌||◌, ◌==◌, ◌⊎◌}
 use mathlib.Core.Bool.{not}
 use mathlib.Core.Path.{ap₂}
-use Rattle.std.proofs.lemmas.Bool.{eqb-true, lt-ltb, ltb-true}
+use Rattle.std.proofs.lemmas.Bool.{eqb-true, lt-ltb, ltb-true, or_cases, not-true, false_from_ne_true}
 use Rattle.std.proofs.lemmas.Bool.Decides.{nat_tests}
 use Rattle.dd_cards.specs.declared.seat.Seat.{Seat}
-use Rattle.dd_cards.specs.declared.seat.Seat.TheVariants.{North, East, South, West}
 use Rattle.dd_cards.specs.declared.suit.Suit.{Suit}
 use Rattle.dd_cards.specs.declared.side.Side.{Side}
 use Rattle.dd_cards.specs.PlayingCard.{PlayingCard}
 use Rattle.dd_cards.specs.Cards.{is_of, same_card, has_card}
 use Rattle.dd_cards.specs.Seats.{seat_code, seat_after}
-use Rattle.dd_cards.proofs.CallerLemmas.{and-left, and-right, any-filter, else-false, not-true, or-split}
+use Rattle.dd_cards.proofs.CallerLemmas.{and-left, and-right, any-filter, seat_code-lt}
 use Rattle.dd_play.specs.Board.{Board, IsBoard, cards_at}
 use Rattle.dd_play.specs.Covers.{IsCover}
 use Rattle.dd_play.specs.Reach.{IsStrict, reach}
-use Rattle.dd_play.proofs.CallerLemmas.{after-code, card-real, code-lt, count, count-has, count-some, filter-has, filter-passes, inject, of-suit', once-in, reach-upward, suit-of, turn-apart}
+use Rattle.dd_play.proofs.CallerLemmas.{after-code, card-real, count, count-has, count-some, filter-has, filter-passes, inject, of-suit', once-in, reach-upward, suit-of, turn-apart}
 use Rattle.dd_quick.specs.QuickTricks.{RestsOnGuard, ahead, beats, guards, is_ahead, is_unbeaten, length_at, longer, tops, unbeaten}
 use Rattle.dd_quick.proofs.Covered.{count-image}
 use Rattle.dd_quick.proofs.Hands.{IsOpposed, lower, none-over}
-use Rattle.dd_quick.proofs.Plays.{count-where}
 use Rattle.dd_quick.proofs.Runs.{none-passes}
 use Rattle.dd_quick.proofs.Sound.{lowest}
-use Rattle.dd_quick.proofs.TakenTrick.{one-three, three-one}
+use Rattle.dd_quick.proofs.TakenTrick.{one-three, three-one, three-three}
+use Rattle.dd_rank.proofs.CallerLemmas.{count-le}
 
 -- ---- what it is to guard a suit
 
@@ -45,7 +44,7 @@ guard-parts p i u e =
       best = ltb-true 0 (ahead p x u) (and-left (nat_lt 0 (ahead p x u)) _ two);
       short = ltb-true (tops p u) (longer p u) (and-right (nat_lt 0 (ahead p x u)) _ two);
       long = ltb-true (tops p u) (length_at p x u) (and-right (nat_lt 0 (ahead p x u) && nat_lt (tops p u) (longer p u)) _ three);
-      bare = elim (or-split (unbeaten p y u == 0) (unbeaten p y u == length_at p y u) (and-right ((nat_lt 0 (ahead p x u) && nat_lt (tops p u) (longer p u)) && nat_lt (tops p u) (length_at p x u)) _ e)) [
+      bare = elim (or_cases (unbeaten p y u == 0) (unbeaten p y u == length_at p y u) (and-right ((nat_lt 0 (ahead p x u) && nat_lt (tops p u) (longer p u)) && nat_lt (tops p u) (length_at p x u)) _ e)) [
         | inl k ↦ inl (eqb-true (unbeaten p y u) 0 k)
         | inr k ↦ inr (eqb-true (unbeaten p y u) (length_at p y u) k)
       ];
@@ -83,7 +82,7 @@ some-honour p cards i u valid it_guards rests = by (filter (is_of u) (cards_at p
     there = filter-has (is_of u) (cards_at p x) d.0 d.1 (of-suit' u d.0 suit_d)
 
     apart : seat_code (seat_after x 2) ≢ seat_code x
-    apart = (let a = after-code x 2 in let b = code-lt x in λ e. omega (arith, a, b, e))
+    apart = (let a = after-code x 2 in let b = seat_code-lt x in λ e. omega (arith, a, b, e))
 
     by : (all : List PlayingCard) → filter (is_of u) (cards_at p x) ≡ all → (g : PlayingCard) × IsHonour (reach cards) p x u g
     by [] e = absurd (let k : true ≡ false = sym there ∙ ap (λ l. has_card l d.0) e in cc)
@@ -119,28 +118,21 @@ some-honour p cards i u valid it_guards rests = by (filter (is_of u) (cards_at p
 
 -- ---- what the leader's side has above it
 
--- two places after the third is the first, and three after it the second
-three-three : (f : Seat) → seat_after (seat_after f 3) 3 ≡ seat_after f 2
-three-three North = refl
-three-three East = refl
-three-three South = refl
-three-three West = refl
-
 -- they are the cards that no opponent beats
 module _ (top : PlayingCard → Bool) (p : Board) (x : Seat) (u : Suit) (g : PlayingCard) (valid : IsBoard p) (is : IsHonour top p x u g) where
   -- a card that both opponents of a seat, x and its partner, don't beat is above it, and back
   over-both : (z : Seat) (i : ℕ) → IsOpposed i → seat_after z i ≡ x → (((c : PlayingCard) → above u g c ≡ true → is_unbeaten p z c ≡ true)) → unbeaten p z u ≡ count (above u g) (cards_at p z)
   over-both z i opposed at free =
-      let a = count-where (λ c. is_of u c && is_unbeaten p z c) (above u g) (cards_at p z) (λ c has pass.
+      let a = count-le (λ c. is_of u c && is_unbeaten p z c) (above u g) (cards_at p z) (λ c has pass.
       let of_u = and-left (is_of u c) (is_unbeaten p z c) pass in
       let over = none-over p valid z i c g opposed (and-right (is_of u c) (is_unbeaten p z c) pass) has (ap (λ y. has_card (cards_at p y) g) at ∙ is.own) (is.suit ∙ sym (suit-of u c of_u)) in
       ap₂ (λ s t. s && t) of_u (lt-ltb g.rank c.rank over)) in
-      let b = count-where (above u g) (λ c. is_of u c && is_unbeaten p z c) (cards_at p z) (λ c has pass. ap₂ (λ s t. s && t) (and-left (is_of u c) (nat_lt g.rank c.rank) pass) (free c pass)) in
+      let b = count-le (above u g) (λ c. is_of u c && is_unbeaten p z c) (cards_at p z) (λ c has pass. ap₂ (λ s t. s && t) (and-left (is_of u c) (nat_lt g.rank c.rank) pass) (free c pass)) in
       omega (arith, a, b)
 
   -- x and its partner don't beat a card above it
   never : (y : Seat) → ((e : PlayingCard) → has_card (cards_at p y) e ≡ true → e.suit ≡ u → e.rank ≤ g.rank) → (c : PlayingCard) → above u g c ≡ true → beats p y c ≡ false
-  never y low c pass = none-passes (λ d. is_of c.suit d && nat_lt c.rank d.rank) (cards_at p y) (λ d has. else-false (is_of c.suit d && nat_lt c.rank d.rank) (λ k. absurd (
+  never y low c pass = none-passes (λ d. is_of c.suit d && nat_lt c.rank d.rank) (cards_at p y) (λ d has. false_from_ne_true (is_of c.suit d && nat_lt c.rank d.rank) (λ k. absurd (
       let of_u = suit-of u c (and-left (is_of u c) (nat_lt g.rank c.rank) pass) in
       let over = ltb-true g.rank c.rank (and-right (is_of u c) (nat_lt g.rank c.rank) pass) in
       let under = low d has (suit-of c.suit d (and-left (is_of c.suit d) (nat_lt c.rank d.rank) k) ∙ of_u) in
@@ -188,7 +180,7 @@ module _ (top : PlayingCard → Bool) (k : ℕ) (to from : PlayingCard → Playi
   -- of another hand as many cards are above the image as were above the card
   pub above-same : (z : Seat) → seat_code z ≢ seat_code x → count (above u (to g)) (cards_at q (seat_after z k)) ≡ count (above u g) (cards_at p z)
   above-same z apart =
-      let a = count-where (above u g) (λ c. above u g c && top c) (cards_at p z) (λ c has pass. ap₂ (λ m n. m && n) pass (tops-of c pass)) in
+      let a = count-le (above u g) (λ c. above u g c && top c) (cards_at p z) (λ c has pass. ap₂ (λ m n. m && n) pass (tops-of c pass)) in
       let b = count-image top k to from s p t q r (above u g) (above u (to g)) z forth in
       let d = inject from to (above u (to g)) (above u g) (cards_at q (seat_after z k)) (cards_at p z) (once-in q r.valid_q (seat_after z k)) (λ e has pass. back e has pass (top (from e)) refl) in
       omega (arith, a, b, d)
@@ -231,14 +223,14 @@ module _ (top : PlayingCard → Bool) (k : ℕ) (to from : PlayingCard → Playi
       le e.rank (to g).rank (ap (λ (d : PlayingCard). nat_le d.rank (to g).rank) (sym b.1) ∙ keep ∙ is-le (from e).rank g.rank low)
 
   pub own-none : (e : PlayingCard) → has_card (cards_at q (seat_after x k)) e ≡ true → above u (to g) e ≡ false
-  own-none e has = else-false (above u (to g) e) (λ pass. absurd (
+  own-none e has = false_from_ne_true (above u (to g) e) (λ pass. absurd (
       let low = own-low e has (suit-of u e (and-left (is_of u e) (nat_lt (to g).rank e.rank) pass)) (top (from e)) refl in
       let over = ltb-true (to g).rank e.rank (and-right (is_of u e) (nat_lt (to g).rank e.rank) pass) in
       omega (arith, low, over)))
 
   -- nor has its partner's
   pub partner-none : (e : PlayingCard) → has_card (cards_at q (seat_after (seat_after x 2) k)) e ≡ true → above u (to g) e ≡ false
-  partner-none e has = else-false (above u (to g) e) (λ pass. absurd (
+  partner-none e has = false_from_ne_true (above u (to g) e) (λ pass. absurd (
       let same = above-same (seat_after x 2) apart in
       let one = count-has (above u (to g)) (cards_at q (seat_after (seat_after x 2) k)) e has pass in
       let some = count-some (above u g) (cards_at p (seat_after x 2)) (omega (arith, same, one)) in
@@ -248,4 +240,4 @@ module _ (top : PlayingCard → Bool) (k : ℕ) (to from : PlayingCard → Playi
       omega (arith, over, under)))
     where
       apart : seat_code (seat_after x 2) ≢ seat_code x
-      apart = (let a = after-code x 2 in let b = code-lt x in λ e. omega (arith, a, b, e))
+      apart = (let a = after-code x 2 in let b = seat_code-lt x in λ e. omega (arith, a, b, e))

@@ -5,18 +5,18 @@ use Rattle.std.proofs.Common.{◌≡◌, ◌≢◌, ℕ, ◌+◌, ◌<◌, ◌�
 use Rattle.std.specs.Prelude.{nat_le, ◌&&◌, ◌⊎◌}
 use mathlib.Core.Bool.{not}
 use mathlib.Core.Path.{ap₂}
-use Rattle.std.proofs.lemmas.Bool.{cases_lt}
+use Rattle.std.proofs.lemmas.Bool.{cases_lt, not-true}
 use Rattle.dd_cards.specs.declared.suit.Suit.{Suit}
 use Rattle.dd_cards.specs.declared.strain.Strain.{Strain}
 use Rattle.dd_cards.specs.declared.strain.Strain.TheVariants.{Trump, Notrump}
 use Rattle.dd_cards.specs.PlayingCard.{PlayingCard}
 use Rattle.dd_cards.specs.Cards.{is_of, card_of, has_card}
-use Rattle.dd_cards.proofs.CallerLemmas.{and-left, and-right, not-true}
+use Rattle.dd_cards.proofs.CallerLemmas.{and-left, and-right}
 use Rattle.dd_play.specs.Tricks.{is_trump}
 use Rattle.dd_play.specs.Covers.{count_of}
-use Rattle.dd_play.proofs.CallerLemmas.{count, count-cons, count-has, count-some, flag_of, of-suit', suit-of}
+use Rattle.dd_play.proofs.CallerLemmas.{count, count-cons, count-has, count-some, flag_of, of-suit', suit-of, trump-suit as same-trump}
 use Rattle.dd_quick.proofs.Plays.{count-push}
-use Rattle.dd_quick.proofs.Cashing.{is_plain, same-trump}
+use Rattle.dd_quick.proofs.Cashing.{is_plain}
 
 -- is it a trump of this rank or a higher one?
 abbrev pub is_top : Strain → ℕ → PlayingCard → Bool

@@ -19,7 +19,7 @@ use Rattle.dd_cards.specs.PlayingCard.{PlayingCard}
 use Rattle.dd_cards.specs.Ranks.{IsRank}
 use Rattle.dd_cards.specs.Cards.{is_of, has_card}
 use Rattle.dd_cards.specs.Seats.{seat_code, seat_after}
-use Rattle.dd_cards.proofs.CallerLemmas.{and-left, and-right, length-filter-le, passes, seat_code-injective}
+use Rattle.dd_cards.proofs.CallerLemmas.{and-left, and-right, length-filter-le, passes, seat_code-injective, seat_code-lt}
 use Rattle.dd_cards.specs.Sides.{is_side}
 use Rattle.dd_cards.specs.declared.side.Side.{Side}
 use Rattle.dd_play.specs.Board.{Board, IsBoard, cards_at, cards_left, mover, tricks_left}
@@ -28,7 +28,7 @@ use Rattle.dd_play.specs.Strength.{strength, strongest_place}
 use Rattle.dd_play.specs.Play.{completes, trick_with, after, following}
 use Rattle.dd_play.specs.Simulations.{IsLegal}
 use Rattle.dd_play.specs.Won.{won, trick_for}
-use Rattle.dd_play.proofs.CallerLemmas.{after-code, can, cards-tricks, cards_left-after, code-lt, count, count-has, count-some, flag_of, hand-others, has-at, has-first, legal-in, legal-leads, own-card, place-within, real-trick, strain-after, strength_by, trick-after, trick-closed, was-in, winning-strongest, won_with}
+use Rattle.dd_play.proofs.CallerLemmas.{after-code, can, cards-tricks, cards_left-after, count, count-has, count-some, flag_of, hand-others, has-at, has-first, legal-in, legal-leads, own-card, place-within, real-trick, strain-after, strength_by, trick-after, trick-closed, was-in, winning-strongest, won_with}
 use Rattle.dd_quick.proofs.Plays.{whoever, count-own, count-push, place-push}
 use Rattle.dd_quick.proofs.JointPlans.{is_top, Follows, IsLed, Plan, IsPlanned, plan-for, long-plays, short-plays, other-plays, plan-done}
 
@@ -227,8 +227,8 @@ some-card (c ∷ hand) h = (c, has-first c hand)
 -- each seat is at some place of the trick
 pub place-of : (h x : Seat) → (i : ℕ) × (i < 4) × (x ≡ seat_after h i)
 place-of h x =
-    let a = code-lt h in
-    let b = code-lt x in
+    let a = seat_code-lt h in
+    let b = seat_code-lt x in
     let i : ℕ = (4 + seat_code x - seat_code h) % 4 in
     let on = after-code h i in
     (i, omega arith, sym (seat_code-injective (seat_after h i) x (omega (arith, a, b, on))))
@@ -489,7 +489,7 @@ module _ (strain : Strain) (floor : ℕ) (theirs : PlayingCard → Bool) (a b : 
           not-first x i l at away =
               let e : seat_code x ≡ seat_code (seat_after p.first i) = ap seat_code at in
               let f = after-code p.first i in
-              let g = code-lt p.first in
+              let g = seat_code-lt p.first in
               let h : seat_code (mover p) ≡ seat_code p.first = ap seat_code leader in
               omega (arith, e, f, g, h, l, away)
 

@@ -12,25 +12,25 @@ use Rattle.dd_cards.specs.PlayingCard.{PlayingCard}
 use Rattle.dd_cards.specs.Cards.{is_of, card_of, has_card}
 use Rattle.dd_cards.specs.Seats.{seat_code, seat_after}
 use Rattle.dd_cards.specs.Sides.{side_of, other_side, is_side}
-use Rattle.dd_cards.proofs.CallerLemmas.{and-left, and-right, is-other, same-other}
+use Rattle.dd_cards.proofs.CallerLemmas.{and-left, and-right, is-other, same-other, seat_code-lt}
 use Rattle.dd_play.specs.Board.{Board, IsBoard, cards_at, tricks_left}
 use Rattle.dd_play.specs.Covers.{count_of}
 use Rattle.dd_play.specs.Reach.{TakesBy, reach}
 use Rattle.dd_play.specs.Won.{won}
-use Rattle.dd_play.proofs.CallerLemmas.{after-code, code-lt, count, count-has, count-some, once-in, reach-within, suit-of}
+use Rattle.dd_play.proofs.CallerLemmas.{after-code, count, count-has, count-some, once-in, reach-within, suit-of}
 use Rattle.dd_quick.specs.QuickTricks.{RestsOnRun, first_kept, free_rounds, is_winner, kept_winners, length_at, longer, no_trumps, of_all, run}
 use Rattle.dd_quick.specs.SecondHand.{Opposes}
 use Rattle.dd_quick.proofs.Across.{plain-covered}
 use Rattle.dd_quick.proofs.AcrossClaims.{no-trumps-at}
 use Rattle.dd_quick.proofs.Cashing.{by-suits, total}
 use Rattle.dd_quick.proofs.Chosen.{Chosen, choose}
-use Rattle.dd_quick.proofs.Covered.{left-same, length-same, no-trick, run-covered, seat-same}
+use Rattle.dd_quick.proofs.Covered.{left-same, length-same, run-covered, seat-same}
 use Rattle.dd_quick.proofs.Crossings.{NoTrumps, chosen-many}
 use Rattle.dd_quick.proofs.Hands.{IsOpposed, no-higher}
 use Rattle.dd_quick.proofs.KeptWinners.{CanKeep, kept-taken, rounds_of}
-use Rattle.dd_quick.proofs.Plays.{count-where}
 use Rattle.dd_quick.proofs.Reached.{length-of, reached-of}
 use Rattle.dd_quick.proofs.TakenTrick.{one-three}
+use Rattle.dd_rank.proofs.CallerLemmas.{count-le, no-trick}
 
 -- the side of an opponent is the other one
 pub opponents-are : (q : Board) (i : ℕ) → IsOpposed i → side_of (seat_after q.first i) ≡ other_side (side_of q.first)
@@ -124,7 +124,7 @@ module _ (q : Board) (i : ℕ) (k : Suit → ℕ) (valid : IsBoard q) (start : q
   numbers-taken : total (rounds_of (seat_after h 1) headed q) + total k ≤ tricks_left q → total k ≤ won (other_side (side_of q.first)) q
   numbers-taken room =
       let m = many in
-      let away : seat_code q.first ≢ seat_code h = (let a = after-code q.first i in let b = code-lt q.first in elim opposed [ inl e ↦ (λ z. omega (arith, a, b, e, z)) | inr e ↦ (λ z. omega (arith, a, b, e, z)) ]) in
+      let away : seat_code q.first ≢ seat_code h = (let a = after-code q.first i in let b = seat_code-lt q.first in elim opposed [ inl e ↦ (λ z. omega (arith, a, b, e, z)) | inr e ↦ (λ z. omega (arith, a, b, e, z)) ]) in
       let taken : count guard (cards_at q h) ≤ won (other_side (side_of q.first)) q = subst (λ s. count guard (cards_at q h) ≤ won s q) (opponents-are q i opposed) (kept-taken q h guard headed holds start away (omega (arith, room, m))) in
       omega (arith, taken, m)
 
@@ -202,7 +202,7 @@ run-reached p seat suit ranks cards n same most =
 -- with more cards too
 pub run-more : (p : Board) (seat : Seat) (suit : Suit) (few many : List PlayingCard) (n : ℕ) → ((c : PlayingCard) → has_card few c ≡ true → has_card many c ≡ true) → RestsOnRun p seat suit few n → RestsOnRun p seat suit many n
 run-more p seat suit few many n within rests =
-    let m = count-where (λ c. (is_of suit c && is_winner p seat c) && reach few c) (λ c. (is_of suit c && is_winner p seat c) && reach many c) (cards_at p seat) (λ c has pass.
+    let m = count-le (λ c. (is_of suit c && is_winner p seat c) && reach few c) (λ c. (is_of suit c && is_winner p seat c) && reach many c) (cards_at p seat) (λ c has pass.
     ap₂ (λ a b. a && b) (and-left (is_of suit c && is_winner p seat c) (reach few c) pass) (reach-within few many within c (and-right (is_of suit c && is_winner p seat c) (reach few c) pass))) in
     omega (arith, rests, m)
 

@@ -7,7 +7,7 @@ use Rattle.std.proofs.Common.{◌≡◌, ◌≢◌, ℕ, zero, suc, ◌+◌, ◌
 use Rattle.std.specs.Prelude.{nat_lt, ◌&&◌, ◌⊎◌, if◌then◌else◌}
 use mathlib.Core.Bool.{not}
 use mathlib.Core.Path.{ap₂}
-use Rattle.std.proofs.lemmas.Bool.{cases_lt, lt-ltb, ltb-true}
+use Rattle.std.proofs.lemmas.Bool.{cases_lt, lt-ltb, ltb-true, not-true, false_from_ne_true}
 use Rattle.dd_cards.specs.declared.seat.Seat.{Seat}
 use Rattle.dd_cards.specs.declared.suit.Suit.{Suit}
 use Rattle.dd_cards.specs.declared.suit.Suit.TheVariants.{Spades, Hearts, Diamonds, Clubs}
@@ -16,25 +16,25 @@ use Rattle.dd_cards.specs.PlayingCard.{PlayingCard}
 use Rattle.dd_cards.specs.Cards.{is_of, card_of, same_card, has_card}
 use Rattle.dd_cards.specs.Seats.{seat_code, seat_after}
 use Rattle.dd_cards.specs.Sides.{side_of, is_side}
-use Rattle.dd_cards.proofs.CallerLemmas.{and-left, and-right, else-false, filter-true, length-filter-le, not-true, same_card-eq, same_card-self}
+use Rattle.dd_cards.proofs.CallerLemmas.{and-left, and-right, filter-true, length-filter-le, same_card-eq, same_card-self, any-some, seat_code-lt}
 use Rattle.dd_play.specs.Board.{Board, IsBoard, cards_at, tricks_left, mover}
 use Rattle.dd_play.specs.Tricks.{is_trump}
 use Rattle.dd_play.specs.Play.{after, following, legal}
 use Rattle.dd_play.specs.Simulations.{IsLegal}
 use Rattle.dd_play.specs.Covers.{count_of}
 use Rattle.dd_play.specs.Won.{won}
-use Rattle.dd_play.proofs.CallerLemmas.{after-code, can, code-lt, count, count-has, count-some, has-first, inject, legal-in, no-legal, of-suit', once-in, own-card, same-or, suit-of, won_with}
+use Rattle.dd_play.proofs.CallerLemmas.{after-code, can, count, count-has, count-some, inject, legal-in, of-suit', once-in, own-card, same-or, suit-of, won_with, some-legal, trump-suit as same-trump}
 use Rattle.dd_quick.specs.QuickTricks.{beats, is_winner, trumps_at}
-use Rattle.dd_quick.proofs.Cashing.{by-suits, same-trump, total}
+use Rattle.dd_quick.proofs.Cashing.{by-suits, total}
 use Rattle.dd_quick.proofs.Chosen.{count-never, count-split}
-use Rattle.dd_quick.proofs.Covered.{some-card}
 use Rattle.dd_quick.proofs.Crossings.{NoTrumps}
 use Rattle.dd_quick.proofs.JointTrumps.{place-of}
 use Rattle.dd_quick.proofs.PlainTrick.{IsDone, IsUnder, hand-left, lead-on, trick-on}
-use Rattle.dd_quick.proofs.Plays.{count-where, whoever}
+use Rattle.dd_quick.proofs.Plays.{whoever}
 use Rattle.dd_quick.proofs.Sound.{CanTake, can-take, own-side, partners-side, trumps-count}
 use Rattle.dd_quick.proofs.TakenTrick.{some-left}
 use Rattle.dd_quick.proofs.TrumpRanks.{last-seat}
+use Rattle.dd_rank.proofs.CallerLemmas.{count-le}
 
 -- No hand has a trump; `guard` passes cards of h's which no card of their suits in another hand beats; h heads their suits.
 pub record CanKeep (o : Board) (h : Seat) (guard : PlayingCard → Bool) (headed : Suit → Bool) : Type 0 where
@@ -44,14 +44,6 @@ pub record CanKeep (o : Board) (h : Seat) (guard : PlayingCard → Bool) (headed
   pub masters : (y : Seat) (c d : PlayingCard) → guard c ≡ true → seat_code y ≢ seat_code h → has_card (cards_at o y) d ≡ true → d.suit ≡ c.suit → d.rank < c.rank
   pub holder : (u : Suit) → headed u ≡ true → (c : PlayingCard) × (guard c ≡ true) × (u ≡ c.suit)
   pub suits : (c : PlayingCard) → guard c ≡ true → headed c.suit ≡ true
-
--- where tricks are left the mover has a legal card
-any-legal : (q : Board) → 1 ≤ tricks_left q → (c : PlayingCard) × IsLegal q c
-any-legal q some = go (legal q) refl
-  where
-    go : (cards : List PlayingCard) → legal q ≡ cards → (c : PlayingCard) × IsLegal q c
-    go [] e = absurd (let none : tricks_left q ≡ 0 = no-legal q e in omega (arith, none, some))
-    go (c ∷ cards) e = (c, ap (λ l. has_card l c) e ∙ has-first c cards)
 
 -- the longer holding of the seat and its partner in a suit that is not headed
 abbrev pub rounds_of : Seat → (Suit → Bool) → Board → Suit → ℕ
@@ -97,11 +89,11 @@ module _ (o : Board) (h : Seat) (guard : PlayingCard → Bool) (headed : Suit �
       none x = sym (trumps-count q.strain q x) ∙ count-never (is_trump q.strain) (cards_at q x) (λ c has. plain-part q was x c has)
 
       apart : (i : ℕ) → 1 ≤ i → i < 4 → seat_code (seat_after q.first i) ≢ seat_code h
-      apart i l m = (let a = after-code q.first i in let b = code-lt q.first in let e : seat_code q.first ≡ seat_code h = ap seat_code leads in λ z. omega (arith, a, b, e, z, l, m))
+      apart i l m = (let a = after-code q.first i in let b = seat_code-lt q.first in let e : seat_code q.first ≡ seat_code h = ap seat_code leads in λ z. omega (arith, a, b, e, z, l, m))
 
       free : (c : PlayingCard) → guard c ≡ true → (i : ℕ) → 1 ≤ i → i < 4 → beats q (seat_after q.first i) c ≡ false
-      free c g i l m = else-false (beats q (seat_after q.first i) c) (λ b.
-          let e = some-card (λ d. is_of c.suit d && nat_lt c.rank d.rank) (cards_at q (seat_after q.first i)) b in
+      free c g i l m = false_from_ne_true (beats q (seat_after q.first i) c) (λ b.
+          let e = any-some (λ d. is_of c.suit d && nat_lt c.rank d.rank) (cards_at q (seat_after q.first i)) b in
           let under = hold.masters (seat_after q.first i) c e.0 g (apart i l m) (was.part (seat_after q.first i) e.0 e.1) (suit-of c.suit e.0 (and-left (is_of c.suit e.0) (nat_lt c.rank e.0.rank) e.2)) in
           let over = ltb-true c.rank e.0.rank (and-right (is_of c.suit e.0) (nat_lt c.rank e.0.rank) e.2) in
           omega (arith, under, over))
@@ -111,8 +103,8 @@ module _ (o : Board) (h : Seat) (guard : PlayingCard → Bool) (headed : Suit �
 
       can : CanTake q n 0
       can = record {
-        held = λ u. count-where (λ c. is_of u c && guard c) (is_of u) (cards_at q q.first) (λ c has pass. and-left (is_of u c) (guard c) pass);
-        yields = λ u i l m. (let k = count-where (λ c. is_of u c && guard c) (λ c. is_of u c && is_winner q q.first c) (cards_at q q.first) (λ c has pass. ap₂ (λ a b. a && b) (and-left (is_of u c) (guard c) pass) (winner c (and-right (is_of u c) (guard c) pass))) in omega (arith, k));
+        held = λ u. count-le (λ c. is_of u c && guard c) (is_of u) (cards_at q q.first) (λ c has pass. and-left (is_of u c) (guard c) pass);
+        yields = λ u i l m. (let k = count-le (λ c. is_of u c && guard c) (λ c. is_of u c && is_winner q q.first c) (cards_at q q.first) (λ c has pass. ap₂ (λ a b. a && b) (and-left (is_of u c) (guard c) pass) (winner c (and-right (is_of u c) (guard c) pass))) in omega (arith, k));
         plain = λ u some. (
             let c = count-some (λ c. is_of u c && guard c) (cards_at q q.first) some in
             same-trump q.strain (card_of u 0) c.0 (sym (suit-of u c.0 (and-left (is_of u c.0) (guard c.0) c.2))) ∙ plain-part q was q.first c.0 c.1);
@@ -149,7 +141,7 @@ module _ (o : Board) (h : Seat) (guard : PlayingCard → Bool) (headed : Suit �
 
   -- two places after h are two seats
   places : (i j : ℕ) → i < 4 → j < 4 → i ≢ j → seat_code (seat_after h i) ≢ seat_code (seat_after h j)
-  places i j l m e = (let x = after-code h i in let y = after-code h j in let z = code-lt h in λ k. omega (arith, x, y, z, k, l, m, e))
+  places i j l m e = (let x = after-code h i in let y = after-code h j in let z = seat_code-lt h in λ k. omega (arith, x, y, z, k, l, m, e))
 
   alone : (k n : ℕ) (p : Board) → tricks_left p ≡ k → IsAlone p → n ≤ count guard (cards_at p h) → n ≤ tricks_left p → n ≤ won t p
   alone zero n p size was few most = omega (arith, size, most)
@@ -168,7 +160,7 @@ module _ (o : Board) (h : Seat) (guard : PlayingCard → Bool) (headed : Suit �
       lead m has ih =
           let begun = lead-on t h nothing anything p m none was.now.valid was.now.start away has (λ c e. absurd (cc)) in
           let one = begun.1 in
-          trick-on t h nothing anything p m none n (λ q now turn. (let c = any-legal q (some-left q now.valid (let l : length q.trick ≡ length (m ∷ now.led.0) = ap length now.led.1 in omega (arith, l))) in (c.0, c.1, refl, refl))) (own-side h) ends 3 (after p m) (omega (arith, one)) begun.0
+          trick-on t h nothing anything p m none n (λ q now turn. (let c = some-legal q (some-left q now.valid (let l : length q.trick ≡ length (m ∷ now.led.0) = ap length now.led.1 in omega (arith, l))) in (c.0, c.1, refl, refl))) (own-side h) ends 3 (after p m) (omega (arith, one)) begun.0
         where
           none : NoTrumps p
           none = plain-part p was.now
@@ -273,7 +265,7 @@ module _ (o : Board) (h : Seat) (guard : PlayingCard → Bool) (headed : Suit �
           let suit = suit-of m.suit d.0 d.2 in (
             d.0,
             legal_by d.0 (legal-in (m ∷ now.led.0) (cards_at q (mover q)) d.0 d.1 (λ e own suits. suit)),
-            else-false (guard d.0) (λ g. let y : false ≡ true = sym plain_suit ∙ ap headed (sym suit) ∙ hold.suits d.0 g in cc),
+            false_from_ne_true (guard d.0) (λ g. let y : false ≡ true = sym plain_suit ∙ ap headed (sym suit) ∙ hold.suits d.0 g in cc),
             refl,
           ))
       | inr l ↦ (
@@ -341,7 +333,7 @@ module _ (o : Board) (h : Seat) (guard : PlayingCard → Bool) (headed : Suit �
         waits-on away = record { now = now; away = away; keeps = done.keeps; room = (let a = was.room in let b = less in let c = done.size in omega (arith, a, b, c)) }
 
         apart : (i : ℕ) → 1 ≤ i → i < 4 → z.first ≡ seat_after h i → seat_code z.first ≢ seat_code h
-        apart i l m at = (let a = after-code h i in let b = code-lt h in let e : seat_code z.first ≡ seat_code (seat_after h i) = ap seat_code at in λ y. omega (arith, a, b, e, y, l, m))
+        apart i l m at = (let a = after-code h i in let b = seat_code-lt h in let e : seat_code z.first ≡ seat_code (seat_after h i) = ap seat_code at in λ y. omega (arith, a, b, e, y, l, m))
 
         by : (i : ℕ) × (i < 4) × (z.first ≡ seat_after h i) → n ≤ won_with t q c
         by (zero, l, at) =
@@ -405,7 +397,7 @@ module _ (o : Board) (h : Seat) (guard : PlayingCard → Bool) (headed : Suit �
         let more = cash z (part-on rest this p m none_in q c was.now done) leads in
         let all = all-kept rest (cards_at z h) (λ d e. and-left (guard d) (not (same_card d g)) e) done.keeps in
         let split = count-split guard (λ d. same_card d g) (cards_at o h) in
-        let least = count-where (λ d. guard d && same_card d g) (λ d. same_card d g) (cards_at o h) (λ d own e. and-right (guard d) (same_card d g) e) in
+        let least = count-le (λ d. guard d && same_card d g) (λ d. same_card d g) (cards_at o h) (λ d own e. and-right (guard d) (same_card d g) e) in
         let once : count (λ d. same_card d g) (cards_at o h) ≤ 1 = once-in o hold.valid h g in
         omega (arith, one, more, all, split, least, once, few)
       where
@@ -483,7 +475,7 @@ module _ (o : Board) (h : Seat) (guard : PlayingCard → Bool) (headed : Suit �
       ]
         where
           unheaded : count (λ c. headed c.suit) (cards_at p p.first) ≤ 0 → (c : PlayingCard) → has_card (cards_at p p.first) c ≡ true → headed c.suit ≡ false
-          unheaded none c own = else-false (headed c.suit) (λ e. let one = count-has (λ c. headed c.suit) (cards_at p p.first) c own e in omega (arith, one, none))
+          unheaded none c own = false_from_ne_true (headed c.suit) (λ e. let one = count-has (λ c. headed c.suit) (cards_at p p.first) c own e in omega (arith, one, none))
 
           void : count (λ c. headed c.suit) (cards_at p p.first) ≤ 0 → count (λ c. nat_lt 0 (rounds p c.suit)) (cards_at p p.first) ≤ 0 → (c : PlayingCard) → has_card (cards_at p p.first) c ≡ true → (x : Seat) → IsOther x → count_of c.suit (cards_at p x) ≡ 0
           void none nowhere c own x other =

@@ -5,7 +5,6 @@ use mathlib.Core.Bool.{not}
 use mathlib.Core.Path.{ap₂}
 use Rattle.std.proofs.lemmas.Bool.{eqb-true, leb-true, ltb-true}
 use Rattle.dd_cards.specs.declared.seat.Seat.{Seat}
-use Rattle.dd_cards.specs.declared.seat.Seat.TheVariants.{North, East, South, West}
 use Rattle.dd_cards.specs.declared.suit.Suit.{Suit}
 use Rattle.dd_cards.specs.declared.suit.Suit.TheVariants.{Spades, Hearts, Diamonds, Clubs}
 use Rattle.dd_cards.specs.declared.side.Side.{Side}
@@ -13,18 +12,18 @@ use Rattle.dd_cards.specs.PlayingCard.{PlayingCard}
 use Rattle.dd_cards.specs.Cards.{is_of, card_of, has_card}
 use Rattle.dd_cards.specs.Seats.{seat_code, seat_after}
 use Rattle.dd_cards.specs.Sides.{side_of, other_side, is_side}
-use Rattle.dd_cards.proofs.CallerLemmas.{and-left, and-right, is-other, same-other}
+use Rattle.dd_cards.proofs.CallerLemmas.{and-left, and-right, is-other, same-other, seat_code-lt}
 use Rattle.dd_play.specs.Board.{Board, cards_at, tricks_left}
 use Rattle.dd_play.specs.Covers.{IsCover, count_of}
 use Rattle.dd_play.specs.Reach.{IsStrict, TakesBy, reach}
 use Rattle.dd_play.specs.Won.{won}
-use Rattle.dd_play.proofs.CallerLemmas.{after-code, code-lt, count, count-has, flag_of, of-suit', reach-upward, turn-turn}
+use Rattle.dd_play.proofs.CallerLemmas.{after-code, count, count-has, flag_of, of-suit', reach-upward, turn-turn}
 use Rattle.dd_quick.specs.QuickTricks.{RestsOnGuard, all_rounds, guarded, guards, has_later_trick, length_at, longer, no_trumps, rounds, tops, unbeaten}
 use Rattle.dd_quick.proofs.Across.{plain-covered}
 use Rattle.dd_quick.proofs.AcrossClaims.{no-trumps-at}
 use Rattle.dd_quick.proofs.Cashing.{total}
 use Rattle.dd_quick.proofs.Chosen.{count-split}
-use Rattle.dd_quick.proofs.Covered.{left-same, length-same, no-trick, seat-same}
+use Rattle.dd_quick.proofs.Covered.{left-same, length-same, seat-same}
 use Rattle.dd_quick.proofs.Crossings.{NoTrumps}
 use Rattle.dd_quick.proofs.Hands.{IsOpposed}
 use Rattle.dd_quick.proofs.GuardedSuits.{CanHold, guards_of, over, rounds_of}
@@ -32,7 +31,8 @@ use Rattle.dd_quick.proofs.HonourLed.{leaders-side, opposite}
 use Rattle.dd_quick.proofs.Honours.{IsHonour, above, above-same, guard-parts, image, image-suit, own-none, partner-none, some-honour, tops-last, tops-next}
 use Rattle.dd_quick.proofs.LaterTrick.{one-later}
 use Rattle.dd_quick.proofs.Sound.{opponents-side}
-use Rattle.dd_quick.proofs.TakenTrick.{one-three}
+use Rattle.dd_quick.proofs.TakenTrick.{one-three, three-three, two-three, three-one}
+use Rattle.dd_rank.proofs.CallerLemmas.{no-trick}
 
 -- the parts of what is counted
 record IsLaterTrick (p : Board) : Type 0 where
@@ -60,25 +60,6 @@ later-most p = go (has_later_trick p) refl
     go : (b : Bool) → has_later_trick p ≡ b → (if b then 1 else 0) ≤ tricks_left p
     go true e = (let k = (parts p e).few in omega (arith, k))
     go false e = omega arith
-
--- the seats after the right opponent
-three-two : (f : Seat) → seat_after (seat_after f 3) 2 ≡ seat_after f 1
-three-two North = refl
-three-two East = refl
-three-two South = refl
-three-two West = refl
-
-three-last : (f : Seat) → seat_after (seat_after f 3) 3 ≡ seat_after f 2
-three-last North = refl
-three-last East = refl
-three-last South = refl
-three-last West = refl
-
-one-last : (f : Seat) → seat_after (seat_after f 1) 3 ≡ f
-one-last North = refl
-one-last East = refl
-one-last South = refl
-one-last West = refl
 
 -- where as many cards of a list pass two tests as pass the first, each that passes the first passes both
 all-pass : (test other : PlayingCard → Bool) (cards : List PlayingCard) (c : PlayingCard) → count (λ d. test d && other d) cards ≡ count test cards → has_card cards c ≡ true → test c ≡ true → (test c && other c) ≡ true
@@ -141,17 +122,17 @@ module _ (p : Board) (cards : List PlayingCard) (by_left : (u : Suit) → RestsO
 
     -- the hands of the leader's side
     last : (seat_after x 3 ≡ p.first) ⊎ (seat_after x 1 ≡ p.first)
-    last = elim opposed [ inl z ↦ inl (ap (λ n. seat_after (seat_after p.first n) 3) z ∙ one-last p.first) | inr z ↦ inr (ap (λ n. seat_after (seat_after p.first n) 1) z ∙ one-three p.first) ]
+    last = elim opposed [ inl z ↦ inl (ap (λ n. seat_after (seat_after p.first n) 3) z ∙ three-one p.first) | inr z ↦ inr (ap (λ n. seat_after (seat_after p.first n) 1) z ∙ one-three p.first) ]
 
     next : (seat_after x 1 ≡ seat_after p.first 2) ⊎ (seat_after x 3 ≡ seat_after p.first 2)
-    next = elim opposed [ inl z ↦ inl (ap (λ n. seat_after (seat_after p.first n) 1) z) | inr z ↦ inr (ap (λ n. seat_after (seat_after p.first n) 3) z ∙ three-last p.first) ]
+    next = elim opposed [ inl z ↦ inl (ap (λ n. seat_after (seat_after p.first n) 1) z) | inr z ↦ inr (ap (λ n. seat_after (seat_after p.first n) 3) z ∙ three-three p.first) ]
 
     -- another hand than x has as many cards above the image as it had above the honour
     same-above : (z : Seat) → seat_code z ≢ seat_code x → count (above u (to g)) (cards_at q (seat_after z k)) ≡ count (above u g) (cards_at p z)
     same-above z away = above-same (reach cards) k to from s p t q r strict upward x u g honour.1 z away
 
     away-from : (z : Seat) (j : ℕ) → z ≡ seat_after x j → 1 ≤ j → j < 4 → seat_code z ≢ seat_code x
-    away-from z j f l m = (let a = after-code x j in let b = code-lt x in let d : seat_code z ≡ seat_code (seat_after x j) = ap seat_code f in λ y. omega (arith, a, b, d, l, m, y))
+    away-from z j f l m = (let a = after-code x j in let b = seat_code-lt x in let d : seat_code z ≡ seat_code (seat_after x j) = ap seat_code f in λ y. omega (arith, a, b, d, l, m, y))
 
     ours-next : (z : Seat) → z ≡ seat_after x 1 → count (above u (to g)) (cards_at q (seat_after z k)) ≡ unbeaten p z u
     ours-next z f = same-above z (away-from z 1 f (omega arith) (omega arith)) ∙ sym (tops-next (reach cards) p x u g r.valid_p honour.1 z f)
@@ -166,7 +147,7 @@ module _ (p : Board) (cards : List PlayingCard) (by_left : (u : Suit) → RestsO
     side-of-x : (j : ℕ) → IsOpposed j → (seat_after p.first j ≡ x) ⊎ (seat_after p.first j ≡ seat_after x 2)
     side-of-x j other = elim opposed [
       | inl z ↦ elim other [ inl y ↦ inl (ap (seat_after p.first) (y ∙ sym z)) | inr y ↦ inr (ap (seat_after p.first) y ∙ sym (ap (λ n. seat_after (seat_after p.first n) 2) z)) ]
-      | inr z ↦ elim other [ inl y ↦ inr (ap (seat_after p.first) y ∙ sym (ap (λ n. seat_after (seat_after p.first n) 2) z ∙ three-two p.first)) | inr y ↦ inl (ap (seat_after p.first) (y ∙ sym z)) ]
+      | inr z ↦ elim other [ inl y ↦ inr (ap (seat_after p.first) y ∙ sym (ap (λ n. seat_after (seat_after p.first n) 2) z ∙ two-three p.first)) | inr y ↦ inl (ap (seat_after p.first) (y ∙ sym z)) ]
     ]
 
     kept-here : IsKept u (seat_after q.first i) (to g)
@@ -263,7 +244,7 @@ module _ (p : Board) (cards : List PlayingCard) (by_left : (u : Suit) → RestsO
       flags false b h = zero-le
 
       same-place : (j : ℕ) → IsOpposed j → seat_code (seat_after q.first j) ≡ seat_code (seat_after q.first i) → j ≡ i
-      same-place j other e = (let a = after-code q.first i in let b = after-code q.first j in let c = code-lt q.first in
+      same-place j other e = (let a = after-code q.first i in let b = after-code q.first j in let c = seat_code-lt q.first in
           elim opposed [ inl z ↦ elim other [ inl y ↦ y ∙ sym z | inr y ↦ omega (arith, a, b, c, e, z, y) ] | inr z ↦ elim other [ inl y ↦ omega (arith, a, b, c, e, z, y) | inr y ↦ y ∙ sym z ] ])
 
       each : (u : Suit) → flag_of (guards_of held keeper (seat_after q.first i) u) ≤ (if guards p i u then 1 else 0)

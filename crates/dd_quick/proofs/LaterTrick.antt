@@ -8,7 +8,7 @@ use Rattle.std.proofs.Common.{◌≡◌, ◌≢◌, ℕ, zero, suc, ◌+◌, ◌
 use Rattle.std.specs.Prelude.{nat_lt, ◌&&◌, ◌==◌, ◌⊎◌, if◌then◌else◌}
 use mathlib.Core.Bool.{not}
 use mathlib.Core.Path.{ap₂}
-use Rattle.std.proofs.lemmas.Bool.{cases_lt, eq-eqb, eqb-true, lt-ltb}
+use Rattle.std.proofs.lemmas.Bool.{cases_lt, eq-eqb, eqb-true, lt-ltb, false_from_ne_true}
 use Rattle.std.proofs.lemmas.Bool.Decides.{eqb_tells}
 use Rattle.dd_cards.specs.declared.seat.Seat.{Seat}
 use Rattle.dd_cards.specs.declared.seat.Seat.TheVariants.{North, East, South, West}
@@ -19,25 +19,26 @@ use Rattle.dd_cards.specs.Ranks.{IsRank}
 use Rattle.dd_cards.specs.Cards.{is_of, same_card, card_of, has_card}
 use Rattle.dd_cards.specs.Seats.{seat_code, seat_after}
 use Rattle.dd_cards.specs.Sides.{side_of, other_side, is_side}
-use Rattle.dd_cards.proofs.CallerLemmas.{and-left, and-right, else-false, filter-true, has_card-without, is-same, same_card-eq, seat_code-injective}
+use Rattle.dd_cards.proofs.CallerLemmas.{and-left, and-right, filter-true, has_card-without, is-same, same_card-eq, seat_code-injective, seat_code-lt}
 use Rattle.dd_play.specs.Board.{Board, IsBoard, cards_at, tricks_left, mover}
 use Rattle.dd_play.specs.Tricks.{is_trump, winner_of, winning_place}
 use Rattle.dd_play.specs.Play.{after, completes, following, trick_with}
 use Rattle.dd_play.specs.Simulations.{IsLegal}
 use Rattle.dd_play.specs.Covers.{count_of}
 use Rattle.dd_play.specs.Won.{trick_for, won}
-use Rattle.dd_play.proofs.CallerLemmas.{Obeys, after-code, can, code-lt, count, count-cons, count-has, count-some, flag_of, hand-others, hand-own, has-at, has-first, legal-in, legal-leads, legal-out, of-suit', once-in, own-card, real-trick, same-or, strain-after, suit-of, trick-after, trick-closed, was-in, won_with}
-use Rattle.dd_quick.proofs.Cashing.{total}
+use Rattle.dd_play.proofs.CallerLemmas.{Obeys, after-code, can, count, count-cons, count-has, count-some, flag_of, hand-others, hand-own, has-at, has-first, legal-in, legal-leads, legal-out, of-suit', once-in, own-card, real-trick, same-or, strain-after, suit-of, trick-after, trick-closed, was-in, won_with}
+use Rattle.dd_quick.proofs.Cashing.{total, more-somewhere}
 use Rattle.dd_quick.proofs.Chosen.{count-never}
 use Rattle.dd_quick.proofs.Covered.{by-suits}
 use Rattle.dd_quick.proofs.Crossings.{HasFollowed}
 use Rattle.dd_quick.proofs.Hands.{one-hand}
-use Rattle.dd_quick.proofs.GuardedSuits.{CanHold, guards_of, not-over, other-card, over, rest-after, rounds_of, same-suit, some-suit, total-more, under}
+use Rattle.dd_quick.proofs.GuardedSuits.{CanHold, guards_of, not-over, other-card, over, rest-after, rounds_of, same-suit, total-more, under}
 use Rattle.dd_quick.proofs.HonourLed.{head-wins, last-side, leaders-side, opposite, two-same}
 use Rattle.dd_quick.proofs.JointTrumps.{place-of}
 use Rattle.dd_quick.proofs.PlainTrick.{IsHighest, at-place, hand-left, suit-wins}
-use Rattle.dd_quick.proofs.Plays.{count-own, count-push, count-where, place-push, whoever}
+use Rattle.dd_quick.proofs.Plays.{count-own, count-push, place-push, whoever}
 use Rattle.dd_quick.proofs.Sound.{in-left, in-right, opponents-side}
+use Rattle.dd_rank.proofs.CallerLemmas.{count-le}
 
 -- ---- the game
 
@@ -156,7 +157,7 @@ module _ (o : Board) (guarded : Suit → Bool) (keeper : Suit → Seat) (honour 
     mine = ap (λ cards. has_card cards c) (sym waited) ∙ own-card q c has
 
     apart-places : (i : ℕ) → i < 4 → i ≢ length q.trick → seat_code (seat_after p.first i) ≢ seat_code (mover q)
-    apart-places i l differs = (let a = after-code p.first i in let b = after-code p.first (length q.trick) in let d = code-lt p.first in let k = short in let s : seat_code (mover q) ≡ seat_code (seat_after p.first (length q.trick)) = ap seat_code turn in λ e. omega (arith, a, b, d, e, k, s, l, differs))
+    apart-places i l differs = (let a = after-code p.first i in let b = after-code p.first (length q.trick) in let d = seat_code-lt p.first in let k = short in let s : seat_code (mover q) ≡ seat_code (seat_after p.first (length q.trick)) = ap seat_code turn in λ e. omega (arith, a, b, d, e, k, s, l, differs))
 
     part-on : (x : Seat) (d : PlayingCard) → has_card (cards_at (after q c) x) d ≡ true → has_card (cards_at o x) d ≡ true
     part-on x d h = now.part x d (was-in q c now.valid x d h)
@@ -166,7 +167,7 @@ module _ (o : Board) (guarded : Suit → Bool) (keeper : Suit → Seat) (honour 
     stays x d differs own = elim (same-or x (mover q)) [
       | inl e ↦ (
           let before : has_card (cards_at q (mover q)) d ≡ true = subst (λ y. has_card (cards_at q y) d ≡ true) e own in
-          let other : same_card d c ≡ false = else-false (same_card d c) (λ k. absurd (differs e (sym (same_card-eq d c k)))) in
+          let other : same_card d c ≡ false = false_from_ne_true (same_card d c) (λ k. absurd (differs e (sym (same_card-eq d c k)))) in
           ap (λ y. has_card (cards_at (after q c) y) d) e ∙ ap (λ cards. has_card cards d) (hand-own q c now.valid) ∙ has_card-without (cards_at q (mover q)) c d ∙ ap₂ (λ a b. not a && b) other before)
       | inr apart ↦ ap (λ cards. has_card cards d) (hand-others q c x apart) ∙ own
     ]
@@ -276,7 +277,7 @@ module _ (o : Board) (guarded : Suit → Bool) (keeper : Suit → Seat) (honour 
             | inr due ↦ (
                 let at : mover q ≡ seat_after p.first 2 = turn ∙ ap (seat_after p.first) due.0 in
                 let some = due.1 in
-                let more = count-where (over honour m.suit) (is_of m.suit) (cards_at p (seat_after p.first 2)) (λ d own pass. and-left (is_of m.suit d) (nat_lt (honour m.suit).rank d.rank) pass) in
+                let more = count-le (over honour m.suit) (is_of m.suit) (cards_at p (seat_after p.first 2)) (λ d own pass. and-left (is_of m.suit d) (nat_lt (honour m.suit).rank d.rank) pass) in
                 let hand : cards_at q (mover q) ≡ cards_at p (seat_after p.first 2) = waited ∙ ap (cards_at p) at in
                 let suit : c.suit ≡ m.suit = suited (let e : count_of m.suit (cards_at q (mover q)) ≡ count_of m.suit (cards_at p (seat_after p.first 2)) = ap (count_of m.suit) hand in omega (arith, some, more, e)) in
                 let f : flag_of (over honour m.suit c) ≡ 1 = ap flag_of (due.2 c (ap (λ cards. has_card cards c) (sym hand) ∙ own-card q c has) suit) in
@@ -290,7 +291,7 @@ module _ (o : Board) (guarded : Suit → Bool) (keeper : Suit → Seat) (honour 
         wins w = record {
           none = (
               let zero_over = w.coming (length q.trick) (omega arith) (let k = short in omega (arith, k)) in
-              let low : over honour m.suit c ≡ false = else-false (over honour m.suit c) (λ e. absurd (let some = count-has (over honour m.suit) (cards_at p (seat_after p.first (length q.trick))) c (ap (λ x. has_card (cards_at p x) c) (sym turn) ∙ mine) e in omega (arith, some, zero_over))) in
+              let low : over honour m.suit c ≡ false = false_from_ne_true (over honour m.suit c) (λ e. absurd (let some = count-has (over honour m.suit) (cards_at p (seat_after p.first (length q.trick))) c (ap (λ x. has_card (cards_at p x) c) (sym turn) ∙ mine) e in omega (arith, some, zero_over))) in
               let f : flag_of (over honour m.suit c) ≡ 0 = ap flag_of low in
               let k = pushed in
               let z = w.none in
@@ -390,7 +391,7 @@ module _ (o : Board) (guarded : Suit → Bool) (keeper : Suit → Seat) (honour 
             best = get_or trick place c
 
             low : over honour m.suit best ≡ false
-            low = else-false (over honour m.suit best) (λ e. absurd (let some = count-has (over honour m.suit) trick best (has-at trick place c wins.within) e in let z = w.none in omega (arith, some, z)))
+            low = false_from_ne_true (over honour m.suit best) (λ e. absurd (let some = count-has (over honour m.suit) trick best (has-at trick place c wins.within) e in let z = w.none in omega (arith, some, z)))
 
             same_one : best ≡ honour m.suit
             same_one = ap₂ card_of (wins.suit ∙ sym (hold.suit m.suit g)) (
@@ -443,7 +444,7 @@ module _ (o : Board) (guarded : Suit → Bool) (keeper : Suit → Seat) (honour 
   -- a card of the suit led leaves all other suits as they are
   suited-free : (p : Board) (m : PlayingCard) (q : Board) (c : PlayingCard) → IsUnder p m q → c.suit ≡ m.suit → IsFree p m q c
   suited-free p m q c now suit u g differs at =
-      let f : flag_of (is_of u c) ≡ 0 = ap flag_of (else-false (is_of u c) (λ e. absurd (differs (sym (suit-of u c e) ∙ suit)))) in
+      let f : flag_of (is_of u c) ≡ 0 = ap flag_of (false_from_ne_true (is_of u c) (λ e. absurd (differs (sym (suit-of u c e) ∙ suit)))) in
       let l : rounds p u + 1 ≤ count_of u (cards_at q (mover q)) = subst (λ x. rounds p u + 1 ≤ count_of u (cards_at q x)) at (now.long u g differs) in
       (λ e. differs (sym (hold.suit u g) ∙ ap (λ (d : PlayingCard). d.suit) (sym e) ∙ suit), omega (arith, f, l))
 
@@ -544,7 +545,7 @@ module _ (o : Board) (guarded : Suit → Bool) (keeper : Suit → Seat) (honour 
       kept-led = (let k : kept m.suit ≡ 0 = ap (λ b. if b then rounds p m.suit + 1 else 0) none in omega (arith, k, some))
         where
           none : guards_of guarded keeper (mover q) m.suit ≡ false
-          none = else-false (guards_of guarded keeper (mover q) m.suit) (λ e. absurd (apart (and-left (guarded m.suit) (seat_code (keeper m.suit) == seat_code (mover q)) e) (seat_code-injective (keeper m.suit) (mover q) (eqb-true (seat_code (keeper m.suit)) (seat_code (mover q)) (and-right (guarded m.suit) (seat_code (keeper m.suit) == seat_code (mover q)) e)))))
+          none = false_from_ne_true (guards_of guarded keeper (mover q) m.suit) (λ e. absurd (apart (and-left (guarded m.suit) (seat_code (keeper m.suit) == seat_code (mover q)) e) (seat_code-injective (keeper m.suit) (mover q) (eqb-true (seat_code (keeper m.suit)) (seat_code (mover q)) (and-right (guarded m.suit) (seat_code (keeper m.suit) == seat_code (mover q)) e)))))
 
       spare-card : count_of m.suit (cards_at q (mover q)) ≡ 0 → Picks
       spare-card none = pick (guards_of guarded keeper (mover q) v.0) refl
@@ -553,7 +554,7 @@ module _ (o : Board) (guarded : Suit → Bool) (keeper : Suit → Seat) (honour 
           hand = cards_at q (mover q)
 
           v : (u : Suit) × (kept u + 1 ≤ count_of u (cards_at q (mover q)))
-          v = some-suit kept (λ u. count_of u (cards_at q (mover q))) (
+          v = more-somewhere kept (λ u. count_of u (cards_at q (mover q))) (
               let less = total-more kept (λ u. rounds p u + flag_of (guards_of guarded keeper (mover q) u)) m.suit kept-most kept-led in
               let room = was.room (mover q) on in
               let size = hand-left p was.valid was.start (mover q) in
@@ -572,7 +573,7 @@ module _ (o : Board) (guarded : Suit → Bool) (keeper : Suit → Seat) (honour 
                 let f : flag_of (is_of v.0 d) ≡ 1 = ap flag_of (of-suit' v.0 d suit) in
                 (kept_v.0, let k = kept_v.1 in omega (arith, k, f)))
             | inr other ↦ (
-                let f : flag_of (is_of u d) ≡ 0 = ap flag_of (else-false (is_of u d) (λ e. absurd (other (sym (suit-of u d e) ∙ suit)))) in
+                let f : flag_of (is_of u d) ≡ 0 = ap flag_of (false_from_ne_true (is_of u d) (λ e. absurd (other (sym (suit-of u d e) ∙ suit)))) in
                 let l : rounds p u + 1 ≤ count_of u hand = subst (λ x. rounds p u + 1 ≤ count_of u (cards_at q x)) at (now.long u g differs) in
                 (λ e. other (sym (hold.suit u g) ∙ ap (λ (x : PlayingCard). x.suit) (sym e) ∙ suit), omega (arith, f, l)))
           ]
@@ -693,7 +694,7 @@ module _ (o : Board) (guarded : Suit → Bool) (keeper : Suit → Seat) (honour 
       part = λ x d h. was.part x d (was-in p m was.valid x d h);
       keeps = λ u g differs. ap (λ cards. has_card cards (honour u)) (led-others (keeper u) (led-away u g)) ∙ was.keeps u g;
       long = λ u g differs. subst (λ cards. rounds p u + 1 ≤ count_of u cards) (sym (led-others (keeper u) (led-away u g))) (was.long u g);
-      still = λ i l k. led-others (seat_after p.first i) (let a = after-code p.first i in let b = code-lt p.first in let z = led-one in λ e. omega (arith, a, b, z, e, l, k));
+      still = λ i l k. led-others (seat_after p.first i) (let a = after-code p.first i in let b = seat_code-lt p.first in let z = led-one in λ e. omega (arith, a, b, z, e, l, k));
       fewer = λ x test. elim (same-or x p.first) [
         | inl f ↦ subst (λ y. count test (cards_at (after p m) y) ≤ count test (cards_at p y)) (sym f) (let l = led-lost test in omega (arith, l))
         | inr apart ↦ (let f : count test (cards_at (after p m) x) ≡ count test (cards_at p x) = ap (count test) (led-others x apart) in omega (arith, f))
@@ -736,7 +737,7 @@ module _ (o : Board) (guarded : Suit → Bool) (keeper : Suit → Seat) (honour 
         none-over y d his = by (place-of o.first y)
           where
             ours : (x : Seat) → y ≡ x → count (over honour m.suit) (cards_at p x) ≡ 0 → over honour m.suit d ≡ false
-            ours x e zero_over = else-false (over honour m.suit d) (λ h. absurd (let one = count-has (over honour m.suit) (cards_at p x) d (subst (λ z. has_card (cards_at p z) d ≡ true) e his) h in omega (arith, one, zero_over)))
+            ours x e zero_over = false_from_ne_true (over honour m.suit d) (λ h. absurd (let one = count-has (over honour m.suit) (cards_at p x) d (subst (λ z. has_card (cards_at p z) d ≡ true) e his) h in omega (arith, one, zero_over)))
 
             by : (i : ℕ) × (i < 4) × (y ≡ seat_after o.first i) → over honour m.suit d ≡ false
             by (zero, l, e) = ours o.first e (omega (arith, none, open_is))

@@ -14,12 +14,13 @@ use Rattle.dd_cards.specs.Hands.{IsSet, times}
 use Rattle.dd_cards.specs.Suits.{suit_code}
 use Rattle.dd_cards.specs.Seats.{seat_code, seat_after}
 use Rattle.dd_cards.specs.declared.side.Side.{Side}
-use Rattle.dd_cards.proofs.CallerLemmas.{IsSet-with_card, IsSet-without, and-left, else-false, filter-true, hand_of-with_hand, has_card-filter, has_card-with_card, has_card-without, or-right, same-members, seat_code-injective, same_card-eq, same_card-self, times-cons, times-has_card}
+use Rattle.dd_cards.proofs.CallerLemmas.{IsSet-with_card, IsSet-without, and-left, filter-true, hand_of-with_hand, has_card-filter, has_card-with_card, has_card-without, same-members, seat_code-injective, same_card-eq, same_card-self, times-cons, times-has_card, times-has}
 use Rattle.dd_play.specs.Board.{Board, IsBoard, cards_at, tricks_left, times_in}
 use Rattle.dd_play.specs.Covers.{AllAnswer, Answers, ForMet, IsCover, IsOver, Keeps, count_of}
-use Rattle.dd_play.proofs.CallerLemmas.{card-real, count, count-without, flag_of, hand-other, has-first, same-or, times-has, times-hand, times_in-with_hand, turn-apart}
+use Rattle.dd_play.proofs.CallerLemmas.{card-real, count, count-without, flag_of, hand-other, has-first, same-or, times-hand, times_in-with_hand, turn-apart}
 use Rattle.dd_quick.specs.SecondHand.{unled}
 use Rattle.dd_quick.proofs.Hands.{places-on}
+use Rattle.std.proofs.lemmas.Bool.{or_right, false_from_ne_true}
 
 -- ---- a card put into a hand
 
@@ -55,7 +56,7 @@ module _ (p : Board) (c : PlayingCard) (valid : IsBoard p) (led : p.trick ≡ c 
 
   -- no hand has it
   absent-led : (x : Seat) → has_card (cards_at p x) c ≡ false
-  absent-led x = else-false (has_card (cards_at p x) c) (λ h.
+  absent-led x = false_from_ne_true (has_card (cards_at p x) c) (λ h.
       let here = times-has (cards_at p x) c h in
       let all = times-hand p.hands x c in
       let once = valid.once c in
@@ -157,7 +158,7 @@ module _ (p : Board) (c : PlayingCard) (valid : IsBoard p) (led : p.trick ≡ c 
       | inl e ↦ (
           let real = card-real p x d valid has in
           ap (λ cards. has_card cards d) (ap (cards_at (unled p c h)) e ∙ leaders-back) ∙ has_card-with_card (cards_at p p.first) c d real
-          ∙ or-right (same_card d c) (has_card (cards_at p p.first) d) (ap (λ y. has_card (cards_at p y) d) (sym e) ∙ has))
+          ∙ or_right (same_card d c) (has_card (cards_at p p.first) d) (ap (λ y. has_card (cards_at p y) d) (sym e) ∙ has))
       | inr apart ↦ ap (λ cards. has_card cards d) (others-back x apart) ∙ has
     ]
 

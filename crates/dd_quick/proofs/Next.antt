@@ -3,20 +3,21 @@ use Rattle.std.proofs.Common.{◌≡◌, ℕ, ◌<◌, ◌≤◌, Bool, true, fa
 use Rattle.std.specs.Prelude.{MatchOption, filter, map, slice_get, nat_lt, ◌&&◌}
 use mathlib.Core.Bool.{not}
 use mathlib.Core.Path.{ap₂}
-use Rattle.std.proofs.lemmas.Bool.{cases_lt, ltb-true, lt-ltb}
+use Rattle.std.proofs.lemmas.Bool.{cases_lt, ltb-true, lt-ltb, not-true, false_from_ne_true}
 use Rattle.std.proofs.lemmas.Bool.Decides.{nat_tests}
 use Rattle.dd_cards.specs.declared.suit.Suit.{Suit}
 use Rattle.dd_cards.specs.PlayingCard.{PlayingCard}
 use Rattle.dd_cards.specs.Ranks.{all_ranks, has_rank}
 use Rattle.dd_cards.specs.Cards.{is_of, card_of, has_card}
 use Rattle.dd_cards.specs.Seats.{seat_after}
-use Rattle.dd_cards.proofs.CallerLemmas.{and-left, and-right, else-false, filter-filter, filter-map, filter-true, not-true}
+use Rattle.dd_cards.proofs.CallerLemmas.{and-left, and-right, filter-filter, filter-map, filter-true, seat_code-lt, none-at, has-all, has-filter, filter-members}
 use Rattle.dd_play.specs.Board.{Board, IsBoard, cards_at}
-use Rattle.dd_play.proofs.CallerLemmas.{after-code, card-real, code-lt, of-suit', suit-of}
+use Rattle.dd_play.proofs.CallerLemmas.{after-code, card-real, of-suit', suit-of}
 use Rattle.dd_quick.specs.QuickTricks.{is_next, is_under_low, is_unbeaten, is_winner}
-use Rattle.dd_quick.proofs.Hands.{none-of, one-hand}
+use Rattle.dd_quick.proofs.Hands.{one-hand}
 use Rattle.dd_quick.proofs.Reached.{ranks-part}
-use Rattle.dd_quick.proofs.Runs.{filter-in, first-highest, first-in, has-all, has-part, none-passes}
+use Rattle.dd_quick.proofs.Runs.{first-highest, none-passes}
+use Rattle.dd_rank.proofs.CallerLemmas.{first-there}
 
 -- two tests that agree pass the same cards
 filter-same : (f g : PlayingCard → Bool) (cards : List PlayingCard) → ((c : PlayingCard) → f c ≡ g c) → filter f cards ≡ filter g cards
@@ -38,21 +39,21 @@ module _ (p : Board) (suit : Suit) (free low : List ℕ) (valid : IsBoard p)
   low-has : (d : PlayingCard) → has_card (cards_at p p.first) d ≡ true → d.suit ≡ suit → is_winner p p.first d ≡ false → has_rank low d.rank ≡ true
   low-has d has suits loses =
       let same : card_of suit d.rank ≡ d = ap (λ u. card_of u d.rank) (sym suits) in
-      ap (λ ranks. has_rank ranks d.rank) low-ranks ∙ has-part _ all_ranks d.rank
+      ap (λ ranks. has_rank ranks d.rank) low-ranks ∙ has-filter _ all_ranks d.rank
       ∙ ap₂ (λ a b. a && b) (ap₂ (λ a b. a && not b) (ap (has_card (cards_at p p.first)) same ∙ has) (ap (is_winner p p.first) same ∙ loses)) (has-all d.rank (card-real p p.first d valid has))
 
   -- and each of them is such a card
   low-is : (r : ℕ) → has_rank low r ≡ true → (has_card (cards_at p p.first) (card_of suit r) && not (is_winner p p.first (card_of suit r))) ≡ true
-  low-is r has = and-left (has_card (cards_at p p.first) (card_of suit r) && not (is_winner p p.first (card_of suit r))) (has_rank all_ranks r) (sym (has-part _ all_ranks r) ∙ ap (λ ranks. has_rank ranks r) (sym low-ranks) ∙ has)
+  low-is r has = and-left (has_card (cards_at p p.first) (card_of suit r) && not (is_winner p p.first (card_of suit r))) (has_rank all_ranks r) (sym (has-filter _ all_ranks r) ∙ ap (λ ranks. has_rank ranks r) (sym low-ranks) ∙ has)
 
   -- the partner has the cards of the other ranks
   free-is : (q : ℕ) → has_rank free q ≡ true → has_card (cards_at p (seat_after p.first 2)) (card_of suit q) ≡ true
   free-is q has = and-left (has_card (cards_at p (seat_after p.first 2)) (card_of suit q)) (is_unbeaten p (seat_after p.first 2) (card_of suit q))
-      (and-left (has_card (cards_at p (seat_after p.first 2)) (card_of suit q) && is_unbeaten p (seat_after p.first 2) (card_of suit q)) (has_rank all_ranks q) (sym (has-part _ all_ranks q) ∙ ap (λ ranks. has_rank ranks q) (sym free-ranks) ∙ has))
+      (and-left (has_card (cards_at p (seat_after p.first 2)) (card_of suit q) && is_unbeaten p (seat_after p.first 2) (card_of suit q)) (has_rank all_ranks q) (sym (has-filter _ all_ranks q) ∙ ap (λ ranks. has_rank ranks q) (sym free-ranks) ∙ has))
 
   -- above the leader's low cards is no low card
   none-low : (q : ℕ) → ((r : ℕ) → has_rank low r ≡ true → r ≤ q) → is_under_low p (card_of suit q) ≡ false
-  none-low q most = none-passes (λ d. (is_of suit d && nat_lt q d.rank) && not (is_winner p p.first d)) (cards_at p p.first) (λ d has. else-false ((is_of suit d && nat_lt q d.rank) && not (is_winner p p.first d)) (λ pass.
+  none-low q most = none-passes (λ d. (is_of suit d && nat_lt q d.rank) && not (is_winner p p.first d)) (cards_at p p.first) (λ d has. false_from_ne_true ((is_of suit d && nat_lt q d.rank) && not (is_winner p p.first d)) (λ pass.
       let above = and-left (is_of suit d && nat_lt q d.rank) (not (is_winner p p.first d)) pass in
       let over = ltb-true q d.rank (and-right (is_of suit d) (nat_lt q d.rank) above) in
       let under = most d.rank (low-has d has (suit-of suit d (and-left (is_of suit d) (nat_lt q d.rank) above)) (not-true (is_winner p p.first d) (and-right (is_of suit d && nat_lt q d.rank) (not (is_winner p p.first d)) pass))) in
@@ -73,22 +74,22 @@ module _ (p : Board) (suit : Suit) (free low : List ℕ) (valid : IsBoard p)
       go true e b f = ap not (none-low q (λ n has. (let k = most n has in let l : r < q = ltb-true r q e in omega (arith, k, l)))) ∙ sym e
       go false e true f = ap not f ∙ sym e
       go false e false f = absurd (
-          let card = low-is r (first-in low r first) in
+          let card = low-is r (first-there low r first) in
           let has = and-left (has_card (cards_at p p.first) (card_of suit r)) (not (is_winner p p.first (card_of suit r))) card in
           let loses = and-right (has_card (cards_at p p.first) (card_of suit r)) (not (is_winner p p.first (card_of suit r))) card in
-          let fails = none-of (λ d. (is_of suit d && nat_lt q d.rank) && not (is_winner p p.first d)) (cards_at p p.first) (card_of suit r) f has in
+          let fails = none-at (λ d. (is_of suit d && nat_lt q d.rank) && not (is_winner p p.first d)) (cards_at p p.first) (card_of suit r) f has in
           let under : q ≤ r = not-under r q e in
           elim (cases_lt q r) [
             | inl l ↦ (let pass : ((is_of suit (card_of suit r) && nat_lt q r) && not (is_winner p p.first (card_of suit r))) ≡ true = ap₂ (λ a b. a && b) (ap₂ (λ a b. a && b) (of-suit' suit (card_of suit r) refl) (lt-ltb q r l)) loses in let no : true ≡ false = sym pass ∙ fails in cc)
             | inr l ↦ (
                 let same : q ≡ r = omega (arith, l, under) in
-                one-hand p valid (seat_after p.first 2) p.first (card_of suit r) (let a = after-code p.first 2 in let b = code-lt p.first in omega (arith, a, b)) (subst (λ n. has_card (cards_at p (seat_after p.first 2)) (card_of suit n) ≡ true) same (free-is q mine)) has)
+                one-hand p valid (seat_after p.first 2) p.first (card_of suit r) (let a = after-code p.first 2 in let b = seat_code-lt p.first in omega (arith, a, b)) (subst (λ n. has_card (cards_at p (seat_after p.first 2)) (card_of suit n) ≡ true) same (free-is q mine)) has)
           ])
 
   -- by what the code takes
   are-next : (next : List ℕ) (highest : Option ℕ) → highest ≡ slice_get low 0 → MatchOption highest (next ≡ free) (λ r. next ≡ filter (λ q. nat_lt r q) free) → next ≡ filter (λ q. not (is_under_low p (card_of suit q))) free
-  are-next next (Some r) first part = part ∙ sym (filter-in (λ q. not (is_under_low p (card_of suit q))) (λ q. nat_lt r q) free (λ q has. above-low r q first has))
-  are-next next None first part = part ∙ sym (filter-in (λ q. not (is_under_low p (card_of suit q))) (λ q. true) free (λ q has. ap not (none-low q (λ n k. absurd (nothing low first n k)))) ∙ filter-true free)
+  are-next next (Some r) first part = part ∙ sym (filter-members (λ q. not (is_under_low p (card_of suit q))) (λ q. nat_lt r q) free (λ q has. above-low r q first has))
+  are-next next None first part = part ∙ sym (filter-members (λ q. not (is_under_low p (card_of suit q))) (λ q. true) free (λ q has. ap not (none-low q (λ n k. absurd (nothing low first n k)))) ∙ filter-true free)
     where
       nothing : (ranks : List ℕ) → None ≡ slice_get ranks 0 → (q : ℕ) → has_rank ranks q ≡ true → ⊥
       nothing [] e q has = (let no : false ≡ true = has in cc)

@@ -6,7 +6,7 @@ use Rattle.std.proofs.Common.{◌≡◌, ◌≢◌, ℕ, zero, suc, ◌+◌, ◌
 use Rattle.std.specs.Prelude.{nat_lt, ◌&&◌, ◌||◌, ◌⊎◌}
 use mathlib.Core.Bool.{not}
 use mathlib.Core.Path.{ap₂}
-use Rattle.std.proofs.lemmas.Bool.{cases_lt}
+use Rattle.std.proofs.lemmas.Bool.{cases_lt, or_right, not-true, and_right}
 use Rattle.std.proofs.lemmas.Bool.Decides.{nat_tests}
 use Rattle.dd_cards.specs.declared.seat.Seat.{Seat}
 use Rattle.dd_cards.specs.declared.seat.Seat.TheVariants.{North, East, South, West}
@@ -18,14 +18,13 @@ use Rattle.dd_cards.specs.Cards.{is_of, card_of, has_card}
 use Rattle.dd_cards.specs.Seats.{seat_code, seat_after}
 use Rattle.dd_cards.specs.Sides.{is_side}
 use Rattle.dd_cards.specs.declared.side.Side.{Side}
-use Rattle.dd_cards.proofs.CallerLemmas.{and-left, and-right, filter-true, not-true, or-right}
+use Rattle.dd_cards.proofs.CallerLemmas.{and-left, and-right, filter-true}
 use Rattle.dd_play.specs.Board.{Board, IsBoard, cards_at, tricks_left}
 use Rattle.dd_play.specs.Tricks.{is_trump}
 use Rattle.dd_play.specs.Covers.{count_of}
 use Rattle.dd_play.specs.Won.{won}
-use Rattle.dd_play.proofs.CallerLemmas.{count, count-has, count-some, flag_of, of-suit', once-in, suit-of}
-use Rattle.dd_quick.proofs.Plays.{count-where}
-use Rattle.dd_quick.proofs.Cashing.{Aims, AllLetCash, HasCards, IsLater, IsMaster, by-suits, cashed-all, hand_on, less, no_cards, partner-too, same-trump, spare_of, sure_of, total, total-less, OnlyTrumps, is_plain}
+use Rattle.dd_play.proofs.CallerLemmas.{count, count-has, count-some, flag_of, of-suit', once-in, suit-of, trump-suit as same-trump}
+use Rattle.dd_quick.proofs.Cashing.{Aims, AllLetCash, HasCards, IsLater, IsMaster, by-suits, cashed-all, hand_on, less, no_cards, partner-too, spare_of, sure_of, total, total-less, OnlyTrumps, is_plain}
 use Rattle.dd_quick.specs.QuickTricks.{joint_trumps, trumps_at}
 use Rattle.dd_quick.proofs.Hands.{IsOpposed}
 use Rattle.dd_quick.proofs.Crossings.{HasCrossed, HasFollowed, IsOver, answered-fewer, chosen-many, crosses}
@@ -33,6 +32,7 @@ use Rattle.dd_quick.proofs.JointPlans.{trumps-plain}
 use Rattle.dd_quick.proofs.Plans.{IsPlan, planned}
 use Rattle.dd_quick.proofs.Sound.{joint-later, length-left, opponent, round, side-spared, trumps-count}
 use Rattle.dd_quick.proofs.Chosen.{Chosen, choose, count-never, count-same, count-split}
+use Rattle.dd_rank.proofs.CallerLemmas.{count-le}
 
 -- ---- cards that are no trumps
 
@@ -40,11 +40,6 @@ use Rattle.dd_quick.proofs.Chosen.{Chosen, choose, count-never, count-same, coun
 and-true : (a b : Bool) → b ≡ true → (a && b) ≡ a
 and-true true b e = e
 and-true false b e = refl
-
--- with what is false it fails
-and-none : (a b : Bool) → b ≡ false → (a && b) ≡ false
-and-none true b e = e
-and-none false b e = refl
 
 -- of no cards in all there are none of any suit
 none-in : (k : Suit → ℕ) → total k ≡ 0 → (u : Suit) → k u ≡ 0
@@ -276,7 +271,7 @@ module _ (s : Side) (q : Board) (sure next : PlayingCard → Bool) (n z y : Suit
   cards = record {
     held = λ u. (
         let h = can.held u in
-        let part = count-where (λ c. is_of u c && is_plain q.strain c) (is_of u) (cards_at q q.first) (λ c has pass. and-left (is_of u c) (is_plain q.strain c) pass) in
+        let part = count-le (λ c. is_of u c && is_plain q.strain c) (is_of u) (cards_at q q.first) (λ c has pass. and-left (is_of u c) (is_plain q.strain c) pass) in
         omega (arith, h, part));
     tops = λ u. omega arith;
     plain = λ u c some suit. same-trump q.strain c (card_of u 0) suit ∙ can.plain u (omega (arith, some));
@@ -315,7 +310,7 @@ module _ (s : Side) (q : Board) (sure next : PlayingCard → Bool) (n z y : Suit
   module _ (r : Board) (g : Suit → ℕ) (empty : r.trick ≡ []) (later : IsLater q.strain aims q s r) (left_over : HasCards q.strain aims g r) (lets_be : AllLetCash q.strain aims g r) (nothing : total g ≡ 0) where
     -- the partner has kept its cards
     kept-later : (u : Suit) → sure_of kept u (hand_on r 2) ≡ y u + sure_of (is_trump q.strain) u (hand_on q 2)
-    kept-later u = later.partners (λ c. is_of u c && kept c) (λ c f. and-none (is_of u c) (kept c) f) ∙ kept-many u
+    kept-later u = later.partners (λ c. is_of u c && kept c) (λ c f. and_right (is_of u c) (kept c) f) ∙ kept-many u
 
     -- and its winners among them
     wins-later : (u : Suit) → sure_of wins u (hand_on r 2) ≡ z u
@@ -419,7 +414,7 @@ module _ (s : Side) (q : Board) (sure next : PlayingCard → Bool) (n z y : Suit
       left-of u =
           let taken = crossed.taken (λ c. is_of u c && kept c) in
           let was = kept-later u in
-          let one : flag_of (is_of u w && kept w) ≡ flag_of (is_of u w) = ap flag_of (and-true (is_of u w) (kept w) (or-right (is_trump q.strain w) (wins w || lows w) (ap (λ b. b || lows w) wins_w))) in
+          let one : flag_of (is_of u w && kept w) ≡ flag_of (is_of u w) = ap flag_of (and-true (is_of u w) (kept w) (or_right (is_trump q.strain w) (wins w || lows w) (ap (λ b. b || lows w) wins_w))) in
           omega (arith, taken, was, one)
 
       -- and of its winners
@@ -448,7 +443,7 @@ module _ (s : Side) (q : Board) (sure next : PlayingCard → Bool) (n z y : Suit
 
       -- of each suit it has the cards that it has kept
       of-hand : (u : Suit) → less y w u ≤ count_of u (cards_at t t.first)
-      of-hand u = (let k = left-of u in let m = count-where (λ c. is_of u c && kept c) (is_of u) (cards_at t t.first) (λ c has pass. and-left (is_of u c) (kept c) pass) in omega (arith, k, m))
+      of-hand u = (let k = left-of u in let m = count-le (λ c. is_of u c && kept c) (is_of u) (cards_at t t.first) (λ c has pass. and-left (is_of u c) (kept c) pass) in omega (arith, k, m))
 
       -- which is not trumps
       plain-left-of : (u : Suit) → 1 ≤ less y w u → is_trump q.strain (card_of u 0) ≡ false

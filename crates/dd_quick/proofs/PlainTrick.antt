@@ -5,7 +5,7 @@ use Rattle.std.specs.Prelude.{map, nat_le, nat_lt, ◌&&◌, ◌==◌, ◌⊎◌
 use Rattle.std.specs.List.{list_all}
 use mathlib.Core.Bool.{not}
 use mathlib.Core.Path.{ap₂}
-use Rattle.std.proofs.lemmas.Bool.{leb-true, eqb-true, cases_lt}
+use Rattle.std.proofs.lemmas.Bool.{leb-true, eqb-true, cases_lt, false_from_ne_true}
 use Rattle.std.proofs.lemmas.Bool.Decides.{eqb_tells, nat_tests}
 use Rattle.std.proofs.lemmas.List.{length-map, get_or-map}
 use Rattle.std.proofs.lemmas.List.Sums.{passes_at_first}
@@ -19,7 +19,7 @@ use Rattle.dd_cards.specs.Ranks.{IsRank}
 use Rattle.dd_cards.specs.Cards.{is_of, same_card, has_card}
 use Rattle.dd_cards.specs.Seats.{seat_code, seat_after}
 use Rattle.dd_cards.specs.Sides.{is_side}
-use Rattle.dd_cards.proofs.CallerLemmas.{else-false, filter-true, has_card-without, passes, same_card-eq}
+use Rattle.dd_cards.proofs.CallerLemmas.{filter-true, has_card-without, passes, same_card-eq, seat_code-lt}
 use Rattle.dd_play.specs.Board.{Board, IsBoard, cards_at, mover, tricks_left}
 use Rattle.dd_play.specs.Tricks.{is_trump, winning_place, winner_of}
 use Rattle.dd_play.specs.Strength.{strength, strongest_place}
@@ -27,7 +27,7 @@ use Rattle.dd_play.specs.Play.{completes, trick_with, after}
 use Rattle.dd_play.specs.Simulations.{IsLegal}
 use Rattle.dd_play.specs.Covers.{count_of}
 use Rattle.dd_play.specs.Won.{won, trick_for}
-use Rattle.dd_play.proofs.CallerLemmas.{Obeys, after-code, can, code-lt, count, count-some, flag_of, hand-others, hand-own, has-at, has-first, legal-leads, legal-out, of-suit', own-card, place-within, real-trick, same-or, strain-after, strength_by, suit-of, trick-after, trick-closed, was-in, winning-strongest, won_with}
+use Rattle.dd_play.proofs.CallerLemmas.{Obeys, after-code, can, count, count-some, flag_of, hand-others, hand-own, has-at, has-first, legal-leads, legal-out, of-suit', own-card, place-within, real-trick, same-or, strain-after, strength_by, suit-of, trick-after, trick-closed, was-in, winning-strongest, won_with}
 use Rattle.dd_quick.proofs.Crossings.{HasFollowed, NoTrumps}
 use Rattle.dd_quick.proofs.JointTrumps.{place-of}
 use Rattle.dd_quick.proofs.Plays.{count-own, place-push, whoever}
@@ -159,7 +159,7 @@ module _ (s : Side) (h : Seat) (keep spend : PlayingCard → Bool) (p : Board) (
     keeps-on d k = elim (same-or h (mover q)) [
       | inl e ↦ (
           let before : has_card (cards_at q (mover q)) d ≡ true = subst (λ y. has_card (cards_at q y) d ≡ true) e (now.keeps d k) in
-          let other : same_card d c ≡ false = else-false (same_card d c) (λ z. let y : true ≡ false = sym k ∙ ap keep (same_card-eq d c z) ∙ (free (sym e)).0 in cc) in
+          let other : same_card d c ≡ false = false_from_ne_true (same_card d c) (λ z. let y : true ≡ false = sym k ∙ ap keep (same_card-eq d c z) ∙ (free (sym e)).0 in cc) in
           ap (λ y. has_card (cards_at (after q c) y) d) e ∙ ap (λ cards. has_card cards d) (hand-own q c now.valid) ∙ has_card-without (cards_at q (mover q)) c d ∙ ap₂ (λ a b. not a && b) other before)
       | inr apart ↦ ap (λ cards. has_card cards d) (hand-others q c h apart) ∙ now.keeps d k
     ]
@@ -188,7 +188,7 @@ module _ (s : Side) (h : Seat) (keep spend : PlayingCard → Bool) (p : Board) (
     begun = (let k : length q.trick ≡ length (m ∷ now.led.0) = ap length now.led.1 in omega (arith, k))
 
     apart-places : (i : ℕ) → i < 4 → i ≢ length q.trick → seat_code (seat_after p.first i) ≢ seat_code (mover q)
-    apart-places i l differs = (let a = after-code p.first i in let b = after-code p.first (length q.trick) in let d = code-lt p.first in let k = now.valid.short in let e : seat_code (mover q) ≡ seat_code (seat_after p.first (length q.trick)) = ap seat_code turn in λ z. omega (arith, a, b, d, z, k, e, l, differs))
+    apart-places i l differs = (let a = after-code p.first i in let b = after-code p.first (length q.trick) in let d = seat_code-lt p.first in let k = now.valid.short in let e : seat_code (mover q) ≡ seat_code (seat_after p.first (length q.trick)) = ap seat_code turn in λ z. omega (arith, a, b, d, z, k, e, l, differs))
 
     followed-on : (i : ℕ) → i < length q.trick + 1 → HasFollowed m.suit p (after q c) (seat_after p.first i)
     followed-on i l = elim (eqb_tells i (length q.trick)) [
@@ -331,7 +331,7 @@ module _ (s : Side) (h : Seat) (keep spend : PlayingCard → Bool) (p : Board) (
       led = ([], pushed);
       part = λ x d k. was-in p m valid x d k;
       keeps = λ d k. ap (λ cards. has_card cards d) (others h (λ e. away (sym e))) ∙ keeps d k;
-      still = λ i l k. others (seat_after p.first i) (let a = after-code p.first i in let b = code-lt p.first in let z = one in λ e. omega (arith, a, b, z, e, l, k));
+      still = λ i l k. others (seat_after p.first i) (let a = after-code p.first i in let b = seat_code-lt p.first in let z = one in λ e. omega (arith, a, b, z, e, l, k));
       fewer = λ x test. elim (same-or x p.first) [
         | inl e ↦ subst (λ y. count test (cards_at (after p m) y) ≤ count test (cards_at p y)) (sym e) (let l = lost test in omega (arith, l))
         | inr apart ↦ (let f : count test (cards_at (after p m) x) ≡ count test (cards_at p x) = ap (count test) (others x apart) in omega (arith, f))

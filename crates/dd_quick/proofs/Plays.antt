@@ -1,5 +1,5 @@
 -- what a play does to counts, and bounds that hold whoever is to play
-use Rattle.std.proofs.Common.{◌≡◌, ℕ, suc, ◌+◌, ◌*◌, ◌<◌, ◌≤◌, Bool, true, false, refl, ap, ◌∙◌, subst, arith, List, [], ◌∷◌, ◌++◌, length, length-append, get_or, inl, inr, ◌⊎◌, zero-le}
+use Rattle.std.proofs.Common.{◌≡◌, ℕ, ◌+◌, ◌*◌, ◌<◌, ◌≤◌, Bool, true, false, refl, ap, ◌∙◌, subst, arith, List, [], ◌∷◌, ◌++◌, length, length-append, get_or, inl, inr, ◌⊎◌}
 use Rattle.std.proofs.Math.ListN.{get_or-append}
 use Rattle.std.proofs.Math.Seq.{get_or-append_seam}
 use Rattle.std.proofs.lemmas.Bool.{cases_lt}
@@ -12,7 +12,8 @@ use Rattle.dd_play.specs.Board.{Board, IsBoard, cards_at, mover, tricks_left}
 use Rattle.dd_play.specs.Play.{legal, after}
 use Rattle.dd_play.specs.Simulations.{IsLegal}
 use Rattle.dd_play.specs.Won.{won}
-use Rattle.dd_play.proofs.CallerLemmas.{can, count, count-cons, count-without, flag_of, hand-own, has-first, in-rest, least, no-legal, once-in, own-card, times-has, won_with}
+use Rattle.dd_play.proofs.CallerLemmas.{can, count, count-cons, count-without, flag_of, hand-own, has-first, least, no-legal, once-in, own-card, won_with}
+use Rattle.dd_cards.proofs.CallerLemmas.{times-has}
 
 -- what each legal card leaves the side, it takes, whoever is to play
 pub whoever : (s : Side) (p : Board) (b : ℕ) → IsBoard p → 1 ≤ tricks_left p → ((c : PlayingCard) → IsLegal p c → b ≤ won_with s p c) → b ≤ won s p
@@ -46,51 +47,6 @@ count-push test (x ∷ cards) c =
     let two = count-cons test x (cards ++ c ∷ []) in
     let ih = count-push test cards c in
     omega (arith, one, two, ih)
-
--- where each card that passes the one test passes the other, no fewer pass the other
-pub count-where : (test tested : PlayingCard → Bool) (cards : List PlayingCard) → ((c : PlayingCard) → has_card cards c ≡ true → test c ≡ true → tested c ≡ true) → count test cards ≤ count tested cards
-count-where test tested [] each = zero-le
-count-where test tested (x ∷ cards) each =
-    let one = count-cons test x cards in
-    let two = count-cons tested x cards in
-    let ih = count-where test tested cards (λ c has t. each c (in-rest x c cards has) t) in
-    let here : flag_of (test x) ≤ flag_of (tested x) = flags (test x) (tested x) (each x (has-first x cards)) in
-    omega (arith, one, two, ih, here)
-  where
-    flags : (a b : Bool) → (a ≡ true → b ≡ true) → flag_of a ≤ flag_of b
-    flags true b h = (let k : flag_of b ≡ 1 = ap flag_of (h refl) in omega (arith, k))
-    flags false b h = zero-le
-
--- where no place passes, none is counted
-count-none : (test : PlayingCard → Bool) (cards : List PlayingCard) (d : PlayingCard) → ((i : ℕ) → i < length cards → test (get_or cards i d) ≡ true → ⊥) → count test cards ≡ 0
-count-none test [] d none = refl
-count-none test (x ∷ cards) d none = go (test x) refl (count-none test cards d (λ i h t. none (suc i) (omega (arith, h)) t))
-  where
-    go : (b : Bool) → test x ≡ b → count test cards ≡ 0 → count test (x ∷ cards) ≡ 0
-    go true e rest = absurd (none 0 (omega arith) e)
-    go false e rest =
-        let one = count-cons test x cards in
-        let k : flag_of (test x) ≡ 0 = ap flag_of e in
-        omega (arith, one, rest, k)
-
--- where at most one place passes, at most one is counted
-pub count-one : (test : PlayingCard → Bool) (cards : List PlayingCard) (d : PlayingCard)
-    → ((i j : ℕ) → i < length cards → j < length cards → test (get_or cards i d) ≡ true → test (get_or cards j d) ≡ true → i ≡ j) → count test cards ≤ 1
-count-one test [] d one = zero-le
-count-one test (x ∷ cards) d one =
-    go (test x) refl (count-one test cards d (λ i j h l t u. (let k : suc i ≡ suc j = one (suc i) (suc j) (omega (arith, h)) (omega (arith, l)) t u in omega (arith, k))))
-  where
-    first : count test (x ∷ cards) ≡ flag_of (test x) + count test cards
-    first = count-cons test x cards
-
-    go : (b : Bool) → test x ≡ b → count test cards ≤ 1 → count test (x ∷ cards) ≤ 1
-    go true e few =
-        let rest : count test cards ≡ 0 = count-none test cards d (λ i h t. (let k : 0 ≡ suc i = one 0 (suc i) (omega arith) (omega (arith, h)) e t in omega (arith, k))) in
-        let k : flag_of (test x) ≡ 1 = ap flag_of e in
-        omega (arith, first, rest, k)
-    go false e few =
-        let k : flag_of (test x) ≡ 0 = ap flag_of e in
-        omega (arith, first, few, k)
 
 -- a place of a list with a last card is one of the list, or that of the last card
 pub place-push : (cards : List PlayingCard) (c d : PlayingCard) (i : ℕ) → i < length (cards ++ c ∷ [])

@@ -15,7 +15,7 @@ use Rattle.dd_play.specs.Board.{Board, IsBoard, cards_at}
 use Rattle.dd_play.specs.Reach.{reach}
 use Rattle.dd_play.proofs.CallerLemmas.{count, flag_of, reach-of, reach-within}
 use Rattle.dd_quick.specs.QuickTricks.{RestsOn, RestsOnGuard, RestsOnNext, ahead, guards, is_ahead, is_next, is_winner, length_at, longer, tops}
-use Rattle.dd_quick.proofs.Plays.{count-where}
+use Rattle.dd_rank.proofs.CallerLemmas.{count-le}
 
 -- where the ranks are the cards of a list that pass, those among the cards are reached
 pub reached-of : (suit : Suit) (test : PlayingCard → Bool) (ranks : List ℕ) (hand cards : List PlayingCard) → map (card_of suit) ranks ≡ filter test hand
@@ -23,7 +23,7 @@ pub reached-of : (suit : Suit) (test : PlayingCard → Bool) (ranks : List ℕ) 
 reached-of suit test ranks hand cards same =
     let a : length (filter (λ q. has_card cards (card_of suit q)) ranks) ≡ length (filter (has_card cards) (map (card_of suit) ranks)) = sym (length-map (filter (λ q. has_card cards (card_of suit q)) ranks) (card_of suit)) ∙ ap length (sym (filter-map (has_card cards) (card_of suit) ranks)) in
     let b : length (filter (has_card cards) (map (card_of suit) ranks)) ≡ count (λ c. test c && has_card cards c) hand = ap (λ l. length (filter (has_card cards) l)) same ∙ ap length (filter-filter (has_card cards) test hand) in
-    let d = count-where (λ c. test c && has_card cards c) (λ c. test c && reach cards c) hand (λ c has pass. ap₂ (λ x y. x && y) (and-left (test c) (has_card cards c) pass) (reach-of cards c c (and-right (test c) (has_card cards c) pass) refl (omega arith))) in
+    let d = count-le (λ c. test c && has_card cards c) (λ c. test c && reach cards c) hand (λ c has pass. ap₂ (λ x y. x && y) (and-left (test c) (has_card cards c) pass) (reach-of cards c c (and-right (test c) (has_card cards c) pass) refl (omega arith))) in
     omega (arith, a, b, d)
 
 -- as many ranks as cards
@@ -53,7 +53,7 @@ guard-reached p i suit ranks cards n same one most it_guards =
 pub guard-more : (p : Board) (i : ℕ) (suit : Suit) (few many : List PlayingCard) → ((c : PlayingCard) → has_card few c ≡ true → has_card many c ≡ true) → RestsOnGuard p i suit few → RestsOnGuard p i suit many
 guard-more p i suit few many within rests it_guards =
     let r = rests it_guards in
-    let m = count-where (λ c. (is_of suit c && is_ahead p (seat_after p.first i) c) && reach few c) (λ c. (is_of suit c && is_ahead p (seat_after p.first i) c) && reach many c) (cards_at p (seat_after p.first i)) (λ c has pass.
+    let m = count-le (λ c. (is_of suit c && is_ahead p (seat_after p.first i) c) && reach few c) (λ c. (is_of suit c && is_ahead p (seat_after p.first i) c) && reach many c) (cards_at p (seat_after p.first i)) (λ c has pass.
     ap₂ (λ a b. a && b) (and-left (is_of suit c && is_ahead p (seat_after p.first i) c) (reach few c) pass) (reach-within few many within c (and-right (is_of suit c && is_ahead p (seat_after p.first i) c) (reach few c) pass))) in
     omega (arith, r, m)
 

@@ -4,8 +4,8 @@ use Rattle.std.specs.Prelude.{MatchOption, filter, map, slice_get, nat_lt, ◌&&
 use Rattle.std.specs.List.{list_any}
 use mathlib.Core.Bool.{not}
 use mathlib.Core.Path.{ap₂}
-use Rattle.std.proofs.lemmas.Bool.{eqb-true, ltb-true, or_left}
-use Rattle.std.proofs.lemmas.Bool.Decides.{eqb_tells, nat_tests}
+use Rattle.std.proofs.lemmas.Bool.{eqb-true, ltb-true, or_left, or_right, or_cases, not-true, false_from_ne_true}
+use Rattle.std.proofs.lemmas.Bool.Decides.{nat_tests}
 use Rattle.std.proofs.lemmas.Map.Views.{any-filter_same}
 use Rattle.dd_cards.specs.declared.seat.Seat.{Seat}
 use Rattle.dd_cards.specs.declared.suit.Suit.{Suit}
@@ -13,29 +13,14 @@ use Rattle.dd_cards.specs.PlayingCard.{PlayingCard}
 use Rattle.dd_cards.specs.Ranks.{IsRank, lowest_ranks, all_ranks, has_rank}
 use Rattle.dd_cards.specs.Cards.{is_of, card_of, has_card}
 use Rattle.dd_cards.specs.Seats.{seat_code, seat_after}
-use Rattle.dd_cards.proofs.CallerLemmas.{and-left, and-right, else-false, filter-filter, filter-map, filter-true, has_rank-holding, has_rank-lowest_ranks, not-true, or-right, or-split, ranks-from_cards, suit-ranks}
+use Rattle.dd_cards.proofs.CallerLemmas.{and-left, and-right, filter-filter, filter-map, filter-true, has_rank-holding, has_rank-lowest_ranks, ranks-from_cards, suit-ranks, seat_code-lt, has-all, has-filter, filter-members}
 use Rattle.dd_play.specs.Board.{Board, IsBoard, cards_at}
-use Rattle.dd_play.proofs.CallerLemmas.{after-code, card-real, code-lt, has-first, in-rest, suit-of}
+use Rattle.dd_play.proofs.CallerLemmas.{after-code, card-real, has-first, in-rest, suit-of}
 use Rattle.dd_quick.specs.QuickTricks.{beats, is_ahead, is_winner, is_unbeaten}
 use Rattle.dd_quick.proofs.Hands.{IsOpposed, lower, no-higher, none-over, one-hand, places-on}
+use Rattle.dd_rank.proofs.CallerLemmas.{first-there}
 
 -- ---- lists of ranks
-
--- a part of a list of ranks has those that pass
-pub has-part : (test : ℕ → Bool) (ranks : List ℕ) (q : ℕ) → has_rank (filter test ranks) q ≡ (test q && has_rank ranks q)
-has-part test ranks q = any-filter_same (λ x. x == q) test (test q) (λ x e. ap test (eqb-true x q e)) ranks
-
--- each rank is one of all
-pub has-all : (q : ℕ) → IsRank q → has_rank all_ranks q ≡ true
-unfolding all_ranks
-has-all q real = (let low = real.0 in let high = real.1 in has_rank-lowest_ranks 13 q low (omega (arith, high)))
-
--- a list of ranks has its first
-pub first-in : (ranks : List ℕ) (r : ℕ) → Some r ≡ slice_get ranks 0 → has_rank ranks r ≡ true
-first-in [] r e = absurd (cc)
-first-in (q ∷ ranks) r e =
-    let same : r ≡ q = cc in
-    elim (eqb_tells q r) [ inl f ↦ rw f.0 refl | inr f ↦ absurd (f.1 (sym same)) ]
 
 -- each of the k lowest ranks is below the next
 lowest-under : (k q : ℕ) → has_rank (lowest_ranks k) q ≡ true → q < k + 2
@@ -57,18 +42,10 @@ first-highest test (suc k) r q first has = go (test (k + 2)) refl (first-highest
     go true e ih =
         let head : Some r ≡ Some (k + 2) = rw e at first in
         let same : r ≡ k + 2 = cc in
-        let part : (test q && has_rank (lowest_ranks (suc k)) q) ≡ true = sym (has-part test (lowest_ranks (suc k)) q) ∙ has in
+        let part : (test q && has_rank (lowest_ranks (suc k)) q) ≡ true = sym (has-filter test (lowest_ranks (suc k)) q) ∙ has in
         let under = lowest-under (suc k) q (and-right (test q) (has_rank (lowest_ranks (suc k)) q) part) in
         omega (arith, same, under)
     go false e ih = ih (rw e at first) (rw e at has)
-
--- two tests that agree on the ranks of a list
-pub filter-in : (f g : ℕ → Bool) (ranks : List ℕ) → ((q : ℕ) → has_rank ranks q ≡ true → f q ≡ g q) → filter f ranks ≡ filter g ranks
-filter-in f g [] each = refl
-filter-in f g (r ∷ ranks) each =
-    let here : f r ≡ g r = each r (first-in (r ∷ ranks) r refl) in
-    let rest = filter-in f g ranks (λ q h. each q (or-right (r == q) (has_rank ranks q) h)) in
-    rw (here, rest) refl
 
 -- ---- the ranks above all others
 
@@ -94,15 +71,15 @@ module _ (p : Board) (h : Seat) (suit : Suit) (own others : List ℕ) (test : Pl
 
       go : (b : Bool) → nat_lt r q ≡ b → test (card_of suit q) ≡ nat_lt r q
       go true e = are.over q (λ n has. (let k = most n has in let l : r < q = ltb-true r q e in omega (arith, k, l))) ∙ sym e
-      go false e = else-false (test (card_of suit q)) (λ wins.
+      go false e = false_from_ne_true (test (card_of suit q)) (λ wins.
           let least : q ≤ r = low r q e in
-          let over : r < q = are.under q r mine (first-in others r first) wins in
+          let over : r < q = are.under q r mine (first-there others r first) wins in
           omega (arith, least, over)) ∙ sym e
 
   -- the ranks above all others are those that pass
   are-those : (winners : List ℕ) (highest : Option ℕ) → highest ≡ slice_get others 0 → MatchOption highest (winners ≡ own) (λ r. winners ≡ filter (λ q. nat_lt r q) own) → winners ≡ filter (λ q. test (card_of suit q)) own
-  are-those winners (Some r) first part = part ∙ sym (filter-in (λ q. test (card_of suit q)) (λ q. nat_lt r q) own (λ q has. above-highest r q first has))
-  are-those winners None first part = part ∙ sym (filter-in (λ q. test (card_of suit q)) (λ q. true) own (λ q has. are.over q (λ n k. absurd (none others first n k))) ∙ filter-true own)
+  are-those winners (Some r) first part = part ∙ sym (filter-members (λ q. test (card_of suit q)) (λ q. nat_lt r q) own (λ q has. above-highest r q first has))
+  are-those winners None first part = part ∙ sym (filter-members (λ q. test (card_of suit q)) (λ q. true) own (λ q has. are.over q (λ n k. absurd (none others first n k))) ∙ filter-true own)
     where
       none : (ranks : List ℕ) → None ≡ slice_get ranks 0 → (q : ℕ) → has_rank ranks q ≡ true → ⊥
       none [] e q has = (let no : false ≡ true = has in cc)
@@ -149,7 +126,7 @@ pub held-of : (p : Board) (h : Seat) (suit : Suit) (own one two three both other
 held-of p h suit own one two three both others valid mine a b c join all = record {
   valid = valid;
   mine = mine;
-  theirs = all ∙ filter-in (λ q. has_rank both q || has_rank three q)
+  theirs = all ∙ filter-members (λ q. has_rank both q || has_rank three q)
       (λ q. elsewhere p h (card_of suit q))
       all_ranks each;
 }
@@ -163,7 +140,7 @@ held-of p h suit own one two three both others valid mine a b c join all = recor
     each : (q : ℕ) → has_rank all_ranks q ≡ true
         → (has_rank both q || has_rank three q) ≡ elsewhere p h (card_of suit q)
     each q real =
-        let e : has_rank both q ≡ ((has_rank one q || has_rank two q) && has_rank all_ranks q) = ap (λ ranks. has_rank ranks q) join ∙ has-part (λ q. has_rank one q || has_rank two q) all_ranks q in
+        let e : has_rank both q ≡ ((has_rank one q || has_rank two q) && has_rank all_ranks q) = ap (λ ranks. has_rank ranks q) join ∙ has-filter (λ q. has_rank one q || has_rank two q) all_ranks q in
         ap (λ x. x || has_rank three q) e ∙ tests (has_rank one q) (has_rank two q) (has_rank three q) (has_rank all_ranks q) real
         ∙ ap₂ (λ x y. x || y || has_rank three q) (has_rank-holding suit one (cards_at p (seat_after h 1)) q a) (has_rank-holding suit two (cards_at p (seat_after h 2)) q b)
         ∙ ap (λ z. has_card (cards_at p (seat_after h 1)) (card_of suit q) || has_card (cards_at p (seat_after h 2)) (card_of suit q) || z) (has_rank-holding suit three (cards_at p (seat_after h 3)) q c)
@@ -175,7 +152,7 @@ module _ (p : Board) (h : Seat) (suit : Suit) (own others : List ℕ) (held : Ar
   others-have x d apart has e =
       let there : has_card (cards_at p x) (card_of suit d.rank) ≡ true = subst (λ u. has_card (cards_at p x) (card_of u d.rank) ≡ true) e has in
       let on = places-on h x apart in
-      ap (λ ranks. has_rank ranks d.rank) held.theirs ∙ has-part (λ q. elsewhere p h (card_of suit q)) all_ranks d.rank
+      ap (λ ranks. has_rank ranks d.rank) held.theirs ∙ has-filter (λ q. elsewhere p h (card_of suit q)) all_ranks d.rank
       ∙ ap₂ (λ a b. a && b) (by on.0 on.1 on.2 (subst (λ y. has_card (cards_at p y) (card_of suit d.rank) ≡ true) on.3 there)) (has-all d.rank (card-real p x d held.valid has))
     where
       a : Bool
@@ -190,17 +167,17 @@ module _ (p : Board) (h : Seat) (suit : Suit) (own others : List ℕ) (held : Ar
       by : (i : ℕ) → 1 ≤ i → i < 4 → has_card (cards_at p (seat_after h i)) (card_of suit d.rank) ≡ true → elsewhere p h (card_of suit d.rank) ≡ true
       by zero l m e = absurd (omega (arith, l))
       by (suc zero) l m e = or_left (a || b) c (or_left a b e)
-      by (suc (suc zero)) l m e = or_left (a || b) c (or-right a b e)
-      by (suc (suc (suc zero))) l m e = or-right (a || b) c e
+      by (suc (suc zero)) l m e = or_left (a || b) c (or_right a b e)
+      by (suc (suc (suc zero))) l m e = or_right (a || b) c e
       by (suc (suc (suc (suc i)))) l m e = absurd (omega (arith, m))
 
   -- and each of their ranks is in one of the other hands
   others-from : (q : ℕ) → has_rank others q ≡ true → (x : Seat) × (seat_code x ≢ seat_code h) × (has_card (cards_at p x) (card_of suit q) ≡ true)
   others-from q has = go (has_card (cards_at p (seat_after h 1)) (card_of suit q)) (has_card (cards_at p (seat_after h 2)) (card_of suit q)) (has_card (cards_at p (seat_after h 3)) (card_of suit q)) refl refl refl
-      (and-left (elsewhere p h (card_of suit q)) (has_rank all_ranks q) (sym (has-part (λ q. elsewhere p h (card_of suit q)) all_ranks q) ∙ ap (λ ranks. has_rank ranks q) (sym held.theirs) ∙ has))
+      (and-left (elsewhere p h (card_of suit q)) (has_rank all_ranks q) (sym (has-filter (λ q. elsewhere p h (card_of suit q)) all_ranks q) ∙ ap (λ ranks. has_rank ranks q) (sym held.theirs) ∙ has))
     where
       apart : (i : ℕ) → 1 ≤ i → i < 4 → seat_code (seat_after h i) ≢ seat_code h
-      apart i l m = (let a = after-code h i in let b = code-lt h in omega (arith, a, b, l, m))
+      apart i l m = (let a = after-code h i in let b = seat_code-lt h in omega (arith, a, b, l, m))
 
       go : (a b c : Bool) → has_card (cards_at p (seat_after h 1)) (card_of suit q) ≡ a → has_card (cards_at p (seat_after h 2)) (card_of suit q) ≡ b → has_card (cards_at p (seat_after h 3)) (card_of suit q) ≡ c → elsewhere p h (card_of suit q) ≡ true
           → (x : Seat) × (seat_code x ≢ seat_code h) × (has_card (cards_at p x) (card_of suit q) ≡ true)
@@ -225,7 +202,7 @@ module _ (p : Board) (h : Seat) (suit : Suit) (own others : List ℕ) (held : Ar
   }
     where
       apart : (i : ℕ) → 1 ≤ i → i < 4 → seat_code (seat_after h i) ≢ seat_code h
-      apart i l m = (let a = after-code h i in let b = code-lt h in omega (arith, a, b, l, m))
+      apart i l m = (let a = after-code h i in let b = seat_code-lt h in omega (arith, a, b, l, m))
 
   -- so what is above the highest of theirs is the run
   pub run-cards : (winners : List ℕ) → MatchOption (slice_get others 0) (winners ≡ own) (λ r. winners ≡ filter (λ q. nat_lt r q) own) → map (card_of suit) winners ≡ filter (λ c. is_of suit c && is_winner p h c) (cards_at p h)
@@ -249,9 +226,9 @@ module _ (p : Board) (h : Seat) (suit : Suit) (own others : List ℕ) (held : Ar
       none (x ∷ xs) = none xs
 
       those : (highest : Option ℕ) → highest ≡ slice_get others 0 → MatchOption highest (low ≡ []) (λ r. low ≡ filter (λ q. nat_lt q r) own) → low ≡ filter (λ q. not (is_winner p h (card_of suit q))) own
-      those (Some r) first part = part ∙ filter-in (λ q. nat_lt q r) (λ q. not (is_winner p h (card_of suit q))) own (λ q mine.
-          turned q r (differs r q (first-in others r first) mine) ∙ ap not (sym (above-highest p h suit own others (is_winner p h) over-others r q first mine)))
-      those None first part = part ∙ sym (none own) ∙ filter-in (λ q. false) (λ q. not (is_winner p h (card_of suit q))) own (λ q mine. ap not (sym (all q first)))
+      those (Some r) first part = part ∙ filter-members (λ q. nat_lt q r) (λ q. not (is_winner p h (card_of suit q))) own (λ q mine.
+          turned q r (differs r q (first-there others r first) mine) ∙ ap not (sym (above-highest p h suit own others (is_winner p h) over-others r q first mine)))
+      those None first part = part ∙ sym (none own) ∙ filter-members (λ q. false) (λ q. not (is_winner p h (card_of suit q))) own (λ q mine. ap not (sym (all q first)))
         where
           nothing : (ranks : List ℕ) → None ≡ slice_get ranks 0 → (q : ℕ) → has_rank ranks q ≡ true → ⊥
           nothing [] e q has = (let no : false ≡ true = has in cc)
@@ -280,19 +257,19 @@ unbeaten-cards p h suit own one three others winners valid mine a c join part = 
 }) winners part
   where
     has-others : (q : ℕ) → has_rank others q ≡ ((has_rank one q || has_rank three q) && has_rank all_ranks q)
-    has-others q = ap (λ ranks. has_rank ranks q) join ∙ has-part (λ q. has_rank one q || has_rank three q) all_ranks q
+    has-others q = ap (λ ranks. has_rank ranks q) join ∙ has-filter (λ q. has_rank one q || has_rank three q) all_ranks q
 
     have : (i : ℕ) → IsOpposed i → (d : PlayingCard) → has_card (cards_at p (seat_after h i)) d ≡ true → d.suit ≡ suit → has_rank others d.rank ≡ true
     have i k d has e = has-others d.rank ∙ ap₂ (λ a b. a && b) (elim k [
       | inl z ↦ or_left (has_rank one d.rank) (has_rank three d.rank) (has_rank-holding suit one (cards_at p (seat_after h 1)) d.rank a ∙ there 1 z)
-      | inr z ↦ or-right (has_rank one d.rank) (has_rank three d.rank) (has_rank-holding suit three (cards_at p (seat_after h 3)) d.rank c ∙ there 3 z)
+      | inr z ↦ or_right (has_rank one d.rank) (has_rank three d.rank) (has_rank-holding suit three (cards_at p (seat_after h 3)) d.rank c ∙ there 3 z)
     ]) (has-all d.rank (card-real p (seat_after h i) d valid has))
       where
         there : (j : ℕ) → i ≡ j → has_card (cards_at p (seat_after h j)) (card_of suit d.rank) ≡ true
         there j z = subst (λ j. has_card (cards_at p (seat_after h j)) (card_of suit d.rank) ≡ true) z (subst (λ u. has_card (cards_at p (seat_after h i)) (card_of u d.rank) ≡ true) e has)
 
     from : (r : ℕ) → has_rank others r ≡ true → (i : ℕ) × IsOpposed i × (has_card (cards_at p (seat_after h i)) (card_of suit r) ≡ true)
-    from r his = elim (or-split (has_rank one r) (has_rank three r) (and-left (has_rank one r || has_rank three r) (has_rank all_ranks r) (sym (has-others r) ∙ his))) [
+    from r his = elim (or_cases (has_rank one r) (has_rank three r) (and-left (has_rank one r || has_rank three r) (has_rank all_ranks r) (sym (has-others r) ∙ his))) [
       | inl k ↦ (1, inl refl, sym (has_rank-holding suit one (cards_at p (seat_after h 1)) r a) ∙ k)
       | inr k ↦ (3, inr refl, sym (has_rank-holding suit three (cards_at p (seat_after h 3)) r c) ∙ k)
     ]
@@ -312,4 +289,4 @@ ahead-cards p h suit own his winners valid mine theirs part = those-cards p h su
 }) winners part
   where
     apart : seat_code (seat_after h 2) ≢ seat_code h
-    apart = (let a = after-code h 2 in let b = code-lt h in λ e. omega (arith, a, b, e))
+    apart = (let a = after-code h 2 in let b = seat_code-lt h in λ e. omega (arith, a, b, e))

@@ -9,17 +9,17 @@ use Rattle.dd_cards.specs.Cards.{is_of, has_card, without}
 use Rattle.dd_cards.specs.Hands.{times}
 use Rattle.dd_cards.specs.Seats.{seat_after}
 use Rattle.dd_cards.specs.Sides.{side_of, is_side}
-use Rattle.dd_cards.proofs.CallerLemmas.{and-left, and-right, is-same}
+use Rattle.dd_cards.proofs.CallerLemmas.{and-left, and-right, is-same, times-has}
 use Rattle.dd_play.specs.Board.{Board, IsBoard, cards_at}
 use Rattle.dd_play.specs.Tricks.{is_trump, or_else}
 use Rattle.dd_play.specs.Play.{following}
 use Rattle.dd_play.specs.Covers.{count_of}
 use Rattle.dd_play.specs.Reach.{TakesBy, reach}
 use Rattle.dd_play.specs.Won.{won}
-use Rattle.dd_play.proofs.CallerLemmas.{count, count-has, count-some, count-without, flag_of, legal-out, Obeys, of-suit', once-in, suit-of, times-has, turn-turn}
+use Rattle.dd_play.proofs.CallerLemmas.{count, count-has, count-some, count-without, flag_of, legal-out, Obeys, of-suit', once-in, suit-of, turn-turn, trump-suit as same-trump}
 use Rattle.dd_quick.specs.SecondHand.{IsBeforeLead, unled}
 use Rattle.dd_quick.proofs.Claims.{IsSure}
-use Rattle.dd_quick.proofs.Cashing.{AllLetCash, Aims, FollowsSuit, HasCards, IsLater, LetsCash, Only, cashed-all, hand_on, less, lets-lead, no_cards, one_card, played-on, same-trump, spare-card, sure_of, total, total-less}
+use Rattle.dd_quick.proofs.Cashing.{AllLetCash, Aims, FollowsSuit, HasCards, IsLater, LetsCash, Only, cashed-all, hand_on, less, lets-lead, no_cards, one_card, played-on, spare-card, sure_of, total, total-less}
 use Rattle.dd_quick.proofs.Hands.{IsOpposed}
 use Rattle.dd_quick.proofs.LeadBack.{answered, board-back, cover-back, led-back}
 use Rattle.dd_quick.proofs.Plans.{IsPlan}

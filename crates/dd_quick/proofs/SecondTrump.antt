@@ -4,7 +4,7 @@ use Rattle.std.proofs.Common.{◌≡◌, ◌≢◌, ℕ, ◌+◌, ◌-◌, ◌<�
 use Rattle.std.specs.Prelude.{nat_lt, min, ◌&&◌, ◌||◌, ◌⊎◌}
 use mathlib.Core.Bool.{not}
 use mathlib.Core.Path.{ap₂}
-use Rattle.std.proofs.lemmas.Bool.{ltb-true, cases_lt}
+use Rattle.std.proofs.lemmas.Bool.{ltb-true, cases_lt, false_from_ne_true}
 use Rattle.dd_cards.specs.declared.seat.Seat.{Seat}
 use Rattle.dd_cards.specs.declared.suit.Suit.{Suit}
 use Rattle.dd_cards.specs.declared.strain.Strain.{Strain}
@@ -13,25 +13,25 @@ use Rattle.dd_cards.specs.PlayingCard.{PlayingCard}
 use Rattle.dd_cards.specs.Cards.{card_of, is_of, has_card, without}
 use Rattle.dd_cards.specs.Seats.{seat_code, seat_after}
 use Rattle.dd_cards.specs.Sides.{side_of, is_side}
-use Rattle.dd_cards.proofs.CallerLemmas.{and-left, and-right, else-false, is-same}
+use Rattle.dd_cards.proofs.CallerLemmas.{and-left, and-right, is-same, any-some, seat_code-lt}
 use Rattle.dd_play.specs.Board.{Board, IsBoard, cards_at, tricks_left}
 use Rattle.dd_play.specs.Tricks.{is_trump}
 use Rattle.dd_play.specs.Play.{following}
 use Rattle.dd_play.specs.Covers.{count_of}
 use Rattle.dd_play.specs.Reach.{TakesBy, reach}
 use Rattle.dd_play.specs.Won.{won}
-use Rattle.dd_play.proofs.CallerLemmas.{after-code, code-lt, count, count-has, count-some, flag_of, legal-in, of-suit', suit-of, turn-turn}
+use Rattle.dd_play.proofs.CallerLemmas.{after-code, count, count-has, count-some, flag_of, legal-in, of-suit', suit-of, turn-turn, trump-suit as same-trump}
 use Rattle.dd_quick.specs.QuickTricks.{beats, is_unbeaten, is_winner, joint_trumps, run, trumps_at}
 use Rattle.dd_quick.specs.SecondHand.{IsBeforeLead, unled}
 use Rattle.dd_quick.proofs.Claims.{IsSure}
-use Rattle.dd_quick.proofs.Cashing.{AllLetCash, Aims, FollowsSuit, HasCards, IsLater, IsMaster, LetsCash, cashed-all, follows-on, hand_on, is_plain, no_cards, one_card, one-total, same-trump, sure_of, total, yields-on}
+use Rattle.dd_quick.proofs.Cashing.{AllLetCash, Aims, FollowsSuit, HasCards, IsLater, IsMaster, LetsCash, cashed-all, follows-on, hand_on, is_plain, no_cards, one_card, one-total, sure_of, total, yields-on}
 use Rattle.dd_quick.proofs.Hands.{IsOpposed, no-higher}
 use Rattle.dd_quick.proofs.LeadBack.{answered, board-back, cover-back}
-use Rattle.dd_quick.proofs.Plays.{count-where}
 use Rattle.dd_quick.proofs.SecondHand.{count-lost, follows-led, waiting}
 use Rattle.dd_quick.proofs.TakenTrick.{Allows, IsLed, IsMidway, IsTaken, nobody, trick-taken}
 use Rattle.dd_quick.proofs.Sound.{CanTake, can-let, joint-later, keeping_trumps, leaders_aims, length-left, own-side, partners-side, plain-left, side-spared, unbeaten, unbeaten-joint}
-use Rattle.dd_quick.proofs.Covered.{IsJoint, RestsOnTops, can-covered, left-same, length-same, run-covered, some-card, trumps-same}
+use Rattle.dd_quick.proofs.Covered.{IsJoint, RestsOnTops, can-covered, left-same, length-same, run-covered, trumps-same}
+use Rattle.dd_rank.proofs.CallerLemmas.{count-le}
 
 -- The hand that is i places after h lets n cards of each suit be cashed, and e more that are led first, where its partner
 -- keeps its trumps: as `LetsCash`, but a trump that is led asks for no card that the partner may spare of its suit.
@@ -196,13 +196,13 @@ module _ (p : Board) (c : PlayingCard) (h : Seat) (i : ℕ) (n : Suit → ℕ) (
         unbeaten-on =
             let all = lost (λ d. is_of c.suit d && is_winner before h d) in
             let one : flag_of (is_of c.suit m && is_winner before h m) ≡ 1 = ap₂ (λ x y. flag_of (x && y)) (of-suit' c.suit m (sym suit)) winner in
-            let more = count-where (λ d. is_of c.suit d && is_winner before h d) (λ d. is_of c.suit d && is_unbeaten q h d) (cards_at q h) (λ d has pass. ap₂ (λ x y. x && y) (and-left (is_of c.suit d) (is_winner before h d) pass) (free d has (and-right (is_of c.suit d) (is_winner before h d) pass))) in
+            let more = count-le (λ d. is_of c.suit d && is_winner before h d) (λ d. is_of c.suit d && is_unbeaten q h d) (cards_at q h) (λ d has pass. ap₂ (λ x y. x && y) (and-left (is_of c.suit d) (is_winner before h d) pass) (free d has (and-right (is_of c.suit d) (is_winner before h d) pass))) in
             let same : count (λ d. is_of c.suit d && is_winner before h d) (cards_at q h) ≡ count (λ d. is_of c.suit d && is_winner before h d) (without (cards_at before h) m) = ap (count (λ d. is_of c.suit d && is_winner before h d)) now.mine in
             omega (arith, all, one, more, same, few)
           where
             none : (d : PlayingCard) (x : Seat) → seat_code x ≢ seat_code h → has_card (cards_at q h) d ≡ true → is_winner before h d ≡ true → beats q x d ≡ false
-            none d x away has wins = else-false (beats q x d) (λ b.
-                let e = some-card (λ y. is_of d.suit y && nat_lt d.rank y.rank) (cards_at q x) b in
+            none d x away has wins = false_from_ne_true (beats q x d) (λ b.
+                let e = any-some (λ y. is_of d.suit y && nat_lt d.rank y.rank) (cards_at q x) b in
                 let under = masters d (now.part h d has) wins x e.0 away (now.part x e.0 e.1) (suit-of d.suit e.0 (and-left (is_of d.suit e.0) (nat_lt d.rank e.0.rank) e.2)) in
                 let over = ltb-true d.rank e.0.rank (and-right (is_of d.suit e.0) (nat_lt d.rank e.0.rank) e.2) in
                 omega (arith, under, over))
@@ -211,12 +211,12 @@ module _ (p : Board) (c : PlayingCard) (h : Seat) (i : ℕ) (n : Suit → ℕ) (
             both e f = rw (e, f) refl
 
             free : (d : PlayingCard) → has_card (cards_at q h) d ≡ true → is_winner before h d ≡ true → is_unbeaten q h d ≡ true
-            free d has wins = both (none d (seat_after h 1) (let a = after-code h 1 in let b = code-lt h in λ e. omega (arith, a, b, e)) has wins) (none d (seat_after h 3) (let a = after-code h 3 in let b = code-lt h in λ e. omega (arith, a, b, e)) has wins)
+            free d has wins = both (none d (seat_after h 1) (let a = after-code h 1 in let b = seat_code-lt h in λ e. omega (arith, a, b, e)) has wins) (none d (seat_after h 3) (let a = after-code h 3 in let b = seat_code-lt h in λ e. omega (arith, a, b, e)) has wins)
 
         joint : (s : Strain) → is_trump s c ≡ true → k - 1 ≤ joint_trumps s q h
         joint (Trump t) e =
             let free = subst (λ u. k - 1 ≤ unbeaten q h u) (suit-of t c e) unbeaten-on in
-            let long = count-where (λ d. is_of t d && is_unbeaten q h d) (is_of t) (cards_at q h) (λ d has pass. and-left (is_of t d) (is_unbeaten q h d) pass) in
+            let long = count-le (λ d. is_of t d && is_unbeaten q h d) (is_of t) (cards_at q h) (λ d has pass. and-left (is_of t d) (is_unbeaten q h d) pass) in
             let most = unbeaten-joint t q h now.valid in
             omega (arith, free, long, most)
         joint Notrump e = absurd (cc)

@@ -2,27 +2,28 @@
 use Rattle.std.proofs.Common.{◌≡◌, ℕ, suc, ◌+◌, ◌-◌, ◌<◌, ◌≤◌, Bool, true, false, refl, sym, ap, ◌∙◌, arith, List, [], ◌∷◌, Option, Some, None, length, inl, inr, min, max, zero-le}
 use Rattle.std.specs.Prelude.{MatchOption, filter, map, nat_le, nat_lt, slice_get, ◌&&◌, ◌||◌, ◌==◌, ◌⊎◌}
 use mathlib.Core.Path.{ap₂}
-use Rattle.std.proofs.lemmas.Bool.{cases_lt, leb-true, le-leb, ltb-true, lt-ltb}
+use Rattle.std.proofs.lemmas.Bool.{cases_lt, leb-true, le-leb, ltb-true, lt-ltb, and_from, or_right, or_cases, false_from_ne_true}
 use Rattle.dd_cards.specs.declared.seat.Seat.{Seat}
 use Rattle.dd_cards.specs.declared.suit.Suit.{Suit}
 use Rattle.dd_cards.specs.Ranks.{all_ranks, has_rank}
 use Rattle.dd_cards.specs.Cards.{is_of, card_of, has_card}
 use Rattle.dd_cards.specs.Seats.{seat_after}
-use Rattle.dd_cards.proofs.CallerLemmas.{and-left, and-right, and-both, else-false, filter-filter, filter-true, has_rank-holding, length-filter-le, or-right, or-split}
+use Rattle.dd_cards.proofs.CallerLemmas.{and-left, and-right, filter-filter, filter-true, has_rank-holding, length-filter-le, seat_code-lt, has-filter, filter-members}
 use Rattle.dd_play.specs.Board.{Board, IsBoard, cards_at}
-use Rattle.dd_play.proofs.CallerLemmas.{after-code, code-lt}
+use Rattle.dd_play.proofs.CallerLemmas.{after-code}
 use Rattle.dd_quick.specs.QuickTricks.{greatest}
 use Rattle.dd_quick.specs.Seen.{IsRanks}
 use Rattle.dd_quick.proofs.Hands.{one-hand}
-use Rattle.dd_quick.proofs.Runs.{filter-in, first-highest, first-in, has-part}
+use Rattle.dd_quick.proofs.Runs.{first-highest}
 use Rattle.dd_quick.proofs.Sound.{in-greatest}
 use Rattle.dd_quick.proofs.TrumpRanks.{from_list, from-less, greatest-within, last-seat, next-rank}
+use Rattle.dd_rank.proofs.CallerLemmas.{first-there}
 
 -- ---- sets of ranks
 
 -- a part of all ranks is a set of them
 pub ranks-of : (test : ℕ → Bool) (ranks : List ℕ) → ranks ≡ filter test all_ranks → IsRanks ranks
-ranks-of test ranks are = are ∙ filter-in test (has_rank ranks) all_ranks (λ q real. sym (ap (λ l. has_rank l q) are ∙ has-part test all_ranks q ∙ ap (λ b. test q && b) real ∙ with-true (test q)))
+ranks-of test ranks are = are ∙ filter-members test (has_rank ranks) all_ranks (λ q real. sym (ap (λ l. has_rank l q) are ∙ has-filter test all_ranks q ∙ ap (λ b. test q && b) real ∙ with-true (test q)))
   where
     with-true : (b : Bool) → (b && true) ≡ b
     with-true true = refl
@@ -50,11 +51,11 @@ fewer-pass test (x ∷ ranks) r first fails =
 -- what passes one test passes the other, so no more do
 pass-where : (f g : ℕ → Bool) (ranks : List ℕ) → ((q : ℕ) → has_rank ranks q ≡ true → f q ≡ true → g q ≡ true) → length (filter f ranks) ≤ length (filter g ranks)
 pass-where f g [] each = zero-le
-pass-where f g (x ∷ ranks) each = go (f x) (g x) refl refl (pass-where f g ranks (λ q h. each q (or-right (x == q) (has_rank ranks q) h)))
+pass-where f g (x ∷ ranks) each = go (f x) (g x) refl refl (pass-where f g ranks (λ q h. each q (or_right (x == q) (has_rank ranks q) h)))
   where
     go : (a b : Bool) → f x ≡ a → g x ≡ b → length (filter f ranks) ≤ length (filter g ranks) → length (filter f (x ∷ ranks)) ≤ length (filter g (x ∷ ranks))
     go true true e h ih = rw (e, h) (omega (arith, ih))
-    go true false e h ih = absurd (let k = each x (first-in (x ∷ ranks) x refl) e in cc)
+    go true false e h ih = absurd (let k = each x (first-there (x ∷ ranks) x refl) e in cc)
     go false true e h ih = rw (e, h) (omega (arith, ih))
     go false false e h ih = rw (e, h) ih
 
@@ -115,27 +116,27 @@ module _ (ours theirs : List ℕ) (longer : ℕ) (others : IsRanks theirs) (apar
     fewer = greatest-within number (filter (λ q. nat_lt q r) rest) (greatest number rest) (λ q has. in-greatest number rest q (in-rest q has));
     ranks = ranks-part (λ q. nat_lt q r) rest ranks;
     part = λ q has. part q (in-rest q has);
-    shorter = fewer-pass (λ q. nat_lt q r) rest rank first (else-false (nat_lt rank r) (λ l. let k = ltb-true rank r l in omega (arith, k, under)));
+    shorter = fewer-pass (λ q. nat_lt q r) rest rank first (false_from_ne_true (nat_lt rank r) (λ l. let k = ltb-true rank r l in omega (arith, k, under)));
   }
     where
       lower : List ℕ
       lower = filter (λ q. nat_lt q rank) theirs
 
       is_lower : (nat_lt r rank && has_rank theirs r) ≡ true
-      is_lower = sym (has-part (λ q. nat_lt q rank) theirs r) ∙ first-in lower r (sym e)
+      is_lower = sym (has-filter (λ q. nat_lt q rank) theirs r) ∙ first-there lower r (sym e)
 
       under : r < rank
       under = ltb-true r rank (and-left (nat_lt r rank) (has_rank theirs r) is_lower)
 
       below : (q : ℕ) → has_rank theirs q ≡ true → q < rank → q ≤ r
-      below q h l = first-most lower r q (ranks-part (λ q. nat_lt q rank) theirs others) (sym e) (has-part (λ q. nat_lt q rank) theirs q ∙ and-both (nat_lt q rank) (has_rank theirs q) (lt-ltb q rank l) h)
+      below q h l = first-most lower r q (ranks-part (λ q. nat_lt q rank) theirs others) (sym e) (has-filter (λ q. nat_lt q rank) theirs q ∙ and_from (nat_lt q rank) (has_rank theirs q) (lt-ltb q rank l) h)
 
       in-rest : (q : ℕ) → has_rank (filter (λ q. nat_lt q r) rest) q ≡ true → has_rank rest q ≡ true
-      in-rest q has = and-right (nat_lt q r) (has_rank rest q) (sym (has-part (λ q. nat_lt q r) rest q) ∙ has)
+      in-rest q has = and-right (nat_lt q r) (has_rank rest q) (sym (has-filter (λ q. nat_lt q r) rest q) ∙ has)
 
       each : (q : ℕ) → has_rank rest q ≡ true → number q ≤ max (min (length (filter (λ q. nat_lt r q) ours)) longer - over) (greatest number (filter (λ q. nat_lt q r) rest))
       each q has = elim (cases_lt q r) [
-        | inl l ↦ (let k = in-greatest number (filter (λ q. nat_lt q r) rest) q (has-part (λ q. nat_lt q r) rest q ∙ and-both (nat_lt q r) (has_rank rest q) (lt-ltb q r l) has) in omega (arith, k))
+        | inl l ↦ (let k = in-greatest number (filter (λ q. nat_lt q r) rest) q (has-filter (λ q. nat_lt q r) rest q ∙ and_from (nat_lt q r) (has_rank rest q) (lt-ltb q r l) has) in omega (arith, k))
         | inr l ↦ elim (cases_lt r q) [
           | inl m ↦ (
               let held = pass-where (nat_le q) (λ x. nat_lt r x) ours (λ x h pass. (let k = leb-true q x pass in lt-ltb r x (omega (arith, k, m)))) in
@@ -155,7 +156,7 @@ module _ (ours theirs : List ℕ) (longer : ℕ) (others : IsRanks theirs) (apar
     least = (
         let held = pass-where (λ q. true) (nat_le 0) ours (λ q h pass. le-leb 0 q zero-le) in
         let whole = ap length (filter-true ours) in
-        let few = pass-where (nat_le 0) (nat_le rank) theirs (λ q h pass. (elim (cases_lt q rank) [ inl k ↦ absurd (nothing-first (filter (λ q. nat_lt q rank) theirs) q e (has-part (λ q. nat_lt q rank) theirs q ∙ and-both (nat_lt q rank) (has_rank theirs q) (lt-ltb q rank k) h)) | inr k ↦ le-leb rank q k ])) in
+        let few = pass-where (nat_le 0) (nat_le rank) theirs (λ q h pass. (elim (cases_lt q rank) [ inl k ↦ absurd (nothing-first (filter (λ q. nat_lt q rank) theirs) q e (has-filter (λ q. nat_lt q rank) theirs q ∙ and_from (nat_lt q rank) (has_rank theirs q) (lt-ltb q rank k) h)) | inr k ↦ le-leb rank q k ])) in
         let all = at-most 0 in
         omega (arith, held, whole, few, above, all));
     most = greatest-within number rest (max (min (length ours) longer - over) 0) (λ q has. (
@@ -191,20 +192,20 @@ pub held-by : (p : Board) (x y : Seat) (suit : Suit) (own his both : List ℕ) �
     → both ≡ filter (λ q. has_rank own q || has_rank his q) all_ranks → (q : ℕ) → has_rank both q ≡ true → (has_card (cards_at p x) (card_of suit q) || has_card (cards_at p y) (card_of suit q)) ≡ true
 held-by p x y suit own his both mine others union q has =
     sym (ap₂ (λ a b. a || b) (has_rank-holding suit own (cards_at p x) q mine) (has_rank-holding suit his (cards_at p y) q others))
-    ∙ and-left (has_rank own q || has_rank his q) (has_rank all_ranks q) (sym (has-part (λ q. has_rank own q || has_rank his q) all_ranks q) ∙ ap (λ l. has_rank l q) (sym union) ∙ has)
+    ∙ and-left (has_rank own q || has_rank his q) (has_rank all_ranks q) (sym (has-filter (λ q. has_rank own q || has_rank his q) all_ranks q) ∙ ap (λ l. has_rank l q) (sym union) ∙ has)
 
 -- two sides have no rank of a suit in common
 pub sides-apart : (p : Board) (seat left : Seat) (suit : Suit) (ours theirs : List ℕ) → IsBoard p → left ≡ seat_after seat 1
     → ((q : ℕ) → has_rank ours q ≡ true → (has_card (cards_at p seat) (card_of suit q) || has_card (cards_at p (seat_after seat 2)) (card_of suit q)) ≡ true)
     → ((q : ℕ) → has_rank theirs q ≡ true → (has_card (cards_at p left) (card_of suit q) || has_card (cards_at p (seat_after left 2)) (card_of suit q)) ≡ true)
     → (q : ℕ) → has_rank ours q ≡ true → has_rank theirs q ≡ false
-sides-apart p seat left suit ours theirs valid next mine others q has = else-false (has_rank theirs q) (λ e. by (or-split (at seat) (at (seat_after seat 2)) (mine q has)) (or-split (at (seat_after seat 1)) (at (seat_after seat 3)) (ap₂ (λ x y. at x || at y) (sym next) (sym (ap (λ x. seat_after x 2) next ∙ last-seat seat)) ∙ others q e)))
+sides-apart p seat left suit ours theirs valid next mine others q has = false_from_ne_true (has_rank theirs q) (λ e. by (or_cases (at seat) (at (seat_after seat 2)) (mine q has)) (or_cases (at (seat_after seat 1)) (at (seat_after seat 3)) (ap₂ (λ x y. at x || at y) (sym next) (sym (ap (λ x. seat_after x 2) next ∙ last-seat seat)) ∙ others q e)))
   where
     at : Seat → Bool
     at x = has_card (cards_at p x) (card_of suit q)
 
     by : ((at seat ≡ true) ⊎ (at (seat_after seat 2) ≡ true)) → ((at (seat_after seat 1) ≡ true) ⊎ (at (seat_after seat 3) ≡ true)) → ⊥
-    by (inl x) (inl y) = one-hand p valid (seat_after seat 1) seat (card_of suit q) (let a = after-code seat 1 in let b = code-lt seat in omega (arith, a, b)) y x
-    by (inl x) (inr y) = one-hand p valid (seat_after seat 3) seat (card_of suit q) (let a = after-code seat 3 in let b = code-lt seat in omega (arith, a, b)) y x
-    by (inr x) (inl y) = one-hand p valid (seat_after seat 1) (seat_after seat 2) (card_of suit q) (let a = after-code seat 1 in let d = after-code seat 2 in let b = code-lt seat in omega (arith, a, b, d)) y x
-    by (inr x) (inr y) = one-hand p valid (seat_after seat 3) (seat_after seat 2) (card_of suit q) (let a = after-code seat 3 in let d = after-code seat 2 in let b = code-lt seat in omega (arith, a, b, d)) y x
+    by (inl x) (inl y) = one-hand p valid (seat_after seat 1) seat (card_of suit q) (let a = after-code seat 1 in let b = seat_code-lt seat in omega (arith, a, b)) y x
+    by (inl x) (inr y) = one-hand p valid (seat_after seat 3) seat (card_of suit q) (let a = after-code seat 3 in let b = seat_code-lt seat in omega (arith, a, b)) y x
+    by (inr x) (inl y) = one-hand p valid (seat_after seat 1) (seat_after seat 2) (card_of suit q) (let a = after-code seat 1 in let d = after-code seat 2 in let b = seat_code-lt seat in omega (arith, a, b, d)) y x
+    by (inr x) (inr y) = one-hand p valid (seat_after seat 3) (seat_after seat 2) (card_of suit q) (let a = after-code seat 3 in let d = after-code seat 2 in let b = seat_code-lt seat in omega (arith, a, b, d)) y x

@@ -3,7 +3,7 @@ use Rattle.std.proofs.Common.{◌≡◌, ◌≢◌, ℕ, zero, suc, ◌+◌, ◌
 use Rattle.std.specs.Prelude.{filter, nat_le, nat_lt, ◌&&◌, ◌||◌, ◌==◌, ◌⊎◌}
 use mathlib.Core.Bool.{not}
 use mathlib.Core.Path.{ap₂}
-use Rattle.std.proofs.lemmas.Bool.{leb-true, le-leb, eqb-true, cases_lt}
+use Rattle.std.proofs.lemmas.Bool.{leb-true, le-leb, eqb-true, cases_lt, or_right, or_cases, false_from_ne_true}
 use Rattle.std.proofs.lemmas.Bool.Decides.{nat_tests}
 use Rattle.dd_cards.specs.declared.seat.Seat.{Seat}
 use Rattle.dd_cards.specs.declared.seat.Seat.TheVariants.{North, East, South, West}
@@ -14,23 +14,22 @@ use Rattle.dd_cards.specs.PlayingCard.{PlayingCard}
 use Rattle.dd_cards.specs.Cards.{is_of, same_card, card_of, has_card}
 use Rattle.dd_cards.specs.Ranks.{all_ranks, has_rank}
 use Rattle.dd_cards.specs.Seats.{seat_code, seat_after}
-use Rattle.dd_cards.proofs.CallerLemmas.{and-left, and-right, any-filter, else-false, length-filter-le, or-right, or-split, same_card-eq}
+use Rattle.dd_cards.proofs.CallerLemmas.{and-left, and-right, any-filter, length-filter-le, same_card-eq, seat_code-lt, has-all}
 use Rattle.dd_cards.specs.Sides.{side_of, other_side, is_side}
 use Rattle.dd_cards.specs.declared.side.Side.{Side}
 use Rattle.dd_play.specs.Board.{Board, IsBoard, cards_at, tricks_left}
 use Rattle.dd_play.specs.Tricks.{is_trump}
 use Rattle.dd_play.specs.Covers.{count_of}
 use Rattle.dd_play.specs.Won.{won}
-use Rattle.dd_play.proofs.CallerLemmas.{after-code, card-real, code-lt, count, filter-has, filter-passes, flag_of, has-first, in-rest, inject, once-in, suit-of}
+use Rattle.dd_play.proofs.CallerLemmas.{after-code, card-real, count, filter-has, filter-passes, flag_of, has-first, in-rest, inject, once-in, suit-of, trump-suit as same-trump}
 use Rattle.dd_quick.specs.QuickTricks.{from_rank, greatest, is_winner, is_unbeaten, joint_trumps, length_at, longer_of, run, taken_from, trumps_at}
 use Rattle.dd_quick.proofs.Chosen.{count-never, count-same}
 use Rattle.dd_quick.proofs.Hands.{IsOpposed, no-higher, none-over, one-hand}
-use Rattle.dd_quick.proofs.Plays.{count-where}
 use Rattle.dd_quick.proofs.JointPlans.{is_top, trumps-plain}
 use Rattle.dd_quick.proofs.JointTrumps.{around, in_play, joint-taken, place-of}
-use Rattle.dd_quick.proofs.Runs.{has-all}
 use Rattle.dd_quick.proofs.Plans.{IsPlan, planned}
-use Rattle.dd_quick.proofs.Cashing.{Aims, AllLetCash, IsLater, OnlyTrumps, hand_on, is_plain, no_cards, same-trump, spare_of, sure_of, total}
+use Rattle.dd_quick.proofs.Cashing.{Aims, AllLetCash, IsLater, OnlyTrumps, hand_on, is_plain, no_cards, spare_of, sure_of, total}
+use Rattle.dd_rank.proofs.CallerLemmas.{count-le}
 
 -- ---- two lists
 
@@ -190,7 +189,7 @@ floor-of t p a b valid partner = go (filter (free a) (cards_at p a) ++ filter (f
 
         counted : (h : Seat) → ((d : PlayingCard) → has_card (filter (free h) (cards_at p h)) d ≡ true → has_card (filter (free a) (cards_at p a) ++ filter (free b) (cards_at p b)) d ≡ true)
             → unbeaten p h t ≤ count (is_top (Trump t) floor) (cards_at p h)
-        counted h inside = count-where (free h) (is_top (Trump t) floor) (cards_at p h) (λ d has high.
+        counted h inside = count-le (free h) (is_top (Trump t) floor) (cards_at p h) (λ d has high.
             let over : low.0.rank ≤ d.rank = low.2 d (ap (λ cards. has_card cards d) (sym e) ∙ inside d (filter-has (free h) (cards_at p h) d has high)) in
             ap₂ (λ a b. a && b) (and-left (is_of t d) (is_unbeaten p h d) high) (le-leb floor d.rank over))
 
@@ -244,7 +243,7 @@ rank-joint t p a r n valid few = elim (cases_lt r 2) [
 
     -- nor above the ace
     nothing : (x : Seat) → 15 ≤ r → from_rank p x t r ≡ 0
-    nothing x none = count-never (λ c. is_of t c && nat_le r c.rank) (cards_at p x) (λ c has. else-false (is_of t c && nat_le r c.rank) (λ e.
+    nothing x none = count-never (λ c. is_of t c && nat_le r c.rank) (cards_at p x) (λ c has. false_from_ne_true (is_of t c && nat_le r c.rank) (λ e.
         let real = (card-real p x c valid has).1 in let high = leb-true r c.rank (and-right (is_of t c) (nat_le r c.rank) e) in omega (arith, none, real, high)))
 
 -- The cards that no opponent beats are joint trumps, as far as the longer hand has trumps.
@@ -258,10 +257,10 @@ unbeaten-joint t p a valid =
   where
     -- an opponent has none of them
     nobody : (floor : ℕ) → ((x : Seat) (c : PlayingCard) → has_card (cards_at p x) c ≡ true → is_top (Trump t) floor c ≡ true → (x ≡ a) ⊎ (x ≡ seat_after a 2)) → (i : ℕ) → IsOpposed i → from_rank p (seat_after a i) t floor ≡ 0
-    nobody floor owned i opposed = count-never (is_top (Trump t) floor) (cards_at p (seat_after a i)) (λ c has. else-false (is_top (Trump t) floor c) (λ top.
+    nobody floor owned i opposed = count-never (is_top (Trump t) floor) (cards_at p (seat_after a i)) (λ c has. false_from_ne_true (is_top (Trump t) floor c) (λ top.
         let x = after-code a i in
         let y = after-code a 2 in
-        let z = code-lt a in
+        let z = seat_code-lt a in
         elim (owned (seat_after a i) c has top) [
           | inl e ↦ (let k : seat_code (seat_after a i) ≡ seat_code a = ap seat_code e in elim opposed [ inl f ↦ omega (arith, x, z, k, f) | inr f ↦ omega (arith, x, z, k, f) ])
           | inr e ↦ (let k : seat_code (seat_after a i) ≡ seat_code (seat_after a 2) = ap seat_code e in elim opposed [ inl f ↦ omega (arith, x, y, z, k, f) | inr f ↦ omega (arith, x, y, z, k, f) ])
@@ -282,12 +281,12 @@ module _ (t : Suit) (o q : Board) (a : Seat) (s : Side) (r : ℕ) (valid : IsBoa
 
   -- two seats at two places are two
   two-seats : (i j : ℕ) → i < 4 → j < 4 → i ≢ j → seat_code (seat_after a i) ≢ seat_code (seat_after a j)
-  two-seats i j l m e = (let x = after-code a i in let y = after-code a j in let z = code-lt a in λ k. omega (arith, x, y, z, k, l, m, e))
+  two-seats i j l m e = (let x = after-code a i in let y = after-code a j in let z = seat_code-lt a in λ k. omega (arith, x, y, z, k, l, m, e))
 
   -- the two hands have none of theirs
   not-ours : (i : ℕ) → i < 4 → i ≢ 1 → i ≢ 3 → count theirs (cards_at q (seat_after a i)) ≡ 0
-  not-ours i l one three = count-never theirs (cards_at q (seat_after a i)) (λ c has. else-false (theirs c) (λ e.
-      elim (or-split (has_card (cards_at o (seat_after a 1)) c) (has_card (cards_at o (seat_after a 3)) c) (and-right (is_top (Trump t) r c) (has_card (cards_at o (seat_after a 1)) c || has_card (cards_at o (seat_after a 3)) c) e)) [
+  not-ours i l one three = count-never theirs (cards_at q (seat_after a i)) (λ c has. false_from_ne_true (theirs c) (λ e.
+      elim (or_cases (has_card (cards_at o (seat_after a 1)) c) (has_card (cards_at o (seat_after a 3)) c) (and-right (is_top (Trump t) r c) (has_card (cards_at o (seat_after a 1)) c || has_card (cards_at o (seat_after a 3)) c) e)) [
         | inl h ↦ one-hand o valid (seat_after a i) (seat_after a 1) c (two-seats i 1 l (omega arith) one) (part (seat_after a i) c has) h
         | inr h ↦ one-hand o valid (seat_after a i) (seat_after a 3) c (two-seats i 3 l (omega arith) three) (part (seat_after a i) c has) h
       ]))
@@ -317,7 +316,7 @@ module _ (t : Suit) (o q : Board) (a : Seat) (s : Side) (r : ℕ) (valid : IsBoa
       by (zero, l, e) = inl (inl e)
       by (suc zero, l, e) = inr (both top (ap (λ b. b || has_card (cards_at o (seat_after a 3)) c) (subst (λ y. has_card (cards_at o y) c ≡ true) e (part x c has))))
       by (suc (suc zero), l, e) = inl (inr e)
-      by (suc (suc (suc zero)), l, e) = inr (both top (or-right (has_card (cards_at o (seat_after a 1)) c) (has_card (cards_at o (seat_after a 3)) c) (subst (λ y. has_card (cards_at o y) c ≡ true) e (part x c has))))
+      by (suc (suc (suc zero)), l, e) = inr (both top (or_right (has_card (cards_at o (seat_after a 1)) c) (has_card (cards_at o (seat_after a 3)) c) (subst (λ y. has_card (cards_at o y) c ≡ true) e (part x c has))))
       by (suc (suc (suc (suc j))), l, e) = absurd (omega (arith, l))
 
   -- nothing of them is on the trick
@@ -332,7 +331,7 @@ module _ (t : Suit) (o q : Board) (a : Seat) (s : Side) (r : ℕ) (valid : IsBoa
         let trumps_a = mine (is_trump (Trump t)) (λ c e. e) in
         let trumps_b = his (is_trump (Trump t)) (λ c e. e) in
         let over = their-trumps in
-        let apart : seat_code a ≢ seat_code (seat_after a 2) = (let x = after-code a 2 in let y = code-lt a in omega (arith, x, y)) in
+        let apart : seat_code a ≢ seat_code (seat_after a 2) = (let x = after-code a 2 in let y = seat_code-lt a in omega (arith, x, y)) in
         elim (cases_lt (count (is_trump (Trump t)) (cards_at o a)) (count (is_trump (Trump t)) (cards_at o (seat_after a 2)))) [
           | inl l ↦ (
               let taken = joint-taken (Trump t) r (k + (from_rank o (seat_after a 1) t r + from_rank o (seat_after a 3) t r)) theirs (seat_after a 2) a s q ours_b ours_a (λ e. apart (sym e)) (record {
@@ -422,7 +421,7 @@ leaders_aims p = keeping_trumps p.strain (is_winner p p.first) (cards_at p p.fir
 pub side-spared : (strain : Strain) (n : Suit → ℕ) (hand : List PlayingCard) → ((u : Suit) → 1 ≤ n u → is_trump strain (card_of u 0) ≡ false) → (u : Suit) → min (no_cards u + n u) (count_of u hand) ≤ spare_of (is_trump strain) u hand
 side-spared strain n hand plain u = elim (cases_lt 0 (n u)) [
   | inl some ↦ (
-      let all : count_of u hand ≤ spare_of (is_trump strain) u hand = count-where (is_of u) (λ c. is_of u c && not (is_trump strain c)) hand
+      let all : count_of u hand ≤ spare_of (is_trump strain) u hand = count-le (is_of u) (λ c. is_of u c && not (is_trump strain c)) hand
       (λ c has of_u. ap₂ (λ a b. a && not b) of_u (same-trump strain c (card_of u 0) (suit-of u c of_u) ∙ plain u some)) in
       omega (arith, all))
   | inr none ↦ omega (arith, none)

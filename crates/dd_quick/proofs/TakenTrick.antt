@@ -5,7 +5,7 @@ use Rattle.std.specs.Prelude.{filter, nat_le, nat_lt, ◌&&◌, ◌==◌, ◌⊎
 use Rattle.std.specs.List.{list_all, position_or_len}
 use mathlib.Core.Bool.{not}
 use mathlib.Core.Path.{ap₂}
-use Rattle.std.proofs.lemmas.Bool.{leb-true, lt-ltb}
+use Rattle.std.proofs.lemmas.Bool.{leb-true, lt-ltb, false_from_ne_true}
 use Rattle.std.proofs.lemmas.Bool.Decides.{eqb_tells}
 use Rattle.dd_cards.specs.declared.seat.Seat.{Seat}
 use Rattle.dd_cards.specs.declared.seat.Seat.TheVariants.{North, East, South, West}
@@ -15,16 +15,16 @@ use Rattle.dd_cards.specs.PlayingCard.{PlayingCard}
 use Rattle.dd_cards.specs.Cards.{is_of, same_card, has_card, without}
 use Rattle.dd_cards.specs.Seats.{seat_code, seat_after}
 use Rattle.dd_cards.specs.Sides.{side_of, is_side}
-use Rattle.dd_cards.proofs.CallerLemmas.{and-left, and-right, else-false, passes, same_card-eq}
+use Rattle.dd_cards.proofs.CallerLemmas.{and-left, and-right, passes, same_card-eq, seat_code-lt}
 use Rattle.dd_play.specs.Board.{Board, IsBoard, cards_at, tricks_left, mover}
 use Rattle.dd_play.specs.Tricks.{deciding, is_highest_of, is_trump, or_else, winner_of, winning_place}
 use Rattle.dd_play.specs.Play.{after, completes, following, trick_with}
 use Rattle.dd_play.specs.Simulations.{IsLegal}
 use Rattle.dd_play.specs.Won.{trick_for, won}
-use Rattle.dd_play.proofs.CallerLemmas.{Obeys, after-code, can, code-lt, count, count-some, filter-has, filter-passes, flag_of, hand-others, hand-own, has-first, in-push, in-rest, legal-in, legal-leads, legal-out, of-suit', own-card, strain-after, suit-of, trick-after, trick-closed, was-in, won_with}
+use Rattle.dd_play.proofs.CallerLemmas.{Obeys, after-code, can, count, count-some, filter-has, filter-passes, flag_of, hand-others, hand-own, has-first, in-push, in-rest, legal-in, legal-leads, legal-out, of-suit', own-card, strain-after, suit-of, trick-after, trick-closed, was-in, won_with, trump-suit as same-trump}
 use Rattle.dd_quick.specs.SecondHand.{unled}
 use Rattle.dd_quick.proofs.FirstCard.{no-trump, none-higher}
-use Rattle.dd_quick.proofs.Cashing.{FollowsSuit, IsMaster, hand_on, same-trump}
+use Rattle.dd_quick.proofs.Cashing.{FollowsSuit, IsMaster, hand_on}
 use Rattle.dd_quick.proofs.Hands.{IsOpposed}
 use Rattle.dd_quick.proofs.LeadBack.{count-back, is-back, leaders-back, led-back, others-back}
 use Rattle.dd_quick.proofs.Plays.{count-own, whoever}
@@ -59,7 +59,7 @@ deciding-led strain m c rest suit each = go (is_trump strain m) refl
 
     go : (b : Bool) → is_trump strain m ≡ b → deciding strain (c ∷ rest) ≡ filter (is_of m.suit) (c ∷ rest)
     go true e = ap₂ or_else (trumps strain e) led ∙ or-same (filter (is_of m.suit) (c ∷ rest))
-    go false e = ap₂ or_else (no-trump strain (c ∷ rest) (λ d h. else-false (is_trump strain d) (λ t. let k : false ≡ true = sym e ∙ each d h t in cc))) led
+    go false e = ap₂ or_else (no-trump strain (c ∷ rest) (λ d h. false_from_ne_true (is_trump strain d) (λ t. let k : false ≡ true = sym e ∙ each d h t in cc))) led
 
 -- a card of a list is before m, m, or behind it
 around : (before behind : List PlayingCard) (m e : PlayingCard) → has_card (before ++ m ∷ behind) e ≡ true → (m ≡ e) ⊎ ((has_card before e ≡ true) ⊎ (has_card behind e ≡ true))
@@ -101,7 +101,7 @@ wins-at strain m c before behind suit low later = first-at (is_highest_of (decid
         ∙ ap₂ (λ a b. a && b) there (none-higher m all (λ e h s. elim (each e h) [ inl k ↦ (let r : m.rank ≡ e.rank = ap (λ (y : PlayingCard). y.rank) k in omega (arith, r)) | inr k ↦ (let r = k.1 s in omega (arith, r)) ]))
 
     lower : (e : PlayingCard) → has_card (c ∷ before) e ≡ true → is_highest_of (deciding strain all) e ≡ false
-    lower e h = ap (λ cards. is_highest_of cards e) decide ∙ else-false (is_highest_of (filter (is_of m.suit) all) e) (λ k.
+    lower e h = ap (λ cards. is_highest_of cards e) decide ∙ false_from_ne_true (is_highest_of (filter (is_of m.suit) all) e) (λ k.
         let mine = and-left (has_card (filter (is_of m.suit) all) e) (list_all (λ d. nat_le d.rank e.rank) (filter (is_of m.suit) all)) k in
         let most = and-right (has_card (filter (is_of m.suit) all) e) (list_all (λ d. nat_le d.rank e.rank) (filter (is_of m.suit) all)) k in
         let over = leb-true m.rank e.rank (passes (λ d. nat_le d.rank e.rank) m (filter (is_of m.suit) all) most there) in
@@ -167,7 +167,7 @@ module _ (strain : Strain) (o : Board) (lets : Bool → ℕ → List PlayingCard
 
   -- it is another seat than h
   apart : seat_code (seat_after o.first i) ≢ seat_code o.first
-  apart = (let a = after-code o.first i in let b = code-lt o.first in λ e. omega (arith, a, b, e, low, high))
+  apart = (let a = after-code o.first i in let b = seat_code-lt o.first in λ e. omega (arith, a, b, e, low, high))
 
   -- where it does not ruff it does not beat m
   beaten : IsMaster o m → IsQuiet strain m d → IsBeaten strain m d
@@ -187,7 +187,7 @@ module _ (strain : Strain) (o : Board) (lets : Bool → ℕ → List PlayingCard
 
   -- two places after h are two seats
   two-places : (j : ℕ) → j < 4 → j ≢ i → seat_code (seat_after o.first j) ≢ seat_code (seat_after o.first i)
-  two-places j l differs = (let a = after-code o.first i in let b = after-code o.first j in let c = code-lt o.first in λ e. omega (arith, a, b, c, e, l, high, differs))
+  two-places j l differs = (let a = after-code o.first i in let b = after-code o.first j in let c = seat_code-lt o.first in λ e. omega (arith, a, b, c, e, l, high, differs))
 
   lets-after : lets false i rest → (j : ℕ) → 1 ≤ j → j < 4 → lets (but i waits j) j (cards_at (after p d) (seat_after o.first j))
   lets-after done j l k = elim (eqb_tells j i) [
@@ -221,7 +221,7 @@ takes-over strain o lets m own waits p now turn has = record {
 }
   where
     stays : (j : ℕ) → 1 ≤ j → j < 4 → cards_at (after p m) (seat_after o.first j) ≡ cards_at p (seat_after o.first j)
-    stays j l k = hand-others p m (seat_after o.first j) (let a = after-code o.first j in let b = code-lt o.first in let t : seat_code (mover p) ≡ seat_code o.first = ap seat_code turn in λ e. omega (arith, a, b, t, e, l, k))
+    stays j l k = hand-others p m (seat_after o.first j) (let a = after-code o.first j in let b = seat_code-lt o.first in let t : seat_code (mover p) ≡ seat_code o.first = ap seat_code turn in λ e. omega (arith, a, b, t, e, l, k))
 
 -- where a card lies on the trick, one more is to come
 pub some-left : (p : Board) → IsBoard p → 1 ≤ length p.trick → 1 ≤ tricks_left p
@@ -265,13 +265,13 @@ one-three East = refl
 one-three South = refl
 one-three West = refl
 
-two-three : (f : Seat) → seat_after (seat_after f 3) 2 ≡ seat_after f 1
+pub two-three : (f : Seat) → seat_after (seat_after f 3) 2 ≡ seat_after f 1
 two-three North = refl
 two-three East = refl
 two-three South = refl
 two-three West = refl
 
-three-three : (f : Seat) → seat_after (seat_after f 3) 3 ≡ seat_after f 2
+pub three-three : (f : Seat) → seat_after (seat_after f 3) 3 ≡ seat_after f 2
 three-three North = refl
 three-three East = refl
 three-three South = refl
@@ -304,7 +304,7 @@ module _ (p : Board) (c : PlayingCard) (h : Seat) (lets : Bool → ℕ → List 
   }
     where
       away : (i : ℕ) → i < 4 → i ≢ j → seat_code (seat_after h i) ≢ seat_code p.first
-      away i l differs = (let a = after-code h i in let d = after-code h j in let k = code-lt h in let e : seat_code p.first ≡ seat_code (seat_after h j) = ap seat_code at in λ z. omega (arith, a, d, k, e, z, l, high, differs))
+      away i l differs = (let a = after-code h i in let d = after-code h j in let k = seat_code-lt h in let e : seat_code p.first ≡ seat_code (seat_after h j) = ap seat_code at in λ z. omega (arith, a, d, k, e, z, l, high, differs))
 
       taken-led : IsTaken c (hand_on o j) (cards_at p (seat_after h j))
       taken-led test = subst (λ x. count test (cards_at p x) + flag_of (test c) ≡ count test (cards_at o x)) at (sym (ap (count test) (leaders-back p c valid led h) ∙ count-back p c valid led test))
@@ -361,7 +361,7 @@ module _ (p : Board) (c : PlayingCard) (h : Seat) (lets : Bool → ℕ → List 
       first1 = (trick-after p m goes_on).1
 
       apart : seat_code p.first ≢ seat_code h
-      apart = (let a = after-code p.first 1 in let k = code-lt p.first in let e : seat_code h ≡ seat_code (seat_after p.first 1) = ap seat_code at in λ z. omega (arith, a, k, e, z))
+      apart = (let a = after-code p.first 1 in let k = seat_code-lt p.first in let e : seat_code h ≡ seat_code (seat_after p.first 1) = ap seat_code at in λ z. omega (arith, a, k, e, z))
 
       third : (d : PlayingCard) → IsLegal (after p m) d → b + 1 ≤ won_with (side_of h) (after p m) d
       third d legal =
@@ -483,7 +483,7 @@ module _ (p : Board) (c : PlayingCard) (h : Seat) (lets : Bool → ℕ → List 
       first1 = (trick-after p card.0 goes_on).1
 
       apart : seat_code p.first ≢ seat_code h
-      apart = (let a = after-code p.first 3 in let k = code-lt p.first in let e : seat_code h ≡ seat_code (seat_after p.first 3) = ap seat_code at in λ z. omega (arith, a, k, e, z))
+      apart = (let a = after-code p.first 3 in let k = seat_code-lt p.first in let e : seat_code h ≡ seat_code (seat_after p.first 3) = ap seat_code at in λ z. omega (arith, a, k, e, z))
 
       third : (d : PlayingCard) → IsLegal p1 d → b + 1 ≤ won_with (side_of h) p1 d
       third d may =

@@ -3,7 +3,7 @@ use Rattle.std.proofs.Common.{◌≡◌, ℕ, ◌+◌, ◌-◌, ◌<◌, ◌≤�
 use Rattle.std.specs.Prelude.{filter, map, nat_le, nat_lt, ◌&&◌, ◌||◌, ◌==◌, ◌⊎◌}
 use mathlib.Core.Path.{ap₂}
 use Rattle.std.proofs.lemmas.List.{length-map}
-use Rattle.std.proofs.lemmas.Bool.{cases_lt, leb-true, le-leb, lt-ltb, eq-eqb}
+use Rattle.std.proofs.lemmas.Bool.{cases_lt, leb-true, le-leb, lt-ltb, eq-eqb, or_right}
 use Rattle.std.proofs.lemmas.Bool.Decides.{nat_tests}
 use Rattle.dd_cards.specs.declared.seat.Seat.{Seat}
 use Rattle.dd_cards.specs.declared.seat.Seat.TheVariants.{North, East, South, West}
@@ -14,12 +14,11 @@ use Rattle.dd_cards.specs.PlayingCard.{PlayingCard}
 use Rattle.dd_cards.specs.Ranks.{all_ranks, has_rank}
 use Rattle.dd_cards.specs.Cards.{is_of, card_of, has_card}
 use Rattle.dd_cards.specs.Seats.{seat_after}
-use Rattle.dd_cards.proofs.CallerLemmas.{and-right, filter-filter, filter-map, has_rank-holding, or-right, ranks-from_cards, suit-ranks}
+use Rattle.dd_cards.proofs.CallerLemmas.{and-right, filter-filter, filter-map, has_rank-holding, ranks-from_cards, suit-ranks, seat_code-lt, has-filter, filter-members}
 use Rattle.dd_play.specs.Board.{Board, IsBoard, cards_at}
-use Rattle.dd_play.proofs.CallerLemmas.{after-code, code-lt, flag_of, reach-of}
-use Rattle.dd_quick.specs.QuickTricks.{RestsOnTrumps, from_rank, greatest, joint_trumps, length_at, longer_of, taken_from}
+use Rattle.dd_play.proofs.CallerLemmas.{after-code, flag_of, reach-of}
+use Rattle.dd_quick.specs.QuickTricks.{RestsOnTrumps, from_rank, greatest, joint_trumps, longer_of, taken_from}
 use Rattle.dd_quick.proofs.Hands.{one-hand}
-use Rattle.dd_quick.proofs.Runs.{filter-in, has-part}
 use Rattle.dd_quick.proofs.Sound.{in-greatest}
 
 -- ---- the ranks of two hands together
@@ -104,14 +103,14 @@ side-ranks p seat suit own his both valid mine partners union r =
     is_his = suit-part p (seat_after seat 2) suit his valid partners
 
     apart : (q : ℕ) → g q ≡ true → h q ≡ true → ⊥
-    apart q x y = one-hand p valid (seat_after seat 2) seat (card_of suit q) (let a = after-code seat 2 in let b = code-lt seat in omega (arith, a, b)) y x
+    apart q x y = one-hand p valid (seat_after seat 2) seat (card_of suit q) (let a = after-code seat 2 in let b = seat_code-lt seat in omega (arith, a, b)) y x
 
     same : both ≡ filter (λ q. g q || h q) all_ranks
-    same = union ∙ filter-in (λ q. has_rank own q || has_rank his q) (λ q. g q || h q) all_ranks (λ q real. ap₂ (λ a b. a || b) (has_rank-holding suit own (cards_at p seat) q mine) (has_rank-holding suit his (cards_at p (seat_after seat 2)) q partners))
+    same = union ∙ filter-members (λ q. has_rank own q || has_rank his q) (λ q. g q || h q) all_ranks (λ q real. ap₂ (λ a b. a || b) (has_rank-holding suit own (cards_at p seat) q mine) (has_rank-holding suit his (cards_at p (seat_after seat 2)) q partners))
 
 -- the ranks of a side are ranks
 pub side-real : (own his both : List ℕ) → both ≡ filter (λ q. has_rank own q || has_rank his q) all_ranks → (r : ℕ) → has_rank both r ≡ true → has_rank all_ranks r ≡ true
-side-real own his both union r has = and-right (has_rank own r || has_rank his r) (has_rank all_ranks r) (sym (has-part (λ q. has_rank own q || has_rank his q) all_ranks r) ∙ ap (λ l. has_rank l r) (sym union) ∙ has)
+side-real own his both union r has = and-right (has_rank own r || has_rank his r) (has_rank all_ranks r) (sym (has-filter (λ q. has_rank own q || has_rank his q) all_ranks r) ∙ ap (λ l. has_rank l r) (sym union) ∙ has)
 
 -- the partner of the next seat is the last
 pub last-seat : (seat : Seat) → seat_after (seat_after seat 1) 2 ≡ seat_after seat 3
@@ -136,7 +135,7 @@ pub greatest-within : (f : ℕ → ℕ) (ranks : List ℕ) (n : ℕ) → ((r : �
 greatest-within f [] n each = zero-le
 greatest-within f (r ∷ ranks) n each =
     let a = each r (ap (λ b. b || has_rank ranks r) (eq-eqb r r refl)) in
-    let b = greatest-within f ranks n (λ q h. each q (or-right (r == q) (has_rank ranks q) h)) in
+    let b = greatest-within f ranks n (λ q h. each q (or_right (r == q) (has_rank ranks q) h)) in
     omega (arith, a, b)
 
 -- how many ranks of the list are not below this one
@@ -176,10 +175,10 @@ next-rank r (x ∷ ranks) = go (nat_le r x) refl (next-rank r ranks)
 
     go : (b : Bool) → nat_le r x ≡ b → Next ranks → Next (x ∷ ranks)
     go false e (inl none) = inl (let a = many r in let f : flag_of (nat_le r x) ≡ 0 = ap flag_of e in omega (arith, a, f, none))
-    go false e (inr q) = inr (q.0, or-right (x == q.0) (has_rank ranks q.0) q.1, q.2, (let a = many r in let b = many q.0 in let f : flag_of (nat_le r x) ≡ 0 = ap flag_of e in let k = q.3 in omega (arith, a, b, f, k)))
+    go false e (inr q) = inr (q.0, or_right (x == q.0) (has_rank ranks q.0) q.1, q.2, (let a = many r in let b = many q.0 in let f : flag_of (nat_le r x) ≡ 0 = ap flag_of e in let k = q.3 in omega (arith, a, b, f, k)))
     go true e (inl none) = inr (x, here, leb-true r x e, (let a = many r in let b = many x in let f : flag_of (nat_le r x) ≡ 1 = ap flag_of e in let s = self in omega (arith, a, b, f, s, none)))
     go true e (inr q) = elim (cases_lt q.0 x) [
-      | inl l ↦ inr (q.0, or-right (x == q.0) (has_rank ranks q.0) q.1, q.2, (let a = many r in let b = many q.0 in let f : flag_of (nat_le r x) ≡ 1 = ap flag_of e in let g : flag_of (nat_le q.0 x) ≡ 1 = ap flag_of (le-leb q.0 x (omega (arith, l))) in let k = q.3 in omega (arith, a, b, f, g, k)))
+      | inl l ↦ inr (q.0, or_right (x == q.0) (has_rank ranks q.0) q.1, q.2, (let a = many r in let b = many q.0 in let f : flag_of (nat_le r x) ≡ 1 = ap flag_of e in let g : flag_of (nat_le q.0 x) ≡ 1 = ap flag_of (le-leb q.0 x (omega (arith, l))) in let k = q.3 in omega (arith, a, b, f, g, k)))
       | inr l ↦ inr (x, here, leb-true r x e, (let a = many r in let b = many x in let f : flag_of (nat_le r x) ≡ 1 = ap flag_of e in let s = self in let k = q.3 in let m = from-less q.0 x ranks l in omega (arith, a, b, f, s, k, m)))
     ]
 
@@ -215,7 +214,3 @@ rank-rests strain p seat t ours theirs longer n r cards trump mine others long f
 pub none-rest : (strain : Strain) (p : Board) (seat : Seat) (cards : List PlayingCard) (n : ℕ) → n ≡ 0 → RestsOnTrumps strain p seat cards n
 none-rest Notrump p seat cards n none = tt
 none-rest (Trump t) p seat cards n none = inl (inl none)
-
--- nor do any where no opponent has trumps
-pub all-rest : (strain : Strain) (p : Board) (seat : Seat) (t : Suit) (cards : List PlayingCard) (n : ℕ) → strain ≡ Trump t → length_at p (seat_after seat 1) t ≡ 0 → length_at p (seat_after seat 3) t ≡ 0 → RestsOnTrumps strain p seat cards n
-all-rest strain p seat t cards n trump one three = subst (λ s. RestsOnTrumps s p seat cards n) (sym trump) (inr (one, three))

@@ -4,13 +4,12 @@ use Rattle.std.specs.Prelude.{◌↔◌, ◌&&◌, ◌==◌, nat_lt, filter}
 use Rattle.std.proofs.lemmas.Bool.{lt-ltb, ltb-true}
 use Rattle.std.proofs.lemmas.Bool.Decides.{nat_tests}
 use Rattle.dd_cards.specs.declared.strain.Strain.{Strain}
-use Rattle.dd_cards.specs.declared.strain.Strain.TheVariants.{Trump, Notrump}
 use Rattle.dd_cards.specs.declared.suit.Suit.{Suit}
 use Rattle.dd_cards.specs.declared.suit.Suit.TheVariants.{Spades, Hearts, Diamonds, Clubs}
 use Rattle.dd_cards.specs.PlayingCard.{PlayingCard}
 use Rattle.dd_cards.specs.Cards.{is_of}
 use Rattle.dd_cards.specs.Strains.{strain_code}
-use Rattle.dd_cards.proofs.CallerLemmas.{suit_code-injective, suit_code-lt}
+use Rattle.dd_cards.proofs.CallerLemmas.{strain_code-injective}
 use Rattle.dd_cards.specs.Sides.{side_of}
 use Rattle.dd_play.specs.Board.{Board, IsBoard}
 use Rattle.dd_play.specs.Covers.{IsOver, any_card, count_of}
@@ -96,13 +95,6 @@ alike-strings p q valid_p valid_q start_p start_q = (
     owners Clubs e = ap (λ (s : Strings). s.clubs) e
 
 -- ---- the tests of strings and of shapes
--- two strains with one code are one strain
-strain_code-injective : (s t : Strain) → strain_code s ≡ strain_code t → s ≡ t
-strain_code-injective (Trump u) (Trump v) e = ap Trump (suit_code-injective u v e)
-strain_code-injective (Trump u) Notrump e = absurd (let k = suit_code-lt u in omega (arith, k, e))
-strain_code-injective Notrump (Trump v) e = absurd (let k = suit_code-lt v in omega (arith, k, e))
-strain_code-injective Notrump Notrump e = refl
-
 -- equal shapes are one shape
 pub shapes-tell : (x y : ShapeOf) → same_shape x y ≡ true ↔ x ≡ y
 shapes-tell x y = (

@@ -19,3 +19,17 @@ pub use Rattle.dd_rank.proofs.Fulls.{full-lead}
 -- ---- Positions are alike exactly where their owner strings are the same: full depths cover exactly the alike positions.
 -- equal shapes are one shape
 pub use Rattle.dd_rank.proofs.Alikes.{shapes-tell}
+-- cards of a list that pass one test and so another are no more than those that pass the other
+pub use Rattle.dd_rank.proofs.Places.{count-le}
+-- a seat's card is one of all
+pub use Rattle.dd_rank.proofs.Places.{in-all}
+-- a seat so many places on tells the number
+pub use Rattle.dd_rank.proofs.Seated.{after-tells}
+-- the hand of a seat so many places from the leader
+pub use Rattle.dd_rank.proofs.Seated.{at-seat}
+-- no card of a board stands twice
+pub use Rattle.dd_rank.proofs.Looked.{all-once}
+-- an empty trick is answered by an empty one
+pub use Rattle.dd_rank.proofs.Looked.{no-trick}
+-- each card of a board is a seat's
+pub use Rattle.dd_rank.proofs.Covered.{all-in}

@@ -12,7 +12,6 @@ use Rattle.dd_cards.specs.Seats.{seat_after, seat_code}
 use Rattle.dd_cards.specs.Cards.{card_of, deck, has_card, same_card, suit_cards}
 use Rattle.dd_cards.specs.HandMasks.{cards_of}
 use Rattle.dd_cards.specs.Hands.{AreHands, FourHands, dealt}
-use Rattle.dd_cards.proofs.CallerLemmas.{else-false}
 use Rattle.dd_play.specs.Board.{Board, cards_at}
 use Rattle.dd_rank.specs.Depths.{all_cards}
 use Rattle.dd_rank.specs.Lanes.{lane, places_of}
@@ -21,7 +20,9 @@ use Rattle.dd_rank.specs.Strings.{number_of, owners_number}
 use Rattle.dd_rank.proofs.Holders.{by-ranks}
 use Rattle.dd_rank.proofs.Masked.{bit_of, card-is, held, union-has}
 use Rattle.dd_rank.proofs.Seated.{AreSeated, seated-four, suit-owners}
-use Rattle.dd_rank.proofs.Suited.{IsTold, ranks-real, told-list}
+use Rattle.dd_rank.proofs.Suited.{IsTold, told-list}
+use Rattle.std.proofs.lemmas.Bool.{false_from_ne_true}
+use Rattle.dd_cards.proofs.CallerLemmas.{real_ranks}
 
 -- ---- ranks that pass a test, with none that fails above them
 -- where no rank passes, the number is zero
@@ -49,7 +50,7 @@ those-passing test digit (suc k) few clear up = go (test (k + 2)) refl (those-pa
     go true e ih = rw e (ap (λ n. digit (k + 2) + 4 * n) ih)
     go false e ih =
         let first = clear (k + 2) real e in
-        let rest = none-pass test digit k (omega (arith, few)) clear (λ r is h. else-false (test r) (λ t. let w : test (k + 2) ≡ true = up r (k + 2) is real (omega (arith, h)) t in cc)) in
+        let rest = none-pass test digit k (omega (arith, few)) clear (λ r is h. false_from_ne_true (test r) (λ t. let w : test (k + 2) ≡ true = up r (k + 2) is real (omega (arith, h)) t in cc)) in
         rw e (omega (arith, ih, first, rest))
 
 -- .. of all
@@ -97,7 +98,7 @@ gapless-told : (l s t f : List PlayingCard) (odd far : ℕ) (u : Suit) → AreHa
 unfolding suit_cards
 gapless-told l s t f odd far u hands odd_is far_is up =
     all-passing test digit clear up
-    ∙ ap (number_of 4) (told-list (λ r. holder hs (card_of u r)) test digit all_ranks each ranks-real ∙ ap (map seat_code) (sym (by-ranks (holder hs) u all_ranks)))
+    ∙ ap (number_of 4) (told-list (λ r. holder hs (card_of u r)) test digit all_ranks each real_ranks ∙ ap (map seat_code) (sym (by-ranks (holder hs) u all_ranks)))
   where
     hs : FourHands
     hs = dealt l s t f

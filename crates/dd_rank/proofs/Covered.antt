@@ -2,7 +2,7 @@
 use Rattle.std.proofs.Common.{◌≡◌, ℕ, ◌+◌, ◌<◌, ◌≤◌, Bool, true, false, refl, sym, ap, ◌∙◌, subst, arith, List, [], ◌∷◌, ◌++◌, inl, inr, ◌⊎◌, eq-eqb}
 use Rattle.std.specs.Prelude.{filter, nat_le, nat_lt, ◌&&◌, ◌==◌}
 use mathlib.Core.Path.{ap₂}
-use Rattle.std.proofs.lemmas.Bool.{leb-true, lt-ltb, ltb-true, le-ltb, eqb-true}
+use Rattle.std.proofs.lemmas.Bool.{leb-true, lt-ltb, ltb-true, le-ltb, eqb-true, or_cases, false_from_ne_true}
 use Rattle.std.proofs.lemmas.Bool.Decides.{nat_tests}
 use Rattle.std.proofs.lemmas.List.Folds.{list_any-append}
 use Rattle.dd_cards.specs.declared.seat.Seat.{Seat}
@@ -11,24 +11,25 @@ use Rattle.dd_cards.specs.declared.suit.Suit.{Suit}
 use Rattle.dd_cards.specs.PlayingCard.{PlayingCard}
 use Rattle.dd_cards.specs.Cards.{is_of, same_card, has_card}
 use Rattle.dd_cards.specs.Seats.{seat_after}
-use Rattle.dd_cards.proofs.CallerLemmas.{and-left, and-right, any-filter, else-false, or-split}
+use Rattle.dd_cards.proofs.CallerLemmas.{and-left, and-right, any-filter}
 use Rattle.dd_cards.specs.Sides.{side_of, is_side}
 use Rattle.dd_play.specs.Board.{Board, IsBoard, cards_at}
-use Rattle.dd_play.proofs.CallerLemmas.{filter-has, filter-passes, has-first, of-suit', suit-of, unturn}
+use Rattle.dd_play.proofs.CallerLemmas.{filter-has, filter-passes, has-first, of-suit', suit-of, unturn, above-is, above-suit, above-rank}
 use Rattle.dd_play.specs.Won.{won}
 use Rattle.dd_play.specs.Covers.{Keeps, IsOver, AllAnswer, IsCover}
-use Rattle.dd_rank.specs.Depths.{all_cards, is_above, place, is_within, IsCoverAt, depths_of}
+use Rattle.dd_rank.specs.Depths.{all_cards, place, is_within, IsCoverAt, depths_of}
 use Rattle.dd_play.specs.Reach.{IsUpward, IsStrict, TakesBy}
 use Rattle.dd_rank.proofs.AlikeLead.{met-start, turned-sides}
 use Rattle.std.proofs.Common.{◌*◌}
-use Rattle.dd_rank.proofs.Places.{count-le, count-lt, above-is, above-suit, above-rank, place-le, order-place, place-one, in-all}
+use Rattle.dd_rank.proofs.Places.{count-le, count-lt, place-le, order-place, place-one, in-all}
+use Rattle.dd_cards.specs.Sequences.{is_above}
 
 -- one of all cards is in a hand
 pub all-in : (p : Board) (c : PlayingCard) → has_card (all_cards p) c ≡ true → (x : Seat) × (has_card (cards_at p x) c ≡ true)
 all-in p c h =
-    elim (or-split _ _ (sym (list_any-append test ((n ++ e) ++ s) w) ∙ h)) [
-      | inl a ↦ elim (or-split _ _ (sym (list_any-append test (n ++ e) s) ∙ a)) [
-        | inl b ↦ elim (or-split _ _ (sym (list_any-append test n e) ∙ b)) [ inl i ↦ (North, i) | inr i ↦ (East, i) ]
+    elim (or_cases _ _ (sym (list_any-append test ((n ++ e) ++ s) w) ∙ h)) [
+      | inl a ↦ elim (or_cases _ _ (sym (list_any-append test (n ++ e) s) ∙ a)) [
+        | inl b ↦ elim (or_cases _ _ (sym (list_any-append test n e) ∙ b)) [ inl i ↦ (North, i) | inr i ↦ (East, i) ]
         | inr i ↦ (South, i)
       ]
       | inr i ↦ (West, i)
@@ -221,7 +222,7 @@ lifted-top top p lifted = (λ c has. go c has (top c) refl, lifted.1)
     go c has true e =
         let k : place p c + 1 ≤ depths_of top p c.suit = count-lt (is_above c) (λ y. is_of c.suit y && top y) (all_cards p)
         (λ y t. both _ _ (of-suit' c.suit y (above-suit c y t)) (yes-or (top y) (λ low. let r = above-rank c y t in let z = lifted.0 c y e low (sym (above-suit c y t)) in omega (arith, r, z))))
-        c has (both _ _ (of-suit' c.suit c refl) e) (else-false _ (λ t. let r = above-rank c c t in omega (arith, r))) in
+        c has (both _ _ (of-suit' c.suit c refl) e) (false_from_ne_true _ (λ t. let r = above-rank c c t in omega (arith, r))) in
         e ∙ sym (lt-ltb _ _ (omega (arith, k)))
     go c has false e =
         let k : depths_of top p c.suit ≤ place p c = count-le (λ y. is_of c.suit y && top y) (is_above c) (all_cards p)

@@ -1,23 +1,23 @@
 -- full depths, and a position's own
 use Rattle.std.proofs.Common.{◌≡◌, ℕ, ◌≤◌, Bool, true, refl, sym, ap, ◌∙◌, arith, [], inl, inr}
 use Rattle.std.specs.Prelude.{nat_lt}
-use Rattle.std.proofs.lemmas.Bool.{lt-ltb}
+use Rattle.std.proofs.lemmas.Bool.{lt-ltb, false_from_ne_true}
 use Rattle.dd_cards.specs.declared.seat.Seat.{Seat}
 use Rattle.dd_cards.specs.declared.suit.Suit.{Suit}
 use Rattle.dd_cards.specs.PlayingCard.{PlayingCard}
 use Rattle.dd_cards.specs.Cards.{is_of, has_card}
 use Rattle.dd_cards.specs.Seats.{seat_code}
-use Rattle.dd_cards.proofs.CallerLemmas.{else-false}
 use Rattle.dd_cards.specs.Sides.{side_of}
 use Rattle.dd_play.specs.Board.{Board, IsBoard, cards_at}
 use Rattle.dd_play.specs.Value.{leaders_tricks}
 use Rattle.dd_play.specs.Covers.{count_of}
-use Rattle.dd_play.proofs.CallerLemmas.{card-real, of-suit', reply', same-or}
+use Rattle.dd_play.proofs.CallerLemmas.{card-real, of-suit', reply', same-or, above-suit, above-rank}
 use Rattle.dd_rank.specs.Alike.{AreAlike}
-use Rattle.dd_rank.specs.Depths.{all_cards, is_above, place, Covers}
+use Rattle.dd_rank.specs.Depths.{all_cards, place, Covers}
 use Rattle.dd_rank.proofs.AlikeLead.{alike-lead}
-use Rattle.dd_rank.proofs.Places.{count-lt, above-suit, above-rank}
+use Rattle.dd_rank.proofs.Places.{count-lt}
 use Rattle.dd_rank.proofs.Covered.{all-in, IsTopOf, to_of, covers-cover}
+use Rattle.dd_cards.specs.Sequences.{is_above}
 
 -- a position covers itself
 pub itself : (p : Board) (depths : Suit → ℕ) → p.trick ≡ [] → ((u : Suit) → depths u ≤ count_of u (all_cards p)) → Covers p depths p
@@ -45,7 +45,7 @@ full-top p depths valid full = (
   λ c has. (
       let x = all-in p c has in
       let real = (card-real p x.0 c valid x.1).0 in
-      let k = count-lt (is_above c) (is_of c.suit) (all_cards p) (λ e t. of-suit' c.suit e (above-suit c e t)) c has (of-suit' c.suit c refl) (else-false _ (λ t. let r = above-rank c c t in omega (arith, r))) in
+      let k = count-lt (is_above c) (is_of c.suit) (all_cards p) (λ e t. of-suit' c.suit e (above-suit c e t)) c has (of-suit' c.suit c refl) (false_from_ne_true _ (λ t. let r = above-rank c c t in omega (arith, r))) in
       let f = full c.suit in
       lt-ltb 0 c.rank (omega (arith, real)) ∙ sym (lt-ltb (place p c) (depths c.suit) (omega (arith, k, f)))),
   λ u. refl,

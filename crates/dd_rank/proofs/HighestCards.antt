@@ -3,7 +3,7 @@ use Rattle.std.proofs.Common.{◌≡◌, ℕ, zero, suc, ◌+◌, ◌-◌, ◌*�
 use mathlib.Core.Bool.{not}
 use Rattle.std.specs.Prelude.{filter, ◌==◌, ◌&&◌, nat_lt}
 use Rattle.std.specs.Int.{bit_at}
-use Rattle.std.proofs.lemmas.Bool.{cases_lt}
+use Rattle.std.proofs.lemmas.Bool.{cases_lt, and_from, not_from_false, false_from_ne_true, true_from_ne_false}
 use Rattle.std.proofs.lemmas.Bool.Decides.{eqb_tells}
 use Rattle.std.proofs.lemmas.Nat.{shr-shr}
 use Rattle.std.proofs.lemmas.Nat.Bits.{bit_at-lt, bit_at_above, same_from_bits_below}
@@ -15,7 +15,7 @@ use Rattle.dd_cards.specs.Ranks.{IsRank}
 use Rattle.dd_cards.specs.Cards.{card_of, deck, has_card, is_of}
 use Rattle.dd_cards.specs.Hands.{IsSet}
 use Rattle.dd_cards.specs.HandMasks.{IsHandMask, cards_of, in_hand}
-use Rattle.dd_cards.proofs.CallerLemmas.{IsSet-deck, IsSet-filter, and-both, and-left, and-right, both-ways, card-bit, else-false, else-true, false-not, filter-filter, filter-same, has_card-deck, has_card-filter, real-set, times-set}
+use Rattle.dd_cards.proofs.CallerLemmas.{IsSet-deck, IsSet-filter, and-left, and-right, both-ways, card-bit, filter-filter, has_card-deck, has_card-filter, real-set, times-set, cards-real}
 use Rattle.dd_play.specs.Board.{Board, IsBoard}
 use Rattle.dd_play.specs.Covers.{count_of}
 use Rattle.dd_play.specs.Reach.{reach}
@@ -29,7 +29,8 @@ use Rattle.dd_rank.proofs.FourLanes.{lane-bit, lanes-of, lanes-same}
 use Rattle.dd_rank.proofs.Looked.{all-once}
 use Rattle.dd_rank.proofs.Lowest.{more-pass, same-count}
 use Rattle.dd_rank.proofs.TopPlaces.{low-bit, top-bit, tops-small}
-use Rattle.dd_rank.proofs.TopRanks.{mask-real, tops-cards}
+use Rattle.dd_rank.proofs.TopRanks.{tops-cards}
+use Rattle.std.proofs.lemmas.List.Elements.{filter_agree}
 
 -- with a card each higher one of its suit
 abbrev pub AreHighest : List PlayingCard → Type 0
@@ -162,7 +163,7 @@ module _ (m : ℕ) (valid : IsHandMask m) (fits : m < 2 ^ 64) (closed : AreHighe
   members : (c : PlayingCard) → has_card (cards_of m) c ≡ has_card (filter is_high deck) c
   unfolding is_high
   members c = both-ways _ _
-      (λ h. let real = mask-real m c h in filter-has is_high deck c (has_card-deck c real) (sym (tops-cards four m few places c real) ∙ h))
+      (λ h. let real = cards-real m c h in filter-has is_high deck c (has_card-deck c real) (sym (tops-cards four m few places c real) ∙ h))
       (λ h.
       let real = real-set (filter is_high deck) c (IsSet-filter is_high deck IsSet-deck) h in
       tops-cards four m few places c real ∙ filter-passes is_high deck c h)
@@ -171,7 +172,7 @@ module _ (m : ℕ) (valid : IsHandMask m) (fits : m < 2 ^ 64) (closed : AreHighe
   unfolding cards_of is_high
   count-is u =
       same-count (is_of u) (filter (in_hand m) deck) (filter is_high deck) (λ c. times-set _ c (IsSet-filter (in_hand m) deck IsSet-deck)) (λ c. times-set _ c (IsSet-filter is_high deck IsSet-deck)) members
-      ∙ ap length (filter-filter (is_of u) is_high deck ∙ filter-same (λ c. is_high c && is_of u c) (λ c. is_of u c && nat_lt 14 (c.rank + depth_in four u)) same deck)
+      ∙ ap length (filter-filter (is_of u) is_high deck ∙ filter_agree (λ c. is_high c && is_of u c) (λ c. is_of u c && nat_lt 14 (c.rank + depth_in four u)) same deck)
       ∙ counted u (depth_in four u) (few u)
     where
       same : (c : PlayingCard) → (is_high c && is_of u c) ≡ (is_of u c && nat_lt 14 (c.rank + depth_in four u))
@@ -179,11 +180,11 @@ module _ (m : ℕ) (valid : IsHandMask m) (fits : m < 2 ^ 64) (closed : AreHighe
           (λ h.
           let of = and-right (nat_lt 14 (c.rank + depth_in four c.suit)) (is_of u c) h in
           let high = and-left (nat_lt 14 (c.rank + depth_in four c.suit)) (is_of u c) h in
-          and-both (is_of u c) (nat_lt 14 (c.rank + depth_in four u)) of (ap (λ (s : Suit). nat_lt 14 (c.rank + depth_in four s)) (sym (suit-of u c of)) ∙ high))
+          and_from (is_of u c) (nat_lt 14 (c.rank + depth_in four u)) of (ap (λ (s : Suit). nat_lt 14 (c.rank + depth_in four s)) (sym (suit-of u c of)) ∙ high))
           (λ h.
           let of = and-left (is_of u c) (nat_lt 14 (c.rank + depth_in four u)) h in
           let high = and-right (is_of u c) (nat_lt 14 (c.rank + depth_in four u)) h in
-          and-both (nat_lt 14 (c.rank + depth_in four c.suit)) (is_of u c) (ap (λ (s : Suit). nat_lt 14 (c.rank + depth_in four s)) (suit-of u c of) ∙ high) of)
+          and_from (nat_lt 14 (c.rank + depth_in four c.suit)) (is_of u c) (ap (λ (s : Suit). nat_lt 14 (c.rank + depth_in four s)) (suit-of u c of) ∙ high) of)
 
   pub counts-of : (u : Suit) → depth_in (depths_in m) u ≡ count_of u (cards_of m)
   counts-of u = ap (λ (d : FourDepths). depth_in d u) (ap depths_in is-tops ∙ depths-back four few) ∙ sym (count-is u)
@@ -196,13 +197,13 @@ module _ (p : Board) (all cards others both : List PlayingCard) (valid : IsBoard
   both-all c h = and-right (not (has_card others c)) (has_card all c) (sym (has_card-filter (λ x. not (has_card others x)) all c) ∙ ap (λ l. has_card l c) (sym eb) ∙ h)
 
   both-cards : (c : PlayingCard) → has_card both c ≡ true → has_card cards c ≡ true
-  both-cards c h = else-true (has_card cards c) (λ none.
-      let other : has_card others c ≡ true = ap (λ l. has_card l c) eo ∙ filter-has (λ x. not (has_card cards x)) all c (both-all c h) (false-not _ none) in
+  both-cards c h = true_from_ne_false (has_card cards c) (λ none.
+      let other : has_card others c ≡ true = ap (λ l. has_card l c) eo ∙ filter-has (λ x. not (has_card cards x)) all c (both-all c h) (not_from_false _ none) in
       let not_other = filter-passes (λ x. not (has_card others x)) all c (ap (λ l. has_card l c) (sym eb) ∙ h) in
       let wrong : false ≡ true = sym (ap not other) ∙ not_other in cc)
 
   both-in : (c : PlayingCard) → has_card all c ≡ true → has_card cards c ≡ true → has_card both c ≡ true
-  both-in c there has = ap (λ l. has_card l c) eb ∙ filter-has (λ x. not (has_card others x)) all c there (false-not _ (else-false (has_card others c) (λ other.
+  both-in c there has = ap (λ l. has_card l c) eb ∙ filter-has (λ x. not (has_card others x)) all c there (not_from_false _ (false_from_ne_true (has_card others c) (λ other.
       let out = filter-passes (λ x. not (has_card cards x)) all c (ap (λ l. has_card l c) (sym eo) ∙ other) in
       let wrong : false ≡ true = sym (ap not has) ∙ out in cc)))
 
@@ -221,13 +222,13 @@ module _ (p : Board) (all cards others both : List PlayingCard) (valid : IsBoard
   pub both-counts : (u : Suit) → count_of u both ≡ depths_of (reach cards) p u
   both-counts u =
       same-count (is_of u) both (filter (reach cards) all) (λ c. times-set both c (subst IsSet (sym eb) (IsSet-filter (λ x. not (has_card others x)) all set))) (λ c. times-set _ c (IsSet-filter (reach cards) all set)) reached
-      ∙ ap length (filter-filter (is_of u) (reach cards) all ∙ filter-same (λ c. reach cards c && is_of u c) (λ c. is_of u c && reach cards c) swapped all)
+      ∙ ap length (filter-filter (is_of u) (reach cards) all ∙ filter_agree (λ c. reach cards c && is_of u c) (λ c. is_of u c && reach cards c) swapped all)
       ∙ same-count (λ x. is_of u x && reach cards x) all (all_cards p) (λ c. times-set all c set) (all-once p valid) same
     where
       swapped : (c : PlayingCard) → (reach cards c && is_of u c) ≡ (is_of u c && reach cards c)
       swapped c = both-ways _ _
-          (λ h. and-both (is_of u c) (reach cards c) (and-right (reach cards c) (is_of u c) h) (and-left (reach cards c) (is_of u c) h))
-          (λ h. and-both (reach cards c) (is_of u c) (and-right (is_of u c) (reach cards c) h) (and-left (is_of u c) (reach cards c) h))
+          (λ h. and_from (is_of u c) (reach cards c) (and-right (reach cards c) (is_of u c) h) (and-left (reach cards c) (is_of u c) h))
+          (λ h. and_from (reach cards c) (is_of u c) (and-right (is_of u c) (reach cards c) h) (and-left (is_of u c) (reach cards c) h))
 
   pub within-left : (u : Suit) → depths_of (reach cards) p u ≤ count_of u (all_cards p)
   within-left u = more-pass (λ x. is_of u x && reach cards x) (is_of u) (all_cards p) (λ x h. and-left (is_of u x) (reach cards x) h)

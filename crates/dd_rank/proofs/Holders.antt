@@ -10,8 +10,8 @@ use Rattle.dd_cards.specs.PlayingCard.{PlayingCard}
 use Rattle.dd_cards.specs.Cards.{has_card, card_of}
 use Rattle.dd_cards.specs.Hands.{FourHands, hand_of, times, AreDisjoint}
 use Rattle.dd_play.specs.Board.{Board, IsBoard}
-use Rattle.dd_play.proofs.CallerLemmas.{times-has}
 use Rattle.dd_rank.specs.Owners.{holder}
+use Rattle.dd_cards.proofs.CallerLemmas.{times-has}
 
 -- ---- the holder of a card
 -- the card is in the hand of its holder

@@ -1,7 +1,7 @@
 -- the one relation, at an empty trick, is a cover at depths: what a table tells of every covered position may be used
 use Rattle.std.proofs.Common.{◌≡◌, ℕ, ◌+◌, ◌*◌, ◌<◌, ◌≤◌, Bool, true, false, refl, sym, ap, ◌∙◌, subst, arith, List, [], ◌∷◌, ◌++◌, inl, inr}
 use Rattle.std.specs.Prelude.{nat_le, ◌&&◌}
-use Rattle.std.proofs.lemmas.Bool.{lt-ltb}
+use Rattle.std.proofs.lemmas.Bool.{lt-ltb, true_from_ne_false, leb-false, lt-leb}
 use Rattle.std.proofs.lemmas.Bool.Decides.{nat_tests}
 use Rattle.dd_cards.specs.declared.seat.Seat.{Seat}
 use Rattle.dd_cards.specs.declared.seat.Seat.TheVariants.{North, East, South, West}
@@ -10,17 +10,18 @@ use Rattle.dd_cards.specs.PlayingCard.{PlayingCard}
 use Rattle.dd_cards.specs.Cards.{is_of, same_card, has_card}
 use Rattle.dd_cards.specs.Seats.{seat_code, seat_after}
 use Rattle.dd_cards.specs.Hands.{times}
-use Rattle.dd_cards.proofs.CallerLemmas.{and-left, and-right, else-true, is-other, is-same, same-other, same-self}
+use Rattle.dd_cards.proofs.CallerLemmas.{and-left, and-right, is-other, is-same, same-other, same-self}
 use Rattle.dd_cards.specs.Sides.{side_of, other_side, is_side}
 use Rattle.dd_cards.specs.declared.side.Side.{Side}
 use Rattle.dd_play.specs.Board.{Board, IsBoard, cards_at}
 use Rattle.dd_play.specs.Won.{won}
 use Rattle.dd_play.specs.Covers.{Keeps, IsOver, AllAnswer, IsCover}
 use Rattle.dd_play.specs.Reach.{IsStrict, TakesBy}
-use Rattle.dd_rank.specs.Depths.{all_cards, is_above, place, IsCoverAt, depths_of}
-use Rattle.dd_play.proofs.CallerLemmas.{count, count-cons, inject, same-or, suit-of, unturn}
-use Rattle.dd_rank.proofs.Places.{count-le, above-is, above-suit, above-rank, in-all}
+use Rattle.dd_rank.specs.Depths.{all_cards, place, IsCoverAt, depths_of}
+use Rattle.dd_play.proofs.CallerLemmas.{count, count-cons, inject, same-or, suit-of, unturn, above-is, above-suit, above-rank}
+use Rattle.dd_rank.proofs.Places.{count-le, in-all}
 use Rattle.dd_rank.proofs.Covered.{all-in, IsTopOf, IsLifted, lifted-top}
+use Rattle.dd_cards.specs.Sequences.{is_above}
 
 -- two lists together count as much as each by itself
 pub count-append : (test : PlayingCard → Bool) (xs ys : List PlayingCard) → count test (xs ++ ys) ≡ count test xs + count test ys
@@ -45,16 +46,8 @@ all-once p valid c =
     let o = valid.once c in
     omega (arith, a, b, d, o)
 
--- what is not at most is greater
-lower : (a b : ℕ) → nat_le a b ≡ false → b < a
-lower a b h = grind (arith, nat_tests)
-
--- what is greater is not at most
-not-le : (a b : ℕ) → b < a → nat_le a b ≡ false
-not-le a b h = grind (arith, nat_tests)
-
 -- what answers an empty trick is empty
-no-trick : (to from : PlayingCard → PlayingCard) (top : PlayingCard → Bool) (cs ds : List PlayingCard) → cs ≡ [] → AllAnswer to from top cs ds → ds ≡ []
+pub no-trick : (to from : PlayingCard → PlayingCard) (top : PlayingCard → Bool) (cs ds : List PlayingCard) → cs ≡ [] → AllAnswer to from top cs ds → ds ≡ []
 no-trick to from top cs ds e a = go ds (subst (λ xs. AllAnswer to from top xs ds) e a)
   where
     go : (ds : List PlayingCard) → AllAnswer to from top [] ds → ds ≡ []
@@ -77,7 +70,7 @@ cover-covers top k to from s p t q lifted start r strict =
           let f = r.forth x c h tc in
           (to c, f.0, r.to_suit c, same-place x c h tc));
       back = λ x d h low. (
-          let td : top (from d) ≡ true = else-true (top (from d)) (λ no_top. (let far = beyond x d h no_top in omega (arith, far, low))) in
+          let td : top (from d) ≡ true = true_from_ne_false (top (from d)) (λ no_top. (let far = beyond x d h no_top in omega (arith, far, low))) in
           let f = r.back x d h td in
           (from d, f.0, r.from_suit d, sym (same-place x (from d) f.0 td) ∙ ap (place q) f.1));
     }
@@ -105,22 +98,22 @@ cover-covers top k to from s p t q lifted start r strict =
         let y = all-in p e he in
         let suits : e.suit ≡ c.suit = above-suit c e te in
         let higher : c.rank < e.rank = above-rank c e te in
-        let top_e : top e ≡ true = else-true (top e) (λ low. (let z = lifted.0 c e tc low (sym suits) in omega (arith, z, higher))) in
+        let top_e : top e ≡ true = true_from_ne_false (top e) (λ low. (let z = lifted.0 c e tc low (sym suits) in omega (arith, z, higher))) in
         let g = r.forth y.0 e y.1 top_e in
-        let order : nat_le (to e).rank (to c).rank ≡ false = keeps y.0 x e c y.1 hc top_e tc suits ∙ not-le e.rank c.rank higher in
-        (in-all q (seat_after y.0 k) (to e) g.0, above-is (to c) (to e) (r.to_suit e ∙ suits ∙ sym (r.to_suit c)) (lower (to e).rank (to c).rank order), g.1)) in
+        let order : nat_le (to e).rank (to c).rank ≡ false = keeps y.0 x e c y.1 hc top_e tc suits ∙ lt-leb e.rank c.rank higher in
+        (in-all q (seat_after y.0 k) (to e) g.0, above-is (to c) (to e) (r.to_suit e ∙ suits ∙ sym (r.to_suit c)) (leb-false (to e).rank (to c).rank order), g.1)) in
         let down : place q (to c) ≤ place p c = inject from to (is_above (to c)) (is_above c) (all_cards q) (all_cards p) (all-once q r.valid_q) (λ e he te.
         let y = all-in q e he in
         let y' : Seat = seat_after y.0 (3 * k) in
         let suits : e.suit ≡ (to c).suit = above-suit (to c) e te in
         let higher : (to c).rank < e.rank = above-rank (to c) e te in
-        let top_e : top (from e) ≡ true = else-true (top (from e)) (λ low. (
+        let top_e : top (from e) ≡ true = true_from_ne_false (top (from e)) (λ low. (
         let z = over (seat_after x k) y.0 (to c) e f.0 y.1 (ap top f.1 ∙ tc) low (sym suits) in omega (arith, z, higher))) in
         let g = r.back y' e (ap (λ z. has_card (cards_at q z) e) (unturn y.0 k) ∙ y.1) top_e in
         let suited : (from e).suit ≡ c.suit = r.from_suit e ∙ suits ∙ r.to_suit c in
         let order : nat_le (from e).rank c.rank ≡ false =
-        sym (keeps y' x (from e) c g.0 hc top_e tc suited) ∙ ap (λ (z : PlayingCard). nat_le z.rank (to c).rank) g.1 ∙ not-le e.rank (to c).rank higher in
-        (in-all p y' (from e) g.0, above-is c (from e) suited (lower (from e).rank c.rank order), g.1)) in
+        sym (keeps y' x (from e) c g.0 hc top_e tc suited) ∙ ap (λ (z : PlayingCard). nat_le z.rank (to c).rank) g.1 ∙ lt-leb e.rank (to c).rank higher in
+        (in-all p y' (from e) g.0, above-is c (from e) suited (leb-false (from e).rank c.rank order), g.1)) in
         omega (arith, up, down)
 
     -- a low card of q stands below all its top cards

@@ -2,7 +2,7 @@
 use Rattle.std.proofs.Common.{◌≡◌, ℕ, suc, ◌+◌, ◌<◌, ◌≤◌, Bool, true, false, cond, refl, sym, ap, ◌∙◌, subst, arith, List, [], ◌∷◌, length, inl, inr, ◌⊎◌, Some, eq-eqb, zero-le}
 use Rattle.std.specs.Prelude.{unwrap_or, filter, map, slice_get, nat_le, nat_lt, ◌&&◌, ◌||◌}
 use mathlib.Core.Path.{ap₂}
-use Rattle.std.proofs.lemmas.Bool.{cases_lt, le-leb, leb-true, lt-ltb, ltb-true, le-ltb}
+use Rattle.std.proofs.lemmas.Bool.{cases_lt, le-leb, leb-true, lt-ltb, ltb-true, le-ltb, and_from, or_cases, false_from_ne_true}
 use Rattle.std.proofs.lemmas.Bool.Decides.{nat_tests}
 use Rattle.dd_cards.specs.declared.suit.Suit.{Suit}
 use Rattle.dd_cards.specs.declared.seat.Seat.{Seat}
@@ -11,7 +11,7 @@ use Rattle.dd_cards.specs.PlayingCard.{PlayingCard}
 use Rattle.dd_cards.specs.Ranks.{IsRank, has_rank}
 use Rattle.dd_cards.specs.Cards.{is_of, card_of, same_card, has_card, deck}
 use Rattle.dd_cards.specs.Hands.{times, IsSet}
-use Rattle.dd_cards.proofs.CallerLemmas.{IsSet-deck, IsSet-filter, and-both, and-false, and-left, and-right, or-split, same_card-eq, both-ways, else-false, filter-filter, filter-map, filter-same, has_card-deck, has_card-filter, has_rank-holding}
+use Rattle.dd_cards.proofs.CallerLemmas.{IsSet-deck, IsSet-filter, and-false, and-left, and-right, same_card-eq, both-ways, filter-filter, filter-map, has_card-deck, has_card-filter, has_rank-holding}
 use Rattle.dd_play.specs.Board.{Board, IsBoard, cards_at}
 use Rattle.dd_play.specs.Covers.{count_of}
 use Rattle.dd_play.specs.Reach.{reach}
@@ -20,6 +20,7 @@ use Rattle.dd_rank.specs.Depths.{all_cards}
 use Rattle.dd_cards.specs.Sequences.{is_above}
 use Rattle.dd_rank.proofs.Places.{in-all}
 use Rattle.dd_rank.proofs.Covered.{all-in}
+use Rattle.std.proofs.lemmas.List.Elements.{filter_agree}
 
 -- two sets of the same cards, each once, count alike
 pub same-count : (test : PlayingCard → Bool) (xs ys : List PlayingCard) → ((c : PlayingCard) → times xs c ≤ 1) → ((c : PlayingCard) → times ys c ≤ 1) → ((c : PlayingCard) → has_card xs c ≡ has_card ys c)
@@ -111,7 +112,7 @@ pub depth-none : (s : Suit) (held : List ℕ) (cards all : List PlayingCard) →
 depth-none s held cards all are real none = sym (none-pass all)
   where
     fails : (e : PlayingCard) → (is_of s e && reach cards e) ≡ false
-    fails e = else-false _ (λ h.
+    fails e = false_from_ne_true _ (λ h.
         let suit : e.suit ≡ s = suit-of s e (and-left (is_of s e) (reach cards e) h) in
         let d = reach-some cards e (and-right (is_of s e) (reach cards e) h) in
         let low = (real d.0 d.1).0 in
@@ -128,7 +129,7 @@ pub depth-some : (s : Suit) (held ranks below : List ℕ) (cards all : List Play
     → has_rank held floor ≡ true → ((q : ℕ) → has_rank held q ≡ true → 2 ≤ q → floor ≤ q) → below ≡ filter (λ q. nat_lt q floor) ranks
     → length below + length (filter (λ e. is_of s e && reach cards e) all) ≡ length ranks
 depth-some s held ranks below cards all floor are ranked real low least part =
-    ap₂ (λ (n m : ℕ). n + m) (ap length part) (suit-count s ranks all (reach cards) ranked ∙ ap length (filter-same (λ q. reach cards (card_of s q)) (λ q. nat_le floor q) (λ q. both-ways _ _
+    ap₂ (λ (n m : ℕ). n + m) (ap length part) (suit-count s ranks all (reach cards) ranked ∙ ap length (filter_agree (λ q. reach cards (card_of s q)) (λ q. nat_le floor q) (λ q. both-ways _ _
     (λ h.
     let d = reach-some cards (card_of s q) h in
     let two = (real d.0 d.1).0 in
@@ -158,7 +159,7 @@ more-pass few many (x ∷ xs) within = let ih = more-pass few many xs within in 
 -- .. and one more where a card passes it alone
 one-more-passes : (few many : PlayingCard → Bool) (xs : List PlayingCard) (c : PlayingCard) → ((x : PlayingCard) → few x ≡ true → many x ≡ true) → has_card xs c ≡ true → few c ≡ false → many c ≡ true → length (filter few xs) + 1 ≤ length (filter many xs)
 one-more-passes few many [] c within has out in_ = absurd (cc)
-one-more-passes few many (x ∷ xs) c within has out in_ = elim (or-split (same_card x c) (has_card xs c) has) [
+one-more-passes few many (x ∷ xs) c within has out in_ = elim (or_cases (same_card x c) (has_card xs c) has) [
   | inl same ↦ (
       let is : x ≡ c = same_card-eq x c same in
       let m = more-pass few many xs within in
@@ -192,8 +193,8 @@ depth-picked s all picked cards depth is enough within = elim (cases_lt depth 1)
       let above = λ (e : PlayingCard) (h : is_above x e ≡ true). (
       let suit : e.suit ≡ x.suit = suit-of x.suit e (and-left (is_of x.suit e) (nat_lt x.rank e.rank) h) in
       let less = ltb-true x.rank e.rank (and-right (is_of x.suit e) (nat_lt x.rank e.rank) h) in
-      and-both (is_of s e) (reach cards e) (of-suit' s e (suit ∙ k.1)) (reach-of cards x e there (sym suit) (omega (arith, less)))) in
-      let itself = and-both (is_of s x) (reach cards x) (of-suit' s x k.1) (reach-of cards x x there refl (omega arith)) in
+      and_from (is_of s e) (reach cards e) (of-suit' s e (suit ∙ k.1)) (reach-of cards x e there (sym suit) (omega (arith, less)))) in
+      let itself = and_from (is_of s x) (reach cards x) (of-suit' s x k.1) (reach-of cards x x there refl (omega arith)) in
       let not : is_above x x ≡ false = ap (λ b. is_of x.suit x && b) (le-ltb x.rank x.rank (omega arith)) ∙ sym (and-false (is_of x.suit x)) in
       let m = one-more-passes (is_above x) (λ e. is_of s e && reach cards e) all x above k.0 not itself in
       let n = k.2 in

@@ -18,14 +18,14 @@ use Rattle.dd_cards.specs.Seats.{seat_code}
 use Rattle.dd_cards.specs.Cards.{has_card, card_of, deck, suit_cards}
 use Rattle.dd_cards.specs.HandMasks.{IsHandMask, cards_of}
 use Rattle.dd_cards.specs.Hands.{AreHands, FourHands, IsSet, dealt, hand_of}
-use Rattle.dd_cards.proofs.CallerLemmas.{and-true, card-bit, has_card-deck, has_card-filter, length-suit, suit-ones}
+use Rattle.dd_cards.proofs.CallerLemmas.{and-true, card-bit, has_card-deck, has_card-filter, length-suit, suit-ones, real_ranks}
 use Rattle.dd_play.specs.Covers.{count_of}
 use Rattle.dd_rank.specs.Owners.{holder, owners_in}
 use Rattle.dd_rank.specs.Strings.{number_of}
 use Rattle.dd_rank.specs.Lanes.{is_clear, lane, places_of}
 use Rattle.dd_rank.proofs.FourLanes.{lane-bit}
 use Rattle.dd_rank.proofs.Holders.{by-ranks}
-use Rattle.dd_rank.proofs.Suited.{IsTold, told-list, by-flags, ranks-real}
+use Rattle.dd_rank.proofs.Suited.{IsTold, told-list, by-flags}
 
 -- ---- lengths
 -- the four lengths of a hand
@@ -181,7 +181,7 @@ pub masks-told : (l s t f : List PlayingCard) (odd far left : ℕ) → AreHands 
 unfolding suit_cards
 masks-told l s t f odd far left hands a u =
     ap (number_of 4) (
-    told-list (λ r. holder hs (card_of u r)) (is_clear (lane (18446744073709551615 - left) u)) (λ r. bit_at (lane odd u) r + 2 * bit_at (lane far u) r) all_ranks each ranks-real
+    told-list (λ r. holder hs (card_of u r)) (is_clear (lane (18446744073709551615 - left) u)) (λ r. bit_at (lane odd u) r + 2 * bit_at (lane far u) r) all_ranks each real_ranks
     ∙ ap (map seat_code) (sym (by-ranks (holder hs) u all_ranks)))
   where
     hs : FourHands

@@ -1,8 +1,8 @@
 -- positions that cover one another at depths are related
 use Rattle.std.proofs.Common.{◌≡◌, ℕ, ◌+◌, ◌<◌, ◌≤◌, Bool, true, false, refl, sym, ap, ◌∙◌, arith, List, [], ◌∷◌, ◌++◌, zero-le}
-use Rattle.std.specs.Prelude.{nat_le, nat_lt}
+use Rattle.std.specs.Prelude.{nat_le}
 use Rattle.std.specs.List.{list_any}
-use Rattle.std.proofs.lemmas.Bool.{le-leb, leb-true, lt-ltb, ltb-true}
+use Rattle.std.proofs.lemmas.Bool.{le-leb, leb-true, or_left, or_right, false_from_ne_true}
 use Rattle.std.proofs.Common.{eq-eqb}
 use Rattle.std.proofs.lemmas.Bool.Decides.{nat_tests}
 use Rattle.std.proofs.lemmas.List.Folds.{list_any-append}
@@ -10,11 +10,12 @@ use Rattle.dd_cards.specs.declared.seat.Seat.{Seat}
 use Rattle.dd_cards.specs.declared.seat.Seat.TheVariants.{North, East, South, West}
 use Rattle.dd_cards.specs.PlayingCard.{PlayingCard}
 use Rattle.dd_cards.specs.Suits.{suit_code}
-use Rattle.dd_cards.specs.Cards.{is_of, same_card, has_card}
-use Rattle.dd_cards.proofs.CallerLemmas.{and-left, and-right, else-false, or-left, or-right, same_card-eq}
+use Rattle.dd_cards.specs.Cards.{same_card, has_card}
+use Rattle.dd_cards.proofs.CallerLemmas.{same_card-eq}
 use Rattle.dd_play.specs.Board.{Board, cards_at}
-use Rattle.dd_play.proofs.CallerLemmas.{count, count-cons, flag_of, has-first, in-rest, of-suit', suit-of}
-use Rattle.dd_rank.specs.Depths.{all_cards, is_above, place}
+use Rattle.dd_play.proofs.CallerLemmas.{count, count-cons, flag_of, has-first, in-rest, above-is, above-suit, above-rank}
+use Rattle.dd_rank.specs.Depths.{all_cards, place}
+use Rattle.dd_cards.specs.Sequences.{is_above}
 
 -- ---- counts of a smaller and a larger part
 pub count-le : (test wider : PlayingCard → Bool) (cards : List PlayingCard) → ((e : PlayingCard) → has_card cards e ≡ true → test e ≡ true → wider e ≡ true) → count test cards ≤ count wider cards
@@ -59,23 +60,12 @@ count-lt test wider (c ∷ cards) each z has wide out = go (same_card c z) refl 
         omega (arith, r, a, b, f)
 
 -- ---- places
-pub above-is : (c e : PlayingCard) → e.suit ≡ c.suit → c.rank < e.rank → is_above c e ≡ true
-above-is c e suits h = rw (of-suit' c.suit e suits, lt-ltb c.rank e.rank h) refl
-
--- a higher card is of the suit
-pub above-suit : (c e : PlayingCard) → is_above c e ≡ true → e.suit ≡ c.suit
-above-suit c e h = suit-of c.suit e (and-left (is_of c.suit e) (nat_lt c.rank e.rank) h)
-
--- .. and of a higher rank
-pub above-rank : (c e : PlayingCard) → is_above c e ≡ true → c.rank < e.rank
-above-rank c e h = ltb-true c.rank e.rank (and-right (is_of c.suit e) (nat_lt c.rank e.rank) h)
-
 -- a higher card has a smaller place
 pub place-lt : (p : Board) (c d : PlayingCard) → has_card (all_cards p) d ≡ true → d.suit ≡ c.suit → c.rank < d.rank → place p d + 1 ≤ place p c
 place-lt p c d has suits h =
     count-lt (is_above d) (is_above c) (all_cards p)
     (λ e t. above-is c e (above-suit d e t ∙ suits) (let k = above-rank d e t in omega (arith, k, h)))
-    d has (above-is c d suits h) (else-false _ (λ t. let k = above-rank d d t in omega (arith, k)))
+    d has (above-is c d suits h) (false_from_ne_true _ (λ t. let k = above-rank d d t in omega (arith, k)))
 
 -- a card that is no lower has a place that is no greater
 pub place-le : (p : Board) (c d : PlayingCard) → d.suit ≡ c.suit → c.rank ≤ d.rank → place p d ≤ place p c
@@ -130,10 +120,10 @@ in-all p x c = go x
     w = cards_at p West
 
     left : (xs ys : List PlayingCard) → list_any test xs ≡ true → list_any test (xs ++ ys) ≡ true
-    left xs ys h = list_any-append test xs ys ∙ or-left _ _ h
+    left xs ys h = list_any-append test xs ys ∙ or_left _ _ h
 
     right : (xs ys : List PlayingCard) → list_any test ys ≡ true → list_any test (xs ++ ys) ≡ true
-    right xs ys h = list_any-append test xs ys ∙ or-right _ _ h
+    right xs ys h = list_any-append test xs ys ∙ or_right _ _ h
 
     go : (x : Seat) → has_card (cards_at p x) c ≡ true → has_card (all_cards p) c ≡ true
     go North h = left ((n ++ e) ++ s) w (left (n ++ e) s (left n e h))

@@ -12,7 +12,7 @@ use Rattle.dd_cards.specs.PlayingCard.{PlayingCard}
 use Rattle.dd_cards.specs.Cards.{has_card, suit_cards}
 use Rattle.dd_cards.specs.Hands.{FourHands, dealt, hand_of, IsSet, AreHands}
 use Rattle.dd_cards.specs.Seats.{next_seat, seat_code, seat_after}
-use Rattle.dd_cards.proofs.CallerLemmas.{else-false, seat_code-injective, seat_code-lt}
+use Rattle.dd_cards.proofs.CallerLemmas.{seat_code-injective, seat_code-lt}
 use Rattle.dd_play.specs.Board.{Board, cards_at}
 use Rattle.dd_play.specs.Covers.{count_of}
 use Rattle.dd_play.proofs.CallerLemmas.{after-code}
@@ -20,6 +20,7 @@ use Rattle.dd_rank.specs.Owners.{holder, owners_in}
 use Rattle.dd_rank.specs.Strings.{places_after, number_of, owners_number, suit_lengths, all_lengths, ShapeOf, shape_of, Strings, strings_of}
 use Rattle.dd_rank.proofs.Holders.{holder-has, only-holder, no-holder}
 use Rattle.dd_rank.proofs.Turned.{places-lt, after-places}
+use Rattle.std.proofs.lemmas.Bool.{false_from_ne_true}
 
 -- the same hands turned, so that this seat sits North
 pub seated : FourHands → Seat → FourHands
@@ -34,7 +35,7 @@ seated-at hands f South = refl
 seated-at hands f West = refl
 
 -- two places with one seat are one place
-after-tells : (f : Seat) (j k : ℕ) → j < 4 → k < 4 → seat_after f j ≡ seat_after f k → j ≡ k
+pub after-tells : (f : Seat) (j k : ℕ) → j < 4 → k < 4 → seat_after f j ≡ seat_after f k → j ≡ k
 after-tells f j k low high e =
     let a = after-code f j in
     let b = after-code f k in
@@ -74,7 +75,7 @@ turned-holder hands f valid c = go (holder hands c) refl
         only-holder (seated hands f) c (turn x) there (λ t k. (seated-hands hands f valid).disjoint c t (turn x) k there)
 
     lacks : holder hands c ≡ None → (x : Seat) → has_card (hand_of (seated hands f) x) c ≡ false
-    lacks none x = else-false _ (λ h.
+    lacks none x = false_from_ne_true _ (λ h.
         let k : has_card (hand_of hands (seat_after f (seat_code x))) c ≡ true = ap (λ l. has_card l c) (sym (seated-at hands f x)) ∙ h in
         let held = only-holder hands c (seat_after f (seat_code x)) k (λ t g. valid.disjoint c t (seat_after f (seat_code x)) g k) in
         cc)
@@ -108,7 +109,7 @@ pub record AreSeated (p : Board) (l s t f : List PlayingCard) : Type 0 where
   pub fourth : f ≡ cards_at p (seat_after p.first 3)
 
 -- the hand of a seat that comes so many places after the leader
-at-seat : (p : Board) (hands : FourHands) (f seat : Seat) (k : ℕ) (cards : List PlayingCard) → hands ≡ p.hands → f ≡ p.first → seat ≡ seat_after f k → cards ≡ hand_of hands seat
+pub at-seat : (p : Board) (hands : FourHands) (f seat : Seat) (k : ℕ) (cards : List PlayingCard) → hands ≡ p.hands → f ≡ p.first → seat ≡ seat_after f k → cards ≡ hand_of hands seat
     → cards ≡ cards_at p (seat_after p.first k)
 at-seat p hands f seat k cards eh ef es ec = ec ∙ ap₂ hand_of eh (es ∙ ap (λ x. seat_after x k) ef)
 

@@ -8,11 +8,11 @@ use Rattle.dd_cards.specs.declared.suit.Suit.{Suit}
 use Rattle.dd_cards.specs.PlayingCard.{PlayingCard}
 use Rattle.dd_cards.specs.Ranks.{lowest_ranks, all_ranks}
 use Rattle.dd_cards.specs.Cards.{is_of, has_card, card_of, deck}
-use Rattle.dd_cards.proofs.CallerLemmas.{IsSet-deck, IsSet-filter, both-ways, filter-same, has_card-deck, length-filter-le, suit-ranks, times-set}
+use Rattle.dd_cards.proofs.CallerLemmas.{IsSet-deck, IsSet-filter, both-ways, has_card-deck, length-filter-le, suit-ranks, times-set}
 use Rattle.dd_play.specs.Board.{Board, IsBoard, cards_at}
 use Rattle.dd_play.specs.Covers.{count_of}
 use Rattle.dd_play.proofs.CallerLemmas.{card-real, filter-has, filter-passes}
-use Rattle.dd_rank.specs.Depths.{all_cards, is_above, place}
+use Rattle.dd_rank.specs.Depths.{all_cards, place}
 use Rattle.dd_rank.specs.Owners.{owners}
 use Rattle.dd_rank.specs.Strings.{places_after, owner_places}
 use Rattle.dd_rank.proofs.Covered.{all-in}
@@ -24,6 +24,8 @@ use Rattle.dd_rank.proofs.Owners.{holder_at, ranks_left, left-falls, left-owners
 use Rattle.dd_rank.proofs.Falling.{Has, Falls}
 use Rattle.dd_rank.proofs.Places.{in-all}
 use Rattle.dd_rank.proofs.Turned.{places-lt}
+use Rattle.std.proofs.lemmas.List.Elements.{filter_agree}
+use Rattle.dd_cards.specs.Sequences.{is_above}
 
 -- ---- places in a falling list
 -- how many numbers of the list are greater
@@ -83,7 +85,7 @@ whole-count p valid test = same-count test (whole p) (all_cards p) (λ c. times-
 left-of : (p : Board) → IsBoard p → (u : Suit) → AreOf u (ranks_left p u) (whole p)
 unfolding whole ranks_left
 left-of p valid u =
-    ap (map (card_of u)) (filter-same (λ r. is_some (holder_at p u r)) (λ r. has_card (whole p) (card_of u r)) held all_ranks)
+    ap (map (card_of u)) (filter_agree (λ r. is_some (holder_at p u r)) (λ r. has_card (whole p) (card_of u r)) held all_ranks)
     ∙ sym (suit-ranks u (whole p) (IsSet-filter (has_card (all_cards p)) deck IsSet-deck))
   where
     held : (r : ℕ) → is_some (holder_at p u r) ≡ has_card (whole p) (card_of u r)

@@ -5,14 +5,9 @@ use Rattle.std.specs.List.{filter_map, list_all}
 use mathlib.Core.Path.{ap₂}
 use Rattle.dd_cards.specs.declared.seat.Seat.{Seat}
 use Rattle.dd_cards.specs.declared.seat.Seat.TheVariants.{North, East, South, West}
-use Rattle.dd_cards.specs.Ranks.{IsRank, is_rank, lowest_ranks, all_ranks}
+use Rattle.dd_cards.specs.Ranks.{IsRank, is_rank}
 use Rattle.dd_cards.specs.Seats.{seat_code}
 use Rattle.dd_cards.proofs.CallerLemmas.{IsRank-from, and-left, and-right}
-
--- all ranks are ranks
-pub ranks-real : list_all is_rank all_ranks ≡ true
-unfolding all_ranks lowest_ranks
-ranks-real = refl
 
 -- ---- the holders of a suit's ranks
 -- where a rank has a holder it passes, and the number is the holder's code

@@ -4,7 +4,6 @@ use Rattle.dd_cards.specs.declared.suit.Suit.{Suit}
 use Rattle.dd_cards.specs.PlayingCard.{PlayingCard}
 use Rattle.dd_cards.specs.Ranks.{IsRank}
 use Rattle.dd_cards.specs.Cards.{has_card}
-use Rattle.dd_cards.proofs.CallerLemmas.{else-false}
 use Rattle.dd_cards.specs.Sides.{side_of, other_side}
 use Rattle.dd_play.specs.Board.{Board, IsBoard, tricks_left}
 use Rattle.dd_play.specs.Value.{leaders_tricks}
@@ -16,10 +15,11 @@ use Rattle.dd_rank.proofs.Covered.{IsLifted}
 use Rattle.dd_rank.proofs.Looked.{covers-less, by-looked, by-looked'}
 use Rattle.dd_rank.proofs.Chains.{covers-chain}
 use Rattle.dd_rank.proofs.Sound.{same-left, sound-lead}
+use Rattle.std.proofs.lemmas.Bool.{false_from_ne_true}
 
 -- cards of the pack are reached by none that is lower than all ranks
 pub lifted-reach : (cards : List PlayingCard) → ((c : PlayingCard) → has_card cards c ≡ true → IsRank c.rank) → IsLifted (reach cards)
-lifted-reach cards real = (reach-upward cards, λ u. else-false _ (λ h. let d = reach-some cards (record { suit = u; rank = 0 }) h in let low = d.3 in let r = (real d.0 d.1).0 in omega (arith, low, r)))
+lifted-reach cards real = (reach-upward cards, λ u. false_from_ne_true _ (λ h. let d = reach-some cards (record { suit = u; rank = 0 }) h in let low = d.3 in let r = (real d.0 d.1).0 in omega (arith, low, r)))
 
 -- bounds that hold of each position that p covers at depths are claims by cards of no smaller depths
 pub told : (cards : List PlayingCard) (depths : Suit → ℕ) (p : Board) (lo hi : ℕ) → ((c : PlayingCard) → has_card cards c ≡ true → IsRank c.rank) → p.trick ≡ [] → ((u : Suit) → depths u ≤ depths_of (reach cards) p u)

@@ -15,7 +15,7 @@ use Rattle.dd_rank.specs.Depths.{FourDepths, depth_in}
 use Rattle.dd_rank.specs.FirstOwners.{top_places, AreUnder}
 use Rattle.dd_rank.specs.Lanes.{lane, places_of}
 use Rattle.dd_rank.proofs.Digits.{below-power}
-use Rattle.dd_rank.proofs.FourLanes.{lanes, lane-of, lane-and, lanes-of, lanes-same}
+use Rattle.dd_rank.proofs.FourLanes.{lanes, lane-and, lanes-of, lanes-same}
 use Rattle.dd_rank.proofs.Packed.{is-true, true-is}
 
 -- ---- the bits of the highest places
@@ -140,19 +140,6 @@ each_suit s h d c Spades = s
 each_suit s h d c Hearts = h
 each_suit s h d c Diamonds = d
 each_suit s h d c Clubs = c
-
--- four numbers of fifteen bits, each moved to its suit
-pub moved-lanes : (s h d c : ℕ) → s < 2 ^ 15 → h < 2 ^ 15 → d < 2 ^ 15 → c < 2 ^ 15 → (u : Suit) → lane (s * 2 ^ 48 % 2 ^ 64 + h * 2 ^ 32 % 2 ^ 64 + d * 2 ^ 16 % 2 ^ 64 + c) u ≡ each_suit s h d c u
-moved-lanes s h d c ls lh ld lc u = ap (λ n. lane n u) sum ∙ lane-of (each_suit s h d c) small u
-  where
-    sum : s * 2 ^ 48 % 2 ^ 64 + h * 2 ^ 32 % 2 ^ 64 + d * 2 ^ 16 % 2 ^ 64 + c ≡ lanes (each_suit s h d c)
-    sum = omega (arith, ls, lh, ld, lc)
-
-    small : (v : Suit) → each_suit s h d c v < 2 ^ 16
-    small Spades = omega (arith, ls)
-    small Hearts = omega (arith, lh)
-    small Diamonds = omega (arith, ld)
-    small Clubs = omega (arith, lc)
 
 -- a lane of what stands under the mask
 under-lane : (depths : FourDepths) (mask x : ℕ) → ((u : Suit) → lane mask u ≡ top_places (depth_in depths u)) → (u : Suit) → lane (bit_and x mask) u ≡ bit_and (lane x u) (top_places (depth_in depths u))

@@ -1,6 +1,6 @@
 -- the highest ranks of each suit, as cards
-use Rattle.std.proofs.Common.{◌≡◌, ℕ, ◌+◌, ◌%◌, ◌^◌, ◌<◌, ◌≤◌, ◌⊎◌, true, sym, ap, ◌∙◌, arith, inl, inr}
-use Rattle.std.specs.Prelude.{filter, ◌==◌, nat_lt}
+use Rattle.std.proofs.Common.{◌≡◌, ℕ, ◌+◌, ◌%◌, ◌^◌, ◌<◌, ◌≤◌, ◌⊎◌, sym, ap, ◌∙◌, arith, inl, inr}
+use Rattle.std.specs.Prelude.{◌==◌, nat_lt}
 use Rattle.std.specs.Int.{bit_at}
 use Rattle.std.proofs.lemmas.Bool.{cases_lt, lt-ltb, le-ltb}
 use Rattle.std.proofs.lemmas.Nat.{shr-shr}
@@ -10,9 +10,9 @@ use Rattle.dd_cards.specs.declared.suit.Suit.TheVariants.{Spades, Hearts, Diamon
 use Rattle.dd_cards.specs.PlayingCard.{PlayingCard}
 use Rattle.dd_cards.specs.Suits.{suit_shift}
 use Rattle.dd_cards.specs.Ranks.{IsRank}
-use Rattle.dd_cards.specs.Cards.{deck, has_card}
-use Rattle.dd_cards.specs.HandMasks.{IsHandMask, cards_of, in_hand}
-use Rattle.dd_cards.proofs.CallerLemmas.{IsSet-deck, IsSet-filter, card-bit, real-set}
+use Rattle.dd_cards.specs.Cards.{has_card}
+use Rattle.dd_cards.specs.HandMasks.{IsHandMask, cards_of}
+use Rattle.dd_cards.proofs.CallerLemmas.{card-bit}
 use Rattle.dd_rank.specs.Depths.{FourDepths, depth_in}
 use Rattle.dd_rank.specs.FirstOwners.{top_places}
 use Rattle.dd_rank.specs.Lanes.{lane}
@@ -65,8 +65,3 @@ tops-cards depths mask few tops c real =
     go : (d : ℕ) → d ≤ 13 → (c.rank + d < 15) ⊎ (15 ≤ c.rank + d) → (bit_at (top_places d) c.rank == 1) ≡ nat_lt 14 (c.rank + d)
     go d low (inl less) = ap (λ b. b == 1) (low-bit d c.rank (omega (arith, low)) less) ∙ sym (le-ltb 14 (c.rank + d) (omega (arith, less)))
     go d low (inr more) = ap (λ b. b == 1) (top-bit d c.rank (omega (arith, low)) (let h = real.1 in omega (arith, h)) more) ∙ sym (lt-ltb 14 (c.rank + d) (omega (arith, more)))
-
--- a card of a mask is a real one
-pub mask-real : (mask : ℕ) (c : PlayingCard) → has_card (cards_of mask) c ≡ true → IsRank c.rank
-unfolding cards_of
-mask-real mask c has = real-set (filter (in_hand mask) deck) c (IsSet-filter (in_hand mask) deck IsSet-deck) has

@@ -9,14 +9,11 @@ use Rattle.dd_cards.specs.Seats.{seat_after}
 use Rattle.dd_cards.specs.Cards.{is_of, has_card}
 use Rattle.dd_play.specs.Board.{Board, cards_at}
 use Rattle.dd_play.specs.Covers.{count_of}
+use Rattle.dd_cards.specs.Sequences.{is_above}
 
 -- the cards of the four hands
 abbrev pub all_cards : Board → List PlayingCard
 all_cards p = cards_at p North ++ cards_at p East ++ cards_at p South ++ cards_at p West
-
--- is e a higher card of c's suit?
-abbrev pub is_above : PlayingCard → PlayingCard → Bool
-is_above c e = is_of c.suit e && nat_lt c.rank e.rank
 
 -- how many cards of its suit are higher: its place from the top, counted from 0
 abbrev pub place : Board → PlayingCard → ℕ

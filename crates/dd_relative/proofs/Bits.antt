@@ -3,7 +3,7 @@ use Rattle.std.proofs.Common.{◌≡◌, ℕ, ◌+◌, ◌-◌, ◌/◌, ◌%◌
 use Rattle.std.specs.Prelude.{nat_lt, ◌==◌, ◌&&◌, ◌||◌, if◌then◌else◌}
 use mathlib.Core.Path.{ap₂}
 use Rattle.std.specs.Int.{bit_at}
-use Rattle.std.proofs.lemmas.Bool.{cases_lt, eqb-true, le-ltb, lt-ltb, ltb-true}
+use Rattle.std.proofs.lemmas.Bool.{cases_lt, eqb-true, le-ltb, lt-ltb, ltb-true, and_from, or_left, or_right, or_cases}
 use Rattle.std.proofs.lemmas.Bool.Decides.{eqb_tells}
 use Rattle.std.proofs.lemmas.Nat.{shr-shr}
 use Rattle.std.proofs.lemmas.Nat.Bits.{bit_at-lt, bit_at_and, bit_at_or, bit_at_mask_inside, bit_at_mask_below, bit_at_mask_above, shr_and_one}
@@ -12,7 +12,7 @@ use Rattle.dd_cards.specs.Suits.{suit_code, suit_shift}
 use Rattle.dd_cards.specs.Ranks.{IsRank}
 use Rattle.dd_cards.specs.Cards.{card_of, has_card, is_of, place_of}
 use Rattle.dd_cards.specs.HandMasks.{IsHandMask, cards_of}
-use Rattle.dd_cards.proofs.CallerLemmas.{and-both, and-left, and-right, both-ways, has_card-deck, or-left, or-right, or-split, same-members, suit_code-lt}
+use Rattle.dd_cards.proofs.CallerLemmas.{and-left, and-right, both-ways, has_card-deck, same-members, suit_code-lt, has_card-cards_of}
 use Rattle.dd_play.proofs.CallerLemmas.{of-suit', suit-of}
 use Rattle.dd_relative.specs.Gaps.{raised}
 use Rattle.dd_relative.specs.Runs.{next_above}
@@ -20,7 +20,7 @@ use Rattle.dd_relative.specs.WinningRanks.{AreTop, with_next}
 use Rattle.dd_relative.proofs.Cards.{raised-below, raised-else}
 use Rattle.dd_relative.proofs.Heads.{above-bit}
 use Rattle.dd_relative.proofs.Joined.{next-has, next-set}
-use Rattle.dd_relative.proofs.Moved.{cards-set, has-bit}
+use Rattle.dd_relative.proofs.Moved.{cards-set}
 use Rattle.dd_relative.proofs.Packs.{pack-cards, pack-mask}
 
 -- a card's bit is one of those below another's where it is of its suit and lower
@@ -69,7 +69,7 @@ raised-by g d below n bit real_g real eb en is = go (is_of g.suit d && nat_lt d.
           omega (arith, none, top),
           ap (λ k. card_of d.suit k) (let s : d.rank + bit ≡ d.rank = omega (arith, none) in s) ∙ sym (raised-else g d (λ suit. elim (cases_lt d.rank g.rank) [
             | inr high ↦ high
-            | inl low ↦ absurd (let no : true ≡ false = sym (and-both (is_of g.suit d) (nat_lt d.rank g.rank) (of-suit' g.suit d suit) (lt-ltb d.rank g.rank low)) ∙ e in cc)
+            | inl low ↦ absurd (let no : true ≡ false = sym (and_from (is_of g.suit d) (nat_lt d.rank g.rank) (of-suit' g.suit d suit) (lt-ltb d.rank g.rank low)) ∙ e in cc)
           ])),
         )
 
@@ -83,7 +83,7 @@ abbrev pub run : ℕ → ℕ → ℕ
 run m below = bit_or m (bit_and (bit_and (m / 2 ^ 1) below) pack_bits)
 
 pub pack-bit : (d : PlayingCard) → IsRank d.rank → bit_at pack_bits (place_of d) ≡ 1
-pack-bit d real = eqb-true (bit_at pack_bits (place_of d)) 1 (sym (has-bit pack_bits d real) ∙ ap (λ l. has_card l d) pack-cards ∙ has_card-deck d real)
+pack-bit d real = eqb-true (bit_at pack_bits (place_of d)) 1 (sym (has_card-cards_of pack_bits d real) ∙ ap (λ l. has_card l d) pack-cards ∙ has_card-deck d real)
 
 pub run-mask : (m below : ℕ) → IsHandMask m → IsHandMask (run m below)
 run-mask m below valid i set = elim (eqb_tells (bit_at m i) 1) [
@@ -115,24 +115,24 @@ joins-same : (g d : PlayingCard) (cards : PlayingCard → Bool) → IsRank g.ran
     → (cards d || ((is_of g.suit d && nat_lt d.rank g.rank) && cards (next_above d))) ≡ (cards d || (cards g && (is_of g.suit d && cards (next_above d))))
 joins-same g d cards real_g real top =
     both-ways _ _
-    (λ h. elim (or-split (cards d) _ h) [
-      | inl there ↦ or-left (cards d) _ there
+    (λ h. elim (or_cases (cards d) _ h) [
+      | inl there ↦ or_left (cards d) _ there
       | inr joins ↦ (
           let below : (is_of g.suit d && nat_lt d.rank g.rank) ≡ true = and-left (is_of g.suit d && nat_lt d.rank g.rank) (cards (next_above d)) joins in
           let next : cards (next_above d) ≡ true = and-right (is_of g.suit d && nat_lt d.rank g.rank) (cards (next_above d)) joins in
           let of : is_of g.suit d ≡ true = and-left (is_of g.suit d) (nat_lt d.rank g.rank) below in
           let low : d.rank < g.rank = ltb-true d.rank g.rank (and-right (is_of g.suit d) (nat_lt d.rank g.rank) below) in
-          or-right (cards d) _ (and-both (cards g) _ (top (next_above d) g next (sym (suit-of g.suit d of)) (omega (arith, low)) real_g.1) (and-both (is_of g.suit d) (cards (next_above d)) of next)))
+          or_right (cards d) _ (and_from (cards g) _ (top (next_above d) g next (sym (suit-of g.suit d of)) (omega (arith, low)) real_g.1) (and_from (is_of g.suit d) (cards (next_above d)) of next)))
     ])
-    (λ h. elim (or-split (cards d) _ h) [
-      | inl there ↦ or-left (cards d) _ there
+    (λ h. elim (or_cases (cards d) _ h) [
+      | inl there ↦ or_left (cards d) _ there
       | inr joins ↦ (
           let gap : cards g ≡ true = and-left (cards g) (is_of g.suit d && cards (next_above d)) joins in
           let rest : (is_of g.suit d && cards (next_above d)) ≡ true = and-right (cards g) (is_of g.suit d && cards (next_above d)) joins in
           let of : is_of g.suit d ≡ true = and-left (is_of g.suit d) (cards (next_above d)) rest in
           elim (cases_lt d.rank g.rank) [
-            | inl low ↦ or-right (cards d) _ (and-both (is_of g.suit d && nat_lt d.rank g.rank) (cards (next_above d)) (and-both (is_of g.suit d) (nat_lt d.rank g.rank) of (lt-ltb d.rank g.rank low)) (and-right (is_of g.suit d) (cards (next_above d)) rest))
-            | inr high ↦ or-left (cards d) _ (top g d gap (suit-of g.suit d of) high real.1)
+            | inl low ↦ or_right (cards d) _ (and_from (is_of g.suit d && nat_lt d.rank g.rank) (cards (next_above d)) (and_from (is_of g.suit d) (nat_lt d.rank g.rank) of (lt-ltb d.rank g.rank low)) (and-right (is_of g.suit d) (cards (next_above d)) rest))
+            | inr high ↦ or_left (cards d) _ (top g d gap (suit-of g.suit d of) high real.1)
           ])
     ])
 
@@ -140,7 +140,7 @@ pub run-cards : (m below : ℕ) (g : PlayingCard) → IsHandMask m → IsRank g.
 run-cards m below g valid real_g top eb =
     same-members (cards_of (run m below)) (with_next g (cards_of m)) (cards-set _) (next-set g (cards_of m))
     (λ d real.
-    has-bit (run m below) d real
+    has_card-cards_of (run m below) d real
     ∙ ap (λ x. x == 1) (
     bit_at_or m (bit_and (bit_and (m / 2 ^ 1) below) pack_bits) (place_of d)
     ∙ ap (max (bit_at m (place_of d))) (
@@ -149,6 +149,6 @@ run-cards m below g valid real_g top eb =
     bit_at_and (m / 2 ^ 1) below (place_of d)
     ∙ ap₂ min (ap (λ x. x % 2) (shr-shr m 1 (place_of d)) ∙ ap (bit_at m) (let e : 1 + place_of d ≡ place_of d + 1 = omega arith in e)) (ap (λ b. bit_at b (place_of d)) eb ∙ below-bit g d real_g real)) (pack-bit d real)))
     ∙ lower-bit (bit_at m (place_of d)) (bit_at m (place_of d + 1)) (is_of g.suit d && nat_lt d.rank g.rank) (bit_at-lt m (place_of d)) (bit_at-lt m (place_of d + 1))
-    ∙ ap₂ (λ x y. x || ((is_of g.suit d && nat_lt d.rank g.rank) && y)) (sym (has-bit m d real)) (above-bit m d valid real)
+    ∙ ap₂ (λ x y. x || ((is_of g.suit d && nat_lt d.rank g.rank) && y)) (sym (has_card-cards_of m d real)) (above-bit m d valid real)
     ∙ joins-same g d (has_card (cards_of m)) real_g real top
     ∙ sym (next-has g (cards_of m) d real))

@@ -1,5 +1,5 @@
 -- four hands and the board that they make
-use Rattle.std.proofs.Common.{◌≡◌, ℕ, zero, suc, ◌+◌, ◌<◌, ◌≤◌, true, refl, sym, ap, ◌∙◌, arith, inl, inr, List, ◌++◌, length}
+use Rattle.std.proofs.Common.{◌≡◌, ℕ, zero, suc, ◌+◌, ◌<◌, ◌≤◌, refl, ap, ◌∙◌, arith, List, ◌++◌, length}
 use Rattle.std.specs.Prelude.{◌||◌, nat_lt, if◌then◌else◌}
 use Rattle.std.proofs.lemmas.List.Folds.{list_any-append}
 use Rattle.dd_cards.specs.declared.seat.Seat.{Seat}
@@ -9,11 +9,12 @@ use Rattle.dd_cards.specs.PlayingCard.{PlayingCard}
 use Rattle.dd_cards.specs.Cards.{has_card, same_card}
 use Rattle.dd_cards.specs.Hands.{dealt, hand_of, times, AreHands}
 use Rattle.dd_cards.specs.Seats.{seat_after}
-use Rattle.dd_cards.proofs.CallerLemmas.{or-left, or-right, or-split}
 use Rattle.dd_play.specs.Board.{Board, IsBoard, cards_at, times_in}
-use Rattle.dd_play.proofs.CallerLemmas.{times-has, times_in-once}
+use Rattle.dd_play.proofs.CallerLemmas.{times_in-once}
 use Rattle.dd_rank.specs.Depths.{all_cards}
 use Rattle.dd_relative.specs.Relative.{led_by_north}
+use Rattle.std.proofs.lemmas.Bool.{or_left, or_right, or_cases}
+use Rattle.dd_cards.proofs.CallerLemmas.{times-has}
 
 -- a card of all hands is in one of the four
 pub held : (l s t f : List PlayingCard) (strain : Strain) (c : PlayingCard) → has_card (all_cards (led_by_north l s t f strain)) c ≡ (((has_card l c || has_card s c) || has_card t c) || has_card f c)
@@ -29,26 +30,6 @@ held-by p c =
     list_any-append test ((cards_at p North ++ cards_at p East) ++ cards_at p South) (cards_at p West)
     ∙ ap (λ b. b || has_card (cards_at p West) c) (list_any-append test (cards_at p North ++ cards_at p East) (cards_at p South)
     ∙ ap (λ b. b || has_card (cards_at p South) c) (list_any-append test (cards_at p North) (cards_at p East)))
-
--- the hand that has it
-pub holder-of : (p : Board) (c : PlayingCard) → has_card (all_cards p) c ≡ true → (x : Seat) × (has_card (cards_at p x) c ≡ true)
-holder-of p c has = elim (or-split _ _ (sym (held-by p c) ∙ has)) [
-  | inl three ↦ elim (or-split _ _ three) [
-    | inl two ↦ elim (or-split _ _ two) [ inl n ↦ (North, n) | inr e ↦ (East, e) ]
-    | inr s ↦ (South, s)
-  ]
-  | inr w ↦ (West, w)
-]
-
--- a card of a hand is one of all
-pub one-of-all : (p : Board) (x : Seat) (c : PlayingCard) → has_card (cards_at p x) c ≡ true → has_card (all_cards p) c ≡ true
-one-of-all p x c has = held-by p c ∙ go x has
-  where
-    go : (x : Seat) → has_card (cards_at p x) c ≡ true → (((has_card (cards_at p North) c || has_card (cards_at p East) c) || has_card (cards_at p South) c) || has_card (cards_at p West) c) ≡ true
-    go North h = or-left _ _ (or-left _ _ (or-left _ _ h))
-    go East h = or-left _ _ (or-left _ _ (or-right _ _ h))
-    go South h = or-left _ _ (or-right _ _ h)
-    go West h = or-right _ _ h
 
 -- the hands of a board are four hands
 pub board-hands : (p : Board) → IsBoard p → AreHands p.hands

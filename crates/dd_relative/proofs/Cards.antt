@@ -7,7 +7,7 @@ use Rattle.std.proofs.lemmas.Bool.Decides.{eqb_tells}
 use Rattle.dd_cards.specs.PlayingCard.{PlayingCard}
 use Rattle.dd_cards.specs.Suits.{suit_code}
 use Rattle.dd_cards.specs.Ranks.{IsRank}
-use Rattle.dd_cards.specs.Cards.{card_of, deck, has_card, is_of, same_card}
+use Rattle.dd_cards.specs.Cards.{card_of, deck, has_card, same_card}
 use Rattle.dd_cards.specs.Hands.{IsSet}
 use Rattle.dd_cards.proofs.CallerLemmas.{IsSet-deck, IsSet-filter, and-true, filter-true, has_card-deck, has_card-filter, real-set, same_card-eq, suit_code-injective, times-set}
 use Rattle.dd_play.proofs.CallerLemmas.{count, inject, of-suit'}
@@ -27,10 +27,6 @@ high-or g d = elim (eqb_tells (suit_code d.suit) (suit_code g.suit)) [
   | inl same ↦ elim (cases_lt g.rank d.rank) [ inl high ↦ inr (λ _. high) | inr low ↦ inl (suit_code-injective d.suit g.suit same.1, low) ]
   | inr other ↦ inr (λ e. absurd (other.1 (ap suit_code e)))
 ]
-
--- a test of the suit that fails
-other-suit : (g c : PlayingCard) → suit_code c.suit ≢ suit_code g.suit → is_of g.suit c ≡ false
-other-suit g c apart = elim (eqb_tells (suit_code c.suit) (suit_code g.suit)) [ inl same ↦ absurd (apart same.1) | inr other ↦ other.0 ]
 
 pub raised-below : (g c : PlayingCard) → c.suit ≡ g.suit → c.rank < g.rank → raised g c ≡ card_of c.suit (c.rank + 1)
 raised-below g c same low = rw (of-suit' g.suit c same, lt-ltb c.rank g.rank low) refl

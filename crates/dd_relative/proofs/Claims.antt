@@ -7,17 +7,17 @@ use Rattle.dd_cards.specs.Ranks.{IsRank}
 use Rattle.dd_cards.specs.Cards.{has_card, is_of}
 use Rattle.dd_cards.specs.Seats.{seat_after}
 use Rattle.dd_cards.specs.Sides.{side_of, other_side}
-use Rattle.dd_cards.proofs.CallerLemmas.{and-both, and-left, and-right}
+use Rattle.dd_cards.proofs.CallerLemmas.{and-left, and-right}
 use Rattle.dd_play.specs.Board.{Board, IsBoard, cards_at, tricks_left}
 use Rattle.dd_play.specs.Reach.{reach, TakesBy}
-use Rattle.dd_play.proofs.CallerLemmas.{card-real, inject, of-suit', suit-of, unturn}
+use Rattle.dd_play.proofs.CallerLemmas.{card-real, inject, of-suit', suit-of, unturn, reach-in}
 use Rattle.dd_rank.specs.Alike.{AreAlike, IsAlikeBy}
 use Rattle.dd_rank.specs.Depths.{all_cards, depths_of}
 use Rattle.dd_relative.specs.Relative.{IsRelative}
 use Rattle.dd_relative.specs.WinningRanks.{AreTop, AreBefore}
-use Rattle.dd_relative.proofs.Boards.{holder-of, one-of-all}
-use Rattle.dd_relative.proofs.Places.{all-once}
-use Rattle.dd_relative.proofs.Whole.{there-reach, top-reach}
+use Rattle.dd_relative.proofs.Whole.{top-reach}
+use Rattle.std.proofs.lemmas.Bool.{and_from}
+use Rattle.dd_rank.proofs.CallerLemmas.{in-all, all-once, all-in}
 
 -- the cards before reach as many of each suit
 before-depths : (k : ℕ) (to from : PlayingCard → PlayingCard) (p q : Board) (later cards : List PlayingCard) (u : Suit) → IsBoard q → IsAlikeBy k to from p q → AreTop later
@@ -28,13 +28,13 @@ before-depths k to from p q later cards u valid alike top same =
     each : (d : PlayingCard) → has_card (all_cards q) d ≡ true → (is_of u d && reach later d) ≡ true
         → (has_card (all_cards p) (from d) ≡ true) × ((is_of u (from d) && reach cards (from d)) ≡ true) × (to (from d) ≡ d)
     each d has passes =
-        let y = holder-of q d has in
+        let y = all-in q d has in
         let b = alike.back (seat_after y.0 (3 * k)) d (ap (λ z. has_card (cards_at q z) d) (unturn y.0 k) ∙ y.1) in
-        let all = one-of-all p (seat_after y.0 (3 * k)) (from d) b.0 in
+        let all = in-all p (seat_after y.0 (3 * k)) (from d) b.0 in
         let of = of-suit' u (from d) (alike.from_suit d ∙ suit-of u d (and-left (is_of u d) (reach later d) passes)) in
         let there = top-reach later d top (card-real q y.0 d valid y.1).1 (and-right (is_of u d) (reach later d) passes) in
         let here = same (from d) all ∙ ap (has_card later) b.1 ∙ there in
-        (all, and-both (is_of u (from d)) (reach cards (from d)) of (there-reach cards (from d) here), b.1)
+        (all, and_from (is_of u (from d)) (reach cards (from d)) of (reach-in cards (from d) here), b.1)
 
 -- what is known of the two
 pub record IsStep (p q : Board) (later cards : List PlayingCard) : Type 0 where

@@ -1,5 +1,5 @@
 -- the card that completes a trick, as code plays it
-use Rattle.std.proofs.Common.{◌≡◌, ℕ, ◌+◌, ◌≤◌, Bool, true, false, refl, sym, ap, ◌∙◌, subst, arith, List, [], ◌∷◌, length, get_or}
+use Rattle.std.proofs.Common.{◌≡◌, ℕ, ◌≤◌, Bool, true, false, refl, sym, ap, ◌∙◌, subst, arith, List, [], ◌∷◌, length, get_or}
 use Rattle.std.specs.Prelude.{filter, take, slice_index_or}
 use mathlib.Core.Path.{ap₂}
 use Rattle.dd_cards.specs.declared.seat.Seat.{Seat}
@@ -9,21 +9,22 @@ use Rattle.dd_cards.specs.PlayingCard.{PlayingCard}
 use Rattle.dd_cards.specs.Cards.{has_card, is_of, same_card, with_card, without}
 use Rattle.dd_cards.specs.Hands.{dealt}
 use Rattle.dd_cards.specs.Seats.{seat_code}
-use Rattle.dd_cards.proofs.CallerLemmas.{and-both, else-true, false-not, has_card-without, seat_code-lt}
+use Rattle.dd_cards.proofs.CallerLemmas.{has_card-without, seat_code-lt}
 use Rattle.dd_play.specs.Board.{Board, IsBoard, cards_at, tricks_left}
 use Rattle.dd_play.specs.Covers.{IsSettled, count_of}
 use Rattle.dd_play.specs.Tricks.{winner_of}
 use Rattle.dd_play.specs.Play.{after, trick_with}
 use Rattle.dd_play.specs.Simulations.{IsLegal}
-use Rattle.dd_play.proofs.CallerLemmas.{IsFour, count, count-cons, filter-has, flag_of, has-first, in-rest, legal-leads, settled-alone, settled-by-top}
+use Rattle.dd_play.proofs.CallerLemmas.{IsFour, count, filter-has, legal-leads, settled-alone, settled-by-top}
 use Rattle.dd_rank.specs.Alike.{AreAlike, IsAlike}
 use Rattle.dd_relative.specs.Relative.{IsRelative, led_by_north}
 use Rattle.dd_relative.specs.Turned.{from_seat}
 use Rattle.dd_relative.specs.UnderWay.{under_way, IsUnderWay}
 use Rattle.dd_relative.proofs.Lefts.{start-tricks}
-use Rattle.dd_relative.proofs.Places.{flag-le}
 use Rattle.dd_relative.proofs.Turned.{alike-turned}
 use Rattle.dd_relative.proofs.UnderWay.{IsFinish, finish-from, lie-number, list-once, list-same, three-are}
+use Rattle.std.proofs.lemmas.Bool.{and_from, not_from_false, true_from_ne_false}
+use Rattle.dd_rank.proofs.CallerLemmas.{count-le}
 
 -- three cards lie on the trick, and a fourth may be played
 pub record IsFourth (b p : Board) (x y z d : PlayingCard) : Type 0 where
@@ -39,16 +40,6 @@ fourth b p cards n x y z d relative three most under view full has =
     let number : n ≡ 3 = lie-number b cards n 3 relative three most (ap (λ (q : Board). length q.trick) view ∙ full) in
     let list : take n cards ≡ slice_index_or cards 0 x ∷ slice_index_or cards 1 y ∷ slice_index_or cards 2 z ∷ [] = three-are cards n x y z three number in
     record { relative = relative; under = subst (IsUnderWay b) list under; here = ap (under_way b) (sym list) ∙ view; legal = has }
-
--- a test that holds of each card where another does counts no fewer
-count-among : (f g : PlayingCard → Bool) (cards : List PlayingCard) → ((c : PlayingCard) → has_card cards c ≡ true → f c ≡ true → g c ≡ true) → count f cards ≤ count g cards
-count-among f g [] more = omega arith
-count-among f g (c ∷ cards) more =
-    let rest = count-among f g cards (λ d h. more d (in-rest c d cards h)) in
-    let here : count f (c ∷ cards) ≡ flag_of (f c) + count f cards = count-cons f c cards in
-    let there : count g (c ∷ cards) ≡ flag_of (g c) + count g cards = count-cons g c cards in
-    let flags = flag-le (f c) (g c) (more c (has-first c cards)) in
-    omega (arith, rest, here, there, flags)
 
 module _ (b p : Board) (x y z d : PlayingCard) (f : IsFourth b p x y z d) where
   -- it may be played to the board written out
@@ -120,15 +111,15 @@ module _ (b p : Board) (x y z d : PlayingCard) (f : IsFourth b p x y z d) where
   pub one-of-suit : (cards others : List PlayingCard) (won : PlayingCard) → cards ≡ with_card (with_card (with_card (with_card [] x) y) z) d → others ≡ without (filter (is_of won.suit) cards) won → others ≡ []
       → count_of won.suit (x ∷ y ∷ z ∷ d ∷ []) ≤ 1
   one-of-suit cards others won are left none =
-      let few = count-among (is_of won.suit) (λ c. same_card c won) (x ∷ y ∷ z ∷ d ∷ []) same in
+      let few = count-le (is_of won.suit) (λ c. same_card c won) (x ∷ y ∷ z ∷ d ∷ []) same in
       let once : count (λ c. same_card c won) (x ∷ y ∷ z ∷ d ∷ []) ≤ 1 = list-once b x y z d f.relative f.under here-legal won in
       omega (arith, few, once)
     where
       same : (c : PlayingCard) → has_card (x ∷ y ∷ z ∷ d ∷ []) c ≡ true → is_of won.suit c ≡ true → same_card c won ≡ true
-      same c there of = else-true (same_card c won) (λ other.
+      same c there of = true_from_ne_false (same_card c won) (λ other.
           let set : has_card cards c ≡ true = ap (λ l. has_card l c) are ∙ sym (list-same b x y z d f.relative f.under here-legal c) ∙ there in
           let suited : has_card (filter (is_of won.suit) cards) c ≡ true = filter-has (is_of won.suit) cards c set of in
-          let rest : has_card others c ≡ true = ap (λ l. has_card l c) left ∙ has_card-without (filter (is_of won.suit) cards) won c ∙ and-both _ _ (false-not _ other) suited in
+          let rest : has_card others c ≡ true = ap (λ l. has_card l c) left ∙ has_card-without (filter (is_of won.suit) cards) won c ∙ and_from _ _ (not_from_false _ other) suited in
           let no : true ≡ false = sym rest ∙ ap (λ l. has_card l c) none in cc)
 
 -- what is like the hands from the winner on is like the next board

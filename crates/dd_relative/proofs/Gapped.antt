@@ -2,7 +2,7 @@
 use Rattle.std.proofs.Common.{◌≡◌, ◌≢◌, ℕ, ◌+◌, ◌<◌, ◌≤◌, Bool, true, false, refl, sym, ap, ◌∙◌, subst, arith, inl, inr, List, [], ◌∷◌, length}
 use Rattle.std.specs.Prelude.{map, ◌||◌}
 use mathlib.Core.Path.{ap₂}
-use Rattle.std.proofs.lemmas.Bool.{cases_lt}
+use Rattle.std.proofs.lemmas.Bool.{cases_lt, or_left, or_right, or_cases, false_from_ne_true}
 use Rattle.dd_cards.specs.declared.seat.Seat.{Seat}
 use Rattle.dd_cards.specs.declared.seat.Seat.TheVariants.{North, East, South, West}
 use Rattle.dd_cards.specs.declared.strain.Strain.{Strain}
@@ -11,16 +11,17 @@ use Rattle.dd_cards.specs.Ranks.{IsRank}
 use Rattle.dd_cards.specs.Cards.{has_card, same_card}
 use Rattle.dd_cards.specs.Hands.{FourHands, dealt, hand_of, times, AreHands, IsSet}
 use Rattle.dd_cards.specs.Seats.{seat_after}
-use Rattle.dd_cards.proofs.CallerLemmas.{both-ways, else-false, or-left, or-right, or-split, same_card-eq, same_card-self, real-set, times-cons, times-set}
-use Rattle.dd_play.proofs.CallerLemmas.{flag_of, times-has}
+use Rattle.dd_cards.proofs.CallerLemmas.{both-ways, same_card-eq, same_card-self, real-set, times-cons, times-set, times-has}
+use Rattle.dd_play.proofs.CallerLemmas.{flag_of}
 use Rattle.dd_play.specs.Board.{Board, board_of, IsBoard}
 use Rattle.dd_rank.specs.Alike.{IsAlikeBy}
 use Rattle.dd_rank.specs.Depths.{all_cards}
 use Rattle.dd_relative.specs.Gaps.{raised, lowered, moved_hands, moved_up}
 use Rattle.dd_relative.specs.Relative.{IsRelative, led_by_north}
 use Rattle.dd_relative.specs.Gapped.{stands, IsGapped, IsClosing}
-use Rattle.dd_relative.proofs.Boards.{board-even, board-hands, held, one-of-all, start-board}
+use Rattle.dd_relative.proofs.Boards.{board-even, board-hands, held, start-board}
 use Rattle.dd_relative.proofs.Cards.{is-apart, lowered-apart, lowered-most, lowered-order, lowered-suit, moved-back, moved-fewer, moved-forth, moved-has, moved-length, moved-set, lowered-raised, raised-lowered, raised-order, raised-real, raised-suit}
+use Rattle.dd_rank.proofs.CallerLemmas.{in-all}
 
 -- likeness goes on
 pub alike-then : (k : ℕ) (to from to' from' : PlayingCard → PlayingCard) (p q r : Board) → IsAlikeBy k to from p q → IsAlikeBy 0 to' from' q r → IsAlikeBy k (λ c. to' (to c)) (λ d. from (from' d)) p r
@@ -70,30 +71,30 @@ raised-has : (g : PlayingCard) (gaps : List PlayingCard) (d : PlayingCard) → (
     → has_card (map (raised g) gaps) d ≡ has_card gaps (lowered g d)
 raised-has g [] d apart some = refl
 raised-has g (b ∷ gaps) d apart some =
-    ap₂ (λ x y. x || y) (same-raised g b d (apart b (or-left _ _ (same_card-self b))) some) (raised-has g gaps d (λ e h. apart e (or-right _ _ h)) some)
+    ap₂ (λ x y. x || y) (same-raised g b d (apart b (or_left _ _ (same_card-self b))) some) (raised-has g gaps d (λ e h. apart e (or_right _ _ h)) some)
 
 raised-times : (g : PlayingCard) (gaps : List PlayingCard) (d : PlayingCard) → ((b : PlayingCard) → has_card gaps b ≡ true → b.suit ≡ g.suit → b.rank ≢ g.rank) → 1 ≤ d.rank
     → times (map (raised g) gaps) d ≡ times gaps (lowered g d)
 raised-times g [] d apart some = refl
 raised-times g (b ∷ gaps) d apart some =
     times-cons (raised g b) (map (raised g) gaps) d
-    ∙ ap₂ (λ x y. flag_of x + y) (same-raised g b d (apart b (or-left _ _ (same_card-self b))) some) (raised-times g gaps d (λ e h. apart e (or-right _ _ h)) some)
+    ∙ ap₂ (λ x y. flag_of x + y) (same-raised g b d (apart b (or_left _ _ (same_card-self b))) some) (raised-times g gaps d (λ e h. apart e (or_right _ _ h)) some)
     ∙ sym (times-cons b gaps (lowered g d))
 
 raised-back : (g : PlayingCard) (gaps : List PlayingCard) (d : PlayingCard) → IsRank g.rank → ((b : PlayingCard) → has_card gaps b ≡ true → IsRank b.rank) → has_card (map (raised g) gaps) d ≡ true → IsRank d.rank
 raised-back g [] d top real h = absurd (cc)
-raised-back g (b ∷ gaps) d top real h = elim (or-split (same_card (raised g b) d) (has_card (map (raised g) gaps) d) h) [
-  | inl here ↦ subst (λ (x : PlayingCard). IsRank x.rank) (same_card-eq (raised g b) d here) (raised-real g b top (real b (or-left _ _ (same_card-self b))))
-  | inr later ↦ raised-back g gaps d top (λ e k. real e (or-right _ _ k)) later
+raised-back g (b ∷ gaps) d top real h = elim (or_cases (same_card (raised g b) d) (has_card (map (raised g) gaps) d) h) [
+  | inl here ↦ subst (λ (x : PlayingCard). IsRank x.rank) (same_card-eq (raised g b) d here) (raised-real g b top (real b (or_left _ _ (same_card-self b))))
+  | inr later ↦ raised-back g gaps d top (λ e k. real e (or_right _ _ k)) later
 ]
 
 -- a card that a list lacks never stands in it
 times-none : (cards : List PlayingCard) (d : PlayingCard) → (has_card cards d ≡ true → ⊥) → times cards d ≤ 1
 times-none [] d none = omega arith
-times-none (c ∷ cards) d none = go (times-none cards d (λ h. none (or-right _ _ h))) (same_card c d) refl
+times-none (c ∷ cards) d none = go (times-none cards d (λ h. none (or_right _ _ h))) (same_card c d) refl
   where
     go : times cards d ≤ 1 → (b : Bool) → same_card c d ≡ b → times (c ∷ cards) d ≤ 1
-    go rest true e = absurd (none (or-left _ _ e))
+    go rest true e = absurd (none (or_left _ _ e))
     go rest false e =
         let a : times (c ∷ cards) d ≡ flag_of (same_card c d) + times cards d = times-cons c cards d in
         let f : flag_of (same_card c d) ≡ 0 = ap flag_of e in
@@ -116,16 +117,16 @@ raised-gaps g gaps top none real once = record {
 -- ---- one gap
 module _ (l s t f gaps : List PlayingCard) (strain : Strain) (g : PlayingCard) (gapped : IsGapped (led_by_north l s t f strain) (g ∷ gaps)) where
   first-gap : has_card (g ∷ gaps) g ≡ true
-  first-gap = or-left _ _ (same_card-self g)
+  first-gap = or_left _ _ (same_card-self g)
 
   gap-real : IsRank g.rank
   gap-real = gapped.real g first-gap
 
   pub gap-none : (x : Seat) → has_card (hand_of (dealt l s t f) x) g ≡ false
-  gap-none x = else-false _ (λ h. let k : true ≡ false = sym (one-of-all (led_by_north l s t f strain) x g h) ∙ gapped.apart g first-gap in cc)
+  gap-none x = false_from_ne_true _ (λ h. let k : true ≡ false = sym (in-all (led_by_north l s t f strain) x g h) ∙ gapped.apart g first-gap in cc)
 
   pub gaps-none : has_card gaps g ≡ false
-  gaps-none = else-false _ (λ h.
+  gaps-none = false_from_ne_true _ (λ h.
       let a : 1 ≤ times gaps g = times-has gaps g h in
       let b : times (g ∷ gaps) g ≡ flag_of (same_card g g) + times gaps g = times-cons g gaps g in
       let c : flag_of (same_card g g) ≡ 1 = ap flag_of (same_card-self g) in
@@ -179,10 +180,10 @@ module _ (l s t f gaps : List PlayingCard) (strain : Strain) (g : PlayingCard) (
   -- what stands is real
   stands-real : (l s t f gaps : List PlayingCard) (c : PlayingCard) → AreHands (dealt l s t f) → ((c : PlayingCard) → has_card gaps c ≡ true → IsRank c.rank)
       → stands (led_by_north l s t f strain) gaps c ≡ true → IsRank c.rank
-  stands-real l s t f gaps c hands real h = elim (or-split _ _ h) [
-    | inl card ↦ elim (or-split _ _ (sym (held l s t f strain c) ∙ card)) [
-      | inl three ↦ elim (or-split _ _ three) [
-        | inl two ↦ elim (or-split _ _ two) [ inl n ↦ real-set l c (hands.sets North) n | inr e ↦ real-set s c (hands.sets East) e ]
+  stands-real l s t f gaps c hands real h = elim (or_cases _ _ h) [
+    | inl card ↦ elim (or_cases _ _ (sym (held l s t f strain c) ∙ card)) [
+      | inl three ↦ elim (or_cases _ _ three) [
+        | inl two ↦ elim (or_cases _ _ two) [ inl n ↦ real-set l c (hands.sets North) n | inr e ↦ real-set s c (hands.sets East) e ]
         | inr south ↦ real-set t c (hands.sets South) south
       ]
       | inr w ↦ real-set f c (hands.sets West) w
@@ -199,12 +200,12 @@ module _ (l s t f gaps : List PlayingCard) (strain : Strain) (g : PlayingCard) (
     apart = λ c h. (
         let real_c = moved.real c h in
         let gap : has_card gaps (lowered g c) ≡ true = sym (moved.has c real_c) ∙ h in
-        else-false _ (λ k.
+        false_from_ne_true _ (λ k.
         let all : has_card (all_cards (led_by_north l s t f strain)) (lowered g c) ≡ true =
         held l s t f strain (lowered g c)
         ∙ ap₂ (λ a b. a || b) (ap₂ (λ a b. a || b) (ap₂ (λ a b. a || b) (sym (moved-has g l c real_c)) (sym (moved-has g s c real_c))) (sym (moved-has g t c real_c))) (sym (moved-has g f c real_c))
         ∙ sym (held (moved_up g l) (moved_up g s) (moved_up g t) (moved_up g f) strain c) ∙ k in
-        let none : has_card (all_cards (led_by_north l s t f strain)) (lowered g c) ≡ false = gapped.apart (lowered g c) (or-right _ _ gap) in
+        let none : has_card (all_cards (led_by_north l s t f strain)) (lowered g c) ≡ false = gapped.apart (lowered g c) (or_right _ _ gap) in
         let no : true ≡ false = sym all ∙ none in cc));
     closed = λ c d h suits less most. (
         let real_c = stands-real (moved_up g l) (moved_up g s) (moved_up g t) (moved_up g f) next c next-hands moved.real h in
@@ -247,7 +248,7 @@ closed-up l s t f gaps strain none gapped = record {
   board = gapped.board;
   start = refl;
   leader = refl;
-  closed = λ c d h suits less most. elim (or-split _ _ (gapped.closed c d (or-left _ _ h) suits less most)) [
+  closed = λ c d h suits less most. elim (or_cases _ _ (gapped.closed c d (or_left _ _ h) suits less most)) [
     | inl card ↦ card
     | inr gap ↦ absurd (let no : false ≡ true = sym (ap (λ cards. has_card cards d) none) ∙ gap in cc)
   ];
@@ -289,7 +290,7 @@ pub closed-one : (entry : Board) (hands made : FourHands) (gaps next : List Play
 closed-one entry hands made gaps next strain g closing em en =
     let c = closing.gapped in
     let none = gaps-none hands.north hands.east hands.south hands.west gaps strain g c in
-    let moved = raised-gaps g gaps (c.real g (or-left _ _ (same_card-self g))) none (λ b h. c.real b (or-right _ _ h)) rest_once in
+    let moved = raised-gaps g gaps (c.real g (or_left _ _ (same_card-self g))) none (λ b h. c.real b (or_right _ _ h)) rest_once in
     rw (em, en) (closing-step entry hands.north hands.east hands.south hands.west gaps (map (raised g) gaps) strain g moved closing)
   where
     rest_once : (b : PlayingCard) → times gaps b ≤ 1

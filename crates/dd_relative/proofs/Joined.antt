@@ -1,13 +1,13 @@
 -- the next lower card of a suit joins a set of winning ranks
 use Rattle.std.proofs.Common.{◌≡◌, ◌≢◌, ◌+◌, ◌<◌, ◌≤◌, ◌⊎◌, true, refl, sym, ap, ◌∙◌, subst, arith, inl, inr, List, eq-eqb}
 use Rattle.std.specs.Prelude.{filter, ◌&&◌, ◌||◌}
-use Rattle.std.proofs.lemmas.Bool.{cases_lt}
+use Rattle.std.proofs.lemmas.Bool.{cases_lt, and_from, or_left, or_right, or_cases}
 use Rattle.dd_cards.specs.PlayingCard.{PlayingCard}
 use Rattle.dd_cards.specs.Suits.{suit_code}
 use Rattle.dd_cards.specs.Ranks.{IsRank}
 use Rattle.dd_cards.specs.Cards.{deck, has_card, is_of}
 use Rattle.dd_cards.specs.Hands.{IsSet}
-use Rattle.dd_cards.proofs.CallerLemmas.{IsSet-deck, IsSet-filter, and-both, and-left, and-right, and-true, both-ways, has_card-deck, has_card-filter, or-left, or-right, or-split, real-set, same_card-eq}
+use Rattle.dd_cards.proofs.CallerLemmas.{IsSet-deck, IsSet-filter, and-left, and-right, and-true, both-ways, has_card-deck, has_card-filter, real-set, same_card-eq}
 use Rattle.dd_play.proofs.CallerLemmas.{of-suit', suit-of}
 use Rattle.dd_relative.specs.Gaps.{raised}
 use Rattle.dd_relative.specs.Runs.{next_above}
@@ -31,18 +31,18 @@ next-top g cards top c d h suit less most =
     let real = real-set (with_next g cards) c (next-set g cards) h in
     let low = real.0 in
     next-has g cards d (omega (arith, low, less), most)
-    ∙ go (or-split (has_card cards c) (has_card cards g && (is_of g.suit c && has_card cards (next_above c))) (sym (next-has g cards c real) ∙ h))
+    ∙ go (or_cases (has_card cards c) (has_card cards g && (is_of g.suit c && has_card cards (next_above c))) (sym (next-has g cards c real) ∙ h))
   where
     go : (has_card cards c ≡ true) ⊎ ((has_card cards g && (is_of g.suit c && has_card cards (next_above c))) ≡ true)
         → (has_card cards d || (has_card cards g && (is_of g.suit d && has_card cards (next_above d)))) ≡ true
-    go (inl there) = or-left (has_card cards d) _ (top c d there suit less most)
+    go (inl there) = or_left (has_card cards d) _ (top c d there suit less most)
     go (inr joins) = elim (cases_lt c.rank d.rank) [
-      | inl more ↦ or-left (has_card cards d) _ (
+      | inl more ↦ or_left (has_card cards d) _ (
           top (next_above c) d (and-right (is_of g.suit c) (has_card cards (next_above c)) (and-right (has_card cards g) (is_of g.suit c && has_card cards (next_above c)) joins)) suit (omega (arith, more)) most)
       | inr same ↦ (
           let e : d.rank ≡ c.rank = omega (arith, less, same) in
-          let here : c ≡ d = same_card-eq c d (and-both _ _ (eq-eqb _ _ (ap suit_code (sym suit))) (eq-eqb _ _ (sym e))) in
-          or-right (has_card cards d) _ (ap (λ x. has_card cards g && (is_of g.suit x && has_card cards (next_above x))) (sym here) ∙ joins))
+          let here : c ≡ d = same_card-eq c d (and_from _ _ (eq-eqb _ _ (ap suit_code (sym suit))) (eq-eqb _ _ (sym e))) in
+          or_right (has_card cards d) _ (ap (λ x. has_card cards g && (is_of g.suit x && has_card cards (next_above x))) (sym here) ∙ joins))
     ]
 
 -- Where a card stands in it when the cards below the gap move up, it stood in it before.
@@ -55,22 +55,22 @@ next-raised g c cards top real_g real_c apart = next-has g cards c real_c ∙ go
     go : ((c.suit ≡ g.suit) × (c.rank < g.rank)) ⊎ (c.suit ≡ g.suit → g.rank ≤ c.rank) → (has_card cards c || (has_card cards g && (is_of g.suit c && has_card cards (next_above c)))) ≡ has_card cards (raised g c)
     go (inl low) =
         both-ways _ _
-        (λ h. elim (or-split (has_card cards c) _ h) [
+        (λ h. elim (or_cases (has_card cards c) _ h) [
           | inl there ↦ top c (next_above c) there refl (omega arith) (most low.1)
           | inr joins ↦ and-right (is_of g.suit c) (has_card cards (next_above c)) (and-right (has_card cards g) (is_of g.suit c && has_card cards (next_above c)) joins)
         ])
-        (λ h. or-right (has_card cards c) _ (and-both (has_card cards g) _ (let l = low.1 in top (next_above c) g h (sym low.0) (omega (arith, l)) real_g.1)
-        (and-both (is_of g.suit c) (has_card cards (next_above c)) (of-suit' g.suit c low.0) h)))
+        (λ h. or_right (has_card cards c) _ (and_from (has_card cards g) _ (let l = low.1 in top (next_above c) g h (sym low.0) (omega (arith, l)) real_g.1)
+        (and_from (is_of g.suit c) (has_card cards (next_above c)) (of-suit' g.suit c low.0) h)))
         ∙ ap (has_card cards) (sym (raised-below g c low.0 low.1))
     go (inr high) =
         both-ways _ _
-        (λ h. elim (or-split (has_card cards c) _ h) [
+        (λ h. elim (or_cases (has_card cards c) _ h) [
           | inl there ↦ there
           | inr joins ↦ (
               let suit : c.suit ≡ g.suit = suit-of g.suit c (and-left (is_of g.suit c) (has_card cards (next_above c)) (and-right (has_card cards g) (is_of g.suit c && has_card cards (next_above c)) joins)) in
               top g c (and-left (has_card cards g) (is_of g.suit c && has_card cards (next_above c)) joins) suit (high suit) real_c.1)
         ])
-        (λ h. or-left (has_card cards c) _ h)
+        (λ h. or_left (has_card cards c) _ h)
         ∙ ap (has_card cards) (sym (raised-else g c high))
 
 -- the cards of two sets
@@ -78,11 +78,11 @@ pub union-top : (a b cards : List PlayingCard) → AreTop a → AreTop b → IsS
 union-top a b cards top_a top_b set has c d h suit less most =
     let real = real-set cards c set h in
     let low = real.0 in
-    has d (omega (arith, low, less), most) ∙ go (or-split (has_card a c) (has_card b c) (sym (has c real) ∙ h))
+    has d (omega (arith, low, less), most) ∙ go (or_cases (has_card a c) (has_card b c) (sym (has c real) ∙ h))
   where
     go : (has_card a c ≡ true) ⊎ (has_card b c ≡ true) → (has_card a d || has_card b d) ≡ true
-    go (inl x) = or-left (has_card a d) (has_card b d) (top_a c d x suit less most)
-    go (inr x) = or-right (has_card a d) (has_card b d) (top_b c d x suit less most)
+    go (inl x) = or_left (has_card a d) (has_card b d) (top_a c d x suit less most)
+    go (inr x) = or_right (has_card a d) (has_card b d) (top_b c d x suit less most)
 
 pub union-are : (a b cards : List PlayingCard) → AreTop a → AreTop b → cards ≡ filter (λ c. has_card a c || has_card b c) deck → AreTop cards
 union-are a b cards top_a top_b are =

@@ -8,9 +8,9 @@ use Rattle.dd_cards.specs.PlayingCard.{PlayingCard}
 use Rattle.dd_cards.specs.Cards.{has_card, without}
 use Rattle.dd_cards.specs.Hands.{times}
 use Rattle.dd_cards.specs.Seats.{seat_code, seat_after}
-use Rattle.dd_cards.proofs.CallerLemmas.{filter-true, seat_code-lt, times-set}
+use Rattle.dd_cards.proofs.CallerLemmas.{filter-true, seat_code-lt, times-set, times-has}
 use Rattle.dd_play.specs.Board.{Board, IsBoard, cards_at, cards_left, tricks_left}
-use Rattle.dd_play.proofs.CallerLemmas.{cards-tricks, count, count-without, flag_of, inject, left-13, times-has}
+use Rattle.dd_play.proofs.CallerLemmas.{cards-tricks, count, count-without, flag_of, inject, left-13}
 use Rattle.dd_rank.specs.Alike.{AreAlike, IsAlikeBy}
 use Rattle.dd_relative.specs.Relative.{IsRelative}
 use Rattle.dd_relative.proofs.Turned.{from-at, places_to_north, turned-hand}

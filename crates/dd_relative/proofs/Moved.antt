@@ -1,8 +1,8 @@
 -- the bits of a hand when those below a gap move up
 use Rattle.std.proofs.Common.{◌≡◌, ◌≢◌, ℕ, zero, suc, ◌+◌, ◌-◌, ◌*◌, ◌/◌, ◌%◌, ◌^◌, ◌<◌, ◌≤◌, ◌⊎◌, true, false, sym, ap, ◌∙◌, arith, inl, inr, bit_and}
-use Rattle.std.specs.Prelude.{◌==◌, ◌&&◌}
+use Rattle.std.specs.Prelude.{◌==◌}
 use Rattle.std.specs.Int.{bit_at}
-use Rattle.std.proofs.lemmas.Bool.{cases_lt}
+use Rattle.std.proofs.lemmas.Bool.{cases_lt, false_from_ne_true}
 use Rattle.std.proofs.lemmas.Bool.Decides.{eqb_tells}
 use Rattle.std.proofs.lemmas.Nat.{and_le_l, mod-pow-add, mod_below, mul-add-lt, pow-add, pow_pos, pow_below, shr_split}
 use Rattle.std.proofs.lemmas.Nat.Bits.{and_high, bit_at-lt, bit_at-suc, bit_at_cat_low, bit_at_cat_high}
@@ -12,7 +12,7 @@ use Rattle.dd_cards.specs.Ranks.{IsRank}
 use Rattle.dd_cards.specs.Cards.{card_of, deck, has_card, place_of}
 use Rattle.dd_cards.specs.Hands.{IsSet}
 use Rattle.dd_cards.specs.HandMasks.{IsHandMask, in_hand, cards_of}
-use Rattle.dd_cards.proofs.CallerLemmas.{IsSet-deck, IsSet-filter, and-true, else-false, has_card-deck, has_card-filter, real-set, same-members, suit_code-injective, suit_code-lt}
+use Rattle.dd_cards.proofs.CallerLemmas.{IsSet-deck, IsSet-filter, real-set, same-members, suit_code-injective, suit_code-lt, has_card-cards_of}
 use Rattle.dd_relative.specs.Gaps.{lowered, moved_up}
 use Rattle.dd_relative.proofs.Cards.{high-or, lowered-below, lowered-else, moved-has, moved-set}
 
@@ -105,11 +105,6 @@ up-next m s r i clear low high =
     half x = omega arith
 
 -- ---- a hand
--- a hand has a card where its bit is set
-pub has-bit : (m : ℕ) (c : PlayingCard) → IsRank c.rank → has_card (cards_of m) c ≡ in_hand m c
-unfolding cards_of
-has-bit m c real = has_card-filter (in_hand m) deck c ∙ ap (λ b. in_hand m c && b) (has_card-deck c real) ∙ sym (and-true (in_hand m c))
-
 -- a hand is a set
 pub cards-set : (m : ℕ) → IsSet (cards_of m)
 unfolding cards_of
@@ -118,7 +113,7 @@ cards-set m = IsSet-filter (in_hand m) deck IsSet-deck
 -- a card that a hand has not has no bit
 pub no-bit : (m : ℕ) (g : PlayingCard) → IsRank g.rank → has_card (cards_of m) g ≡ false → bit_at m (place_of g) ≡ 0
 no-bit m g real none = elim (eqb_tells (bit_at m (place_of g)) 1) [
-  | inl same ↦ absurd (let h : true ≡ false = sym same.0 ∙ sym (has-bit m g real) ∙ none in cc)
+  | inl same ↦ absurd (let h : true ≡ false = sym same.0 ∙ sym (has_card-cards_of m g real) ∙ none in cc)
   | inr other ↦ (let l = bit_at-lt m (place_of g) in let d = other.1 in omega (arith, l, d))
 ]
 
@@ -169,7 +164,7 @@ up-mask m g valid real clear i set = elim (cases_lt i s) [
 pub moved-cards : (m : ℕ) (g : PlayingCard) → IsHandMask m → IsRank g.rank → bit_at m (place_of g) ≡ 0 → cards_of (up m (suit_shift g.suit) g.rank) ≡ moved_up g (cards_of m)
 moved-cards m g valid real clear =
     same-members (cards_of (up m s r)) (moved_up g (cards_of m)) (cards-set (up m s r)) (moved-set g (cards_of m))
-    (λ d there. has-bit (up m s r) d there ∙ each d there (high-or g d) ∙ sym (moved-has g (cards_of m) d there))
+    (λ d there. has_card-cards_of (up m s r) d there ∙ each d there (high-or g d) ∙ sym (moved-has g (cards_of m) d there))
   where
     s : ℕ
     s = suit_shift g.suit
@@ -187,7 +182,7 @@ moved-cards m g valid real clear =
     ]
 
     lowest : (u : PlayingCard) → u.rank ≡ 1 → has_card (cards_of m) u ≡ false
-    lowest u one = else-false _ (λ h. let v = (real-set (cards_of m) u (cards-set m) h).0 in omega (arith, v, one))
+    lowest u one = false_from_ne_true _ (λ h. let v = (real-set (cards_of m) u (cards-set m) h).0 in omega (arith, v, one))
 
     unset : (j : ℕ) → j ≡ 1 → (bit_at m (s + j) == 1) ≡ false
     unset j one = elim (eqb_tells (bit_at m (s + j)) 1) [
@@ -197,13 +192,13 @@ moved-cards m g valid real clear =
 
     known : (d : PlayingCard) (j : ℕ) → d.suit ≡ g.suit → 1 ≤ j → j ≤ 14 → (bit_at m (s + j) == 1) ≡ has_card (cards_of m) (card_of d.suit j)
     known d j same low high = elim (cases_lt 1 j) [
-      | inl two ↦ ap (λ u. bit_at m (suit_shift u + j) == 1) (sym same) ∙ sym (has-bit m (card_of d.suit j) (two, high))
+      | inl two ↦ ap (λ u. bit_at m (suit_shift u + j) == 1) (sym same) ∙ sym (has_card-cards_of m (card_of d.suit j) (two, high))
       | inr one ↦ unset j (omega (arith, low, one)) ∙ sym (lowest (card_of d.suit j) (omega (arith, low, one)))
     ]
 
     each : (d : PlayingCard) → IsRank d.rank → ((d.suit ≡ g.suit) × (d.rank ≤ g.rank)) ⊎ (d.suit ≡ g.suit → g.rank < d.rank) → in_hand (up m s r) d ≡ has_card (cards_of m) (lowered g d)
     each d there (inr above) =
-        ap (λ b. b == 1) (up-other m s r (place_of d) clear (outside d there above)) ∙ sym (has-bit m d there) ∙ ap (has_card (cards_of m)) (sym (lowered-else g d above))
+        ap (λ b. b == 1) (up-other m s r (place_of d) clear (outside d there above)) ∙ sym (has_card-cards_of m d there) ∙ ap (has_card (cards_of m)) (sym (lowered-else g d above))
     each d there (inl below) =
         let e : suit_shift d.suit ≡ s = ap suit_shift below.0 in
         let b = there.0 in

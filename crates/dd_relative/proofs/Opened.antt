@@ -12,11 +12,11 @@ use Rattle.dd_relative.specs.Gapped.{IsGapped}
 use Rattle.dd_relative.specs.Relative.{led_by_north}
 use Rattle.dd_relative.specs.Turned.{from_leader}
 use Rattle.dd_relative.specs.WinningRanks.{AreTop, AreOpened, AreBefore, with_next}
-use Rattle.dd_relative.proofs.Boards.{holder-of, one-of-all}
 use Rattle.dd_relative.proofs.Cards.{is-apart}
 use Rattle.dd_relative.proofs.Gapped.{alike-same, alike-then, closed-alike, closed-one, closed-up, closing-start, gap-none}
 use Rattle.dd_relative.proofs.Joined.{next-raised}
 use Rattle.dd_relative.proofs.Turned.{places_to_north, turned-alike, turned-all}
+use Rattle.dd_rank.proofs.CallerLemmas.{in-all, all-in}
 
 -- with no gap they are the same
 pub opened-none : (l s t f gaps later cards : List PlayingCard) (strain : Strain) → gaps ≡ [] → cards ≡ later → IsGapped (led_by_north l s t f strain) gaps → AreOpened (led_by_north l s t f strain) later cards
@@ -43,10 +43,10 @@ opened-step l s t f gaps rest mid later cards strain g popped top are o gapped' 
       relative = o.relative;
       alike = alike-then 0 (raised g) (lowered g) o.to o.from (led_by_north l s t f strain) (led_by_north (moved_up g l) (moved_up g s) (moved_up g t) (moved_up g f) strain) o.q a o.alike;
       same = λ c h. (
-          let x = holder-of (led_by_north l s t f strain) c h in
+          let x = all-in (led_by_north l s t f strain) c h in
           let apart = is-apart g (hand_of (dealt l s t f) x.0) c (gap-none l s t f rest strain g gapped x.0) x.1 in
           let real = real-set (hand_of (dealt l s t f) x.0) c (gapped.board.sets x.0) x.1 in
-          let there = one-of-all (led_by_north (moved_up g l) (moved_up g s) (moved_up g t) (moved_up g f) strain) x.0 (raised g c) (a.forth x.0 c x.1).0 in
+          let there = in-all (led_by_north (moved_up g l) (moved_up g s) (moved_up g t) (moved_up g f) strain) x.0 (raised g c) (a.forth x.0 c x.1).0 in
           ap (λ x. has_card x c) are ∙ next-raised g c mid top (gapped.real g (first-there g rest)) real apart ∙ o.same (raised g c) there);
     }
   where

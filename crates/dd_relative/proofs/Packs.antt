@@ -3,19 +3,19 @@ use Rattle.std.proofs.Common.{◌≡◌, ℕ, zero, suc, ◌%◌, ◌<◌, ◌�
 use Rattle.std.specs.Prelude.{filter, ◌==◌, ◌&&◌, ◌||◌, nat_le}
 use mathlib.Core.Bool.{not}
 use Rattle.std.specs.Int.{bit_at}
-use Rattle.std.proofs.lemmas.Bool.{cases_lt, leb-true}
+use Rattle.std.proofs.lemmas.Bool.{cases_lt, leb-true, or_left, or_right, or_cases, not-true}
 use Rattle.std.proofs.lemmas.Bool.Decides.{eqb_tells}
 use Rattle.std.proofs.lemmas.Nat.Bits.{bit_at_above}
 use Rattle.dd_cards.specs.PlayingCard.{PlayingCard}
 use Rattle.dd_cards.specs.Ranks.{IsRank}
 use Rattle.dd_cards.specs.Cards.{deck, has_card}
 use Rattle.dd_cards.specs.HandMasks.{IsHandMask, cards_of}
-use Rattle.dd_cards.proofs.CallerLemmas.{IsSet-deck, IsSet-filter, and-left, and-right, has_card-deck, has_card-filter, not-true, or-left, or-right, or-split, real-set, times-set}
+use Rattle.dd_cards.proofs.CallerLemmas.{IsSet-deck, IsSet-filter, and-left, and-right, has_card-deck, has_card-filter, real-set, times-set}
 use Rattle.dd_play.specs.Board.{Board, IsBoard}
 use Rattle.dd_play.proofs.CallerLemmas.{card-real}
 use Rattle.dd_rank.specs.Depths.{all_cards}
 use Rattle.dd_relative.specs.Gapped.{stands, IsGapped}
-use Rattle.dd_relative.proofs.Boards.{holder-of}
+use Rattle.dd_rank.proofs.CallerLemmas.{all-in}
 
 -- do all numbers below n pass?
 all_below : (ℕ → Bool) → ℕ → Bool
@@ -64,7 +64,7 @@ pack-gaps p left valid start same = record {
   real = gap-real;
   apart = λ c h. sym (same c (gap-real c h)) ∙ not-true _ (and-left _ _ (sym (has_card-filter (λ x. not (has_card left x)) deck c) ∙ h));
   closed = λ c d h suits less most. (
-      let low = (stands-real c (or-split _ _ h)).0 in
+      let low = (stands-real c (or_cases _ _ h)).0 in
       there d (omega (arith, low, less), most) (has_card left d) refl);
 }
   where
@@ -72,9 +72,9 @@ pack-gaps p left valid start same = record {
     gap-real c h = real-set (filter (λ x. not (has_card left x)) deck) c (IsSet-filter (λ x. not (has_card left x)) deck IsSet-deck) h
 
     stands-real : (c : PlayingCard) → (has_card (all_cards p) c ≡ true) ⊎ (has_card (filter (λ x. not (has_card left x)) deck) c ≡ true) → IsRank c.rank
-    stands-real c (inl card) = (let x = holder-of p c card in card-real p x.0 c valid x.1)
+    stands-real c (inl card) = (let x = all-in p c card in card-real p x.0 c valid x.1)
     stands-real c (inr gap) = gap-real c gap
 
     there : (d : PlayingCard) → IsRank d.rank → (b : Bool) → has_card left d ≡ b → stands p (filter (λ x. not (has_card left x)) deck) d ≡ true
-    there d real true e = or-left _ _ (sym (same d real) ∙ e)
-    there d real false e = or-right _ _ (has_card-filter (λ x. not (has_card left x)) deck d ∙ rw e (has_card-deck d real))
+    there d real true e = or_left _ _ (sym (same d real) ∙ e)
+    there d real false e = or_right _ _ (has_card-filter (λ x. not (has_card left x)) deck d ∙ rw e (has_card-deck d real))

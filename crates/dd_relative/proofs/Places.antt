@@ -2,21 +2,22 @@
 use Rattle.std.proofs.Common.{◌≡◌, ℕ, zero, suc, ◌+◌, ◌-◌, ◌*◌, ◌<◌, ◌≤◌, Bool, true, false, refl, ap, ◌∙◌, subst, arith, inl, inr, eq-eqb, ne_eqb, List, [], ◌∷◌, ◌++◌, length}
 use Rattle.std.specs.Prelude.{filter, nat_lt, ◌&&◌, ◌==◌}
 use mathlib.Core.Bool.{not}
-use Rattle.std.proofs.lemmas.Bool.{cases_lt, lt-ltb, le-ltb, ltb-true}
+use Rattle.std.proofs.lemmas.Bool.{cases_lt, lt-ltb, le-ltb, ltb-true, and_from}
 use Rattle.std.proofs.lemmas.List.{length-append}
-use Rattle.std.proofs.lemmas.List.Elements.{filter-append}
+use Rattle.std.proofs.lemmas.List.Elements.{filter-append, filter_agree}
 use Rattle.dd_cards.specs.declared.seat.Seat.TheVariants.{North, East, South, West}
 use Rattle.dd_cards.specs.declared.suit.Suit.{Suit}
 use Rattle.dd_cards.specs.PlayingCard.{PlayingCard}
 use Rattle.dd_cards.specs.Cards.{has_card, is_of, card_of, same_card, without}
 use Rattle.dd_cards.specs.Hands.{times}
-use Rattle.dd_cards.proofs.CallerLemmas.{and-both, and-left, and-right, filter-filter, filter-same}
+use Rattle.dd_cards.proofs.CallerLemmas.{and-left, and-right, filter-filter, times-has}
 use Rattle.dd_play.specs.Board.{Board, IsBoard, cards_at}
 use Rattle.dd_play.specs.Covers.{count_of}
-use Rattle.dd_play.proofs.CallerLemmas.{card-real, count, count-cons, count-some, count-without, flag_of, of-suit', times-has}
-use Rattle.dd_rank.specs.Depths.{all_cards, is_above, place}
+use Rattle.dd_play.proofs.CallerLemmas.{card-real, count, count-cons, count-some, count-without, flag_of, of-suit'}
+use Rattle.dd_rank.specs.Depths.{all_cards, place}
 use Rattle.dd_relative.specs.Relative.{IsRelative}
-use Rattle.dd_relative.proofs.Boards.{holder-of}
+use Rattle.dd_rank.proofs.CallerLemmas.{all-once, all-in}
+use Rattle.dd_cards.specs.Sequences.{is_above}
 
 -- ---- counting
 pub flag-le : (b d : Bool) → (b ≡ true → d ≡ true) → flag_of b ≤ flag_of d
@@ -49,21 +50,6 @@ all-count p u =
     count-append test xs ys = ap length (filter-append test xs ys) ∙ length-append (filter test xs) (filter test ys)
 
 -- ---- a card stands once among all
-times-append : (xs ys : List PlayingCard) (c : PlayingCard) → times (xs ++ ys) c ≡ times xs c + times ys c
-times-append xs ys c = ap length (filter-append (λ d. same_card d c) xs ys) ∙ length-append (filter (λ d. same_card d c) xs) (filter (λ d. same_card d c) ys)
-
-pub all-once : (p : Board) → IsBoard p → (c : PlayingCard) → times (all_cards p) c ≤ 1
-all-once p valid c =
-    let n = cards_at p North in
-    let e = cards_at p East in
-    let s = cards_at p South in
-    let w = cards_at p West in
-    let one : times (((n ++ e) ++ s) ++ w) c ≡ times ((n ++ e) ++ s) c + times w c = times-append ((n ++ e) ++ s) w c in
-    let two : times ((n ++ e) ++ s) c ≡ times (n ++ e) c + times s c = times-append (n ++ e) s c in
-    let three : times (n ++ e) c ≡ times n c + times e c = times-append n e c in
-    let fewer : (times n c + times e c + times s c + times w c) + times p.trick c ≤ 1 = valid.once c in
-    omega (arith, one, two, three, fewer)
-
 -- ---- how many are above a rank
 -- above the rank, and not the next one: above that
 step-test : (b : Bool) (r m : ℕ) → ((not (b && (m == r + 1))) && (b && nat_lt r m)) ≡ (b && nat_lt (r + 1) m)
@@ -86,7 +72,7 @@ above-count p valid s zero r e all = none (count (is_above (card_of s r)) (all_c
     none zero k = refl
     none (suc m) k =
         let some = count-some (is_above (card_of s r)) (all_cards p) (omega (arith, k)) in
-        let x = holder-of p some.0 some.1 in
+        let x = all-in p some.0 some.1 in
         let high = (card-real p x.0 some.0 valid x.1).1 in
         let over : r < some.0.rank = ltb-true r some.0.rank (and-right _ _ some.2) in
         absurd (omega (arith, e, high, over))
@@ -96,19 +82,19 @@ above-count p valid s (suc n) r e all =
     let has : has_card (all_cards p) next ≡ true = all next refl (omega arith) (omega (arith, e)) in
     let w : count (is_above (card_of s r)) (without (all_cards p) next) + times (all_cards p) next * flag_of (is_above (card_of s r) next) ≡ count (is_above (card_of s r)) (all_cards p) =
     count-without (is_above (card_of s r)) (all_cards p) next in
-    let f : flag_of (is_above (card_of s r) next) ≡ 1 = ap flag_of (and-both _ _ (of-suit' s next refl) (lt-ltb r (r + 1) (omega arith))) in
+    let f : flag_of (is_above (card_of s r) next) ≡ 1 = ap flag_of (and_from _ _ (of-suit' s next refl) (lt-ltb r (r + 1) (omega arith))) in
     let w1 : count (is_above (card_of s r)) (without (all_cards p) next) + times (all_cards p) next * 1 ≡ count (is_above (card_of s r)) (all_cards p) =
     subst (λ x. count (is_above (card_of s r)) (without (all_cards p) next) + times (all_cards p) next * x ≡ count (is_above (card_of s r)) (all_cards p)) f w in
     let some : 1 ≤ times (all_cards p) next = times-has (all_cards p) next has in
     let most : times (all_cards p) next ≤ 1 = all-once p valid next in
     let rest : count (is_above (card_of s r)) (without (all_cards p) next) ≡ count (is_above next) (all_cards p) =
-    ap length (filter-filter (is_above (card_of s r)) (λ d. not (same_card d next)) (all_cards p) ∙ filter-same _ (is_above next) (λ d. step-test (is_of s d) r d.rank) (all_cards p)) in
+    ap length (filter-filter (is_above (card_of s r)) (λ d. not (same_card d next)) (all_cards p) ∙ filter_agree _ (is_above next) (λ d. step-test (is_of s d) r d.rank) (all_cards p)) in
     omega (arith, below, w1, some, most, rest)
 
 -- so the rank of a card of a start by relative ranks tells its place
 pub rank-place : (p : Board) (c : PlayingCard) → IsRelative p → has_card (all_cards p) c ≡ true → place p c + c.rank ≡ 14
 rank-place p c relative has =
-    let x = holder-of p c has in
+    let x = all-in p c has in
     let high = (card-real p x.0 c relative.board x.1).1 in
     let k : count (is_above (card_of c.suit c.rank)) (all_cards p) ≡ 14 - c.rank =
     above-count p relative.board c.suit (14 - c.rank) c.rank (omega (arith, high)) (λ d suit over top. relative.closed c d has suit (omega (arith, over)) top) in

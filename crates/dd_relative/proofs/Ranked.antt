@@ -18,8 +18,8 @@ use Rattle.dd_rank.specs.Depths.{all_cards, place, IsCoverAt, Covers}
 use Rattle.dd_rank.specs.Strings.{strings_of}
 use Rattle.dd_relative.specs.Relative.{IsRelative}
 use Rattle.dd_relative.specs.Tops.{HaveSameTops}
-use Rattle.dd_relative.proofs.Boards.{one-of-all}
 use Rattle.dd_relative.proofs.Places.{all-count, place-within, rank-place}
+use Rattle.dd_rank.proofs.CallerLemmas.{in-all}
 
 -- a turn that leaves North where it is leaves every seat
 turned-back : (k : ℕ) (x : Seat) → seat_after North k ≡ North → seat_after x k ≡ x
@@ -32,8 +32,8 @@ turned-back k West e = turn-turn North 3 k ∙ ap (λ y. seat_after y 3) e
 same-place : (p q : Board) (x y : Seat) (c d : PlayingCard) → IsRelative p → IsRelative q → has_card (cards_at p x) c ≡ true → has_card (cards_at q y) d ≡ true
     → d.suit ≡ c.suit → place q d ≡ place p c → d ≡ c
 same-place p q x y c d relative_p relative_q hc hd suits places =
-    let here = rank-place p c relative_p (one-of-all p x c hc) in
-    let there = rank-place q d relative_q (one-of-all q y d hd) in
+    let here = rank-place p c relative_p (in-all p x c hc) in
+    let there = rank-place q d relative_q (in-all q y d hd) in
     let ranks : d.rank ≡ c.rank = omega (arith, here, there, places) in
     ap₂ card_of suits ranks
 
@@ -55,14 +55,14 @@ cover-tops k depths p q relative_p relative_q a = record {
 
     forth : (x : Seat) (c : PlayingCard) → 14 < c.rank + depths c.suit → has_card (cards_at p x) c ≡ true → has_card (cards_at q x) c ≡ true
     forth x c high has =
-        let at = rank-place p c relative_p (one-of-all p x c has) in
+        let at = rank-place p c relative_p (in-all p x c has) in
         let d = a.forth x c has (omega (arith, at, high)) in
         let same : d.0 ≡ c = same-place p q x (seat_after x k) c d.0 relative_p relative_q has d.1 d.2 d.3 in
         ap₂ (λ y e. has_card (cards_at q y) e) (sym (still x)) (sym same) ∙ d.1
 
     back : (x : Seat) (d : PlayingCard) → 14 < d.rank + depths d.suit → has_card (cards_at q x) d ≡ true → has_card (cards_at p x) d ≡ true
     back x d high has =
-        let at = rank-place q d relative_q (one-of-all q x d has) in
+        let at = rank-place q d relative_q (in-all q x d has) in
         let c = a.back x d (ap (λ y. has_card (cards_at q y) d) (still x) ∙ has) (omega (arith, at, high)) in
         let same : c.0 ≡ d = same-place q p x x d c.0 relative_q relative_p has c.1 c.2 c.3 in
         ap (λ e. has_card (cards_at p x) e) (sym same) ∙ c.1
@@ -77,14 +77,14 @@ tops-cover depths p q relative_p relative_q most same = record {
   most = most;
   lengths = same.lengths;
   forth = λ x c has low.
-      let at = rank-place p c relative_p (one-of-all p x c has) in
+      let at = rank-place p c relative_p (in-all p x c has) in
       let there : has_card (cards_at q x) c ≡ true = same.tops x c (card-real p x c relative_p.board has) (omega (arith, at, low)) ∙ has in
-      let too = rank-place q c relative_q (one-of-all q x c there) in
+      let too = rank-place q c relative_q (in-all q x c there) in
       (c, there, refl, omega (arith, at, too));
   back = λ x d has low.
-      let at = rank-place q d relative_q (one-of-all q x d has) in
+      let at = rank-place q d relative_q (in-all q x d has) in
       let here : has_card (cards_at p x) d ≡ true = sym (same.tops x d (card-real q x d relative_q.board has) (omega (arith, at, low))) ∙ has in
-      let too = rank-place p d relative_p (one-of-all p x d here) in
+      let too = rank-place p d relative_p (in-all p x d here) in
       (d, here, refl, omega (arith, at, too));
 }
 
@@ -119,12 +119,12 @@ alike-same p q relative_p relative_q full alike =
     hand x = same-members (cards_at p x) (cards_at q x) (relative_p.board.sets x) (relative_q.board.sets x) (λ c real. both-ways _ _ (λ has. tops.tops x c real (low c has) ∙ has) (λ has. sym (tops.tops x c real (low' c has)) ∙ has))
       where
         low : (c : PlayingCard) → has_card (cards_at p x) c ≡ true → 14 < c.rank + count_of c.suit (all_cards p)
-        low c has = (let at = rank-place p c relative_p (one-of-all p x c has) in let within = place-within p c (one-of-all p x c has) in omega (arith, at, within))
+        low c has = (let at = rank-place p c relative_p (in-all p x c has) in let within = place-within p c (in-all p x c has) in omega (arith, at, within))
 
         low' : (c : PlayingCard) → has_card (cards_at q x) c ≡ true → 14 < c.rank + count_of c.suit (all_cards p)
         low' c has =
-            let at = rank-place q c relative_q (one-of-all q x c has) in
-            let within = place-within q c (one-of-all q x c has) in
+            let at = rank-place q c relative_q (in-all q x c has) in
+            let within = place-within q c (in-all q x c has) in
             let here = all-count p c.suit in
             let there = all-count q c.suit in
             let n : count_of c.suit (cards_at q North) ≡ count_of c.suit (cards_at p North) = tops.lengths North c.suit in

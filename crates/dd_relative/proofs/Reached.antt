@@ -1,22 +1,22 @@
 -- winning ranks that reach given cards, and those of given depths
 use Rattle.std.proofs.Common.{◌≡◌, ℕ, zero, suc, ◌+◌, ◌-◌, ◌<◌, ◌≤◌, Bool, true, false, refl, sym, ap, ◌∙◌, arith, List, [], ◌∷◌, inl, inr}
 use Rattle.std.specs.Prelude.{nat_lt, ◌&&◌}
-use Rattle.std.proofs.lemmas.Bool.{cases_lt, lt-ltb, ltb-true}
+use Rattle.std.proofs.lemmas.Bool.{cases_lt, lt-ltb, ltb-true, and_from, or_left, or_right}
 use Rattle.dd_cards.specs.declared.suit.Suit.{Suit}
 use Rattle.dd_cards.specs.PlayingCard.{PlayingCard}
 use Rattle.dd_cards.specs.Ranks.{IsRank}
 use Rattle.dd_cards.specs.Cards.{card_of, has_card, is_of}
-use Rattle.dd_cards.proofs.CallerLemmas.{and-both, and-left, and-right, or-left, or-right, same_card-self}
+use Rattle.dd_cards.proofs.CallerLemmas.{and-left, and-right, same_card-self}
 use Rattle.dd_play.specs.Board.{Board}
 use Rattle.dd_play.specs.Covers.{count_of}
 use Rattle.dd_play.specs.Reach.{reach}
-use Rattle.dd_play.proofs.CallerLemmas.{card-real, count, count-cons, flag_of, suit-of}
-use Rattle.dd_rank.specs.Depths.{FourDepths, all_cards, depth_in, depths_of, is_above}
+use Rattle.dd_play.proofs.CallerLemmas.{card-real, count, count-cons, flag_of, suit-of, reach-in}
+use Rattle.dd_rank.specs.Depths.{FourDepths, all_cards, depth_in, depths_of}
 use Rattle.dd_relative.specs.Relative.{IsRelative}
 use Rattle.dd_relative.specs.WinningRanks.{AreTop}
-use Rattle.dd_relative.proofs.Boards.{holder-of}
 use Rattle.dd_relative.proofs.Places.{above-count, flag-le}
-use Rattle.dd_relative.proofs.Whole.{there-reach}
+use Rattle.dd_rank.proofs.CallerLemmas.{all-in}
+use Rattle.dd_cards.specs.Sequences.{is_above}
 
 -- ---- depths
 -- where one test counts more cards, a card passes it and fails the other
@@ -26,7 +26,7 @@ more-some f g (c ∷ cards) h = go (more-some f g cards) (f c) (g c) refl refl
   where
     later : (count g cards < count f cards → (d : PlayingCard) × (has_card cards d ≡ true) × (f d ≡ true) × (g d ≡ false)) → count g cards < count f cards
         → (d : PlayingCard) × (has_card (c ∷ cards) d ≡ true) × (f d ≡ true) × (g d ≡ false)
-    later rest less = (let d = rest less in (d.0, or-right _ _ d.1, d.2, d.3))
+    later rest less = (let d = rest less in (d.0, or_right _ _ d.1, d.2, d.3))
 
     one : (b d : Bool) → f c ≡ b → g c ≡ d → flag_of b ≤ flag_of d → count g cards < count f cards
     one b d ef eg less =
@@ -38,14 +38,14 @@ more-some f g (c ∷ cards) h = go (more-some f g cards) (f c) (g c) refl refl
 
     go : (count g cards < count f cards → (d : PlayingCard) × (has_card cards d ≡ true) × (f d ≡ true) × (g d ≡ false)) → (b d : Bool) → f c ≡ b → g c ≡ d
         → (d : PlayingCard) × (has_card (c ∷ cards) d ≡ true) × (f d ≡ true) × (g d ≡ false)
-    go rest true false ef eg = (c, or-left _ _ (same_card-self c), ef, eg)
+    go rest true false ef eg = (c, or_left _ _ (same_card-self c), ef, eg)
     go rest true true ef eg = later rest (one true true ef eg (omega arith))
     go rest false false ef eg = later rest (one false false ef eg (omega arith))
     go rest false true ef eg = later rest (one false true ef eg (omega arith))
 
 module _ (p : Board) (relative : IsRelative p) (u : Suit) where
   card-most : (c : PlayingCard) → has_card (all_cards p) c ≡ true → IsRank c.rank
-  card-most c has = (let x = holder-of p c has in card-real p x.0 c relative.board x.1)
+  card-most c has = (let x = all-in p c has in card-real p x.0 c relative.board x.1)
 
   -- of so many cards the highest ranks are there
   pub highest-there : (n : ℕ) → n ≤ count_of u (all_cards p) → (d : PlayingCard) → d.suit ≡ u → 14 < d.rank + n → d.rank ≤ 14 → has_card (all_cards p) d ≡ true
@@ -64,7 +64,7 @@ module _ (p : Board) (relative : IsRelative p) (u : Suit) where
       not-above : (c : PlayingCard) (r : ℕ) → is_of u c ≡ true → is_above (card_of u r) c ≡ false → c.rank ≤ r
       not-above c r of fails = elim (cases_lt r c.rank) [
         | inr less ↦ less
-        | inl more ↦ absurd (let no : true ≡ false = sym (and-both (is_of u c) (nat_lt r c.rank) of (lt-ltb r c.rank more)) ∙ fails in cc)
+        | inl more ↦ absurd (let no : true ≡ false = sym (and_from (is_of u c) (nat_lt r c.rank) of (lt-ltb r c.rank more)) ∙ fails in cc)
       ]
 
   -- .. so there are no more than thirteen of a suit
@@ -86,17 +86,17 @@ module _ (p : Board) (relative : IsRelative p) (u : Suit) where
       reached-more : (list : List PlayingCard) → ((c : PlayingCard) → has_card list c ≡ true → IsRank c.rank) → count (is_above (card_of u (14 - n))) list ≤ count (λ e. is_of u e && reach cards e) list
       reached-more [] real = omega arith
       reached-more (c ∷ list) real =
-          let rest = reached-more list (λ d h. real d (or-right _ _ h)) in
+          let rest = reached-more list (λ d h. real d (or_right _ _ h)) in
           let a : count (is_above (card_of u (14 - n))) (c ∷ list) ≡ flag_of (is_above (card_of u (14 - n)) c) + count (is_above (card_of u (14 - n))) list = count-cons (is_above (card_of u (14 - n))) c list in
           let b : count (λ e. is_of u e && reach cards e) (c ∷ list) ≡ flag_of (is_of u c && reach cards c) + count (λ e. is_of u e && reach cards e) list = count-cons (λ e. is_of u e && reach cards e) c list in
-          let f = flag-le (is_above (card_of u (14 - n)) c) (is_of u c && reach cards c) (λ h. here c (real c (or-left _ _ (same_card-self c))) h) in
+          let f = flag-le (is_above (card_of u (14 - n)) c) (is_of u c && reach cards c) (λ h. here c (real c (or_left _ _ (same_card-self c))) h) in
           omega (arith, rest, a, b, f)
         where
           here : (c : PlayingCard) → IsRank c.rank → is_above (card_of u (14 - n)) c ≡ true → (is_of u c && reach cards c) ≡ true
           here c real h =
               let of = and-left (is_of u c) (nat_lt (14 - n) c.rank) h in
               let over : 14 - n < c.rank = ltb-true (14 - n) c.rank (and-right (is_of u c) (nat_lt (14 - n) c.rank) h) in
-              and-both (is_of u c) (reach cards c) of (there-reach cards c (has c (suit-of u c of) real (omega (arith, over))))
+              and_from (is_of u c) (reach cards c) of (reach-in cards c (has c (suit-of u c of) real (omega (arith, over))))
 
 -- the highest ranks are top cards
 pub ranks-top : (cards : List PlayingCard) (depths : FourDepths) → ((c : PlayingCard) → IsRank c.rank → has_card cards c ≡ nat_lt 14 (c.rank + depth_in depths c.suit)) → ((c : PlayingCard) → has_card cards c ≡ true → IsRank c.rank) → AreTop cards

@@ -14,10 +14,10 @@ use Rattle.dd_cards.specs.Suits.{suit_shift}
 use Rattle.dd_cards.specs.Ranks.{IsRank}
 use Rattle.dd_cards.specs.Cards.{has_card, place_of}
 use Rattle.dd_cards.specs.HandMasks.{IsHandMask, cards_of}
-use Rattle.dd_cards.proofs.CallerLemmas.{real-set, suit_code-lt}
+use Rattle.dd_cards.proofs.CallerLemmas.{real-set, suit_code-lt, has_card-cards_of}
 use Rattle.dd_relative.specs.WinningRanks.{AreTop}
 use Rattle.dd_relative.proofs.Bits.{pack-bit, pack_bits}
-use Rattle.dd_relative.proofs.Moved.{cards-set, has-bit}
+use Rattle.dd_relative.proofs.Moved.{cards-set}
 use Rattle.dd_relative.proofs.Packs.{pack-mask}
 
 -- the bit above each suit's ace
@@ -163,7 +163,7 @@ upward-bit m d valid fits real =
 -- of two bits one is set
 some-bit : (m : ℕ) (d : PlayingCard) → IsHandMask m → m < 2 ^ 64 → IsRank d.rank → has_card (cards_of (upward m)) d ≡ true → 1 ≤ bit_at (lane m d.suit) d.rank + bit_at (32768 - lane m d.suit) d.rank
 some-bit m d valid fits real has =
-    let e = eqb-true (bit_at (upward m) (place_of d)) 1 (sym (has-bit (upward m) d real) ∙ has) in
+    let e = eqb-true (bit_at (upward m) (place_of d)) 1 (sym (has_card-cards_of (upward m) d real) ∙ has) in
     let b = upward-bit m d valid fits real in
     omega (arith, e, b)
 
@@ -172,7 +172,7 @@ bit-has m d valid fits real some =
     let b = upward-bit m d valid fits real in
     let x = bit_at-lt (lane m d.suit) d.rank in
     let y = bit_at-lt (32768 - lane m d.suit) d.rank in
-    has-bit (upward m) d real ∙ eq-eqb (bit_at (upward m) (place_of d)) 1 (omega (arith, b, x, y, some))
+    has_card-cards_of (upward m) d real ∙ eq-eqb (bit_at (upward m) (place_of d)) 1 (omega (arith, b, x, y, some))
 
 pub upward-top : (m : ℕ) → IsHandMask m → m < 2 ^ 64 → AreTop (cards_of (upward m))
 upward-top m valid fits c d has suit low high =
@@ -189,6 +189,6 @@ pub upward-has : (m : ℕ) (d : PlayingCard) → IsHandMask m → m < 2 ^ 64 →
 upward-has m d valid fits has =
     let real = real-set (cards_of m) d (cards-set m) has in
     let low : d.rank < 16 = (let b = real.1 in omega (arith, b)) in
-    let e = eqb-true (bit_at m (place_of d)) 1 (sym (has-bit m d real) ∙ has) in
+    let e = eqb-true (bit_at m (place_of d)) 1 (sym (has_card-cards_of m d real) ∙ has) in
     let l : bit_at m (place_of d) ≡ bit_at (lane m d.suit) d.rank = lane-bit m d.suit d.rank low in
     bit-has m d valid fits real (omega (arith, e, l))

@@ -1,5 +1,5 @@
 -- the hands of a start of a trick, as code takes them
-use Rattle.std.proofs.Common.{◌≡◌, ℕ, Bool, true, false, refl, sym, ap, ◌∙◌, subst, List, []}
+use Rattle.std.proofs.Common.{◌≡◌, Bool, true, false, refl, sym, ap, ◌∙◌, subst, List, []}
 use Rattle.std.specs.Prelude.{filter, ◌||◌, ◌&&◌}
 use mathlib.Core.Bool.{not}
 use mathlib.Core.Path.{ap₂}
@@ -9,20 +9,16 @@ use Rattle.dd_cards.specs.PlayingCard.{PlayingCard}
 use Rattle.dd_cards.specs.Ranks.{IsRank}
 use Rattle.dd_cards.specs.Cards.{deck, has_card}
 use Rattle.dd_cards.specs.Hands.{FourHands, hand_of}
-use Rattle.dd_cards.specs.Seats.{next_seat, seat_after}
+use Rattle.dd_cards.specs.Seats.{next_seat}
 use Rattle.dd_cards.proofs.CallerLemmas.{and-true, has_card-deck, has_card-filter}
-use Rattle.dd_play.specs.Board.{Board, IsBoard, cards_at}
+use Rattle.dd_play.specs.Board.{Board, IsBoard}
 use Rattle.dd_relative.specs.Gapped.{IsGapped}
 use Rattle.dd_relative.specs.Relative.{led_by_north}
 use Rattle.dd_relative.specs.Turned.{from_leader}
 use Rattle.dd_relative.proofs.Boards.{held}
 use Rattle.dd_relative.proofs.Packs.{pack-gaps}
 use Rattle.dd_relative.proofs.Turned.{led-same, turned-board}
-
--- the hand of a seat that comes so many places after the leader
-at-seat : (p : Board) (hands : FourHands) (f seat : Seat) (k : ℕ) (cards : List PlayingCard) → hands ≡ p.hands → f ≡ p.first → seat ≡ seat_after f k → cards ≡ hand_of hands seat
-    → cards ≡ cards_at p (seat_after p.first k)
-at-seat p hands f seat k cards eh ef es ec = ec ∙ ap₂ hand_of eh (es ∙ ap (λ x. seat_after x k) ef)
+use Rattle.dd_rank.proofs.CallerLemmas.{at-seat}
 
 pub start-same : (p : Board) (hands : FourHands) (first second third fourth : Seat) (l s t f : List PlayingCard) (strain : Strain) → hands ≡ p.hands → first ≡ p.first
     → second ≡ next_seat first → third ≡ next_seat second → fourth ≡ next_seat third

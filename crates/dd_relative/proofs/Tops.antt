@@ -3,7 +3,7 @@ use Rattle.std.proofs.Common.{◌≡◌, ℕ, zero, suc, ◌+◌, ◌<◌, ◌�
 use Rattle.std.specs.Prelude.{filter, take, nat_lt, ◌||◌, ◌&&◌}
 use Rattle.std.specs.List.{list_any}
 use mathlib.Core.Bool.{not}
-use Rattle.std.proofs.lemmas.Bool.{cases_lt, lt-ltb, ltb-true}
+use Rattle.std.proofs.lemmas.Bool.{cases_lt, lt-ltb, ltb-true, and_from, or_left, or_right, or_cases, not-true, not_from_false, false_from_ne_true}
 use Rattle.std.proofs.lemmas.List.Folds.{list_any-append}
 use Rattle.dd_cards.specs.declared.seat.Seat.{Seat}
 use Rattle.dd_cards.specs.declared.seat.Seat.TheVariants.{North, East, South, West}
@@ -12,7 +12,7 @@ use Rattle.dd_cards.specs.Suits.{suit_code}
 use Rattle.dd_cards.specs.Cards.{has_card, is_of, same_card, without}
 use Rattle.dd_cards.specs.Hands.{FourHands, hand_of, IsSet}
 use Rattle.dd_cards.specs.Seats.{seat_after}
-use Rattle.dd_cards.proofs.CallerLemmas.{IsSet-filter, and-both, and-false, and-left, and-right, both-ways, else-false, false-not, has_card-filter, has_card-without, not-true, or-left, or-right, or-split, real-set, same-members, same_card-eq, same_card-self}
+use Rattle.dd_cards.proofs.CallerLemmas.{IsSet-filter, and-false, and-left, and-right, both-ways, has_card-filter, has_card-without, real-set, same-members, same_card-eq, same_card-self, any-some, any-card}
 use Rattle.dd_play.specs.Board.{Board, IsBoard, cards_at, mover}
 use Rattle.dd_play.specs.Tricks.{or_else}
 use Rattle.dd_play.specs.Play.{following, legal}
@@ -21,23 +21,9 @@ use Rattle.dd_equal.specs.EqualCards.{other_cards, is_between, are_equal, is_top
 use Rattle.dd_relative.specs.Relative.{IsRelative}
 use Rattle.dd_relative.specs.Runs.{next_above, heads_of}
 use Rattle.dd_relative.specs.UnderWay.{under_way, IsUnderWay}
-use Rattle.dd_relative.proofs.Boards.{holder-of, one-of-all}
+use Rattle.dd_rank.proofs.CallerLemmas.{in-all, all-in}
 
 -- ---- one of a list
-pub any-some : (t : PlayingCard → Bool) (cards : List PlayingCard) → list_any t cards ≡ true → (d : PlayingCard) × (has_card cards d ≡ true) × (t d ≡ true)
-any-some t [] h = absurd (cc)
-any-some t (c ∷ cards) h = elim (or-split (t c) (list_any t cards) h) [
-  | inl here ↦ (c, or-left _ _ (same_card-self c), here)
-  | inr later ↦ (let d = any-some t cards later in (d.0, or-right _ _ d.1, d.2))
-]
-
-pub some-any : (t : PlayingCard → Bool) (cards : List PlayingCard) (d : PlayingCard) → has_card cards d ≡ true → t d ≡ true → list_any t cards ≡ true
-some-any t [] d has e = absurd (cc)
-some-any t (c ∷ cards) d has e = elim (or-split (same_card c d) (has_card cards d) has) [
-  | inl here ↦ or-left _ _ (ap t (same_card-eq c d here) ∙ e)
-  | inr later ↦ or-right _ _ (some-any t cards d later e)
-]
-
 -- ---- the cards that stand before the trick
 -- of four hands and a trick: a card is in the hand of this seat, or in another hand or on the trick
 others-or : (hands : FourHands) (trick : List PlayingCard) (m x : Seat) (k : PlayingCard) → has_card (hand_of hands x) k ≡ true
@@ -48,13 +34,13 @@ others-or hands trick m x k = go m x
     test d = same_card d k
 
     first : (a b c : List PlayingCard) → list_any test a ≡ true → list_any test (a ++ b ++ c ++ trick) ≡ true
-    first a b c h = list_any-append test ((a ++ b) ++ c) trick ∙ or-left _ _ (list_any-append test (a ++ b) c ∙ or-left _ _ (list_any-append test a b ∙ or-left _ _ h))
+    first a b c h = list_any-append test ((a ++ b) ++ c) trick ∙ or_left _ _ (list_any-append test (a ++ b) c ∙ or_left _ _ (list_any-append test a b ∙ or_left _ _ h))
 
     second : (a b c : List PlayingCard) → list_any test b ≡ true → list_any test (a ++ b ++ c ++ trick) ≡ true
-    second a b c h = list_any-append test ((a ++ b) ++ c) trick ∙ or-left _ _ (list_any-append test (a ++ b) c ∙ or-left _ _ (list_any-append test a b ∙ or-right _ _ h))
+    second a b c h = list_any-append test ((a ++ b) ++ c) trick ∙ or_left _ _ (list_any-append test (a ++ b) c ∙ or_left _ _ (list_any-append test a b ∙ or_right _ _ h))
 
     third : (a b c : List PlayingCard) → list_any test c ≡ true → list_any test (a ++ b ++ c ++ trick) ≡ true
-    third a b c h = list_any-append test ((a ++ b) ++ c) trick ∙ or-left _ _ (list_any-append test (a ++ b) c ∙ or-right _ _ h)
+    third a b c h = list_any-append test ((a ++ b) ++ c) trick ∙ or_left _ _ (list_any-append test (a ++ b) c ∙ or_right _ _ h)
 
     go : (m x : Seat) → has_card (hand_of hands x) k ≡ true
         → (has_card (hand_of hands m) k ≡ true) ⊎ (has_card (hand_of hands (seat_after m 1) ++ hand_of hands (seat_after m 2) ++ hand_of hands (seat_after m 3) ++ trick) k ≡ true)
@@ -79,7 +65,7 @@ others-or hands trick m x k = go m x
 others-trick : (hands : FourHands) (trick : List PlayingCard) (m : Seat) (k : PlayingCard) → has_card trick k ≡ true
     → has_card (hand_of hands (seat_after m 1) ++ hand_of hands (seat_after m 2) ++ hand_of hands (seat_after m 3) ++ trick) k ≡ true
 others-trick hands trick m k h =
-    list_any-append (λ d. same_card d k) (hand_of hands (seat_after m 1) ++ hand_of hands (seat_after m 2) ++ hand_of hands (seat_after m 3)) trick ∙ or-right _ _ h
+    list_any-append (λ d. same_card d k) (hand_of hands (seat_after m 1) ++ hand_of hands (seat_after m 2) ++ hand_of hands (seat_after m 3)) trick ∙ or_right _ _ h
 
 -- a card of a hand before it played another is that one or still there
 still : (cards : List PlayingCard) (a k : PlayingCard) → has_card cards k ≡ true → (has_card (without cards a) k ≡ true) ⊎ (same_card a k ≡ true)
@@ -87,23 +73,23 @@ still cards a k h = go (same_card k a) refl
   where
     go : (b : Bool) → same_card k a ≡ b → (has_card (without cards a) k ≡ true) ⊎ (same_card a k ≡ true)
     go true e = inr (ap (λ x. same_card a x) (same_card-eq k a e) ∙ same_card-self a)
-    go false e = inl (has_card-without cards a k ∙ and-both _ _ (false-not _ e) h)
+    go false e = inl (has_card-without cards a k ∙ and_from _ _ (not_from_false _ e) h)
 
 -- each card of before the trick is in a hand or on the trick
 stays : (s : Board) (cards : List PlayingCard) (n : ℕ) (x : Seat) (k : PlayingCard) → length cards ≡ 3 → n ≤ 3 → has_card (cards_at s x) k ≡ true
     → (has_card (cards_at (under_way s (take n cards)) x) k ≡ true) ⊎ (has_card (take n cards) k ≡ true)
 stays s (a ∷ b ∷ c ∷ []) zero x k three most h = inl h
-stays s (a ∷ b ∷ c ∷ []) (suc zero) North k three most h = elim (still s.hands.north a k h) [ inl there ↦ inl there | inr e ↦ inr (or-left _ _ e) ]
+stays s (a ∷ b ∷ c ∷ []) (suc zero) North k three most h = elim (still s.hands.north a k h) [ inl there ↦ inl there | inr e ↦ inr (or_left _ _ e) ]
 stays s (a ∷ b ∷ c ∷ []) (suc zero) East k three most h = inl h
 stays s (a ∷ b ∷ c ∷ []) (suc zero) South k three most h = inl h
 stays s (a ∷ b ∷ c ∷ []) (suc zero) West k three most h = inl h
-stays s (a ∷ b ∷ c ∷ []) (suc (suc zero)) North k three most h = elim (still s.hands.north a k h) [ inl there ↦ inl there | inr e ↦ inr (or-left _ _ e) ]
-stays s (a ∷ b ∷ c ∷ []) (suc (suc zero)) East k three most h = elim (still s.hands.east b k h) [ inl there ↦ inl there | inr e ↦ inr (or-right _ _ (or-left _ _ e)) ]
+stays s (a ∷ b ∷ c ∷ []) (suc (suc zero)) North k three most h = elim (still s.hands.north a k h) [ inl there ↦ inl there | inr e ↦ inr (or_left _ _ e) ]
+stays s (a ∷ b ∷ c ∷ []) (suc (suc zero)) East k three most h = elim (still s.hands.east b k h) [ inl there ↦ inl there | inr e ↦ inr (or_right _ _ (or_left _ _ e)) ]
 stays s (a ∷ b ∷ c ∷ []) (suc (suc zero)) South k three most h = inl h
 stays s (a ∷ b ∷ c ∷ []) (suc (suc zero)) West k three most h = inl h
-stays s (a ∷ b ∷ c ∷ []) (suc (suc (suc zero))) North k three most h = elim (still s.hands.north a k h) [ inl there ↦ inl there | inr e ↦ inr (or-left _ _ e) ]
-stays s (a ∷ b ∷ c ∷ []) (suc (suc (suc zero))) East k three most h = elim (still s.hands.east b k h) [ inl there ↦ inl there | inr e ↦ inr (or-right _ _ (or-left _ _ e)) ]
-stays s (a ∷ b ∷ c ∷ []) (suc (suc (suc zero))) South k three most h = elim (still s.hands.south c k h) [ inl there ↦ inl there | inr e ↦ inr (or-right _ _ (or-right _ _ (or-left _ _ e))) ]
+stays s (a ∷ b ∷ c ∷ []) (suc (suc (suc zero))) North k three most h = elim (still s.hands.north a k h) [ inl there ↦ inl there | inr e ↦ inr (or_left _ _ e) ]
+stays s (a ∷ b ∷ c ∷ []) (suc (suc (suc zero))) East k three most h = elim (still s.hands.east b k h) [ inl there ↦ inl there | inr e ↦ inr (or_right _ _ (or_left _ _ e)) ]
+stays s (a ∷ b ∷ c ∷ []) (suc (suc (suc zero))) South k three most h = elim (still s.hands.south c k h) [ inl there ↦ inl there | inr e ↦ inr (or_right _ _ (or_right _ _ (or_left _ _ e))) ]
 stays s (a ∷ b ∷ c ∷ []) (suc (suc (suc zero))) West k three most h = inl h
 stays s (a ∷ b ∷ c ∷ []) (suc (suc (suc (suc n)))) x k three most h = absurd (omega (arith, most))
 stays s [] n x k three most h = absurd (omega (arith, three))
@@ -134,12 +120,12 @@ module _ (p : Board) (valid : IsBoard p) (there : (c k : PlayingCard) → has_ca
 
   -- nothing lies between neighbours
   neighbours : (c : PlayingCard) (cards : List PlayingCard) → list_any (is_between c (next_above c)) cards ≡ false
-  neighbours c cards = else-false _ (λ h.
+  neighbours c cards = false_from_ne_true _ (λ h.
       let e = any-some (is_between c (next_above c)) cards h in
       apart c.rank e.0.rank (and-right (is_of c.suit e.0) _ e.2))
     where
       apart : (r q : ℕ) → ((nat_lt r q && nat_lt q (r + 1)) || (nat_lt (r + 1) q && nat_lt q r)) ≡ true → ⊥
-      apart r q h = elim (or-split (nat_lt r q && nat_lt q (r + 1)) (nat_lt (r + 1) q && nat_lt q r) h) [
+      apart r q h = elim (or_cases (nat_lt r q && nat_lt q (r + 1)) (nat_lt (r + 1) q && nat_lt q r) h) [
         | inl up ↦ (
             let a : r < q = ltb-true r q (and-left (nat_lt r q) (nat_lt q (r + 1)) up) in
             let b : q < r + 1 = ltb-true q (r + 1) (and-right (nat_lt r q) (nat_lt q (r + 1)) up) in
@@ -152,7 +138,7 @@ module _ (p : Board) (valid : IsBoard p) (there : (c k : PlayingCard) → has_ca
 
   above-is-under : (c : PlayingCard) → under c (next_above c) ≡ true
   unfolding under
-  above-is-under c = and-both (are_equal p c (next_above c)) (nat_lt c.rank (c.rank + 1)) (and-both (is_of c.suit (next_above c)) _ (of-suit' c.suit (next_above c) refl) (false-not (list_any (is_between c (next_above c)) (other_cards p)) (neighbours c (other_cards p)))) (lt-ltb c.rank (c.rank + 1) (omega arith))
+  above-is-under c = and_from (are_equal p c (next_above c)) (nat_lt c.rank (c.rank + 1)) (and_from (is_of c.suit (next_above c)) _ (of-suit' c.suit (next_above c) refl) (not_from_false (list_any (is_between c (next_above c)) (other_cards p)) (neighbours c (other_cards p)))) (lt-ltb c.rank (c.rank + 1) (omega arith))
 
   under-above : (c d : PlayingCard) → has_card (legal p) c ≡ true → has_card (legal p) d ≡ true → under c d ≡ true → has_card (legal p) (next_above c) ≡ true
   unfolding under
@@ -168,11 +154,11 @@ module _ (p : Board) (valid : IsBoard p) (there : (c k : PlayingCard) → has_ca
         | inl own ↦ legal-in p.trick (cards_at p (mover p)) (next_above c) own (obeys-suit p.trick (cards_at p (mover p)) c (next_above c) refl (legal-out p.trick (cards_at p (mover p)) c hc))
         | inr other ↦ elim (cases_lt (c.rank + 1) d.rank) [
           | inl more ↦ absurd (
-              let between : is_between c d (next_above c) ≡ true = and-both (is_of c.suit (next_above c)) _ (of-suit' c.suit (next_above c) refl) (or-left (nat_lt c.rank (c.rank + 1) && nat_lt (c.rank + 1) d.rank) _ (and-both (nat_lt c.rank (c.rank + 1)) (nat_lt (c.rank + 1) d.rank) (lt-ltb c.rank (c.rank + 1) (omega arith)) (lt-ltb (c.rank + 1) d.rank more))) in
-              let no : true ≡ false = sym (some-any (is_between c d) (other_cards p) (next_above c) other between) ∙ clear in cc)
+              let between : is_between c d (next_above c) ≡ true = and_from (is_of c.suit (next_above c)) _ (of-suit' c.suit (next_above c) refl) (or_left (nat_lt c.rank (c.rank + 1) && nat_lt (c.rank + 1) d.rank) _ (and_from (nat_lt c.rank (c.rank + 1)) (nat_lt (c.rank + 1) d.rank) (lt-ltb c.rank (c.rank + 1) (omega arith)) (lt-ltb (c.rank + 1) d.rank more))) in
+              let no : true ≡ false = sym (any-card (is_between c d) (other_cards p) (next_above c) other between) ∙ clear in cc)
           | inr at_most ↦ (
               let ranks : d.rank ≡ c.rank + 1 = omega (arith, less, at_most) in
-              let same : d ≡ next_above c = same_card-eq d (next_above c) (and-both _ _ (eq-eqb _ _ (ap suit_code suit)) (eq-eqb _ _ ranks)) in
+              let same : d ≡ next_above c = same_card-eq d (next_above c) (and_from _ _ (eq-eqb _ _ (ap suit_code suit)) (eq-eqb _ _ ranks)) in
               ap (has_card (legal p)) (sym same) ∙ hd)
         ]
       ]
@@ -181,7 +167,7 @@ module _ (p : Board) (valid : IsBoard p) (there : (c k : PlayingCard) → has_ca
   unfolding under
   top-test c hc = ap not (both-ways _ _
       (λ h. let d = any-some (under c) (legal p) h in under-above c d.0 hc d.1 d.2)
-      (λ h. some-any (under c) (legal p) (next_above c) h (above-is-under c)))
+      (λ h. any-card (under c) (legal p) (next_above c) h (above-is-under c)))
 
   pub heads-tops : heads_of (legal p) ≡ tops p
   heads-tops =
@@ -237,8 +223,8 @@ pub own-or-other : (s : Board) (cards : List PlayingCard) (n : ℕ) (c k : Playi
     → (has_card (cards_at (under_way s (take n cards)) (mover (under_way s (take n cards)))) k ≡ true) ⊎ (has_card (other_cards (under_way s (take n cards))) k ≡ true)
 own-or-other s cards n c k relative three most own suit less top =
     let m : Seat = mover (under_way s (take n cards)) in
-    let all = relative.closed c k (one-of-all s m c (left-was s cards n m c three most own)) suit less top in
-    let x = holder-of s k all in
+    let all = relative.closed c k (in-all s m c (left-was s cards n m c three most own)) suit less top in
+    let x = all-in s k all in
     elim (stays s cards n x.0 k three most x.1) [
       | inl hand ↦ others-or (under_way s (take n cards)).hands (under_way s (take n cards)).trick m x.0 k hand
       | inr trick ↦ inr (others-trick (under_way s (take n cards)).hands (under_way s (take n cards)).trick m k (ap (λ l. has_card l k) (on-trick s cards n relative three most) ∙ trick))

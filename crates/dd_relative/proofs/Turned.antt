@@ -11,7 +11,7 @@ use Rattle.dd_cards.specs.Hands.{FourHands, hand_of, AreHands, IsSet}
 use Rattle.dd_cards.specs.Seats.{seat_code, seat_after}
 use Rattle.dd_cards.proofs.CallerLemmas.{seat_code-injective, seat_code-lt}
 use Rattle.dd_play.specs.Board.{Board, IsBoard, cards_at}
-use Rattle.dd_play.proofs.CallerLemmas.{after-code, flag_of}
+use Rattle.dd_play.proofs.CallerLemmas.{flag_of}
 use Rattle.dd_rank.specs.Alike.{IsAlikeBy, IsAlike, AreAlike}
 use Rattle.dd_relative.specs.Relative.{led_by_north}
 use Rattle.dd_relative.specs.Turned.{from_seat, from_leader}
@@ -19,8 +19,9 @@ use Rattle.dd_relative.specs.Gapped.{stands, IsGapped}
 use Rattle.dd_rank.specs.Depths.{all_cards}
 use Rattle.std.specs.Prelude.{◌||◌}
 use Rattle.dd_cards.proofs.CallerLemmas.{both-ways}
-use Rattle.dd_relative.proofs.Boards.{board-hands, holder-of, one-of-all, start-board}
+use Rattle.dd_relative.proofs.Boards.{board-hands, start-board}
 use Rattle.dd_relative.proofs.Gapped.{alike-then}
+use Rattle.dd_rank.proofs.CallerLemmas.{in-all, after-tells, all-in}
 
 -- how many places on North comes
 pub places_to_north : Seat → ℕ
@@ -62,14 +63,6 @@ from-at hands f North = refl
 from-at hands f East = refl
 from-at hands f South = refl
 from-at hands f West = refl
-
--- two places with one seat are one place
-after-tells : (f : Seat) (j k : ℕ) → j < 4 → k < 4 → seat_after f j ≡ seat_after f k → j ≡ k
-after-tells f j k low high e =
-    let a = after-code f j in
-    let b = after-code f k in
-    let c : seat_code (seat_after f j) ≡ seat_code (seat_after f k) = ap seat_code e in
-    omega (arith, a, b, c, low, high)
 
 -- they are four hands
 from-hands : (hands : FourHands) (f : Seat) → AreHands hands → AreHands (from_seat hands f)
@@ -114,8 +107,8 @@ alike-turned p q start a = (places_to_north p.first, a.0, a.1, alike-then (place
 -- all hands have the same cards
 pub turned-all : (p : Board) (c : PlayingCard) → has_card (all_cards (from_leader p)) c ≡ has_card (all_cards p) c
 turned-all p c = both-ways _ _
-    (λ h. let x = holder-of (from_leader p) c h in one-of-all p (seat_after p.first (seat_code x.0)) c (ap (λ cards. has_card cards c) (sym (from-at p.hands p.first x.0)) ∙ x.1))
-    (λ h. let x = holder-of p c h in one-of-all (from_leader p) (seat_after x.0 (places_to_north p.first)) c (ap (λ cards. has_card cards c) (turned-hand p.hands p.first x.0) ∙ x.1))
+    (λ h. let x = all-in (from_leader p) c h in in-all p (seat_after p.first (seat_code x.0)) c (ap (λ cards. has_card cards c) (sym (from-at p.hands p.first x.0)) ∙ x.1))
+    (λ h. let x = all-in p c h in in-all (from_leader p) (seat_after x.0 (places_to_north p.first)) c (ap (λ cards. has_card cards c) (turned-hand p.hands p.first x.0) ∙ x.1))
 
 -- the gaps stay
 pub turned-gapped : (p : Board) (gaps : List PlayingCard) → IsGapped p gaps → IsGapped (from_leader p) gaps

@@ -12,12 +12,12 @@ use Rattle.dd_cards.specs.Ranks.{IsRank}
 use Rattle.dd_cards.specs.Cards.{has_card, is_of, same_card, with_card, without}
 use Rattle.dd_cards.specs.Hands.{FourHands, dealt, times, IsSet}
 use Rattle.dd_cards.specs.Seats.{seat_after}
-use Rattle.dd_cards.proofs.CallerLemmas.{IsSet-with_card, and-both, and-left, and-right, else-false, false-not, has_card-with_card, has_card-without, not-true, or-left, or-right, or-split, real-set, both-ways, same_card-eq, same_card-self, times-cons, times-set}
+use Rattle.dd_cards.proofs.CallerLemmas.{IsSet-with_card, and-left, and-right, has_card-with_card, has_card-without, real-set, both-ways, same_card-eq, same_card-self, times-cons, times-set, times-has}
 use Rattle.dd_play.specs.Board.{Board, board_of, cards_at, mover}
 use Rattle.dd_play.specs.Tricks.{winner_of, or_else}
-use Rattle.dd_play.specs.Play.{following, legal, after}
+use Rattle.dd_play.specs.Play.{legal, after}
 use Rattle.dd_play.specs.Simulations.{IsLegal}
-use Rattle.dd_play.proofs.CallerLemmas.{flag_of, legal-leads, own-card, times-has}
+use Rattle.dd_play.proofs.CallerLemmas.{flag_of, legal-leads, own-card}
 use Rattle.dd_rank.specs.Depths.{all_cards}
 use Rattle.dd_relative.specs.Relative.{IsRelative, led_by_north}
 use Rattle.dd_relative.specs.Turned.{from_seat, from_leader}
@@ -25,7 +25,9 @@ use Rattle.dd_relative.proofs.Turned.{turned-gapped}
 use Rattle.dd_relative.specs.Gapped.{stands, IsGapped}
 use Rattle.dd_relative.specs.UnderWay.{under_way, IsUnderWay}
 use Rattle.dd_relative.proofs.Gapped.{gapped-as}
-use Rattle.dd_relative.proofs.Boards.{board-hands, holder-of, one-of-all}
+use Rattle.dd_relative.proofs.Boards.{board-hands}
+use Rattle.std.proofs.lemmas.Bool.{and_from, or_left, or_right, or_cases, not-true, not_from_false, false_from_ne_true}
+use Rattle.dd_rank.proofs.CallerLemmas.{in-all, all-in}
 
 -- a start of a trick that North leads to, by its parts
 start-is : (s : Board) → IsRelative s → board_of s.hands s.strain North [] ≡ s
@@ -60,10 +62,6 @@ hand-now s [] n r three most = absurd (omega (arith, three))
 hand-now s (x ∷ []) n r three most = absurd (omega (arith, three))
 hand-now s (x ∷ y ∷ []) n r three most = absurd (omega (arith, three))
 hand-now s (x ∷ y ∷ z ∷ w ∷ rest) n r three most = absurd (omega (arith, three))
-
--- the leader may play any card
-pub legal-lead : (p : Board) (hand : List PlayingCard) → p.trick ≡ [] → hand ≡ cards_at p (mover p) → hand ≡ legal p
-legal-lead p hand start e = e ∙ subst (λ (trick : List PlayingCard). cards_at p (mover p) ≡ following trick (cards_at p (mover p))) (sym start) refl
 
 -- the others follow suit if they can
 pub legal-follow : (s : Board) (cards : List PlayingCard) (n : ℕ) (hand : List PlayingCard) (led : PlayingCard) → length cards ≡ 3 → 1 ≤ n → n ≤ 3 → led ≡ slice_index_or cards 0 led
@@ -153,23 +151,23 @@ module _ (s : Board) (x y z d : PlayingCard) (relative : IsRelative s) (under : 
   unfolding played
   gap-of c h =
       let real = real-set (with_card (with_card (with_card (with_card [] x) y) z) d) c gaps-set h in
-      elim (or-split _ _ (sym (gaps-have c real) ∙ h)) [
+      elim (or_cases _ _ (sym (gaps-have c real) ∙ h)) [
         | inl e ↦ (West, same_card-eq c d e)
-        | inr rest ↦ elim (or-split _ _ rest) [
+        | inr rest ↦ elim (or_cases _ _ rest) [
           | inl e ↦ (South, same_card-eq c z e)
-          | inr rest' ↦ elim (or-split _ _ rest') [
+          | inr rest' ↦ elim (or_cases _ _ rest') [
             | inl e ↦ (East, same_card-eq c y e)
-            | inr rest'' ↦ elim (or-split _ _ rest'') [ inl e ↦ (North, same_card-eq c x e) | inr none ↦ absurd (cc) ]
+            | inr rest'' ↦ elim (or_cases _ _ rest'') [ inl e ↦ (North, same_card-eq c x e) | inr none ↦ absurd (cc) ]
           ]
         ]
       ]
 
   of-gap : (c : PlayingCard) (a : Seat) → IsRank c.rank → same_card c (played a) ≡ true → has_card (with_card (with_card (with_card (with_card [] x) y) z) d) c ≡ true
   unfolding played
-  of-gap c West real e = gaps-have c real ∙ or-left (same_card c d) _ e
-  of-gap c South real e = gaps-have c real ∙ or-right (same_card c d) _ (or-left (same_card c z) _ e)
-  of-gap c East real e = gaps-have c real ∙ or-right (same_card c d) _ (or-right (same_card c z) _ (or-left (same_card c y) _ e))
-  of-gap c North real e = gaps-have c real ∙ or-right (same_card c d) _ (or-right (same_card c z) _ (or-right (same_card c y) _ (or-left (same_card c x) false e)))
+  of-gap c West real e = gaps-have c real ∙ or_left (same_card c d) _ e
+  of-gap c South real e = gaps-have c real ∙ or_right (same_card c d) _ (or_left (same_card c z) _ e)
+  of-gap c East real e = gaps-have c real ∙ or_right (same_card c d) _ (or_right (same_card c z) _ (or_left (same_card c y) _ e))
+  of-gap c North real e = gaps-have c real ∙ or_right (same_card c d) _ (or_right (same_card c z) _ (or_right (same_card c y) _ (or_left (same_card c x) false e)))
 
   -- a card that is left was there
   was : (a : Seat) (c : PlayingCard) → has_card (cards_at (after (under_way s (x ∷ y ∷ z ∷ [])) d) a) c ≡ true → (has_card (cards_at s a) c ≡ true) × (same_card c (played a) ≡ false)
@@ -180,19 +178,19 @@ module _ (s : Board) (x y z d : PlayingCard) (relative : IsRelative s) (under : 
   -- and each but the one that was played is left
   is-left : (a : Seat) (c : PlayingCard) → has_card (cards_at s a) c ≡ true → same_card c (played a) ≡ false → has_card (cards_at (after (under_way s (x ∷ y ∷ z ∷ [])) d) a) c ≡ true
   is-left a c h other =
-      ap (λ cards. has_card cards c) (left-at a) ∙ has_card-without (cards_at s a) (played a) c ∙ and-both _ _ (false-not _ other) h
+      ap (λ cards. has_card cards c) (left-at a) ∙ has_card-without (cards_at s a) (played a) c ∙ and_from _ _ (not_from_false _ other) h
 
   -- what stands was there before the trick
   stood : (c : PlayingCard) → stands (after (under_way s (x ∷ y ∷ z ∷ [])) d) (with_card (with_card (with_card (with_card [] x) y) z) d) c ≡ true → has_card (all_cards s) c ≡ true
-  stood c h = elim (or-split _ _ h) [
-    | inl card ↦ (let a = holder-of (after (under_way s (x ∷ y ∷ z ∷ [])) d) c card in one-of-all s a.0 c (was a.0 c a.1).0)
-    | inr gap ↦ (let a = gap-of c gap in one-of-all s a.0 c (ap (has_card (cards_at s a.0)) a.1 ∙ played-own a.0))
+  stood c h = elim (or_cases _ _ h) [
+    | inl card ↦ (let a = all-in (after (under_way s (x ∷ y ∷ z ∷ [])) d) c card in in-all s a.0 c (was a.0 c a.1).0)
+    | inr gap ↦ (let a = gap-of c gap in in-all s a.0 c (ap (has_card (cards_at s a.0)) a.1 ∙ played-own a.0))
   ]
 
   stands-now : (c : PlayingCard) (a : Seat) (b : Bool) → same_card c (played a) ≡ b → has_card (cards_at s a) c ≡ true
       → stands (after (under_way s (x ∷ y ∷ z ∷ [])) d) (with_card (with_card (with_card (with_card [] x) y) z) d) c ≡ true
-  stands-now c a true e h = or-right _ _ (of-gap c a (real-set (cards_at s a) c (relative.board.sets a) h) e)
-  stands-now c a false e h = or-left _ _ (one-of-all (after (under_way s (x ∷ y ∷ z ∷ [])) d) a c (is-left a c h e))
+  stands-now c a true e h = or_right _ _ (of-gap c a (real-set (cards_at s a) c (relative.board.sets a) h) e)
+  stands-now c a false e h = or_left _ _ (in-all (after (under_way s (x ∷ y ∷ z ∷ [])) d) a c (is-left a c h e))
 
   -- the cards of the trick are gaps
   pub trick-gapped : IsGapped (after (under_way s (x ∷ y ∷ z ∷ [])) d) (with_card (with_card (with_card (with_card [] x) y) z) d)
@@ -201,9 +199,9 @@ module _ (s : Board) (x y z d : PlayingCard) (relative : IsRelative s) (under : 
     start = refl;
     once = λ c. times-set (with_card (with_card (with_card (with_card [] x) y) z) d) c gaps-set;
     real = λ c h. real-set (with_card (with_card (with_card (with_card [] x) y) z) d) c gaps-set h;
-    apart = λ c h. else-false _ (λ k.
+    apart = λ c h. false_from_ne_true _ (λ k.
         let a = gap-of c h in
-        let b = holder-of (after (under_way s (x ∷ y ∷ z ∷ [])) d) c k in
+        let b = all-in (after (under_way s (x ∷ y ∷ z ∷ [])) d) c k in
         let w = was b.0 c b.1 in
         let same : a.0 ≡ b.0 = (board-hands s relative.board).disjoint c a.0 b.0 (ap (has_card (cards_at s a.0)) a.1 ∙ played-own a.0) w.0 in
         let here : c ≡ played b.0 = a.1 ∙ ap played same in
@@ -211,7 +209,7 @@ module _ (s : Board) (x y z d : PlayingCard) (relative : IsRelative s) (under : 
         let no : true ≡ false = sym yes ∙ w.1 in cc);
     closed = λ c e h suits less most. (
         let all = relative.closed c e (stood c h) suits less most in
-        let a = holder-of s e all in
+        let a = all-in s e all in
         stands-now e a.0 (same_card e (played a.0)) refl a.1);
   }
 
@@ -221,20 +219,20 @@ module _ (s : Board) (x y z d : PlayingCard) (relative : IsRelative s) (under : 
 
   list-there : (a : Seat) → has_card (x ∷ y ∷ z ∷ d ∷ []) (played a) ≡ true
   unfolding played
-  list-there North = or-left (same_card x x) (same_card y x || (same_card z x || (same_card d x || false))) (same_card-self x)
-  list-there East = or-right (same_card x y) _ (or-left (same_card y y) (same_card z y || (same_card d y || false)) (same_card-self y))
-  list-there South = or-right (same_card x z) _ (or-right (same_card y z) _ (or-left (same_card z z) (same_card d z || false) (same_card-self z)))
-  list-there West = or-right (same_card x d) _ (or-right (same_card y d) _ (or-right (same_card z d) _ (or-left (same_card d d) false (same_card-self d))))
+  list-there North = or_left (same_card x x) (same_card y x || (same_card z x || (same_card d x || false))) (same_card-self x)
+  list-there East = or_right (same_card x y) _ (or_left (same_card y y) (same_card z y || (same_card d y || false)) (same_card-self y))
+  list-there South = or_right (same_card x z) _ (or_right (same_card y z) _ (or_left (same_card z z) (same_card d z || false) (same_card-self z)))
+  list-there West = or_right (same_card x d) _ (or_right (same_card y d) _ (or_right (same_card z d) _ (or_left (same_card d d) false (same_card-self d))))
 
   list-of : (c : PlayingCard) → has_card (x ∷ y ∷ z ∷ d ∷ []) c ≡ true → (a : Seat) × (c ≡ played a)
   unfolding played
-  list-of c h = elim (or-split (same_card x c) _ h) [
+  list-of c h = elim (or_cases (same_card x c) _ h) [
     | inl e ↦ (North, sym (same_card-eq x c e))
-    | inr h ↦ elim (or-split (same_card y c) _ h) [
+    | inr h ↦ elim (or_cases (same_card y c) _ h) [
       | inl e ↦ (East, sym (same_card-eq y c e))
-      | inr h ↦ elim (or-split (same_card z c) _ h) [
+      | inr h ↦ elim (or_cases (same_card z c) _ h) [
         | inl e ↦ (South, sym (same_card-eq z c e))
-        | inr h ↦ elim (or-split (same_card d c) _ h) [ inl e ↦ (West, sym (same_card-eq d c e)) | inr none ↦ absurd (cc) ]
+        | inr h ↦ elim (or_cases (same_card d c) _ h) [ inl e ↦ (West, sym (same_card-eq d c e)) | inr none ↦ absurd (cc) ]
       ]
     ]
   ]
@@ -368,3 +366,13 @@ played-on s t p cards made n k c relative same three most under view number few 
       longer = lies s (slice_set cards k c) (k + 1) relative long (omega (arith, few));
     } in
     subst (λ (m : List PlayingCard). IsPlayed t m k p c) (sym set) (subst (λ (b : Board). IsPlayed b (slice_set cards k c) k p c) (sym same) base)
+
+-- ---- hands after a trick
+
+-- a hand without the card that was played from it
+pub hand-left : (cards taken left : List PlayingCard) (c : PlayingCard) → left ≡ without taken c → taken ≡ cards → left ≡ without cards c
+hand-left cards taken left c e f = e ∙ ap (λ l. without l c) f
+
+-- four hands that are these
+pub same-dealt : (a b c d l s t f : List PlayingCard) → a ≡ l → b ≡ s → c ≡ t → d ≡ f → dealt a b c d ≡ dealt l s t f
+same-dealt a b c d l s t f ea eb ec ed = rw (ea, eb, ec, ed) refl

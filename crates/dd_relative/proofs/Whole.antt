@@ -3,7 +3,7 @@ use Rattle.std.proofs.Common.{◌≡◌, ℕ, zero, suc, ◌+◌, ◌-◌, ◌<�
 use Rattle.std.specs.Prelude.{filter, nat_lt, ◌||◌, ◌&&◌}
 use Rattle.std.specs.List.{list_any}
 use mathlib.Core.Bool.{not}
-use Rattle.std.proofs.lemmas.Bool.{cases_lt, lt-ltb, ltb-true}
+use Rattle.std.proofs.lemmas.Bool.{cases_lt, lt-ltb, ltb-true, and_from, or_left, or_right, or_cases, not-true, not_from_false, false_from_ne_true, true_from_ne_false}
 use Rattle.std.proofs.lemmas.List.Folds.{list_any-append}
 use Rattle.dd_cards.specs.declared.seat.Seat.{Seat}
 use Rattle.dd_cards.specs.declared.seat.Seat.TheVariants.{North, East, South, West}
@@ -13,37 +13,25 @@ use Rattle.dd_cards.specs.Ranks.{IsRank}
 use Rattle.dd_cards.specs.Cards.{deck, has_card, is_of, same_card}
 use Rattle.dd_cards.specs.Hands.{AreHands}
 use Rattle.dd_cards.specs.Seats.{seat_after, seat_code}
-use Rattle.dd_cards.specs.Sequences.{is_above, is_headed}
-use Rattle.dd_cards.proofs.CallerLemmas.{IsSet-deck, IsSet-filter, and-both, and-left, and-right, else-false, else-true, false-not, has_card-deck, has_card-filter, not-true, or-left, or-right, or-split, real-set, same_card-eq}
+use Rattle.dd_cards.specs.Sequences.{is_headed, is_above}
+use Rattle.dd_cards.proofs.CallerLemmas.{IsSet-deck, IsSet-filter, and-left, and-right, has_card-deck, has_card-filter, real-set, same_card-eq, any-some, times-has, any-card}
 use Rattle.dd_play.specs.Board.{Board, IsBoard, cards_at, mover}
 use Rattle.dd_play.specs.Play.{legal}
 use Rattle.dd_play.specs.Reach.{reach}
 use Rattle.dd_play.specs.Simulations.{IsLegal}
-use Rattle.dd_play.proofs.CallerLemmas.{filter-has, filter-passes, in-following, legal-in, legal-out, of-suit', reach-of, reach-some, suit-of, times-hand, times-has}
+use Rattle.dd_play.proofs.CallerLemmas.{filter-has, filter-passes, in-following, legal-in, legal-out, of-suit', reach-some, suit-of, times-hand, above-is, above-suit, above-rank, reach-in}
 use Rattle.dd_equal.specs.EqualCards.{IsWhole, are_equal, is_between, other_cards, is_top}
 use Rattle.dd_relative.specs.Runs.{next_above}
 use Rattle.dd_relative.specs.WinningRanks.{AreTop}
 use Rattle.dd_relative.proofs.Boards.{board-hands}
-use Rattle.dd_relative.proofs.Tops.{any-some, obeys-suit, some-any}
+use Rattle.dd_relative.proofs.Tops.{obeys-suit}
 
 -- ---- reached cards
 -- with each higher one of its suit: what is reached is there
 pub top-reach : (cards : List PlayingCard) (c : PlayingCard) → AreTop cards → c.rank ≤ 14 → reach cards c ≡ true → has_card cards c ≡ true
 top-reach cards c top high h = (let d = reach-some cards c h in top d.0 c d.1 (sym d.2) d.3 high)
 
-pub there-reach : (cards : List PlayingCard) (c : PlayingCard) → has_card cards c ≡ true → reach cards c ≡ true
-there-reach cards c has = reach-of cards c c has refl (omega arith)
-
 -- ---- cards above others
-above : (c d : PlayingCard) → d.suit ≡ c.suit → c.rank < d.rank → is_above c d ≡ true
-above c d suit less = and-both (is_of c.suit d) (nat_lt c.rank d.rank) (of-suit' c.suit d suit) (lt-ltb c.rank d.rank less)
-
-above-suit : (c d : PlayingCard) → is_above c d ≡ true → d.suit ≡ c.suit
-above-suit c d h = suit-of c.suit d (and-left (is_of c.suit d) (nat_lt c.rank d.rank) h)
-
-above-rank : (c d : PlayingCard) → is_above c d ≡ true → c.rank < d.rank
-above-rank c d h = ltb-true c.rank d.rank (and-right (is_of c.suit d) (nat_lt c.rank d.rank) h)
-
 -- none of these cards is between two
 abbrev IsClear : List PlayingCard → PlayingCard → PlayingCard → Type 0
 IsClear others c t = (e : PlayingCard) → has_card others e ≡ true → e.suit ≡ c.suit → c.rank < e.rank → e.rank < t.rank → ⊥
@@ -60,14 +48,14 @@ headed-by cards others c h =
       above-rank c t.0 over,
       λ e has suit low high.
           let yes : list_any (λ x. is_above c x && is_above x t.0) others ≡ true =
-          some-any (λ x. is_above c x && is_above x t.0) others e has (and-both (is_above c e) (is_above e t.0) (above c e suit low) (above e t.0 (above-suit c t.0 over ∙ sym suit) high)) in
+          any-card (λ x. is_above c x && is_above x t.0) others e has (and_from (is_above c e) (is_above e t.0) (above-is c e suit low) (above-is e t.0 (above-suit c t.0 over ∙ sym suit) high)) in
           let no : true ≡ false = sym yes ∙ clear in cc,
     )
 
 by-headed : (cards others : List PlayingCard) (c t : PlayingCard) → has_card cards t ≡ true → t.suit ≡ c.suit → c.rank < t.rank → IsClear others c t → is_headed cards others c ≡ true
 by-headed cards others c t has suit less clear =
-    some-any (λ d. is_above c d && not (list_any (λ e. is_above c e && is_above e d) others)) cards t has
-    (and-both (is_above c t) _ (above c t suit less) (false-not _ (else-false _ (λ h.
+    any-card (λ d. is_above c d && not (list_any (λ e. is_above c e && is_above e d) others)) cards t has
+    (and_from (is_above c t) _ (above-is c t suit less) (not_from_false _ (false_from_ne_true _ (λ h.
     let e = any-some (λ x. is_above c x && is_above x t) others h in
     let low = and-left (is_above c e.0) (is_above e.0 t) e.2 in
     let high = and-right (is_above c e.0) (is_above e.0 t) e.2 in
@@ -94,9 +82,9 @@ three-on West e = (let k : seat_code West ≡ seat_code South = ap seat_code e i
 
 -- a card of the mover's is in no other hand and not on the trick
 own-apart : (p : Board) → IsBoard p → (e : PlayingCard) → has_card (cards_at p (mover p)) e ≡ true → has_card (other_cards p) e ≡ true → ⊥
-own-apart p valid e mine other = elim (or-split _ _ (sym (list_any-append test ((a ++ b) ++ c) p.trick) ∙ other)) [
-  | inl three ↦ elim (or-split _ _ (sym (list_any-append test (a ++ b) c) ∙ three)) [
-    | inl two ↦ elim (or-split _ _ (sym (list_any-append test a b) ∙ two)) [
+own-apart p valid e mine other = elim (or_cases _ _ (sym (list_any-append test ((a ++ b) ++ c) p.trick) ∙ other)) [
+  | inl three ↦ elim (or_cases _ _ (sym (list_any-append test (a ++ b) c) ∙ three)) [
+    | inl two ↦ elim (or_cases _ _ (sym (list_any-append test a b) ∙ two)) [
       | inl first ↦ one-on m (hands.disjoint e m (seat_after m 1) mine first)
       | inr second ↦ two-on m (hands.disjoint e m (seat_after m 2) mine second)
     ]
@@ -159,11 +147,11 @@ module _ (p : Board) (own others ranks reached lower : List PlayingCard) (made :
   other-not c h = not-true _ (filter-passes (λ x. not (has_card own x)) deck c (ap (λ l. has_card l c) (sym made.theirs) ∙ h))
 
   else-own : (c : PlayingCard) → IsRank c.rank → (has_card others c ≡ true → ⊥) → has_card own c ≡ true
-  else-own c real none = else-true _ (λ no. none (ap (λ l. has_card l c) made.theirs ∙ filter-has (λ x. not (has_card own x)) deck c (has_card-deck c real) (false-not _ no)))
+  else-own c real none = true_from_ne_false _ (λ no. none (ap (λ l. has_card l c) made.theirs ∙ filter-has (λ x. not (has_card own x)) deck c (has_card-deck c real) (not_from_false _ no)))
 
   is-reached : (c : PlayingCard) → has_card ranks c ≡ true → has_card own c ≡ true → has_card reached c ≡ true
   is-reached c has mine =
-      ap (λ l. has_card l c) made.kept ∙ filter-has (λ x. not (has_card others x)) ranks c has (false-not _ (else-false _ (λ h. let no : true ≡ false = sym mine ∙ other-not c h in cc)))
+      ap (λ l. has_card l c) made.kept ∙ filter-has (λ x. not (has_card others x)) ranks c has (not_from_false _ (false_from_ne_true _ (λ h. let no : true ≡ false = sym mine ∙ other-not c h in cc)))
 
   reached-rank : (c : PlayingCard) → has_card reached c ≡ true → has_card ranks c ≡ true
   reached-rank c h = and-right _ _ (sym (has_card-filter (λ x. not (has_card others x)) ranks c) ∙ ap (λ l. has_card l c) (sym made.kept) ∙ h)
@@ -178,13 +166,13 @@ module _ (p : Board) (own others ranks reached lower : List PlayingCard) (made :
   is-lower c h head = ap (λ l. has_card l c) made.joins ∙ filter-has (is_headed reached others) (legal p) c h head
 
   pub in-ranks : (c : PlayingCard) → IsRank c.rank → has_card ranks c ≡ true → has_card widened c ≡ true
-  in-ranks c real h = filter-has (λ x. has_card ranks x || has_card lower x) deck c (has_card-deck c real) (or-left _ _ h)
+  in-ranks c real h = filter-has (λ x. has_card ranks x || has_card lower x) deck c (has_card-deck c real) (or_left _ _ h)
 
   in-lower : (c : PlayingCard) → IsRank c.rank → has_card lower c ≡ true → has_card widened c ≡ true
-  in-lower c real h = filter-has (λ x. has_card ranks x || has_card lower x) deck c (has_card-deck c real) (or-right _ _ h)
+  in-lower c real h = filter-has (λ x. has_card ranks x || has_card lower x) deck c (has_card-deck c real) (or_right _ _ h)
 
   in-one : (c : PlayingCard) → has_card widened c ≡ true → (has_card ranks c ≡ true) ⊎ (has_card lower c ≡ true)
-  in-one c h = or-split _ _ (filter-passes (λ x. has_card ranks x || has_card lower x) deck c h)
+  in-one c h = or_cases _ _ (filter-passes (λ x. has_card ranks x || has_card lower x) deck c h)
 
   widened-real : (c : PlayingCard) → has_card widened c ≡ true → IsRank c.rank
   widened-real c h = real-set widened c (IsSet-filter (λ x. has_card ranks x || has_card lower x) deck IsSet-deck) h
@@ -220,7 +208,7 @@ module _ (p : Board) (own others ranks reached lower : List PlayingCard) (made :
           → IsClear others c t → has_card lower d ≡ true
       between c d t legal_c under suit low less has suits clear = elim (cases_lt c.rank d.rank) [
         | inr same ↦ (
-            let e : d ≡ c = same_card-eq d c (and-both _ _ (eq-eqb _ _ (ap suit_code suit)) (eq-eqb _ _ (omega (arith, low, same)))) in
+            let e : d ≡ c = same_card-eq d c (and_from _ _ (eq-eqb _ _ (ap suit_code suit)) (eq-eqb _ _ (omega (arith, low, same)))) in
             ap (λ x. has_card lower x) e ∙ under)
         | inl more ↦ (
             let real_c = own-real c (legal-own c legal_c) in
@@ -232,8 +220,8 @@ module _ (p : Board) (own others ranks reached lower : List PlayingCard) (made :
   -- with one card of a class, all of it
   pub widened-whole : IsWhole (reach widened) p
   widened-whole t c top legal_c equal h = elim (cases_lt c.rank t.rank) [
-    | inr low ↦ there-reach widened c (widened-top t c has_t suit low (own-real c (legal-own c legal_c)).1)
-    | inl less ↦ there-reach widened c (in-lower c (own-real c (legal-own c legal_c)) (elim (in-one t has_t) [
+    | inr low ↦ reach-in widened c (widened-top t c has_t suit low (own-real c (legal-own c legal_c)).1)
+    | inl less ↦ reach-in widened c (in-lower c (own-real c (legal-own c legal_c)) (elim (in-one t has_t) [
       | inl rank ↦ is-lower c legal_c (by-headed reached others c t (is-reached t rank (legal-own t legal_t)) (sym suit) less (clear less))
       | inr under ↦ (let u = headed-by reached others t (lower-headed t under) in
           is-lower c legal_c (by-headed reached others c u.0 u.1 (u.2 ∙ sym suit) (let more = u.3 in omega (arith, less, more)) (farther less u.0 u.4)))
@@ -256,8 +244,8 @@ module _ (p : Board) (own others ranks reached lower : List PlayingCard) (made :
       clear less e he es low high = elim (made.there c e (ap (λ l. has_card l c) (sym made.mine) ∙ legal-own c legal_c) es (omega (arith, low)) (let r = (own-real t (legal-own t legal_t)).1 in omega (arith, high, r))) [
         | inl mine ↦ (let no : true ≡ false = sym (ap (λ l. has_card l e) made.mine ∙ mine) ∙ other-not e he in cc)
         | inr other ↦ (
-            let between : is_between t c e ≡ true = and-both (is_of t.suit e) _ (of-suit' t.suit e (es ∙ suit)) (or-right _ _ (and-both (nat_lt c.rank e.rank) (nat_lt e.rank t.rank) (lt-ltb c.rank e.rank low) (lt-ltb e.rank t.rank high))) in
-            let no : true ≡ false = sym (some-any (is_between t c) (other_cards p) e other between) ∙ none in cc)
+            let between : is_between t c e ≡ true = and_from (is_of t.suit e) _ (of-suit' t.suit e (es ∙ suit)) (or_right _ _ (and_from (nat_lt c.rank e.rank) (nat_lt e.rank t.rank) (lt-ltb c.rank e.rank low) (lt-ltb e.rank t.rank high))) in
+            let no : true ≡ false = sym (any-card (is_between t c) (other_cards p) e other between) ∙ none in cc)
       ]
 
       farther : c.rank < t.rank → (u : PlayingCard) → IsClear others t u → IsClear others c u
@@ -266,7 +254,7 @@ module _ (p : Board) (own others ranks reached lower : List PlayingCard) (made :
         | inr up ↦ elim (cases_lt t.rank e.rank) [
           | inl more ↦ over e he (es ∙ suit) more high
           | inr at ↦ (
-              let same : e ≡ t = same_card-eq e t (and-both _ _ (eq-eqb _ _ (ap suit_code (es ∙ suit))) (eq-eqb _ _ (omega (arith, up, at)))) in
+              let same : e ≡ t = same_card-eq e t (and_from _ _ (eq-eqb _ _ (ap suit_code (es ∙ suit))) (eq-eqb _ _ (omega (arith, up, at)))) in
               let no : true ≡ false = sym (ap (λ x. has_card own x) same ∙ legal-own t legal_t) ∙ other-not e he in cc)
         ]
       ]
@@ -285,7 +273,7 @@ module _ (p : Board) (own others ranks reached lower : List PlayingCard) (made :
           reached-rank t.0 t.1,
           legal_t,
           legal_c,
-          and-both (is_of t.0.suit c) _ (of-suit' t.0.suit c (sym t.2)) (false-not _ (else-false _ (λ h.
+          and_from (is_of t.0.suit c) _ (of-suit' t.0.suit c (sym t.2)) (not_from_false _ (false_from_ne_true _ (λ h.
               let e = any-some (is_between t.0 c) (other_cards p) h in
               apart c t.0 e.0 legal_c t.3 t.2 (reached-own t.0 t.1) t.4 e.1 e.2))),
         ))
@@ -294,7 +282,7 @@ module _ (p : Board) (own others ranks reached lower : List PlayingCard) (made :
       apart : (c t e : PlayingCard) → has_card (legal p) c ≡ true → c.rank < t.rank → t.suit ≡ c.suit → has_card own t ≡ true → IsClear others c t → has_card (other_cards p) e ≡ true → is_between t c e ≡ true → ⊥
       apart c t e legal_c less suits mine_t clear other between =
           let suit : e.suit ≡ t.suit = suit-of t.suit e (and-left (is_of t.suit e) ((nat_lt t.rank e.rank && nat_lt e.rank c.rank) || (nat_lt c.rank e.rank && nat_lt e.rank t.rank)) between) in
-          elim (or-split (nat_lt t.rank e.rank && nat_lt e.rank c.rank) (nat_lt c.rank e.rank && nat_lt e.rank t.rank) (and-right (is_of t.suit e) ((nat_lt t.rank e.rank && nat_lt e.rank c.rank) || (nat_lt c.rank e.rank && nat_lt e.rank t.rank)) between)) [
+          elim (or_cases (nat_lt t.rank e.rank && nat_lt e.rank c.rank) (nat_lt c.rank e.rank && nat_lt e.rank t.rank) (and-right (is_of t.suit e) ((nat_lt t.rank e.rank && nat_lt e.rank c.rank) || (nat_lt c.rank e.rank && nat_lt e.rank t.rank)) between)) [
             | inl over ↦ (
                 let a = ltb-true t.rank e.rank (and-left (nat_lt t.rank e.rank) (nat_lt e.rank c.rank) over) in
                 let b = ltb-true e.rank c.rank (and-right (nat_lt t.rank e.rank) (nat_lt e.rank c.rank) over) in
@@ -304,8 +292,8 @@ module _ (p : Board) (own others ranks reached lower : List PlayingCard) (made :
                 let b = ltb-true e.rank t.rank (and-right (nat_lt c.rank e.rank) (nat_lt e.rank t.rank) within) in
                 let real_c = own-real c (legal-own c legal_c) in
                 let real_t = own-real t mine_t in
-                let not_mine : has_card own e ≡ false = else-false _ (λ h. own-apart p made.valid e (ap (λ l. has_card l e) (sym made.mine) ∙ h) other) in
-                clear e (ap (λ l. has_card l e) made.theirs ∙ filter-has (λ x. not (has_card own x)) deck e (has_card-deck e (omega (arith, real_c.0, a), omega (arith, real_t.1, b))) (false-not _ not_mine))
+                let not_mine : has_card own e ≡ false = false_from_ne_true _ (λ h. own-apart p made.valid e (ap (λ l. has_card l e) (sym made.mine) ∙ h) other) in
+                clear e (ap (λ l. has_card l e) made.theirs ∙ filter-has (λ x. not (has_card own x)) deck e (has_card-deck e (omega (arith, real_c.0, a), omega (arith, real_t.1, b))) (not_from_false _ not_mine))
                 (suit ∙ suits) a b)
           ]
 
@@ -314,7 +302,7 @@ module _ (p : Board) (own others ranks reached lower : List PlayingCard) (made :
   climb : ((c : PlayingCard) → has_card own c ≡ true → has_card reached (next_above c) ≡ true → has_card reached c ≡ true)
       → (n : ℕ) (c t : PlayingCard) → t.rank ≡ c.rank + suc n → t.suit ≡ c.suit → has_card own c ≡ true → has_card reached t ≡ true → IsClear others c t → has_card reached c ≡ true
   climb none zero c t e suit mine has clear =
-      none c mine (ap (λ x. has_card reached x) (same_card-eq (next_above c) t (and-both _ _ (eq-eqb _ _ (ap suit_code (sym suit))) (eq-eqb _ _ (omega (arith, e))))) ∙ has)
+      none c mine (ap (λ x. has_card reached x) (same_card-eq (next_above c) t (and_from _ _ (eq-eqb _ _ (ap suit_code (sym suit))) (eq-eqb _ _ (omega (arith, e))))) ∙ has)
   climb none (suc n) c t e suit mine has clear =
       let real_c = own-real c mine in
       let real_t = own-real t (reached-own t has) in
@@ -333,8 +321,8 @@ module _ (p : Board) (own others ranks reached lower : List PlayingCard) (made :
       let legal_t = and-right (is_top p t) (has_card (legal p) t) (sym (has_card-filter (is_top p) (legal p) t) ∙ top) in
       let real_t = own-real t (legal-own t legal_t) in
       let real_c = own-real c (legal-own c legal_c) in
-      let wide = widened-whole t c top legal_c equal (there-reach widened t (in-ranks t real_t (top-reach ranks t made.top real_t.1 h))) in
+      let wide = widened-whole t c top legal_c equal (reach-in widened t (in-ranks t real_t (top-reach ranks t made.top real_t.1 h))) in
       elim (in-one c (top-reach widened c widened-top real_c.1 wide)) [
-        | inl rank ↦ there-reach ranks c rank
-        | inr under ↦ there-reach ranks c (lower-ranks none c under)
+        | inl rank ↦ reach-in ranks c rank
+        | inr under ↦ reach-in ranks c (lower-ranks none c under)
       ]

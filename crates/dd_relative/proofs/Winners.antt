@@ -3,7 +3,7 @@ use Rattle.std.proofs.Common.{◌≡◌, ℕ, zero, suc, ◌≤◌, get_or, ◌�
 use Rattle.std.specs.Prelude.{filter, nat_le, ◌==◌, ◌||◌, ◌&&◌}
 use Rattle.std.specs.List.{list_all, position_or_len}
 use mathlib.Core.Path.{ap₂}
-use Rattle.std.proofs.lemmas.Bool.{eqb-true, le-leb, leb-true}
+use Rattle.std.proofs.lemmas.Bool.{eqb-true, le-leb, leb-true, and_from, or_cases}
 use Rattle.dd_cards.specs.declared.seat.Seat.{Seat}
 use Rattle.dd_cards.specs.declared.seat.Seat.TheVariants.{North}
 use Rattle.dd_cards.specs.declared.strain.Strain.{Strain}
@@ -15,9 +15,9 @@ use Rattle.dd_cards.specs.Ranks.{IsRank}
 use Rattle.dd_cards.specs.Cards.{has_card, is_of, place_of, same_card, with_card}
 use Rattle.dd_cards.specs.Hands.{IsSet}
 use Rattle.dd_cards.specs.Seats.{seat_after, seat_code}
-use Rattle.dd_cards.proofs.CallerLemmas.{IsSet-filter, IsSet-with_card, and-both, and-left, and-right, both-ways, has_card-filter, has_card-with_card, or-split, passes, real-set, same_card-eq, same_card-self, set-first, suit_code-lt}
+use Rattle.dd_cards.proofs.CallerLemmas.{IsSet-filter, IsSet-with_card, and-left, and-right, both-ways, has_card-filter, has_card-with_card, passes, real-set, same_card-eq, same_card-self, set-first, suit_code-lt}
 use Rattle.dd_play.specs.Tricks.{deciding, is_highest_of, is_trump, or_else, winner_of, winning_place}
-use Rattle.dd_play.proofs.CallerLemmas.{filter-has, filter-passes, has-first, in-rest, suit-of}
+use Rattle.dd_play.proofs.CallerLemmas.{filter-has, filter-passes, has-first, in-rest, suit-of, position-where}
 
 -- ---- places tell cards
 pub same-place : (c d : PlayingCard) → IsRank c.rank → IsRank d.rank → (place_of c == place_of d) ≡ same_card c d
@@ -29,7 +29,7 @@ same-place c d real_c real_d =
     let a = real_c.0 in let b = real_c.1 in let x = real_d.0 in let y = real_d.1 in
     let codes : suit_code c.suit ≡ suit_code d.suit = omega (arith, e, k, l, a, b, x, y) in
     let ranks : c.rank ≡ d.rank = omega (arith, e, codes) in
-    and-both (suit_code c.suit == suit_code d.suit) (c.rank == d.rank) (eq-eqb _ _ codes) (eq-eqb _ _ ranks))
+    and_from (suit_code c.suit == suit_code d.suit) (c.rank == d.rank) (eq-eqb _ _ codes) (eq-eqb _ _ ranks))
     (λ h. eq-eqb (place_of c) (place_of d) (ap place_of (same_card-eq c d h)))
 
 -- ---- lists with the same cards
@@ -46,12 +46,7 @@ part-same t a b same x = has_card-filter t a x ∙ ap (λ h. t x && h) (same x) 
 -- a test that each card passes, all pass
 all-pass : (t : PlayingCard → Bool) (cards : List PlayingCard) → ((c : PlayingCard) → has_card cards c ≡ true → t c ≡ true) → list_all t cards ≡ true
 all-pass t [] each = refl
-all-pass t (c ∷ cards) each = and-both (t c) (list_all t cards) (each c (has-first c cards)) (all-pass t cards (λ d h. each d (in-rest c d cards h)))
-
--- the first place, by tests that agree on the cards
-same-position : (p q : PlayingCard → Bool) (cards : List PlayingCard) → ((c : PlayingCard) → has_card cards c ≡ true → p c ≡ q c) → position_or_len p cards ≡ position_or_len q cards
-same-position p q [] same = refl
-same-position p q (c ∷ cards) same = rw (same c (has-first c cards), same-position p q cards (λ d h. same d (in-rest c d cards h))) refl
+all-pass t (c ∷ cards) each = and_from (t c) (list_all t cards) (each c (has-first c cards)) (all-pass t cards (λ d h. each d (in-rest c d cards h)))
 
 -- ---- the deciding cards
 -- all are of one suit
@@ -80,22 +75,6 @@ or-some (x ∷ xs) ys c h e = (let no : true ≡ false = sym (has-first x xs) �
 pub no-trumps : (cards : List PlayingCard) → filter (is_trump Notrump) cards ≡ []
 no-trumps [] = refl
 no-trumps (c ∷ cards) = no-trumps cards
-
--- four real cards
-pub four-real : (x y z d : PlayingCard) → IsRank x.rank → IsRank y.rank → IsRank z.rank → IsRank d.rank → (c : PlayingCard) → has_card (x ∷ y ∷ z ∷ d ∷ []) c ≡ true → IsRank c.rank
-four-real x y z d rx ry rz rd c h = elim (or-split (same_card x c) _ h) [
-  | inl e ↦ real x rx e
-  | inr h ↦ elim (or-split (same_card y c) _ h) [
-    | inl e ↦ real y ry e
-    | inr h ↦ elim (or-split (same_card z c) _ h) [
-      | inl e ↦ real z rz e
-      | inr h ↦ elim (or-split (same_card d c) _ h) [ inl e ↦ real d rd e | inr none ↦ absurd (cc) ]
-    ]
-  ]
-]
-  where
-    real : (e : PlayingCard) → IsRank e.rank → same_card e c ≡ true → IsRank c.rank
-    real e r same = subst (λ (k : PlayingCard). IsRank k.rank) (same_card-eq e c same) r
 
 module _ (strain : Strain) (x y z d : PlayingCard) (cards : List PlayingCard) (real : (c : PlayingCard) → has_card (x ∷ y ∷ z ∷ d ∷ []) c ≡ true → IsRank c.rank)
     (are : cards ≡ with_card (with_card (with_card (with_card [] x) y) z) d) where
@@ -172,7 +151,7 @@ module _ (strain : Strain) (x y z d : PlayingCard) (cards : List PlayingCard) (r
         let same : c.suit ≡ won.suit = suit.1 c h ∙ sym (suit.1 won won-best) in
         let codes = ap suit_code same in (
           same,
-          elim (or-split (same_card won c) (has_card rest c) (sym (ap (λ l. has_card l c) first) ∙ h)) [
+          elim (or_cases (same_card won c) (has_card rest c) (sym (ap (λ l. has_card l c) first) ∙ h)) [
             | inl e ↦ (let r = ap (λ (w : PlayingCard). w.rank) (same_card-eq won c e) in omega (arith, r))
             | inr later ↦ (let less = set-first won rest (subst IsSet first best-set) c later in omega (arith, less, codes))
           ],
@@ -187,10 +166,10 @@ module _ (strain : Strain) (x y z d : PlayingCard) (cards : List PlayingCard) (r
         let high = leb-true won.rank c.rank (passes (λ e. nat_le e.rank c.rank) won (deciding strain trick) all (sym (best-same won) ∙ won-best)) in
         let w = won-highest c in_best in
         let low = w.1 in
-        and-both (suit_code won.suit == suit_code c.suit) (won.rank == c.rank) (eq-eqb _ _ (ap suit_code (sym w.0))) (eq-eqb _ _ (omega (arith, high, low))))
+        and_from (suit_code won.suit == suit_code c.suit) (won.rank == c.rank) (eq-eqb _ _ (ap suit_code (sym w.0))) (eq-eqb _ _ (omega (arith, high, low))))
         (λ h.
         let same : won ≡ c = same_card-eq won c h in
-        and-both (has_card (deciding strain trick) c) _ (sym (best-same c) ∙ ap (has_card best) (sym same) ∙ won-best)
+        and_from (has_card (deciding strain trick) c) _ (sym (best-same c) ∙ ap (has_card best) (sym same) ∙ won-best)
         (all-pass (λ e. nat_le e.rank c.rank) (deciding strain trick) (λ e k.
         let w = won-highest e (best-same e ∙ k) in
         le-leb e.rank c.rank (let low = w.1 in let r = ap (λ (v : PlayingCard). v.rank) same in omega (arith, low, r)))))
@@ -208,13 +187,13 @@ module _ (strain : Strain) (x y z d : PlayingCard) (cards : List PlayingCard) (r
         go false false false false ea eb ec ee = absurd (
             let none : (same_card won x || (same_card won y || (same_card won z || (same_card won d || false)))) ≡ false = rw (ea, eb, ec, ee) refl in
             let some : (same_card x won || (same_card y won || (same_card z won || (same_card d won || false)))) ≡ true = best-trick won won-best in
-            elim (or-split (same_card x won) _ some) [
+            elim (or_cases (same_card x won) _ some) [
               | inl e ↦ no x ea e
-              | inr some ↦ elim (or-split (same_card y won) _ some) [
+              | inr some ↦ elim (or_cases (same_card y won) _ some) [
                 | inl e ↦ no y eb e
-                | inr some ↦ elim (or-split (same_card z won) _ some) [
+                | inr some ↦ elim (or_cases (same_card z won) _ some) [
                   | inl e ↦ no z ec e
-                  | inr some ↦ elim (or-split (same_card d won) _ some) [ inl e ↦ no d ee e | inr never ↦ absurd (cc) ]
+                  | inr some ↦ elim (or_cases (same_card d won) _ some) [ inl e ↦ no d ee e | inr never ↦ absurd (cc) ]
                 ]
               ]
             ])
@@ -223,7 +202,7 @@ module _ (strain : Strain) (x y z d : PlayingCard) (cards : List PlayingCard) (r
             no c f e = (let g : true ≡ false = sym (same_card-self won) ∙ ap (same_card won) (sym (same_card-eq c won e)) ∙ f in cc)
 
     pub place-is : winning_place strain trick ≡ position_or_len (same_card won) (x ∷ y ∷ z ∷ [])
-    place-is = same-position (is_highest_of (deciding strain trick)) (same_card won) trick tells ∙ among
+    place-is = position-where (is_highest_of (deciding strain trick)) (same_card won) trick tells ∙ among
 
     pub wins : (place : ℕ) → place ≡ position_or_len (same_card won) (x ∷ y ∷ z ∷ []) → seat_after North place ≡ winner_of trick North strain
     wins place e = ap (seat_after North) (e ∙ sym place-is)
@@ -236,13 +215,13 @@ module _ (strain : Strain) (x y z d : PlayingCard) (cards : List PlayingCard) (r
         go true b c ea eb ec = rw ea (sym (same_card-eq won x ea))
         go false true c ea eb ec = rw (ea, eb) (sym (same_card-eq won y eb))
         go false false true ea eb ec = rw (ea, eb, ec) (sym (same_card-eq won z ec))
-        go false false false ea eb ec = rw (ea, eb, ec) (elim (or-split (same_card x won) _ (best-trick won won-best)) [
+        go false false false ea eb ec = rw (ea, eb, ec) (elim (or_cases (same_card x won) _ (best-trick won won-best)) [
           | inl e ↦ absurd (no x ea e)
-          | inr some ↦ elim (or-split (same_card y won) _ some) [
+          | inr some ↦ elim (or_cases (same_card y won) _ some) [
             | inl e ↦ absurd (no y eb e)
-            | inr some ↦ elim (or-split (same_card z won) _ some) [
+            | inr some ↦ elim (or_cases (same_card z won) _ some) [
               | inl e ↦ absurd (no z ec e)
-              | inr some ↦ elim (or-split (same_card d won) _ some) [ inl e ↦ same_card-eq d won e | inr never ↦ absurd (cc) ]
+              | inr some ↦ elim (or_cases (same_card d won) _ some) [ inl e ↦ same_card-eq d won e | inr never ↦ absurd (cc) ]
             ]
           ]
         ])

@@ -24,9 +24,10 @@ use Rattle.dd_table.specs.Front.{Exact, IsExact}
 use Rattle.dd_runs.specs.Worlds.{Places, World}
 use Rattle.dd_runs.specs.Steps.{CarriesRight, Does, Exchanges, HoldsFor, IsAllowed, IsWithin, Step, call, get, look, note, set}
 use Rattle.dd_runs.specs.Runs.{IsEmpty}
-use Rattle.dd_runs.proofs.Lists.{Contains-at, Contains-nil, exchanged, was-there}
+use Rattle.dd_runs.proofs.Lists.{Contains-nil, exchanged, was-there}
 use Rattle.dd_runs.proofs.Jobs.{Changes, EndsRight, TellsJob, changes, number-forth}
 use Rattle.dd_runs.proofs.Tables.{AlikeLaw, AllSound, get-exact, look-holds, look-sound, note-sound, set-exact}
+use Rattle.dd_shard.proofs.CallerLemmas.{Contains-at}
 
 -- what a fetch shows of a job that has ended
 abbrev pub IsFinal : JobState → Type 0

@@ -32,9 +32,9 @@ use Rattle.dd_book.specs.Parts.{is_ended, runs_by}
 use Rattle.dd_book.specs.Jobs.{JobOf, Turn, chosen, if_owned, is_of_play, is_open, job_after, job_at, job_with, first_turn, new_job, next_turn, own_job, parts_of, play_stage, shown_stage, stage_after, table_stage, turn, turn_at, turn_of, with_claim, with_job, with_stage}
 use Rattle.dd_book.specs.Calls.{BookOf, after, book_claimed, cancel_told, claim_told, claimed, fetch_told, jobs_after_finish, jobs_cancelled, reply_of, with_jobs}
 use Rattle.dd_solve.proofs.CallerLemmas.{same_question-is, same_target-is}
-use Rattle.dd_book.proofs.CallerLemmas.{job_at-place, next-within, refused}
+use Rattle.dd_book.proofs.CallerLemmas.{job_at-place, next-within, refused, slice_get-push_here}
 use Rattle.dd_runs.specs.Steps.{CarriesRight, IsRight}
-use Rattle.dd_runs.proofs.Lists.{set-from, set-or, slice_get-left, slice_get-push, slice_get-push-or}
+use Rattle.dd_runs.proofs.Lists.{set-from, set-or, slice_get-left, slice_get-push-or}
 
 -- how a job ended is of what it was asked, and right
 abbrev pub EndsRight : Asked → Stage → Type 0
@@ -205,7 +205,7 @@ push-changes jobs caller turn asked =
         )
       ];
       forth = λ place x h. (x, slice_get-left jobs (job ∷ []) place x h, stays x);
-      tells = (job, job_at-place (jobs ++ job ∷ []) (length jobs) (length jobs + 1) job refl (slice_get-push jobs job), refl);
+      tells = (job, job_at-place (jobs ++ job ∷ []) (length jobs) (length jobs + 1) job refl (slice_get-push_here jobs job), refl);
     }
 
 -- ---- each call

@@ -48,12 +48,6 @@ Contains-take (suc n) (y ∷ ys) x c = elim (Contains-cons y (take n ys) x c) [
   | inr d ↦ Contains-tail y ys x (Contains-take n ys x d)
 ]
 
--- what stands at a place stands in the list
-pub Contains-at : {X : Type 0} (xs : List X) (place : ℕ) (x : X) → slice_get xs place ≡ Some x → Contains xs x
-Contains-at [] place x h = absurd (cc)
-Contains-at (y ∷ ys) zero x h = let same : y ≡ x = cc in subst (Contains (y ∷ ys)) same (Contains-head y ys)
-Contains-at (y ∷ ys) (suc place) x h = Contains-tail y ys x (Contains-at ys place x h)
-
 -- ---- an element that is exchanged
 
 -- an exchange leaves what was there, but for the new element
@@ -68,11 +62,6 @@ pub was-there : {X : Type 0} (place : ℕ) (old new : List X) (x y : X) → Exch
 was-there place old new x y e = subst (λ l. Contains l x) (sym e.before) (Contains-middle e.front x e.back)
 
 -- ---- elements by their places
-
--- one more element, at the end
-pub slice_get-push : {X : Type 0} (xs : List X) (x : X) → slice_get (xs ++ x ∷ []) (length xs) ≡ Some x
-slice_get-push [] x = refl
-slice_get-push (y ∷ ys) x = slice_get-push ys x
 
 -- the others stay
 pub slice_get-left : {X : Type 0} (xs ys : List X) (i : ℕ) (x : X) → slice_get xs i ≡ Some x → slice_get (xs ++ ys) i ≡ Some x

@@ -3,10 +3,10 @@ use Rattle.std.proofs.Common.{◌≡◌, ℕ, zero, suc, ◌+◌, ◌-◌, ◌%�
 use Rattle.std.specs.Prelude.{◌||◌, ◌&&◌, ◌↔◌}
 use Rattle.std.specs.Ordering.{int_eq}
 use mathlib.Core.Bool.{not}
-use Rattle.std.proofs.lemmas.Bool.{eqb-true, ltb-true}
+use Rattle.std.proofs.lemmas.Bool.{eqb-true, ltb-true, or_cases, false_from_ne_true}
 use Rattle.std.proofs.lemmas.Bool.Decides.{eqb_tells}
 use Rattle.std.proofs.lemmas.Int.{ints}
-use Rattle.dd_cards.proofs.CallerLemmas.{and-left, and-right, or-split, is-same, else-false}
+use Rattle.dd_cards.proofs.CallerLemmas.{and-left, and-right, is-same}
 use Rattle.dd_cards.specs.declared.seat.Seat.{Seat}
 use Rattle.dd_cards.specs.declared.seat.Seat.TheVariants.{North, East, South, West}
 use Rattle.dd_cards.specs.declared.side.Side.{Side}
@@ -27,6 +27,7 @@ use Rattle.dd_score.specs.ParContracts.{place_in, is_over_bid, betters, is_bette
 use Rattle.dd_score.proofs.Namers.{other-other}
 use Rattle.dd_score.proofs.Nonzero.{worth-nonzero}
 use Rattle.dd_score.proofs.SomeContract.{IsNoBetter, IsStable, some_stable}
+use Rattle.dd_score.proofs.HeightLemmas.{eq-self}
 
 -- ---- numbers of bids
 -- a place among the strains and back
@@ -65,13 +66,9 @@ code-bound (Trump Diamonds) = omega arith
 code-bound (Trump Clubs) = omega arith
 code-bound Notrump = omega arith
 
--- a number is itself
-eq-self : (v : ℤ) → int_eq v v ≡ true
-eq-self v = grind (arith, ints)
-
 -- and no other
 eq-other : (w v : ℤ) → (w ≡ v → ⊥) → int_eq w v ≡ false
-eq-other w v n = else-false (int_eq w v) (λ h. n (same w v h))
+eq-other w v n = false_from_ne_true (int_eq w v) (λ h. n (same w v h))
   where
     same : (x y : ℤ) → int_eq x y ≡ true → x ≡ y
     same x y h = grind (arith, ints)
@@ -87,7 +84,7 @@ module _ (table : List (List ℕ)) (vulnerable : Vulnerable) (order : Order) (v 
       mine h = ap other_side (is-same (side_of t) (other_side (side_of s)) h) ∙ other-other (side_of s)
 
       fine : is_over_bid order k s j t ≡ true → IsNoBetter table vulnerable v j t
-      fine h = elim (or-split (nat_lt k j) (nat_eq k j && nat_lt (place_in order t) (place_in order s)) h) [
+      fine h = elim (or_cases (nat_lt k j) (nat_eq k j && nat_lt (place_in order t) (place_in order s)) h) [
         | inl more ↦ st.higher j t (ltb-true k j more) most
         | inr same ↦
             (let e : k ≡ j = eqb-true k j (and-left (nat_eq k j) _ same) in

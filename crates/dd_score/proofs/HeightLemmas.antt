@@ -3,7 +3,7 @@ use Rattle.std.proofs.Common.{◌≡◌, ℕ, zero, suc, ◌+◌, ◌-◌, ◌*�
 use Rattle.std.specs.Prelude.{◌||◌, ◌&&◌}
 use Rattle.std.specs.Ordering.{int_eq}
 use Rattle.std.proofs.lemmas.Int.{ints}
-use Rattle.std.proofs.lemmas.Bool.{eqb-true, ltb-true, ltb-false, lt-ltb, le-ltb}
+use Rattle.std.proofs.lemmas.Bool.{eqb-true, ltb-true, ltb-false, lt-ltb, le-ltb, or_cases, or_left, or_right, and_from}
 use mathlib.Core.Path.{ap₂}
 use Rattle.std.proofs.lemmas.Bool.Decides.{eqb_tells}
 use mathlib.Core.Bool.{not}
@@ -12,7 +12,7 @@ use Rattle.dd_cards.specs.declared.seat.Seat.TheVariants.{North, East, South, We
 use Rattle.dd_cards.specs.declared.side.Side.{Side}
 use Rattle.dd_cards.specs.declared.side.Side.TheVariants.{NorthSouth, EastWest}
 use Rattle.dd_cards.specs.Sides.{side_of, other_side, is_side}
-use Rattle.dd_cards.proofs.CallerLemmas.{and-left, and-right, or-split}
+use Rattle.dd_cards.proofs.CallerLemmas.{and-left, and-right, both-ways}
 use Rattle.dd_score.specs.declared.order.Order.{Order}
 use Rattle.dd_score.specs.declared.order.Order.TheVariants.{Dealer, First}
 use Rattle.dd_score.specs.declared.vulnerable.Vulnerable.{Vulnerable}
@@ -20,6 +20,7 @@ use Rattle.dd_score.specs.Heights.{height, bettering_height, higher, bettering_a
 use Rattle.dd_score.specs.ParContracts.{place_in, is_over_bid, betters, is_bettered_at, is_bettered, is_par_contract, one_of, partner_of}
 use Rattle.dd_score.specs.Values.{is_as_good}
 use Rattle.dd_score.specs.Worths.{worth}
+use Rattle.std.proofs.Math.Bool.{or-false}
 
 -- ---- the first that isn't 0
 pub first-some : (a b : ℕ) → 0 < a → or_below a b ≡ a
@@ -42,7 +43,7 @@ first-of_five a b c d e f =
     ∙ ap (or_below b) (first-of_three c (or_below d e) f ∙ ap (or_below c) (first-of_three d e f)))
 
 -- a number is itself
-eq-self : (x : ℤ) → int_eq x x ≡ true
+pub eq-self : (x : ℤ) → int_eq x x ≡ true
 eq-self x = grind (arith, ints)
 
 -- ---- places
@@ -53,30 +54,6 @@ place-few (First side) s = few (is_side side s)
     few : (b : Bool) → cond b 0 1 ≤ 3
     few true = omega arith
     few false = omega arith
-
--- a test or none
-else_none : (x : Bool) → (x || false) ≡ x
-else_none true = refl
-else_none false = refl
-
--- two tests that say the same
-same-tests : (a b : Bool) → (a ≡ true → b ≡ true) → (b ≡ true → a ≡ true) → a ≡ b
-same-tests true b there back = sym (there refl)
-same-tests false true there back = back refl
-same-tests false false there back = refl
-
--- one of two tests, or both, pass
-first : (x y : Bool) → x ≡ true → (x || y) ≡ true
-first true y h = refl
-first false y h = absurd (cc)
-
-second : (x y : Bool) → y ≡ true → (x || y) ≡ true
-second true y h = refl
-second false y h = h
-
-both : (x y : Bool) → x ≡ true → y ≡ true → (x && y) ≡ true
-both true y h w = w
-both false y h w = absurd (cc)
 
 -- a number is less than another or not
 ltb_cases : (a b : ℕ) → ((nat_lt a b ≡ true) × (a < b)) ⊎ ((nat_lt a b ≡ false) × (b ≤ a))
@@ -92,16 +69,16 @@ over-height order k s j t = by_places (place_in order s) (place_in order t) (pla
   where
     by_places : (a b : ℕ) → a ≤ 3 → b ≤ 3 → (nat_lt k j || (nat_eq k j && nat_lt b a)) ≡ nat_lt (4 * k + (3 - a)) (4 * j + (3 - b))
     by_places a b p q =
-        same-tests _ _
-        (λ h. lt-ltb (4 * k + (3 - a)) (4 * j + (3 - b)) (elim (or-split (nat_lt k j) (nat_eq k j && nat_lt b a) h) [
+        both-ways _ _
+        (λ h. lt-ltb (4 * k + (3 - a)) (4 * j + (3 - b)) (elim (or_cases (nat_lt k j) (nat_eq k j && nat_lt b a) h) [
           | inl more ↦ (let m : k < j = ltb-true k j more in omega (arith, m))
           | inr same ↦ (let e : k ≡ j = eqb-true k j (and-left (nat_eq k j) (nat_lt b a) same) in
               let l : b < a = ltb-true b a (and-right (nat_eq k j) (nat_lt b a) same) in omega (arith, e, l))
         ]))
         (λ h. let l : 4 * k + (3 - a) < 4 * j + (3 - b) = ltb-true (4 * k + (3 - a)) (4 * j + (3 - b)) h in
         elim (eqb_tells k j) [
-          | inl same ↦ (let e : k ≡ j = same.1 in second (nat_lt k j) _ (both (nat_eq k j) (nat_lt b a) same.0 (lt-ltb b a (omega (arith, e, l)))))
-          | inr other ↦ (let m : k < j = omega (arith, other.1, l) in first (nat_lt k j) _ (lt-ltb k j m))
+          | inl same ↦ (let e : k ≡ j = same.1 in or_right (nat_lt k j) _ (and_from (nat_eq k j) (nat_lt b a) same.0 (lt-ltb b a (omega (arith, e, l)))))
+          | inr other ↦ (let m : k < j = omega (arith, other.1, l) in or_left (nat_lt k j) _ (lt-ltb k j m))
         ])
 
 -- nothing stands lower than 0
@@ -112,14 +89,14 @@ none-below h = le-ltb h 0 (omega arith)
 below-higher : (h a b : ℕ) → nat_lt h (higher a b) ≡ (nat_lt h a || nat_lt h b)
 below-higher h a b = elim (ltb_cases a b) [
   | inl less ↦ ap (λ c. nat_lt h (cond c b a)) less.0
-      ∙ same-tests (nat_lt h b) (nat_lt h a || nat_lt h b) (λ w. second (nat_lt h a) (nat_lt h b) w)
-      (λ w. elim (or-split (nat_lt h a) (nat_lt h b) w) [
+      ∙ both-ways (nat_lt h b) (nat_lt h a || nat_lt h b) (λ w. or_right (nat_lt h a) (nat_lt h b) w)
+      (λ w. elim (or_cases (nat_lt h a) (nat_lt h b) w) [
         | inl x ↦ (let l : h < a = ltb-true h a x in let m : a < b = less.1 in lt-ltb h b (omega (arith, l, m)))
         | inr x ↦ x
       ])
   | inr more ↦ ap (λ c. nat_lt h (cond c b a)) more.0
-      ∙ same-tests (nat_lt h a) (nat_lt h a || nat_lt h b) (λ w. first (nat_lt h a) (nat_lt h b) w)
-      (λ w. elim (or-split (nat_lt h a) (nat_lt h b) w) [
+      ∙ both-ways (nat_lt h a) (nat_lt h a || nat_lt h b) (λ w. or_left (nat_lt h a) (nat_lt h b) w)
+      (λ w. elim (or_cases (nat_lt h a) (nat_lt h b) w) [
         | inl x ↦ x
         | inr x ↦ (let l : h < b = ltb-true h b x in let m : b ≤ a = more.1 in lt-ltb h a (omega (arith, l, m)))
       ])
@@ -140,12 +117,12 @@ below-one h j false = whole (nat_lt h j)
 
 -- lower than the first of two that isn't 0, where it stands higher than the other
 below-first : (h a b : ℕ) → ((a ≡ 0) ⊎ (b ≤ a)) → nat_lt h (or_below a b) ≡ (nat_lt h b || nat_lt h a)
-below-first h zero b w = sym (ap (λ x. nat_lt h b || x) (none-below h) ∙ else_none (nat_lt h b))
+below-first h zero b w = sym (ap (λ x. nat_lt h b || x) (none-below h) ∙ or-false (nat_lt h b))
 below-first h (suc a) b (inl none) = absurd (omega (arith, none))
 below-first h (suc a) b (inr more) =
     ap (nat_lt h) (first-some (suc a) b (omega arith))
-    ∙ same-tests (nat_lt h (suc a)) (nat_lt h b || nat_lt h (suc a)) (λ w. second (nat_lt h b) (nat_lt h (suc a)) w)
-    (λ w. elim (or-split (nat_lt h b) (nat_lt h (suc a)) w) [
+    ∙ both-ways (nat_lt h (suc a)) (nat_lt h b || nat_lt h (suc a)) (λ w. or_right (nat_lt h b) (nat_lt h (suc a)) w)
+    (λ w. elim (or_cases (nat_lt h b) (nat_lt h (suc a)) w) [
       | inl x ↦ (let l : h < b = ltb-true h b x in lt-ltb h (suc a) (omega (arith, l, more)))
       | inr x ↦ x
     ])
@@ -172,10 +149,10 @@ module _ (table : List (List ℕ)) (vulnerable : Vulnerable) (order : Order) (v 
   by-any k s j = by_seat s
     where
       of_east_west : (a b c d x y : Bool) → a ≡ false → b ≡ x → c ≡ false → d ≡ y → (((a || b) || c) || d) ≡ (x || y)
-      of_east_west a b c d x y p q r t = rw (p, q, r, t) (ap (λ z. z || y) (else_none x))
+      of_east_west a b c d x y p q r t = rw (p, q, r, t) (ap (λ z. z || y) (or-false x))
 
       of_north_south : (a b c d x y : Bool) → a ≡ x → b ≡ false → c ≡ y → d ≡ false → (((a || b) || c) || d) ≡ (x || y)
-      of_north_south a b c d x y p q r t = rw (p, q, r, t) (else_none _ ∙ ap (λ z. z || y) (else_none x))
+      of_north_south a b c d x y p q r t = rw (p, q, r, t) (or-false _ ∙ ap (λ z. z || y) (or-false x))
 
       by_seat : (s : Seat) → (((betters table vulnerable order v k s j North || betters table vulnerable order v k s j East) || betters table vulnerable order v k s j South) || betters table vulnerable order v k s j West)
           ≡ nat_lt (height order k s) (higher (bettering_height table vulnerable order v (side_of s) j (one_of (other_side (side_of s)))) (bettering_height table vulnerable order v (side_of s) j (partner_of (other_side (side_of s)))))

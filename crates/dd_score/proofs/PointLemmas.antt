@@ -29,7 +29,3 @@ held_turned n h = omega (arith, ints)
 -- within bounds
 pub bounds : (n : ℕ) → n < 8000 → (negsuc 7999 ≤ℤ to_z w16 n) × (to_z w16 n ≤ℤ pos 8000)
 bounds n h = (omega (arith, ints), omega (arith, ints))
-
--- and so the negative
-pub bounds_turned : (n : ℕ) → n < 8000 → (negsuc 7999 ≤ℤ to_z w16 (of_z w16 (pos 0 -ℤ to_z w16 n))) × (to_z w16 (of_z w16 (pos 0 -ℤ to_z w16 n)) ≤ℤ pos 8000)
-bounds_turned n h = (omega (arith, ints), omega (arith, ints))

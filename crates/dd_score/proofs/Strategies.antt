@@ -1,5 +1,5 @@
 -- a rule for a side's calls that keeps something true shows what the side can make sure of: no auction goes on for ever
-use Rattle.std.proofs.Common.{◌≡◌, ℕ, zero, suc, ◌+◌, ◌-◌, ◌*◌, ◌<◌, ◌≤◌, nat_le, cond, Bool, true, false, refl, ◌⊎◌, inl, inr, arith}
+use Rattle.std.proofs.Common.{◌≡◌, ℕ, zero, suc, ◌+◌, ◌-◌, ◌*◌, ◌<◌, nat_le, cond, Bool, true, false, refl, ◌⊎◌, inl, inr, arith}
 use Rattle.std.proofs.lemmas.Bool.{leb-false}
 use Rattle.dd_cards.specs.declared.side.Side.{Side}
 use Rattle.dd_cards.specs.declared.side.Side.TheVariants.{NorthSouth, EastWest}
@@ -23,11 +23,6 @@ calls_left a = 15 * (35 - last_bid a) + 5 * doubles_left (doubling a) + (4 - pas
 few_passes : (b : Bool) (p : ℕ) → nat_le (cond b 4 3) p ≡ false → p < 4
 few_passes true p h = leb-false 4 p h
 few_passes false p h = let k : p < 3 = leb-false 3 p h in omega arith
-
-doubles-most : (d : Doubling) → doubles_left d ≤ 2
-doubles-most Undoubled = omega arith
-doubles-most Doubled = omega arith
-doubles-most Redoubled = omega arith
 
 -- each legal call does
 pub falls : (a : Auction) (c : Call) → is_over a ≡ false → IsLegal a c → calls_left (called a c) < calls_left a

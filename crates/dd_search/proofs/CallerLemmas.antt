@@ -15,3 +15,7 @@ pub use Rattle.dd_search.proofs.Greatest.{lead-value}
 pub use Rattle.dd_search.proofs.Classes.{class-legal}
 -- the classes are at most thirteen
 pub use Rattle.dd_search.proofs.Classes.{few-classes}
+-- what a card is worth to one side and to the other is all tricks
+pub use Rattle.dd_search.proofs.Greatest.{against}
+-- a side takes no more than the tricks left
+pub use Rattle.dd_search.proofs.Known.{value-within}

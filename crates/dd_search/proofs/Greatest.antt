@@ -59,7 +59,7 @@ found test (d ∷ cards) = go (test d) refl (found test cards)
     go false e (inr rest) = inr (λ c has. here c e rest has)
 
 -- what the mover's side does not win with a card, the other side does
-against : (side : Side) (p : Board) (c : PlayingCard) → IsBoard p → IsLegal p c → won_with side p c + won_with (other_side side) p c ≡ tricks_left p
+pub against : (side : Side) (p : Board) (c : PlayingCard) → IsBoard p → IsLegal p c → won_with side p c + won_with (other_side side) p c ≡ tricks_left p
 against side p c valid has =
     let next = legal-leads p c valid has in
     let tricks = next.tricks in

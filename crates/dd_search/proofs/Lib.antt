@@ -9,3 +9,4 @@ pub mod Classes
 pub mod Known
 pub mod CallerLemmas
 pub mod Opens
+pub mod Packed

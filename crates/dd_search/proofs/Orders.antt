@@ -1,7 +1,7 @@
 -- the cards that are still to be tried
 use Rattle.std.proofs.Common.{◌≡◌, ℕ, ◌+◌, ◌<◌, Bool, true, false, cond, refl, sym, ap, ◌∙◌, arith, List, [], ◌∷◌, Option, None, Some, length, inl, inr, ◌⊎◌}
 use Rattle.std.specs.Prelude.{filter, map, IfSome, ◌&&◌, nat_lt, slice_get}
-use Rattle.std.proofs.lemmas.Bool.{eqb-true, ltb-true}
+use Rattle.std.proofs.lemmas.Bool.{eqb-true, ltb-true, not-false}
 use mathlib.Core.Bool.{not}
 use Rattle.dd_cards.specs.declared.suit.Suit.{Suit}
 use Rattle.dd_cards.specs.PlayingCard.{PlayingCard}
@@ -85,20 +85,26 @@ kept-told f old card by new is out c has = go (f c) refl
     go true e = inl (ap (λ xs. has_card xs c) is ∙ has_card-filter f old c ∙ rw e has)
     go false e = inr (out c e)
 
-not-not : (b : Bool) → not b ≡ false → b ≡ true
-not-not true h = refl
-not-not false h = absurd (cc)
-
 -- a card that is the card
 pub is-same : (c d : PlayingCard) → not (same_card c d) ≡ false → c ≡ d
-is-same c d h = same_card-eq c d (not-not (same_card c d) h)
+is-same c d h = same_card-eq c d (not-false (same_card c d) h)
 
 -- a card of the suit that is lower
 pub is-low : (s : Suit) (c : PlayingCard) (r : ℕ) → not (is_of s c && nat_lt c.rank r) ≡ false → (c.suit ≡ s) × (c.rank < r)
 is-low s c r h =
-    let both = not-not (is_of s c && nat_lt c.rank r) h in
+    let both = not-false (is_of s c && nat_lt c.rank r) h in
     (suit_code-injective c.suit s (eqb-true _ _ (and-left (is_of s c) (nat_lt c.rank r) both)), ltb-true c.rank r (and-right (is_of s c) (nat_lt c.rank r) both))
 
 -- a card of the suit
 pub is-of-suit : (s : Suit) (c : PlayingCard) → not (is_of s c) ≡ false → c.suit ≡ s
-is-of-suit s c h = suit_code-injective c.suit s (eqb-true _ _ (not-not (is_of s c) h))
+is-of-suit s c h = suit_code-injective c.suit s (eqb-true _ _ (not-false (is_of s c) h))
+
+-- ---- where there is one choice
+
+-- it is a highest card
+pub only-top : (p : Board) (card d : PlayingCard) → tops p ≡ card ∷ [] → has_card (card ∷ []) d ≡ true → has_card (tops p) d ≡ true
+only-top p card d is has = ap (λ cards. has_card cards d) is ∙ has
+
+-- and may be played
+pub only-legal : (p : Board) (card : PlayingCard) → tops p ≡ card ∷ [] → IsLegal p card
+only-legal p card is = top-legal p card (only-top p card card is (has-only card))

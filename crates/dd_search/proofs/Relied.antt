@@ -2,7 +2,7 @@
 use Rattle.std.proofs.Common.{◌≡◌, ℕ, ◌+◌, ◌-◌, ◌<◌, ◌≤◌, Bool, true, false, refl, sym, ap, ◌∙◌, subst, arith, List, [], inl, inr, ◌⊎◌}
 use Rattle.std.specs.Bool.{OnTrue, OnFalse}
 use Rattle.std.specs.Prelude.{filter, length, map, min, nat_le, ◌==◌, if◌then◌else◌}
-use Rattle.std.proofs.lemmas.Bool.{leb-true}
+use Rattle.std.proofs.lemmas.Bool.{leb-true, false_from_ne_true}
 use Rattle.std.proofs.lemmas.Bool.Decides.{nat_tests}
 use mathlib.Core.Bool.{not, beq}
 use Rattle.dd_cards.specs.declared.seat.Seat.{Seat}
@@ -10,7 +10,7 @@ use Rattle.dd_cards.specs.declared.suit.Suit.{Suit}
 use Rattle.dd_cards.specs.PlayingCard.{PlayingCard}
 use Rattle.dd_cards.specs.Ranks.{IsRank, has_rank}
 use Rattle.dd_cards.specs.Cards.{has_card, is_of, card_of, with_card}
-use Rattle.dd_cards.proofs.CallerLemmas.{else-false, has_rank-holding}
+use Rattle.dd_cards.proofs.CallerLemmas.{has_rank-holding}
 use Rattle.dd_cards.specs.Seats.{is_north_south}
 use Rattle.dd_cards.specs.Sides.{side_of, other_side, same_side}
 use Rattle.dd_cards.specs.declared.side.Side.{Side}
@@ -23,7 +23,7 @@ use Rattle.dd_play.specs.Simulations.{IsLegal}
 use Rattle.dd_play.specs.Claims.{Takes}
 use Rattle.dd_play.specs.Covers.{IsSettled, count_of}
 use Rattle.dd_play.specs.Reach.{reach, TakesBy}
-use Rattle.dd_play.proofs.CallerLemmas.{both, by-fewer, by-here, by-more, by-nothing, by-one, legal-leads, one-trick, reach-of, reach-some, reach-upward, reach-within, worth-after, worth-fewer, worth-low, worth-more}
+use Rattle.dd_play.proofs.CallerLemmas.{both, by-fewer, by-here, by-more, by-nothing, by-one, legal-leads, one-trick, reach-some, reach-upward, reach-within, worth-after, worth-fewer, worth-low, worth-more}
 use Rattle.dd_equal.specs.EqualCards.{tops, IsWhole}
 use Rattle.dd_equal.proofs.CallerLemmas.{each-class-whole}
 use Rattle.dd_rank.proofs.CallerLemmas.{itself, noted}
@@ -160,7 +160,7 @@ AreOf s ranks cards = map (card_of s) ranks ≡ filter (is_of s) cards
 -- nothing of the suit is reached
 pub none-reached : (s : Suit) (ranks : List ℕ) (cards : List PlayingCard) → AreOf s ranks cards → ((d : PlayingCard) → has_card cards d ≡ true → IsRank d.rank) → ((q : ℕ) → has_rank ranks q ≡ true → q < 2)
     → (c : PlayingCard) → c.suit ≡ s → reach cards c ≡ false
-none-reached s ranks cards are real none c suits = else-false _ (λ h.
+none-reached s ranks cards are real none c suits = false_from_ne_true _ (λ h.
     let d = reach-some cards c h in
     let same : d.0 ≡ card_of s d.0.rank = ap (λ (u : Suit). card_of u d.0.rank) (d.2 ∙ suits) in
     let low = none d.0.rank (has_rank-holding s ranks cards d.0.rank are ∙ ap (has_card cards) (sym same) ∙ d.1) in
@@ -170,16 +170,12 @@ none-reached s ranks cards are real none c suits = else-false _ (λ h.
 -- nothing below the lowest is
 pub low-reached : (s : Suit) (ranks : List ℕ) (cards : List PlayingCard) (floor : ℕ) → AreOf s ranks cards → ((d : PlayingCard) → has_card cards d ≡ true → IsRank d.rank) → ((q : ℕ) → has_rank ranks q ≡ true → 2 ≤ q → floor ≤ q)
     → (c : PlayingCard) → c.suit ≡ s → c.rank < floor → reach cards c ≡ false
-low-reached s ranks cards floor are real least c suits below = else-false _ (λ h.
+low-reached s ranks cards floor are real least c suits below = false_from_ne_true _ (λ h.
     let d = reach-some cards c h in
     let same : d.0 ≡ card_of s d.0.rank = ap (λ (u : Suit). card_of u d.0.rank) (d.2 ∙ suits) in
     let l = least d.0.rank (has_rank-holding s ranks cards d.0.rank are ∙ ap (has_card cards) (sym same) ∙ d.1) (real d.0 d.1).0 in
     let m = d.3 in
     omega (arith, l, m, below))
-
--- a card of the set is reached
-pub reach-in : (cards : List PlayingCard) (x : PlayingCard) → has_card cards x ≡ true → reach cards x ≡ true
-reach-in cards x has = reach-of cards x x has refl (omega arith)
 
 -- ---- what bounds tell
 

@@ -16,6 +16,7 @@ use Rattle.dd_session.specs.Leaving.{GivesUp, Leaves, SawEnd, made_by, own_jobs}
 use Rattle.dd_session.specs.Ports.{AreClients, Exchange, port_of, count_more, told_in, told_of}
 use Rattle.dd_session.proofs.Gaining.{count_more-add}
 use Rattle.dd_session.proofs.Telling.{AreClients-append, told_in-append}
+use Rattle.dd_book.proofs.CallerLemmas.{cons-parts}
 
 -- ---- the jobs that calls made
 
@@ -78,10 +79,6 @@ drop-whole (r ∷ rs) zero is = absurd (omega (arith, is))
 drop-whole (r ∷ rs) (suc n) is = drop-whole rs n (omega (arith, is))
 
 -- ---- what a desk showed
-
--- two lists that are one have one head and one tail
-cons-parts : {A : Type 0} (x y : A) (xs ys : List A) → x ∷ xs ≡ y ∷ ys → (x ≡ y) × (xs ≡ ys)
-cons-parts x y xs ys e = (cc, cc)
 
 -- of the receipts that stand in a journal the first ones do
 has-first : (journal : List EventOf) (number : ℕ) (rs more : List ReceiptOf) → HasReceipts journal (pass_of number (rs ++ more)) → HasReceipts journal (pass_of number rs)

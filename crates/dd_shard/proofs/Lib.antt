@@ -3,3 +3,4 @@ pub mod Places
 pub mod Slots
 pub mod Told
 pub mod Kept
+pub mod CallerLemmas

@@ -18,6 +18,7 @@ use Rattle.dd_play.specs.Won.{won, trick_for}
 use Rattle.dd_play.proofs.CallerLemmas.{all, can, least, left-13, legal-leads, one-trick, won_with}
 use Rattle.dd_solve.specs.Plays.{Play, IsRegular, declarers, position_after, tricks_won, tricks_with, tricks_after, trace}
 use Rattle.dd_solve.specs.SideTricks.{side_trick}
+use Rattle.dd_search.proofs.CallerLemmas.{against, value-within}
 
 -- ---- some cards, and then some more
 
@@ -139,20 +140,11 @@ next-number play count q k s within =
     ap (tricks_with side play.opening) (take_more play.cards count (card_of Spades 2) within) ∙ here
     ∙ ap (λ n. n + won_with side (position_after play.opening front) c) (sym s.won) ∙ ap (λ p. k + won_with side p c) (sym s.position)
 
--- what one side does not take when a card is played, the other side does
-shared : (side : Side) (p : Board) (c : PlayingCard) → IsBoard p → IsLegal p c → won_with side p c + won_with (other_side side) p c ≡ tricks_left p
-shared side p c valid has =
-    let next = legal-leads p c valid has in
-    let tricks = next.tricks in
-    let rest = all side (after p c) next.valid in
-    let one = one-trick side p c in
-    omega (arith, tricks, rest, one)
-
 -- the next number is between what was won by then and what can be won in all
 pub next-within : (play : Play) (count : ℕ) (q : Board) (k next : ℕ) → Stands play count q k → count < length play.cards → next ≡ tricks_after play (count + 1) → (k ≤ next) × (next ≤ k + tricks_left q)
 next-within play count q k next s within is =
     let e = next-number play count q k s within in
-    let sum = shared (declarers play.opening) q (card_after play count) (stands-valid play count q k s) (next-legal play count q k s within) in
+    let sum = against (declarers play.opening) q (card_after play count) (stands-valid play count q k s) (next-legal play count q k s within) in
     (omega (arith, e, is), omega (arith, e, is, sum))
 
 -- Where declarer's side is to play it takes at least what the next number says, since its card may be that one.
@@ -176,7 +168,7 @@ least-defenders play count q k next s within is turn =
     let mine : Side = side_of (mover q) in
     let other : other_side mine ≡ side = is-other mine side turn in
     let reach = can mine q (card_after play count) valid (same-self mine) legal in
-    let sum = shared mine q (card_after play count) valid legal in
+    let sum = against mine q (card_after play count) valid legal in
     let same : won_with (other_side mine) q (card_after play count) ≡ won_with side q (card_after play count) = ap (λ a. won_with a q (card_after play count)) other in
     omega (arith, e, is, reach, sum, same)
 
@@ -195,10 +187,6 @@ number-defenders play count q k value s is turn =
     let same : won (other_side mine) q ≡ won (declarers play.opening) q = ap (λ a. won a q) (is-other mine (declarers play.opening) turn) in
     let here = number-here play count q k s in
     (omega (arith, sum, is), omega (arith, sum, is, same, here))
-
--- the side to play takes no more tricks than are left
-pub value-within : (p : Board) → IsBoard p → won (side_of (mover p)) p ≤ tricks_left p
-value-within p valid = let sum = all (side_of (mover p)) p valid in omega (arith, sum)
 
 -- a side takes what its mover takes, and no more than are left
 pub mover-takes : (side : Side) (p : Board) (value : ℕ) → IsBoard p → value ≡ won (side_of (mover p)) p → same_side (side_of (mover p)) side ≡ true → (value ≡ won side p) × (value ≤ tricks_left p)
@@ -248,7 +236,7 @@ forced side p c valid has one =
     let reach = can mine p c valid (same-self mine) has in
     let rest = least others p (won_with others p c) valid (same-other mine) c has (λ d legal. (let same = ap (λ x. won_with others p x) (only-legal p c d only legal) in omega (arith, same))) in
     let sum = all mine p valid in
-    let both = shared mine p c valid has in
+    let both = against mine p c valid has in
     go (same_side mine side) refl (omega (arith, reach, rest, sum, both)) (omega (arith, reach, rest, sum, both))
   where
     go : (b : Bool) → same_side (side_of (mover p)) side ≡ b → won (side_of (mover p)) p ≡ won_with (side_of (mover p)) p c

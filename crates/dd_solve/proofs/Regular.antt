@@ -41,10 +41,6 @@ pub record IsChecked (p : Board) (cards : List PlayingCard) (q : Board) (rest : 
   pub regular : IsRegular p cards ↔ IsRegular q rest
   pub faults : (fault : CardFault) → IsFirstFault fault p cards ↔ IsFirstFault fault q rest
 
--- at first the rest is the play
-pub checked-none : (p : Board) (cards : List PlayingCard) → IsChecked p cards p cards
-checked-none p cards = record { regular = (λ h. h, λ h. h); faults = λ fault. (λ h. h, λ h. h) }
-
 -- one legal card more
 pub checked-more : (p : Board) (cards : List PlayingCard) (q : Board) (c : PlayingCard) (rest : List PlayingCard) → IsChecked p cards q (c ∷ rest) → IsLegal q c → IsChecked p cards (after q c) rest
 checked-more p cards q c rest k legal = record {

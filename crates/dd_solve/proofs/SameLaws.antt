@@ -1,11 +1,11 @@
 -- what is the same by the tests is the same
 use Rattle.std.proofs.Common.{◌≡◌, ℕ, Bool, true, false, refl, sym, ap, ◌∙◌, subst}
 use Rattle.std.specs.Prelude.{◌&&◌, ◌==◌}
-use Rattle.std.proofs.lemmas.Bool.{eqb-true}
+use Rattle.std.proofs.lemmas.Bool.{eqb-true, and_from}
 use Rattle.std.specs.Cmp.{nat_eq_equiv}
 use Rattle.dd_cards.specs.Hands.{FourHands}
 use Rattle.dd_cards.specs.Same.{same_hands, same-hands}
-use Rattle.dd_cards.proofs.CallerLemmas.{and-both, and-left, and-right, same_hands-is}
+use Rattle.dd_cards.proofs.CallerLemmas.{and-left, and-right, same_hands-is}
 use Rattle.dd_play.specs.Board.{Board}
 use Rattle.dd_play.specs.Same.{same_board}
 use Rattle.dd_play.proofs.CallerLemmas.{same_board-is}
@@ -60,7 +60,7 @@ same_part-told told solved hands part own is = (
   (λ e.
       let theirs : hands ≡ solved.hands = ap (λ (s : PartResult). s.hands) (sym e) in
       let number : part ≡ solved.part = ap (λ (s : PartResult). s.part) (sym e) in
-      is ∙ and-both (same_hands hands solved.hands) (solved.part == part)
+      is ∙ and_from (same_hands hands solved.hands) (solved.part == part)
       (subst (λ (xs : FourHands). same_hands hands xs ≡ true) theirs (same-hands.refl hands))
       (subst (λ k. (solved.part == k) ≡ true) (sym number) (nat_eq_equiv.refl solved.part))),
 )

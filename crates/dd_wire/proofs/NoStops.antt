@@ -1,7 +1,6 @@
 -- Without leave no line wants a stop.
 use Rattle.std.proofs.Common.{◌≡◌, ℕ, List, Bool, true, false, Option, Ok, Err, refl, sym, ap, ◌∙◌}
 use Rattle.std.specs.Prelude.{◌&&◌, Result, Some, None, MatchOption, option_map, codes, length, nat_lt, if◌then◌else◌}
-use Rattle.std.specs.Bool.{MatchBool}
 use Rattle.std.specs.Str.{bytes_eq}
 use Rattle.serde_json.specs.Data.{Members}
 use Rattle.serde_json.specs.Find.{get_member}
@@ -20,6 +19,7 @@ use Rattle.dd_wire.specs.Ids.{id_text, without}
 use Rattle.dd_wire.specs.ParLines.{par_fields, table_par_of}
 use Rattle.dd_wire.specs.Requests.{asked_as, object_of, text_at, wait_at}
 use Rattle.dd_wire.specs.Wants.{MeansOther, MeansUncalled, MeansWant, MeansWanted, asks_health, called, fetch_keys, is_alone, job_keys, named_job, session_call, submitted}
+use Rattle.dd_wire.proofs.Meanings.{by-bool}
 
 -- ---- what members stand for
 
@@ -73,10 +73,6 @@ no-stop-par wish (Err fault) e = cc
 
 -- ---- what a line wants
 
-by-test : (b : Bool) (A B : Type 0) → (A → ⊥) → (B → ⊥) → MatchBool b A B → ⊥
-by-test true A B a c = a
-by-test false A B a c = c
-
 by-option : {X : Type 0} (o : Option X) (A : Type 0) (B : X → Type 0) → (A → ⊥) → ((x : X) → o ≡ Some x → B x → ⊥) → MatchOption o A B → ⊥
 by-option None A B a c = a
 by-option (Some x) A B a c = c x refl
@@ -87,7 +83,7 @@ no-stop-other wait members wish stops =
     (λ fields is e. no-stop-par wish (table_par_of fields.given fields) e)
 
 no-stop-uncalled : (wait : ℕ) (members : Members) (wish : Wish) → wish.want ≡ Stop → MeansUncalled wait members (Ok (Book wish)) → ⊥
-no-stop-uncalled wait members wish stops = by-test (asks_health members) _ _ (λ e. cc) (no-stop-other wait members wish stops)
+no-stop-uncalled wait members wish stops = by-bool (asks_health members) _ _ (λ e. cc) (no-stop-other wait members wish stops)
 
 no-stop-members : (wait : ℕ) (members : Members) (wish : Wish) → wish.want ≡ Stop → MeansWanted false wait members (Ok (Book wish)) → ⊥
 no-stop-members wait members wish stops =
@@ -96,7 +92,7 @@ no-stop-members wait members wish stops =
 
 pub no-stop-line : (line : List ℕ) (wish : Wish) → wish.want ≡ Stop → MeansWant false line (Ok (Book wish)) → ⊥
 no-stop-line line wish stops =
-    by-test (nat_lt longest_line (length line)) _ _ (λ e. cc)
+    by-bool (nat_lt longest_line (length line)) _ _ (λ e. cc)
     (by-option (object_of line) _ _ (λ e. cc) (λ members is.
     by-option (wait_at members) _ _ (λ e. cc) (λ wait waits. no-stop-members wait members wish stops)))
 
@@ -114,5 +110,5 @@ no-stop-named members wish stops =
 pub no-stop-explained : (line : List ℕ) (wish : Wish) → wish.want ≡ Stop → MeansExplained false line (Ok (Book wish)) → ⊥
 unfolding MeansExplained
 no-stop-explained line wish stops =
-    by-test (nat_lt longest_line (length line)) _ _ (λ e. cc)
+    by-bool (nat_lt longest_line (length line)) _ _ (λ e. cc)
     (by-option (object_of line) _ _ (λ e. cc) (λ members is. no-stop-named members wish stops))

@@ -3,8 +3,6 @@ use Rattle.std.proofs.Common.{◌≡◌, ℕ, ◌<◌, inl, inr, Bool, true, fal
 use Rattle.std.specs.Prelude.{◌&&◌, Result, Ok, Err, MatchOption, map, length, nat_lt, nat_le}
 use Rattle.std.specs.Bool.{MatchBool}
 use Rattle.std.proofs.lemmas.Bool.Decides.{eqb_tells}
-use Rattle.dd_cards.specs.declared.seat.Seat.{Seat}
-use Rattle.dd_cards.specs.declared.strain.Strain.{Strain}
 use Rattle.dd_cards.specs.declared.suit.Suit.{Suit}
 use Rattle.dd_cards.specs.PlayingCard.{PlayingCard}
 use Rattle.dd_cards.specs.Suits.{suit_code}
@@ -16,7 +14,7 @@ use Rattle.dd_pbn.specs.Deals as deals
 use Rattle.dd_pbn.specs.Reading.{outcome, value_of, tag_of}
 use Rattle.dd_pbn.specs.Values.{IsValue, IsTag}
 use Rattle.dd_pbn.proofs.CallerLemmas.{Reads-tag, Reads-value, failed-read, spelled-read}
-use Rattle.dd_play.specs.Board.{Board, board_of, tricks_left}
+use Rattle.dd_play.specs.Board.{Board, tricks_left}
 use Rattle.dd_pbn.specs.Values.{begins_tag}
 use Rattle.dd_wire.specs.declared.fault.Fault.{Fault}
 use Rattle.serde_json.specs.Data.{Members}
@@ -24,6 +22,7 @@ use Rattle.dd_solve.specs.declared.asked.Asked.{Asked}
 use Rattle.dd_solve.specs.declared.asked.Asked.TheVariants.{Solve, Table, Target}
 use Rattle.dd_wire.specs.Requests.{SolveFields, TargetFields, MeansObject, MeansDeal, MeansTable, MeansFields, MeansTargetFields, MeansStart, MeansSolutions, MeansTarget, MeansCards, MeansHands, MeansTargetHands, MeansBoard, IsAskedOf, are_solutions, question, target_question, target_fields, asked_as, table_deal, deal_fault, are_cards, pair_of_card, solve_fields}
 use Rattle.dd_wire.proofs.Meanings.{none-twice-decided, even-decided, hands-decided}
+use Rattle.dd_play.proofs.CallerLemmas.{board-eq}
 
 -- two meanings that are one value are one
 pub both : {A : Type 0} (value a b : Result A Fault) → a ≡ value → b ≡ value → a ≡ b
@@ -72,13 +71,10 @@ one-trick (x ∷ xs) (y ∷ ys) e =
     same-card : (s t : Suit) (q r : ℕ) → s ≡ t → q ≡ r → card_of s q ≡ card_of t r
     same-card s t q r a b = rw (a, b) refl
 
-pub same-board : (h h' : FourHands) (s s' : Strain) (f f' : Seat) (t t' : List PlayingCard) → h ≡ h' → s ≡ s' → f ≡ f' → t ≡ t' → board_of h s f t ≡ board_of h' s' f' t'
-same-board h h' s s' f f' t t' a b c d = rw (a, b, c, d) refl
-
 -- fields ask about one board
 one-asked : (hands : FourHands) (fields : SolveFields) (x y : Board) → IsAskedOf hands fields x → IsAskedOf hands fields y → x ≡ y
 one-asked hands fields x y asks_x asks_y =
-    same-board x.hands y.hands x.strain y.strain x.first y.first x.trick y.trick (asks_x.hands ∙ sym asks_y.hands)
+    board-eq x.hands y.hands x.strain y.strain x.first y.first x.trick y.trick (asks_x.hands ∙ sym asks_y.hands)
     (strain_code-injective x.strain y.strain (asks_x.strain ∙ sym asks_y.strain))
     (seat_code-injective x.first y.first (asks_x.first ∙ sym asks_y.first))
     (one-trick x.trick y.trick (asks_x.trick ∙ sym asks_y.trick))

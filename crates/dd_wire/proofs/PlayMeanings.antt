@@ -1,6 +1,6 @@
 -- What the fields of a request for a play ask: something, and one thing.
-use Rattle.std.proofs.Common.{◌≡◌, ℕ, ◌<◌, ◌≤◌, inl, inr, Bool, true, false, refl, sym, ap, ◌∙◌, subst, arith, List, [], length}
-use Rattle.std.specs.Prelude.{◌&&◌, Result, Ok, Err, map, nat_lt, nat_le}
+use Rattle.std.proofs.Common.{◌≡◌, ℕ, ◌<◌, ◌≤◌, inl, inr, true, false, refl, sym, ap, ◌∙◌, subst, arith, List, [], length}
+use Rattle.std.specs.Prelude.{Result, Ok, Err, map, nat_lt, nat_le}
 use Rattle.std.specs.List.{list_all}
 use Rattle.std.proofs.lemmas.Bool.{le-ltb, ltb-false}
 use Rattle.std.proofs.lemmas.Bool.Decides.{eqb_tells}
@@ -10,12 +10,12 @@ use Rattle.dd_cards.specs.Strains.{strain_code}
 use Rattle.dd_cards.specs.declared.seat.Seat.{Seat}
 use Rattle.dd_cards.specs.declared.strain.Strain.{Strain}
 use Rattle.dd_cards.specs.Hands.{AreHands, FourHands, times}
-use Rattle.dd_cards.proofs.CallerLemmas.{seat_code-injective, strain_code-injective}
+use Rattle.dd_cards.proofs.CallerLemmas.{seat_code-injective, strain_code-injective, and-right}
 use Rattle.dd_play.specs.Board.{Board, board_of, IsEven, tricks_left}
 use Rattle.dd_play.specs.Positions as positions
 use Rattle.dd_play.specs.declared.play_fault.PlayFault.{PlayFault}
 use Rattle.dd_play.specs.declared.play_fault.PlayFault.TheVariants.{Played, Twice, Uneven, Empty}
-use Rattle.dd_play.proofs.CallerLemmas.{times_in-once}
+use Rattle.dd_play.proofs.CallerLemmas.{times_in-once, board-eq}
 use Rattle.dd_solve.specs.declared.card_fault.CardFault.{CardFault}
 use Rattle.dd_solve.specs.declared.card_fault.CardFault.TheVariants as faults
 use Rattle.dd_solve.specs.CardFaults.{IsFirstFault}
@@ -30,7 +30,7 @@ use Rattle.dd_wire.specs.Reading.{play_fault}
 use Rattle.dd_wire.specs.Requests.{MeansObject, pair_of_card}
 use Rattle.dd_wire.proofs.Pairs.{is_card}
 use Rattle.dd_wire.proofs.Meanings.{SomeMeaning, by-test, by-bool, by-fields, by-option, cards-of, deal-memory, even-decided, object-memory, seat-of, some-deal, some-object, some-way, strain-of, way-memory}
-use Rattle.dd_wire.proofs.OneMeaning.{AtMostOne, both, one-by-option, one-by-test, one-deal, one-object, one-trick, one-way, same-board}
+use Rattle.dd_wire.proofs.OneMeaning.{AtMostOne, both, one-by-option, one-by-test, one-deal, one-object, one-trick, one-way}
 
 -- ---- the cards decide
 
@@ -93,11 +93,6 @@ some-play play =
       ]
     ]
 
--- pairs that are the cards of a play are cards
-are-pairs : (a b : Bool) → (a && b) ≡ true → b ≡ true
-are-pairs true b h = h
-are-pairs false b h = absurd (cc)
-
 some-played : (fields : PlayFields) (hands : FourHands) → SomeMeaning (MeansPlayed fields hands)
 some-played fields hands =
     by-test (nat_lt 4 fields.trump) _ _ (λ _. (Err WrongTrump, refl)) (λ trump.
@@ -108,7 +103,7 @@ some-played fields hands =
     cards trump first played =
         let strain = strain-of fields.trump (ltb-false 4 fields.trump trump) in
         let seat = seat-of fields.first (ltb-false 3 fields.first first) in
-        let cards = cards-of fields.cards (are-pairs (nat_le (length fields.cards) 52) (list_all is_card fields.cards) played) in
+        let cards = cards-of fields.cards (and-right (nat_le (length fields.cards) 52) (list_all is_card fields.cards) played) in
         let play : Play = record { opening = board_of hands strain.0 seat.0 []; cards = cards.0 } in
         let means = some-play play in
         (means.0, (play, record { dealt = refl; strain = strain.1; first = seat.1; trick = refl; cards = cards.1 }, means.1))
@@ -138,7 +133,7 @@ one-play play a b means_a means_b =
 one-asked : (hands : FourHands) (fields : PlayFields) (x y : Play) → IsPlayOf hands fields x → IsPlayOf hands fields y → x ≡ y
 one-asked hands fields x y asks_x asks_y =
     same-play x.opening y.opening x.cards y.cards
-    (same-board x.opening.hands y.opening.hands x.opening.strain y.opening.strain x.opening.first y.opening.first x.opening.trick y.opening.trick (asks_x.dealt ∙ sym asks_y.dealt)
+    (board-eq x.opening.hands y.opening.hands x.opening.strain y.opening.strain x.opening.first y.opening.first x.opening.trick y.opening.trick (asks_x.dealt ∙ sym asks_y.dealt)
     (strain_code-injective x.opening.strain y.opening.strain (asks_x.strain ∙ sym asks_y.strain))
     (seat_code-injective x.opening.first y.opening.first (asks_x.first ∙ sym asks_y.first))
     (asks_x.trick ∙ sym asks_y.trick))

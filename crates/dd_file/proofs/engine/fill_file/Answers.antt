@@ -1,7 +1,8 @@
 use Rattle.std.proofs.Common.{◌<◌, ◌∙◌, List, ℕ, ap, length, refl, rules, arith}
 use Rattle.std.proofs.lemmas.Result.{on_ok_weaker, err_from_is_err_and}
-use Rattle.dd_file.proofs.Written.{Filling-begun, Filling-further, Filling-ended, Filling-last_failed, Filling-piece_failed, Filling-read_failed, at-write, filled-all, first-place, first-point, nothing_read, stops-written, write-failed, no-read-failed, other-fault}
+use Rattle.dd_file.proofs.Written.{Filling-begun, Filling-further, Filling-ended, Filling-last_failed, Filling-piece_failed, Filling-read_failed, at-write, filled-all, first-place, first-point, stops-written, write-failed, no-read-failed, other-fault}
 use Rattle.dd_file.proofs.engine.fill_file.Goals as goal
+use Rattle.dd_lines.proofs.CallerLemmas.{nothing_read}
 
 pub loop-init : goal.loop-init
 loop-init g c =

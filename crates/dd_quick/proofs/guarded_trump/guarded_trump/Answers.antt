@@ -6,8 +6,8 @@ use Rattle.dd_cards.proofs.CallerLemmas.{has_rank-holding}
 use Rattle.dd_play.specs.Board.{cards_at}
 use Rattle.dd_quick.proofs.GuardedClaims.{guard-at, ranks-above}
 use Rattle.dd_quick.proofs.Reached.{length-of}
-use Rattle.dd_quick.proofs.Runs.{first-in}
 use Rattle.dd_quick.proofs.guarded_trump.guarded_trump.Goals as goal
+use Rattle.dd_rank.proofs.CallerLemmas.{first-there}
 
 pub returns : goal.returns
 returns c =
@@ -32,7 +32,7 @@ returns c =
     let no_more = c.if-others-ne0.false in
     guard-at p c.args.seat t rank c.with_trump.result c.requires.opposes c.requires.start (sym c.strain.ensures ∙ c.in-Trump.is)
     (record {
-      mine = sym (has_rank-holding t c.holding-own.result (cards_at p c.args.seat) rank own) ∙ first-in c.holding-own.result rank (sym c.in_ok-best.was ∙ c.highest.ensures);
+      mine = sym (has_rank-holding t c.holding-own.result (cards_at p c.args.seat) rank own) ∙ first-there c.holding-own.result rank (sym c.in_ok-best.was ∙ c.highest.ensures);
       two = omega (arith, long, two);
       before = omega (arith, over, x, one);
       next = omega (arith, beside, y, none);

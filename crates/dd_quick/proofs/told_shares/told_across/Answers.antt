@@ -8,19 +8,15 @@ use Rattle.dd_cards.specs.Seats.{seat_after}
 use Rattle.dd_cards.specs.Sides.{side_of}
 use Rattle.dd_play.specs.Board.{Board}
 use Rattle.dd_play.specs.Reach.{TakesBy, reach}
-use Rattle.dd_quick.specs.QuickTricks.{RestsOn, RestsOnNext, RestsOnTrumps, cashed, depth, is_entry, joint_trumps, next_run, partners_cashed, trumps_at}
+use Rattle.dd_quick.specs.QuickTricks.{RestsOnNext, RestsOnTrumps, cashed, is_entry, joint_trumps, next_run, partners_cashed, trumps_at}
 use Rattle.dd_quick.specs.Sharing.{shares}
 use Rattle.dd_quick.proofs.Across.{RestsAcross, across-by}
 use Rattle.dd_quick.proofs.AcrossClaims.{IsNextShared, across-rests, next-more}
 use Rattle.dd_quick.proofs.Cashing.{total}
-use Rattle.dd_quick.proofs.Claims.{IsShared, rests-more}
+use Rattle.dd_quick.proofs.Claims.{cashed-share}
 use Rattle.dd_quick.proofs.SecondAcross.{second-across}
 use Rattle.dd_quick.proofs.told_shares.told_across.Goals as goal
 use Rattle.dd_quick.proofs.told_shares.told_across.Goals.{In_ok-cards}
-
--- so many tricks that the leader cashes are a share
-share : (p : Board) (u : Suit) (few many : List PlayingCard) (n : ℕ) → n ≤ cashed p.strain p u → RestsOn p u few (min n (depth p u)) → ((e : PlayingCard) → has_card few e ≡ true → has_card many e ≡ true) → IsShared p u many n
-share p u few many n less rests more = record { tricks = cashed p.strain p u; cards_of = depth p u; cash = (refl, λ some. refl); few = less; rests = rests-more p u few many (min n (depth p u)) more rests }
 
 -- and of the partner's tricks
 shared : (p : Board) (u : Suit) (few many : List PlayingCard) (n : ℕ) → n ≤ partners_cashed p.strain p u → RestsOnNext p u few n → ((e : PlayingCard) → has_card few e ≡ true → has_card many e ≡ true) → IsNextShared p u many (is_entry p u) n
@@ -68,10 +64,10 @@ rests c =
     let more : (x : PlayingCard) → has_card k.clubs x ≡ true → has_card e.cards x ≡ true = λ x has. e.ensures.more x (w.ensures.more x (v.ensures.more x (b.ensures.more x (a.ensures.more x has)))) in
     across-rests p k.clubs e.cards t.spades t.hearts t.diamonds t.clubs n.spades n.hearts n.diamonds n.clubs m (is_entry p Spades) (is_entry p Hearts) (is_entry p Diamonds) (is_entry p Clubs)
     a.ensures.all b.ensures.all v.ensures.all w.ensures.all
-    (share p Spades s.spades k.clubs t.spades s.ensures.few s.ensures.rests (λ x has. k.ensures.more x (d.ensures.more x (h.ensures.more x has))))
-    (share p Hearts h.hearts k.clubs t.hearts h.ensures.few h.ensures.rests (λ x has. k.ensures.more x (d.ensures.more x has)))
-    (share p Diamonds d.diamonds k.clubs t.diamonds d.ensures.few d.ensures.rests k.ensures.more)
-    (share p Clubs k.clubs k.clubs t.clubs k.ensures.few k.ensures.rests (λ x has. has))
+    (cashed-share p Spades s.spades k.clubs t.spades s.ensures.few s.ensures.rests (λ x has. k.ensures.more x (d.ensures.more x (h.ensures.more x has))))
+    (cashed-share p Hearts h.hearts k.clubs t.hearts h.ensures.few h.ensures.rests (λ x has. k.ensures.more x (d.ensures.more x has)))
+    (cashed-share p Diamonds d.diamonds k.clubs t.diamonds d.ensures.few d.ensures.rests k.ensures.more)
+    (cashed-share p Clubs k.clubs k.clubs t.clubs k.ensures.few k.ensures.rests (λ x has. has))
     more
     (shared p Spades a.a.cards e.cards n.spades a.ensures.few a.ensures.rests (λ x has. e.ensures.more x (w.ensures.more x (v.ensures.more x (b.ensures.more x has)))))
     (shared p Hearts b.b.cards e.cards n.hearts b.ensures.few b.ensures.rests (λ x has. e.ensures.more x (w.ensures.more x (v.ensures.more x has))))

@@ -1,24 +1,17 @@
-use Rattle.std.proofs.Common.{◌≡◌, ◌≤◌, ◌+◌, ◌-◌, ◌∙◌, ℕ, List, ap, arith, min, refl, subst, false, true}
+use Rattle.std.proofs.Common.{◌≡◌, ◌≤◌, ◌+◌, ◌-◌, ◌∙◌, ℕ, ap, arith, subst, false, true}
 use Rattle.dd_cards.specs.declared.suit.Suit.{Suit}
 use Rattle.dd_cards.specs.declared.suit.Suit.TheVariants.{Spades, Hearts, Diamonds, Clubs}
-use Rattle.dd_cards.specs.PlayingCard.{PlayingCard}
-use Rattle.dd_cards.specs.Cards.{has_card}
 use Rattle.dd_cards.specs.Seats.{seat_after}
 use Rattle.dd_cards.specs.Sides.{side_of}
-use Rattle.dd_play.specs.Board.{Board}
 use Rattle.dd_play.specs.Reach.{TakesBy, reach}
-use Rattle.dd_quick.specs.QuickTricks.{RestsOn, RestsOnTrumps, cashed, depth, joint_trumps, trumps_at}
+use Rattle.dd_quick.specs.QuickTricks.{RestsOnTrumps, cashed, joint_trumps, trumps_at}
 use Rattle.dd_quick.specs.Sharing.{shares}
 use Rattle.dd_quick.proofs.Cashing.{total}
-use Rattle.dd_quick.proofs.Claims.{IsShared, IsSure, leader-sure, rests-more, trumps-left}
+use Rattle.dd_quick.proofs.Claims.{IsSure, leader-sure, trumps-left, cashed-share}
 use Rattle.dd_quick.proofs.Covered.{leader-by}
 use Rattle.dd_quick.proofs.SecondHand.{second-claim}
 use Rattle.dd_quick.proofs.told_shares.told_cards.Goals as goal
 use Rattle.dd_quick.proofs.told_shares.told_cards.Goals.{In_ok-cards}
-
--- so many tricks that the leader cashes are a share
-share : (p : Board) (u : Suit) (few many : List PlayingCard) (n : ℕ) → n ≤ cashed p.strain p u → RestsOn p u few (min n (depth p u)) → ((e : PlayingCard) → has_card few e ≡ true → has_card many e ≡ true) → IsShared p u many n
-share p u few many n less rests more = record { tricks = cashed p.strain p u; cards_of = depth p u; cash = (refl, λ some. refl); few = less; rests = rests-more p u few many (min n (depth p u)) more rests }
 
 -- what is taken, and the cards on which it rests
 abbrev counts : In_ok-cards → Suit → ℕ
@@ -42,10 +35,10 @@ sure c =
     let tricks = c.tricks_left.ensures.tricks in
     let room = c.if-tricks_left-thrown.false in
     leader-sure p k.clubs e.cards t.spades t.hearts t.diamonds t.clubs m c.requires.start
-    (share p Spades s.spades k.clubs t.spades s.ensures.few s.ensures.rests (λ x has. k.ensures.more x (d.ensures.more x (h.ensures.more x has))))
-    (share p Hearts h.hearts k.clubs t.hearts h.ensures.few h.ensures.rests (λ x has. k.ensures.more x (d.ensures.more x has)))
-    (share p Diamonds d.diamonds k.clubs t.diamonds d.ensures.few d.ensures.rests k.ensures.more)
-    (share p Clubs k.clubs k.clubs t.clubs k.ensures.few k.ensures.rests (λ x has. has))
+    (cashed-share p Spades s.spades k.clubs t.spades s.ensures.few s.ensures.rests (λ x has. k.ensures.more x (d.ensures.more x (h.ensures.more x has))))
+    (cashed-share p Hearts h.hearts k.clubs t.hearts h.ensures.few h.ensures.rests (λ x has. k.ensures.more x (d.ensures.more x has)))
+    (cashed-share p Diamonds d.diamonds k.clubs t.diamonds d.ensures.few d.ensures.rests k.ensures.more)
+    (cashed-share p Clubs k.clubs k.clubs t.clubs k.ensures.few k.ensures.rests (λ x has. has))
     e.ensures.more
     (omega (arith, his, tricks, room))
     (subst (λ x. m ≤ joint_trumps p.strain p x) seat e.ensures.few)

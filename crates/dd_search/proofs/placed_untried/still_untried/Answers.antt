@@ -11,6 +11,7 @@ use Rattle.dd_relative.specs.WinningRanks.{AreTop}
 use Rattle.dd_search.proofs.Orders.{shorter, kept-told, is-same}
 use Rattle.dd_search.proofs.placed_untried.still_untried.Goals as goal
 use Rattle.dd_search.proofs.placed_untried.still_untried.Goals.{Else-has_place}
+use Rattle.std.proofs.lemmas.Bool.{not-false}
 
 own-suit : (card : PlayingCard) → is_of card.suit card ≡ true
 own-suit card = eq-eqb (suit_code card.suit) (suit_code card.suit) refl
@@ -27,10 +28,6 @@ returns-then-has_place-clause-among c d has = any-filter _ _ c.args.untried (ap 
 
 pub returns-then-has_place-clause-told : goal.returns-then-has_place-clause-told
 returns-then-has_place-clause-told c = kept-told (λ d. not (same_card d c.args.card)) c.args.untried c.args.card c.args.ranks.now c.without_place-others.result c.without_place-others.ensures (λ d out. inl (is-same d c.args.card out))
-
-not-not : (b : Bool) → not b ≡ false → b ≡ true
-not-not true h = refl
-not-not false h = absurd (cc)
 
 -- the cards of its suit that are not reached
 abbrev lower : (cards ranks : List PlayingCard) (card : PlayingCard) → List PlayingCard
@@ -64,7 +61,7 @@ unreached ranks d top most out = go (reach ranks d) refl
 -- what is not kept is of the card's suit and not among the ranks
 out-of : (cards ranks : List PlayingCard) (card d : PlayingCard) → not (has_card (lower cards ranks card) d) ≡ false → (d.suit ≡ card.suit) × (has_card ranks d ≡ false)
 out-of cards ranks card d out =
-    let low : has_card (lower cards ranks card) d ≡ true = not-not (has_card (lower cards ranks card) d) out in
+    let low : has_card (lower cards ranks card) d ≡ true = not-false (has_card (lower cards ranks card) d) out in
     let own : has_card (filter (is_of card.suit) cards) d ≡ true = any-filter _ _ (filter (is_of card.suit) cards) low in
     (suit-of card.suit d (filter-passes (is_of card.suit) cards d own), is-not (has_card ranks d) (filter-passes (λ e. not (has_card ranks e)) (filter (is_of card.suit) cards) d low))
   where
@@ -83,6 +80,6 @@ pub returns-else-has_place-clause-told : goal.returns-else-has_place-clause-told
 returns-else-has_place-clause-told c =
     let at = (goal.at.returns-else-has_place-clause-told c).Else-has_place in
     kept-told (λ d. not (has_card c.difference-lower.result d)) c.args.untried c.args.card c.args.ranks.now c.difference-higher.result c.difference-higher.ensures (λ d out.
-    let here : has_card c.args.untried d ≡ true = any-filter _ _ c.args.untried (any-filter _ _ (filter (is_of c.args.card.suit) c.args.untried) (ap (λ xs. has_card xs d) (sym (low-is at)) ∙ not-not (has_card c.difference-lower.result d) out)) in
+    let here : has_card c.args.untried d ≡ true = any-filter _ _ c.args.untried (any-filter _ _ (filter (is_of c.args.card.suit) c.args.untried) (ap (λ xs. has_card xs d) (sym (low-is at)) ∙ not-false (has_card c.difference-lower.result d) out)) in
     let low = gone at d here out in
     inr (low.0, low.1, (gone at c.args.card c.requires (ap not (itself at))).1))

@@ -1,23 +1,22 @@
 use Rattle.std.specs.Prelude.{◌==◌, if◌then◌else◌}
-use Rattle.std.proofs.Common.{◌-◌, Option, None, Some, ◌≡◌, ◌+◌, ◌∙◌, length, ap, sym, subst, arith, List, [], ◌∷◌, refl, true, Bool, inl, inr, ℕ}
+use Rattle.std.proofs.Common.{◌-◌, Option, None, Some, ◌≡◌, ◌+◌, ◌∙◌, length, ap, sym, subst, arith, List, [], refl, true, Bool, inl, inr, ℕ}
 use mathlib.Core.Bool.{not, beq}
 use Rattle.dd_cards.specs.PlayingCard.{PlayingCard}
 use Rattle.dd_cards.specs.Cards.{has_card}
 use Rattle.dd_cards.specs.Seats.{is_north_south}
-use Rattle.dd_equal.specs.EqualCards.{tops}
 use Rattle.dd_play.specs.Board.{Board, cards_left}
 use Rattle.dd_play.specs.Tricks.{winner_of}
 use Rattle.dd_play.specs.Play.{after, completes, trick_with}
 use Rattle.dd_play.specs.Reach.{reach}
 use Rattle.dd_play.specs.Simulations.{IsLegal}
-use Rattle.dd_play.proofs.CallerLemmas.{cards_left-after}
+use Rattle.dd_play.proofs.CallerLemmas.{cards_left-after, reach-in}
 use Rattle.dd_search.specs.ClaimsBy.{IsAnswerBy, IsAnswerAfter, AnswerBy}
 use Rattle.dd_search.specs.Turns.{cards_before}
 use Rattle.dd_search.proofs.Carried.{answer-turned}
 use Rattle.dd_search.proofs.Opens.{found-open, stays-open}
 use Rattle.dd_search.proofs.Scores.{needed-after}
-use Rattle.dd_search.proofs.Relied.{reach-in, one-more, answered-against, answered-for, leads, all-tried}
-use Rattle.dd_search.proofs.Orders.{top-legal, has-only, is-only}
+use Rattle.dd_search.proofs.Relied.{one-more, answered-against, answered-for, leads, all-tried}
+use Rattle.dd_search.proofs.Orders.{top-legal, is-only, only-legal}
 use Rattle.dd_search.proofs.relative_window.+relative_window.Goals as goal
 use Rattle.dd_search.proofs.relative_window.+relative_window.Goals.{relative_by_choices-In-Some}
 
@@ -65,14 +64,6 @@ relative_by_choices-returns-clause-winning_ranks g t c =
     c.in_default.ensures c.tries.invariant.lead c.whole_at-whole.ensures.more c.whole_at-whole.ensures.whole)
 
 -- ---- where there is one choice
-
--- it is a highest card
-only-top : (p : Board) (card d : PlayingCard) → tops p ≡ card ∷ [] → has_card (card ∷ []) d ≡ true → has_card (tops p) d ≡ true
-only-top p card d is has = ap (λ cards. has_card cards d) is ∙ has
-
--- and may be played
-only-legal : (p : Board) (card : PlayingCard) → tops p ≡ card ∷ [] → IsLegal p card
-only-legal p card is = top-legal p card (only-top p card card is (has-only card))
 
 pub relative_by_only_choice-relative_after-requires : goal.relative_by_only_choice-relative_after-requires
 relative_by_only_choice-relative_after-requires g t c κs within =

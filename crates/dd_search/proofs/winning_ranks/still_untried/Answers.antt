@@ -1,12 +1,12 @@
 use Rattle.std.proofs.Common.{◌≡◌, ◌<◌, ◌∙◌, Bool, true, false, sym, ap, arith, inl, inr, List, eq-eqb}
 use Rattle.std.specs.Prelude.{filter, nat_lt, ◌&&◌}
 use mathlib.Core.Bool.{not}
-use Rattle.std.proofs.lemmas.Bool.{lt-ltb}
+use Rattle.std.proofs.lemmas.Bool.{lt-ltb, and_from}
 use Rattle.dd_cards.specs.declared.suit.Suit.{Suit}
 use Rattle.dd_cards.specs.PlayingCard.{PlayingCard}
 use Rattle.dd_cards.specs.Suits.{suit_code}
 use Rattle.dd_cards.specs.Cards.{is_of, same_card, has_card}
-use Rattle.dd_cards.proofs.CallerLemmas.{any-filter, and-both, same_card-self}
+use Rattle.dd_cards.proofs.CallerLemmas.{any-filter, same_card-self}
 use Rattle.dd_play.specs.Reach.{reach}
 use Rattle.dd_search.proofs.Orders.{shorter, kept-told, is-same, is-low, is-of-suit}
 use Rattle.dd_search.proofs.Relied.{none-reached, low-reached}
@@ -47,7 +47,7 @@ suits-are : (c : Then-least-lowest) → c.card.inside.suit ≡ c.args.card.suit
 suits-are c = ap (λ (d : PlayingCard). d.suit) c.card.view_is
 
 falls-below : (c : Then-least-lowest) → not (is_of c.card.inside.suit c.args.card && nat_lt c.args.card.rank c.in-Some.floor) ≡ false
-falls-below c = ap not (and-both _ _ (own-suit c.card.inside.suit c.args.card (suits-are c)) (lt-ltb _ _ (below-floor c)))
+falls-below c = ap not (and_from _ _ (own-suit c.card.inside.suit c.args.card (suits-are c)) (lt-ltb _ _ (below-floor c)))
 
 pub returns-in-None-clause-fewer : goal.returns-in-None-clause-fewer
 returns-in-None-clause-fewer c =

@@ -1,16 +1,15 @@
 use Rattle.std.specs.Prelude.{◌==◌}
-use Rattle.std.proofs.Common.{◌≡◌, ◌+◌, ◌∙◌, length, ap, sym, subst, arith, List, [], ◌∷◌, refl, true, Bool, inl, inr}
+use Rattle.std.proofs.Common.{◌≡◌, ◌+◌, ◌∙◌, length, ap, sym, subst, arith, List, [], refl, true, Bool, inl, inr}
 use mathlib.Core.Bool.{not, beq}
 use Rattle.dd_cards.specs.PlayingCard.{PlayingCard}
 use Rattle.dd_cards.specs.Cards.{has_card}
 use Rattle.dd_cards.specs.Seats.{is_north_south}
-use Rattle.dd_equal.specs.EqualCards.{tops}
-use Rattle.dd_play.specs.Board.{Board, cards_left}
+use Rattle.dd_play.specs.Board.{cards_left}
 use Rattle.dd_play.specs.Simulations.{IsLegal}
 use Rattle.dd_play.proofs.CallerLemmas.{cards_left-after}
 use Rattle.dd_search.specs.ClaimsBy.{IsAnswerBy, IsAnswerAfter, AnswerBy}
 use Rattle.dd_search.proofs.Relied.{answer-here, one-more, answered-against, answered-for, leads, all-tried}
-use Rattle.dd_search.proofs.Orders.{top-legal, has-only, is-only}
+use Rattle.dd_search.proofs.Orders.{top-legal, is-only, only-legal}
 use Rattle.dd_search.proofs.Scores.{needed-after}
 use Rattle.dd_search.proofs.Turns.{goes-on, closes}
 use Rattle.dd_search.specs.Turns.{cards_before}
@@ -124,14 +123,6 @@ answer_by_choices-returns-clause-answer g t c =
     answer-here c.args.position.now c.args.need c.new.result.cards c.new.result.yes c.mover_at.ensures.board (answer_by_choices-returns-clause-winning_ranks g t c)
 
 -- ---- where there is one choice
-
--- it is a highest card
-only-top : (p : Board) (card d : PlayingCard) → tops p ≡ card ∷ [] → has_card (card ∷ []) d ≡ true → has_card (tops p) d ≡ true
-only-top p card d is has = ap (λ cards. has_card cards d) is ∙ has
-
--- and may be played
-only-legal : (p : Board) (card : PlayingCard) → tops p ≡ card ∷ [] → IsLegal p card
-only-legal p card is = top-legal p card (only-top p card card is (has-only card))
 
 pub answer_by_only_choice-answer_after-requires : goal.answer_by_only_choice-answer_after-requires
 answer_by_only_choice-answer_after-requires g t c κs within =

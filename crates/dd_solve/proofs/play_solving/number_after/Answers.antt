@@ -4,9 +4,10 @@ use Rattle.dd_play.specs.Board.{mover}
 use Rattle.dd_play.specs.Play.{legal}
 use Rattle.dd_play.specs.Won.{won}
 use Rattle.dd_solve.specs.Plays.{declarers, tricks_after}
-use Rattle.dd_solve.proofs.CardByCard.{Stands, least-declarers, least-defenders, next-within, number-declarers, number-defenders, number-forced, value-within}
+use Rattle.dd_solve.proofs.CardByCard.{Stands, least-declarers, least-defenders, next-within, number-declarers, number-defenders, number-forced}
 use Rattle.dd_solve.proofs.play_solving.number_after.Goals as goal
 use Rattle.dd_solve.proofs.play_solving.number_after.Goals.{in-None+in_ok-value-in-None, in-Some+else-len-eq1+in_ok-value-in-Some, then-declarer_plays, else-declarer_plays, then-declarer_plays-2, else-declarer_plays-2}
+use Rattle.dd_search.proofs.CallerLemmas.{value-within}
 
 pub returns-then-len-eq1-clause-number : goal.returns-then-len-eq1-clause-number
 returns-then-len-eq1-clause-number g c =

@@ -1,5 +1,4 @@
-use Rattle.std.proofs.Common.{◌≡◌, refl, ap, ◌∙◌, subst, [], ◌∷◌, get_or, List}
-use Rattle.dd_cards.specs.PlayingCard.{PlayingCard}
+use Rattle.std.proofs.Common.{ap, ◌∙◌, subst, [], ◌∷◌, get_or}
 use Rattle.dd_cards.specs.Cards.{without}
 use Rattle.dd_cards.specs.Hands.{dealt}
 use Rattle.dd_play.specs.Board.{Board}
@@ -8,17 +7,9 @@ use Rattle.dd_rank.specs.Alike.{IsAlike}
 use Rattle.dd_relative.specs.Turned.{from_seat}
 use Rattle.dd_relative.proofs.TrickRanks.{four-same}
 use Rattle.dd_relative.proofs.Turned.{alike-turned}
-use Rattle.dd_relative.proofs.UnderWay.{IsFinish, finish}
+use Rattle.dd_relative.proofs.UnderWay.{IsFinish, finish, hand-left, same-dealt}
 use Rattle.dd_relative.proofs.relative_trick.RelativeTrick.next_start.Goals as goal
 use Rattle.dd_relative.proofs.relative_trick.RelativeTrick.next_start.Goals.{After-of-4}
-
--- a hand without the card that was played from it
-hand : (cards taken left : List PlayingCard) (c : PlayingCard) → left ≡ without taken c → taken ≡ cards → left ≡ without cards c
-hand cards taken left c e f = e ∙ ap (λ l. without l c) f
-
--- four hands turned
-turned : (a b c d l s t f : List PlayingCard) → a ≡ l → b ≡ s → c ≡ t → d ≡ f → dealt a b c d ≡ dealt l s t f
-turned a b c d l s t f ea eb ec ed = rw (ea, eb, ec, ed) refl
 
 finished : (c : After-of-4) → IsFinish c.args.self.now c.args.card c.turned-leader_left.result.0 c.turned-leader_left.result.1 c.turned-leader_left.result.2 c.turned-leader_left.result.3 (c.of.result ∷ c.of-2.result ∷ c.of-3.result ∷ c.of-4.result ∷ []) c.strain-strain.result c.winner-seat.result
 finished c =
@@ -30,11 +21,11 @@ finished c =
     c.turned-leader_left.result.0 c.turned-leader_left.result.1 c.turned-leader_left.result.2 c.turned-leader_left.result.3 (c.of.result ∷ c.of-2.result ∷ c.of-3.result ∷ c.of-4.result ∷ []) c.strain-strain.result c.winner-seat.result
     c.leader.ensures.relative c.self.invariant.1 c.self.invariant.0 c.self.invariant.2 c.self.view_is c.requires.turn c.requires.card
     (c.turned-leader_left.ensures
-    ∙ ap (λ h. from_seat h c.winner-seat.result) (turned c.without.result c.without-2.result c.without-3.result c.without-4.result _ _ _ _
-    (hand s.hands.north c.leader.result c.without.result x c.without.ensures c.leader.ensures.cards)
-    (hand s.hands.east c.second.result c.without-2.result y c.without-2.ensures c.second.ensures.cards)
-    (hand s.hands.south c.third.result c.without-3.result z c.without-3.ensures c.third.ensures.cards)
-    (hand s.hands.west c.fourth.result c.without-4.result c.args.card c.without-4.ensures c.fourth.ensures.cards)))
+    ∙ ap (λ h. from_seat h c.winner-seat.result) (same-dealt c.without.result c.without-2.result c.without-3.result c.without-4.result _ _ _ _
+    (hand-left s.hands.north c.leader.result c.without.result x c.without.ensures c.leader.ensures.cards)
+    (hand-left s.hands.east c.second.result c.without-2.result y c.without-2.ensures c.second.ensures.cards)
+    (hand-left s.hands.south c.third.result c.without-3.result z c.without-3.ensures c.third.ensures.cards)
+    (hand-left s.hands.west c.fourth.result c.without-4.result c.args.card c.without-4.ensures c.fourth.ensures.cards)))
     c.strain-strain.ensures c.winner-seat.ensures
     (four-same c.of.result c.of-2.result c.of-3.result c.of-4.result x y z c.args.card c.of.ensures.card c.of-2.ensures.card c.of-3.ensures.card c.of-4.ensures.card)
 
