@@ -41,8 +41,8 @@ pub(crate) fn serve<
     requires events { IsEventCount events }
     requires workers { args.workers ≤ MOST_WORKERS }
     requires table { HasTableSize args }
-    ensures { (input : Device) → ServesUntil V.way (V.state watcher.old) (V.state watcher.new) (terms_by args) events
-        (streams input (state_of O.contents output.old) (state_of E.contents errors.old))
+    ensures { (input : Device) → ServesUntil V.way (V.state watcher.old) (V.state watcher.new)
+        (terms_by args) events (streams input (state_of O.contents output.old) (state_of E.contents errors.old))
         (streams input (state_of O.contents output.new) (state_of E.contents errors.new)) result }
 {
     let listener = match TcpListener::bind(rt, listen) {

@@ -93,7 +93,8 @@ impl OwnerPlanes {
     /// Who holds the highest card of each suit: two bits each, the spades' on top.
     #[inline]
     pub(crate) fn highest(self) -> u64
-        ensures { result ≡ (highest_in self.odd self.far Spades * 4 + highest_in self.odd self.far Hearts) * 16
+        ensures { result
+            ≡ (highest_in self.odd self.far Spades * 4 + highest_in self.odd self.far Hearts) * 16
             + (highest_in self.odd self.far Diamonds * 4 + highest_in self.odd self.far Clubs) }
     {
         let odd = self.odd >> 14 & LOWEST;

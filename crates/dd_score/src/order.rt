@@ -52,7 +52,12 @@ impl Order {
 
 // A seat and its partner before the other two.
 fn partners_first(seat: Seat) -> Asked
-    ensures { result ≡ record { first = seat; second = seat_after seat 2; third = seat_after seat 1; fourth = seat_after seat 3 } }
+    ensures { result ≡ record {
+      first = seat;
+      second = seat_after seat 2;
+      third = seat_after seat 1;
+      fourth = seat_after seat 3;
+    } }
 {
     in_turn(seat, seat.partner(), seat.left(), seat.right())
 }

@@ -71,7 +71,8 @@ fn least(
 ) -> Option<ParContract>
     requires { highest ≡ highest_bettering worths.now.tricks worths.now.vulnerable sought.order
         sought.score side 35 }
-    ensures { result ≡ least_of worths.now.tricks worths.now.vulnerable sought.order sought.score strain side }
+    ensures { result ≡ least_of worths.now.tricks worths.now.vulnerable
+        sought.order sought.score strain side }
 {
     for level in 1..8 {
         let found = at_level(worths, sought, strain, side, level, highest);

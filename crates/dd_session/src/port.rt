@@ -79,7 +79,12 @@ impl<'a, J: Naming, R: Wait + Clock> Model for DeskPort<'a, J, R> {
 
     ghost Value = { DeskPortOf };
 
-    ghost view = { λ p. record { pass = p.pass; before = p.before; refusals = p.refusals; workers = p.workers } };
+    ghost view = { λ p. record {
+      pass = p.pass;
+      before = p.before;
+      refusals = p.refusals;
+      workers = p.workers;
+    } };
 
     ghost invariant = { λ p. (p.before ≤ length p.pass.receipts)
         × AreClients p.pass.number (drop p.before p.pass.receipts) };

@@ -49,9 +49,15 @@ pub fn a_reply_is_one_line()
 /// Lines worked by hand.
 pub fn worked_lines()
     ensures best_cards { Means (codes "{\"do\":\"solve\",\"deal\":\"N:A.2.. K.A.. Q.K.. J.Q..\",\"trump\":4,\"first\":1,\"solutions\":2}")
-        (Ok (LineAsked.Cards (Asked.Solve record { board = board_of two_suits Notrump East []; solutions = 2 }))) }
+        (Ok (LineAsked.Cards (Asked.Solve record {
+          board = board_of two_suits Notrump East [];
+          solutions = 2;
+        }))) }
     ensures every_card { Means (codes "{\"deal\":\"[Deal \\\"e:k4... aq... 65... 32...\\\"]\",\"played\":[],\"trump\":0,\"first\":0,\"solutions\":3,\"do\":\"solve\"}")
-        (Ok (LineAsked.Cards (Asked.Solve record { board = board_of eight_spades (Trump Spades) North []; solutions = 3 }))) }
+        (Ok (LineAsked.Cards (Asked.Solve record {
+          board = board_of eight_spades (Trump Spades) North [];
+          solutions = 3;
+        }))) }
     ensures table { Means (codes "{\"do\":\"table\",\"deal\":\"N:A.2.. K.A.. Q.K.. J.Q..\"}")
         (Ok (LineAsked.Cards (Asked.Table two_suits))) }
     ensures trump_of_a_table { Means (codes "{\"do\":\"table\",\"deal\":\"N:A.2.. K.A.. Q.K.. J.Q..\",\"trump\":4}")
@@ -74,9 +80,21 @@ pub fn worked_lines()
     ensures ace_led { Means (codes "{\"do\":\"solve\",\"deal\":\"N:A.2.. K.A.. Q.K.. J.Q..\",\"trump\":4,\"first\":0,\"solutions\":3,\"played\":[[0,14]]}")
         (Err Fault.CardTwice) }
     ensures par_by_dealer { Means (codes "{\"do\":\"par\",\"table\":[[5,8,5,8],[6,6,6,6],[5,7,5,7],[7,5,7,5],[6,6,6,13]],\"dealer\":1,\"vulnerable\":2}")
-        (Ok (LineAsked.Par record { results = (5 ∷ 8 ∷ 5 ∷ 8 ∷ []) ∷ (6 ∷ 6 ∷ 6 ∷ 6 ∷ []) ∷ (5 ∷ 7 ∷ 5 ∷ 7 ∷ []) ∷ (7 ∷ 5 ∷ 7 ∷ 5 ∷ []) ∷ (6 ∷ 6 ∷ 6 ∷ 13 ∷ []) ∷ []; conditions = record { vulnerable = Vulnerable.NorthSouth; order = Order.Dealer East } })) }
+        (Ok (LineAsked.Par record {
+          results = (5 ∷ 8 ∷ 5 ∷ 8 ∷ []) ∷ (6 ∷ 6 ∷ 6 ∷ 6 ∷ []) ∷ (5 ∷ 7 ∷ 5 ∷ 7 ∷ []) ∷ (7 ∷ 5 ∷ 7 ∷ 5 ∷ []) ∷ (6 ∷ 6 ∷ 6 ∷ 13 ∷ []) ∷ [];
+          conditions = record {
+            vulnerable = Vulnerable.NorthSouth;
+            order = Order.Dealer East;
+          };
+        })) }
     ensures par_by_side { Means (codes "{\"do\":\"par\",\"table\":[[5,8,5,8],[6,6,6,6],[5,7,5,7],[7,5,7,5],[6,6,6,13]],\"side\":1,\"vulnerable\":1}")
-        (Ok (LineAsked.Par record { results = (5 ∷ 8 ∷ 5 ∷ 8 ∷ []) ∷ (6 ∷ 6 ∷ 6 ∷ 6 ∷ []) ∷ (5 ∷ 7 ∷ 5 ∷ 7 ∷ []) ∷ (7 ∷ 5 ∷ 7 ∷ 5 ∷ []) ∷ (6 ∷ 6 ∷ 6 ∷ 13 ∷ []) ∷ []; conditions = record { vulnerable = Vulnerable.Both; order = Order.First Side.EastWest } })) }
+        (Ok (LineAsked.Par record {
+          results = (5 ∷ 8 ∷ 5 ∷ 8 ∷ []) ∷ (6 ∷ 6 ∷ 6 ∷ 6 ∷ []) ∷ (5 ∷ 7 ∷ 5 ∷ 7 ∷ []) ∷ (7 ∷ 5 ∷ 7 ∷ 5 ∷ []) ∷ (6 ∷ 6 ∷ 6 ∷ 13 ∷ []) ∷ [];
+          conditions = record {
+            vulnerable = Vulnerable.Both;
+            order = Order.First Side.EastWest;
+          };
+        })) }
     ensures dealer_and_side { Means (codes "{\"do\":\"par\",\"table\":[[5,8,5,8],[6,6,6,6],[5,7,5,7],[7,5,7,5],[6,6,6,13]],\"dealer\":1,\"side\":1,\"vulnerable\":1}")
         (Err Fault.WrongField) }
     ensures table_and_deal { Means (codes "{\"do\":\"par\",\"table\":[[5,8,5,8],[6,6,6,6],[5,7,5,7],[7,5,7,5],[6,6,6,13]],\"deal\":\"\",\"dealer\":1,\"vulnerable\":1}")
@@ -150,7 +168,10 @@ pub fn worked_wants()
     ensures cancel { (leave : Bool) →
         MeansWant leave (codes "{\"job\":18446744073709551615,\"do\":\"cancel\"}")
         (Ok (SessionAsked.Book record { want = Want.Cancel 18446744073709551615; wait = 0 })) }
-    ensures stop { MeansWant true (codes "{\"do\":\"stop\"}") (Ok (SessionAsked.Book record { want = Want.Stop; wait = 0 })) }
+    ensures stop { MeansWant true (codes "{\"do\":\"stop\"}") (Ok (SessionAsked.Book record {
+      want = Want.Stop;
+      wait = 0;
+    })) }
     ensures no_leave { MeansWant false (codes "{\"do\":\"stop\"}") (Err Fault.WrongField) }
     ensures stop_of_a_job { MeansWant true (codes "{\"do\":\"stop\",\"job\":1}")
         (Err Fault.WrongField) }
@@ -165,13 +186,25 @@ pub fn worked_wants()
     ensures no_object { MeansWant true (codes "[1]") (Err Fault.NotAnObject) }
     ensures solve { (leave : Bool) → MeansWant leave
         (codes "{\"do\":\"solve\",\"deal\":\"N:A.2.. K.A.. Q.K.. J.Q..\",\"trump\":4,\"first\":1,\"solutions\":2}")
-        (Ok (SessionAsked.Book record { want = Want.Submit (Asked.Solve record { board = board_of two_suits Notrump East []; solutions = 2 }); wait = 0 })) }
+        (Ok (SessionAsked.Book record {
+          want = Want.Submit (Asked.Solve record {
+            board = board_of two_suits Notrump East [];
+            solutions = 2;
+          });
+          wait = 0;
+        })) }
     ensures table { (leave : Bool) → MeansWant leave
         (codes "{\"do\":\"table\",\"deal\":\"N:A.2.. K.A.. Q.K.. J.Q..\"}")
         (Ok (SessionAsked.Book record { want = Want.Submit (Asked.Table two_suits); wait = 0 })) }
     ensures par { (leave : Bool) → MeansWant leave
         (codes "{\"do\":\"par\",\"table\":[[5,8,5,8],[6,6,6,6],[5,7,5,7],[7,5,7,5],[6,6,6,13]],\"dealer\":1,\"vulnerable\":2}")
-        (Ok (SessionAsked.Par record { results = (5 ∷ 8 ∷ 5 ∷ 8 ∷ []) ∷ (6 ∷ 6 ∷ 6 ∷ 6 ∷ []) ∷ (5 ∷ 7 ∷ 5 ∷ 7 ∷ []) ∷ (7 ∷ 5 ∷ 7 ∷ 5 ∷ []) ∷ (6 ∷ 6 ∷ 6 ∷ 13 ∷ []) ∷ []; conditions = record { vulnerable = Vulnerable.NorthSouth; order = Order.Dealer East } })) }
+        (Ok (SessionAsked.Par record {
+          results = (5 ∷ 8 ∷ 5 ∷ 8 ∷ []) ∷ (6 ∷ 6 ∷ 6 ∷ 6 ∷ []) ∷ (5 ∷ 7 ∷ 5 ∷ 7 ∷ []) ∷ (7 ∷ 5 ∷ 7 ∷ 5 ∷ []) ∷ (6 ∷ 6 ∷ 6 ∷ 13 ∷ []) ∷ [];
+          conditions = record {
+            vulnerable = Vulnerable.NorthSouth;
+            order = Order.Dealer East;
+          };
+        })) }
     ensures par_of_a_deal { (leave : Bool) → MeansWant leave
         (codes "{\"do\":\"par\",\"deal\":\"\",\"dealer\":4,\"vulnerable\":4}") (Err Fault.WrongField) }
     ensures waits { (leave : Bool) →
@@ -190,7 +223,13 @@ pub fn worked_wants()
         (Err Fault.WrongField) }
     ensures solve_that_waits { (leave : Bool) → MeansWant leave
         (codes "{\"do\":\"solve\",\"deal\":\"N:A.2.. K.A.. Q.K.. J.Q..\",\"trump\":4,\"first\":1,\"solutions\":2,\"wait\":500}")
-        (Ok (SessionAsked.Book record { want = Want.Submit (Asked.Solve record { board = board_of two_suits Notrump East []; solutions = 2 }); wait = 500 })) }
+        (Ok (SessionAsked.Book record {
+          want = Want.Submit (Asked.Solve record {
+            board = board_of two_suits Notrump East [];
+            solutions = 2;
+          });
+          wait = 500;
+        })) }
     ensures health { (leave : Bool) → MeansWant leave (codes "{\"do\":\"health\"}")
         (Ok SessionAsked.Health) }
     ensures health_of_a_job { MeansWant true (codes "{\"do\":\"health\",\"job\":1}")
