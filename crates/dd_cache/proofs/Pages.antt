@@ -46,7 +46,7 @@ keeps-set told count place new within stands = record {
     within-set : count ≤ length (set told place new)
     within-set = (let l = length-set told place new in omega (arith, l, within))
 
--- bounds that come to the others
+-- bounds that join the others
 pub keeps-push : (told : List StoredBoundsOf) (count : ℕ) (new : StoredBoundsOf) → count < length told → Keeps (take count told) (take (count + 1) (set told count new)) new
 keeps-push told count new less = record {
   told = at-place (set told count new) (count + 1) count new within-set (omega arith) (get_or-set_same told count new new less);
