@@ -1,20 +1,18 @@
 -- four hands and the board that they make
-use Rattle.std.proofs.Common.{◌≡◌, ℕ, zero, suc, ◌+◌, ◌<◌, ◌≤◌, refl, ap, ◌∙◌, arith, List, ◌++◌, length}
+use Rattle.std.proofs.Common.{◌≡◌, ℕ, zero, suc, ◌+◌, ◌<◌, ap, ◌∙◌, arith, List, ◌++◌, length}
 use Rattle.std.specs.Prelude.{◌||◌, nat_lt, if◌then◌else◌}
 use Rattle.std.proofs.lemmas.List.Folds.{list_any-append}
-use Rattle.dd_cards.specs.declared.seat.Seat.{Seat}
 use Rattle.dd_cards.specs.declared.seat.Seat.TheVariants.{North, East, South, West}
 use Rattle.dd_cards.specs.declared.strain.Strain.{Strain}
 use Rattle.dd_cards.specs.PlayingCard.{PlayingCard}
 use Rattle.dd_cards.specs.Cards.{has_card, same_card}
-use Rattle.dd_cards.specs.Hands.{dealt, hand_of, times, AreHands}
+use Rattle.dd_cards.specs.Hands.{dealt, hand_of, AreHands}
 use Rattle.dd_cards.specs.Seats.{seat_after}
 use Rattle.dd_play.specs.Board.{Board, IsBoard, cards_at, times_in}
 use Rattle.dd_play.proofs.CallerLemmas.{times_in-once}
 use Rattle.dd_rank.specs.Depths.{all_cards}
 use Rattle.dd_relative.specs.Relative.{led_by_north}
 use Rattle.std.proofs.lemmas.Bool.{or_left, or_right, or_cases}
-use Rattle.dd_cards.proofs.CallerLemmas.{times-has}
 
 -- a card of all hands is in one of the four
 pub held : (l s t f : List PlayingCard) (strain : Strain) (c : PlayingCard) → has_card (all_cards (led_by_north l s t f strain)) c ≡ (((has_card l c || has_card s c) || has_card t c) || has_card f c)
@@ -30,31 +28,6 @@ held-by p c =
     list_any-append test ((cards_at p North ++ cards_at p East) ++ cards_at p South) (cards_at p West)
     ∙ ap (λ b. b || has_card (cards_at p West) c) (list_any-append test (cards_at p North ++ cards_at p East) (cards_at p South)
     ∙ ap (λ b. b || has_card (cards_at p South) c) (list_any-append test (cards_at p North) (cards_at p East)))
-
--- the hands of a board are four hands
-pub board-hands : (p : Board) → IsBoard p → AreHands p.hands
-board-hands p valid = record { sets = valid.sets; disjoint = λ c s t h k. go c s t (times-has _ c h) (times-has _ c k) (fewer c) }
-  where
-    fewer : (c : PlayingCard) → times_in p.hands c ≤ 1
-    fewer c = (let o = valid.once c in omega (arith, o))
-
-    go : (c : PlayingCard) (s t : Seat) → 1 ≤ times (cards_at p s) c → 1 ≤ times (cards_at p t) c → times_in p.hands c ≤ 1 → s ≡ t
-    go c North North a b o = refl
-    go c North East a b o = absurd (omega (arith, a, b, o))
-    go c North South a b o = absurd (omega (arith, a, b, o))
-    go c North West a b o = absurd (omega (arith, a, b, o))
-    go c East North a b o = absurd (omega (arith, a, b, o))
-    go c East East a b o = refl
-    go c East South a b o = absurd (omega (arith, a, b, o))
-    go c East West a b o = absurd (omega (arith, a, b, o))
-    go c South North a b o = absurd (omega (arith, a, b, o))
-    go c South East a b o = absurd (omega (arith, a, b, o))
-    go c South South a b o = refl
-    go c South West a b o = absurd (omega (arith, a, b, o))
-    go c West North a b o = absurd (omega (arith, a, b, o))
-    go c West East a b o = absurd (omega (arith, a, b, o))
-    go c West South a b o = absurd (omega (arith, a, b, o))
-    go c West West a b o = refl
 
 -- four hands of one length that North leads from are a board
 pub start-board : (l s t f : List PlayingCard) (strain : Strain) → AreHands (dealt l s t f) → length s ≡ length l → length t ≡ length l → length f ≡ length l → IsBoard (led_by_north l s t f strain)

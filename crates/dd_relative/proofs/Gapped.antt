@@ -12,14 +12,14 @@ use Rattle.dd_cards.specs.Cards.{has_card, same_card}
 use Rattle.dd_cards.specs.Hands.{FourHands, dealt, hand_of, times, AreHands, IsSet}
 use Rattle.dd_cards.specs.Seats.{seat_after}
 use Rattle.dd_cards.proofs.CallerLemmas.{both-ways, same_card-eq, same_card-self, real-set, times-cons, times-set, times-has}
-use Rattle.dd_play.proofs.CallerLemmas.{flag_of}
+use Rattle.dd_play.proofs.CallerLemmas.{flag_of, board-hands}
 use Rattle.dd_play.specs.Board.{Board, board_of, IsBoard}
 use Rattle.dd_rank.specs.Alike.{IsAlikeBy}
 use Rattle.dd_rank.specs.Depths.{all_cards}
 use Rattle.dd_relative.specs.Gaps.{raised, lowered, moved_hands, moved_up}
 use Rattle.dd_relative.specs.Relative.{IsRelative, led_by_north}
 use Rattle.dd_relative.specs.Gapped.{stands, IsGapped, IsClosing}
-use Rattle.dd_relative.proofs.Boards.{board-even, board-hands, held, start-board}
+use Rattle.dd_relative.proofs.Boards.{board-even, held, start-board}
 use Rattle.dd_relative.proofs.Cards.{is-apart, lowered-apart, lowered-most, lowered-order, lowered-suit, moved-back, moved-fewer, moved-forth, moved-has, moved-length, moved-set, lowered-raised, raised-lowered, raised-order, raised-real, raised-suit}
 use Rattle.dd_rank.proofs.CallerLemmas.{in-all}
 

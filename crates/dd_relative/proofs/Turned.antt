@@ -11,7 +11,7 @@ use Rattle.dd_cards.specs.Hands.{FourHands, hand_of, AreHands, IsSet}
 use Rattle.dd_cards.specs.Seats.{seat_code, seat_after}
 use Rattle.dd_cards.proofs.CallerLemmas.{seat_code-injective, seat_code-lt}
 use Rattle.dd_play.specs.Board.{Board, IsBoard, cards_at}
-use Rattle.dd_play.proofs.CallerLemmas.{flag_of}
+use Rattle.dd_play.proofs.CallerLemmas.{flag_of, board-hands}
 use Rattle.dd_rank.specs.Alike.{IsAlikeBy, IsAlike, AreAlike}
 use Rattle.dd_relative.specs.Relative.{led_by_north}
 use Rattle.dd_relative.specs.Turned.{from_seat, from_leader}
@@ -19,7 +19,7 @@ use Rattle.dd_relative.specs.Gapped.{stands, IsGapped}
 use Rattle.dd_rank.specs.Depths.{all_cards}
 use Rattle.std.specs.Prelude.{◌||◌}
 use Rattle.dd_cards.proofs.CallerLemmas.{both-ways}
-use Rattle.dd_relative.proofs.Boards.{board-hands, start-board}
+use Rattle.dd_relative.proofs.Boards.{start-board}
 use Rattle.dd_relative.proofs.Gapped.{alike-then}
 use Rattle.dd_rank.proofs.CallerLemmas.{in-all, after-tells, all-in}
 

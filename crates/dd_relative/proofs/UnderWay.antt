@@ -17,7 +17,7 @@ use Rattle.dd_play.specs.Board.{Board, board_of, cards_at, mover}
 use Rattle.dd_play.specs.Tricks.{winner_of, or_else}
 use Rattle.dd_play.specs.Play.{legal, after}
 use Rattle.dd_play.specs.Simulations.{IsLegal}
-use Rattle.dd_play.proofs.CallerLemmas.{flag_of, legal-leads, own-card}
+use Rattle.dd_play.proofs.CallerLemmas.{flag_of, legal-leads, own-card, board-hands}
 use Rattle.dd_rank.specs.Depths.{all_cards}
 use Rattle.dd_relative.specs.Relative.{IsRelative, led_by_north}
 use Rattle.dd_relative.specs.Turned.{from_seat, from_leader}
@@ -25,7 +25,6 @@ use Rattle.dd_relative.proofs.Turned.{turned-gapped}
 use Rattle.dd_relative.specs.Gapped.{stands, IsGapped}
 use Rattle.dd_relative.specs.UnderWay.{under_way, IsUnderWay}
 use Rattle.dd_relative.proofs.Gapped.{gapped-as}
-use Rattle.dd_relative.proofs.Boards.{board-hands}
 use Rattle.std.proofs.lemmas.Bool.{and_from, or_left, or_right, or_cases, not-true, not_from_false, false_from_ne_true}
 use Rattle.dd_rank.proofs.CallerLemmas.{in-all, all-in}
 

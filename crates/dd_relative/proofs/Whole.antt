@@ -19,11 +19,10 @@ use Rattle.dd_play.specs.Board.{Board, IsBoard, cards_at, mover}
 use Rattle.dd_play.specs.Play.{legal}
 use Rattle.dd_play.specs.Reach.{reach}
 use Rattle.dd_play.specs.Simulations.{IsLegal}
-use Rattle.dd_play.proofs.CallerLemmas.{filter-has, filter-passes, in-following, legal-in, legal-out, of-suit', reach-some, suit-of, times-hand, above-is, above-suit, above-rank, reach-in}
+use Rattle.dd_play.proofs.CallerLemmas.{filter-has, filter-passes, in-following, legal-in, legal-out, of-suit', reach-some, suit-of, times-hand, above-is, above-suit, above-rank, reach-in, board-hands}
 use Rattle.dd_equal.specs.EqualCards.{IsWhole, are_equal, is_between, other_cards, is_top}
 use Rattle.dd_relative.specs.Runs.{next_above}
 use Rattle.dd_relative.specs.WinningRanks.{AreTop}
-use Rattle.dd_relative.proofs.Boards.{board-hands}
 use Rattle.dd_relative.proofs.Tops.{obeys-suit}
 
 -- ---- reached cards
