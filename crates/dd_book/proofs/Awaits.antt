@@ -1,9 +1,9 @@
 -- A claim gets a part exactly where some part waits.
-use Rattle.std.proofs.Common.{◌≡◌, ℕ, zero, suc, ◌+◌, ◌<◌, ◌≤◌, Bool, true, false, cond, refl, sym, ap, ◌∙◌, arith, List, [], ◌∷◌, length, Some, None, inl, inr, nat_le}
+use Rattle.std.proofs.Common.{◌≡◌, ℕ, zero, suc, ◌+◌, ◌<◌, ◌≤◌, Bool, true, false, cond, refl, sym, ap, ◌∙◌, arith, List, [], ◌∷◌, ◌++◌, length, Some, None, ◌⊎◌, inl, inr, nat_eq, nat_le}
 use Rattle.std.specs.Prelude.{Option, ◌||◌, option_and_then, option_map, slice_get}
 use Rattle.std.specs.List.{count_by, find, list_any, position, position_from, range_with_len}
 use Rattle.std.proofs.lemmas.Bool.{cases_eq, and_parts}
-use Rattle.std.proofs.lemmas.Bool.Decides.{nat_tests}
+use Rattle.std.proofs.lemmas.Bool.Decides.{eqb_tells, nat_tests}
 use Rattle.std.proofs.lemmas.Iterator.Adapters.{position_from-zero}
 use Rattle.std.proofs.lemmas.List.Sums.{sum_by-cons}
 use Rattle.std.proofs.lemmas.Option.{same_Some, slice_get_within}
@@ -19,7 +19,9 @@ use Rattle.dd_book.specs.Parts.{is_waiting}
 use Rattle.dd_book.proofs.Chosen.{chosen-at}
 use Rattle.dd_book.proofs.Counting.{of_job, one}
 use Rattle.dd_book.proofs.CountsAfter.{turn-counts}
+use Rattle.dd_book.proofs.Elements.{slice_get-push_other}
 use Rattle.dd_book.proofs.Seats.{all-waiting, le-test}
+use Rattle.dd_book.proofs.Turns.{due-at}
 
 -- ---- where nothing passes a test
 
@@ -260,3 +262,20 @@ idle-not_shut book closed idle = go (next_turn book.jobs) (ap (λ (b : Bool). cl
     go : (o : Option Turn) → claim_told true book.claims o ≡ NothingWaits → ⊥
     go None e = absurd (cc)
     go (Some t) e = claimed-not t.number t.part (book.claims + 1) t.job.asked e
+
+-- ---- a job that comes where none waits
+
+-- the turn that is next then is one of this job
+pub new-turn : (jobs : List JobOf) (job : JobOf) (t : Turn) → next_turn jobs ≡ None → next_turn (jobs ++ job ∷ []) ≡ Some t → t.number ≡ length jobs + 1
+new-turn jobs job t none is =
+    let found = due-at (jobs ++ job ∷ []) t is in
+    at found.0 found.1 (and_parts (has_waiting t.job) _ found.2).0 found.3 (eqb_tells found.0 (length jobs))
+  where
+    before : (place : ℕ) (b : Bool) → list_any has_waiting jobs ≡ b → has_waiting t.job ≡ true → slice_get jobs place ≡ Some t.job → ⊥
+    before place true some waits here = some-turn jobs some none
+    before place false some waits here = let no : true ≡ false = sym waits ∙ all-fail has_waiting jobs some place t.job here in absurd (cc)
+
+    at : (place : ℕ) → t.number ≡ place + 1 → has_waiting t.job ≡ true → slice_get (jobs ++ job ∷ []) place ≡ Some t.job
+        → ((nat_eq place (length jobs) ≡ true) × (place ≡ length jobs)) ⊎ ((nat_eq place (length jobs) ≡ false) × (place ≡ length jobs → ⊥)) → t.number ≡ length jobs + 1
+    at place number waits here (inl last) = number ∙ ap (λ (n : ℕ). n + 1) last.1
+    at place number waits here (inr other) = absurd (before place (list_any has_waiting jobs) refl waits (sym (slice_get-push_other jobs place job other.1) ∙ here))

@@ -1,4 +1,5 @@
 //! Tests of the desk.
+mod at_once;
 mod checked;
 mod reserved;
 mod rows;

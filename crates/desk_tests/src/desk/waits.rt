@@ -163,6 +163,20 @@ fn a_worker_stays_while_a_job_is_open_where_no_event_is_free(
     meet_at_a_row(&rt, rt.alloc(), &script)
 }
 
+// The first part of a table is claimed with its submit, and the others wake who waits for one.
+#[test]
+fn a_worker_is_woken_by_the_parts_that_are_left(rt: HostRuntime) -> Result<(), AllocError> {
+    let script = Script {
+        limits: few(&rt, 1_000),
+        wants: Wants::Part,
+        before: String::from_str(rt.alloc(), "enrols: pass 1\nenrols: pass 2\nenrols: pass 3")?,
+        during: "1 submits T and the last claims: job 1; job 1 part 0 claim 1",
+        told: "job 1 part 4 claim 2",
+        ending: "3 events: 1 1 1",
+    };
+    meet_at_a_row(&rt, rt.alloc(), &script)
+}
+
 // What a fetch is told that waits a millisecond, and whether its time was over: before its job has ended, and then.
 fn in_time<J: Naming, R: Wait + Clock + Abort>(
     rt: &R,

@@ -76,7 +76,8 @@ pub fn in_words(alloc: Global, said: &Result<Reply, DeskFault>) -> Result<String
     }
 }
 
-// What these words are told; an enrolment is told the number of its pass, and a look how many events are free.
+// What these words are told; an enrolment is told the number of its pass, a look how many events are free, and a submit with a
+// claim of the last pass what both are told.
 fn step<J: Naming, R: Wait + Abort>(
     rt: &R,
     alloc: Global,
@@ -99,13 +100,50 @@ fn step<J: Naming, R: Wait + Abort>(
         let free = desk.free(rt);
         return format!(in alloc; "{free} free");
     }
+    if let Some(submit) = words.strip_suffix(" and the last claims") {
+        return submit_and_claim(rt, alloc, desk, passes, submit);
+    }
+    let place = place_of(words);
+    let pass = passes.get_mut(place).expect(rt, "a pass of this number");
+    in_words(alloc, &ask_again(rt, desk, pass, words, refusals))
+}
+
+// The place of the pass whose number the words begin with.
+fn place_of(words: &str) -> usize {
     let who: usize = match words.split(' ').next() {
         Some(word) => word.parse().unwrap_or(0),
         None => 0,
     };
-    let place = who.saturating_sub(1);
-    let pass = passes.get_mut(place).expect(rt, "a pass of this number");
-    in_words(alloc, &ask_again(rt, desk, pass, words, refusals))
+    who.saturating_sub(1)
+}
+
+// What a submit in words is told, and the last pass that claims with it.
+fn submit_and_claim<J: Naming, R: Wait + Abort>(
+    rt: &R,
+    alloc: Global,
+    desk: &Desk<J>,
+    passes: &mut Vec<Pass<J>>,
+    words: &str,
+) -> Result<String, AllocError> {
+    let mut worker = passes.pop().expect(rt, "a worker");
+    let pass = passes
+        .get_mut(place_of(words))
+        .expect(rt, "a pass of this number");
+    let Some(Call::Submit { asked, .. }) = call(words) else {
+        panic!(rt; "a submit in words");
+    };
+    let (said, claim) = desk.submit_and_claim(rt, pass, &mut worker, asked);
+    passes.push(worker)?;
+    let submitted = in_words(alloc, &said)?;
+    let submitted = submitted.as_str();
+    match claim {
+        Some(reply) => {
+            let claimed = told(alloc, &reply)?;
+            let claimed = claimed.as_str();
+            format!(in alloc; "{submitted}; {claimed}")
+        }
+        None => format!(in alloc; "{submitted}; no claim"),
+    }
 }
 
 /// Follows these rows: calls of the passes with what they are told, a row a line. Each call may be refused memory so often.
