@@ -1,15 +1,17 @@
 //! The job book as a session sees it that has no pass before it needs one.
 ghost use Rattle.std.specs.Prelude.{◌≡◌, Err, IfSome, None, Some, true, ℕ, option_and_then};
 ghost use Rattle.dd_desk.specs.Receipts.{has_shut};
+ghost use Rattle.dd_desk.specs.Replies.{MayClaim};
 ghost use Rattle.dd_desk.specs.declared.fault.DeskFault.TheVariants.{JournalFull, OutOfMemory};
 ghost use Rattle.dd_lines.specs.CountedDevices.{one_more};
 ghost use Rattle.dd_session.specs.Leaving.{HasEndedBy, Leaves};
 ghost use Rattle.dd_session.specs.Ports.{AreClients, Tells, before_by, last_place, new_late_port, number_of, pass_by, port_of, receipts_by, refusals_by, told_by, told_in};
-ghost use Rattle.dd_wire.specs.declared.want.Want.TheVariants.{Fetch, Stop as StopWant};
+ghost use Rattle.dd_wire.specs.declared.want.Want.TheVariants.{Fetch, Stop as StopWant, Submit};
 
 use crate::port::{BookPort, DeskPort, health_of, one_more};
 use dd_book::Reply;
 use dd_desk::{BlankPass, Desk, DeskFault, Naming, Pass};
+use dd_solve::Asked;
 use dd_wire::{Health, Want};
 use std::marker::Model;
 use std::sync::Wait;
@@ -75,6 +77,29 @@ impl<'a, J: Naming, R: Wait + Clock> LatePort<'a, J, R> {
         ensures receipts { receipts_by self.new.port ≡ receipts_by self.old.port }
     {
         refuse_at(&mut self.port, &mut self.refused)
+    }
+
+    /// Asks for a new job, and claims by the pass of a worker as `Desk::submit_and_claim` does.
+    pub fn submit_and_claim(
+        &mut self,
+        asked: Asked,
+        worker: &mut Pass<J>,
+    ) -> (Result<Reply, DeskFault>, Option<Reply>)
+        ensures told { Tells (port_of (told_by self.old.port)
+            (refusals_by self.old.refused self.old.port)) (Submit asked) result.0
+            (port_of (told_by self.new.port) (refusals_by self.new.refused self.new.port)) }
+        ensures claimed { MayClaim J.limits worker.old result.0 result.1 worker.new }
+    {
+        enrol_at(
+            self.rt,
+            self.desk,
+            self.workers,
+            self.stop,
+            self.refused,
+            &mut self.port,
+            &mut self.blank,
+        );
+        submit_at(&mut self.port, &mut self.refused, asked, worker)
     }
 
     /// The place in the journal of the last event of the pass.
@@ -236,6 +261,24 @@ fn ask_at<J: Naming, R: Wait + Clock>(
     match port {
         Some(port) => port.ask(want),
         None => Err(refuse_at(port, refused)),
+    }
+}
+
+// A submit over the port, if it is there, with a claim by the pass of a worker.
+fn submit_at<J: Naming, R: Wait + Clock>(
+    port: &mut Option<DeskPort<'_, J, R>>,
+    refused: &mut u64,
+    asked: Asked,
+    worker: &mut Pass<J>,
+) -> (Result<Reply, DeskFault>, Option<Reply>)
+    ensures told { Tells (port_of (told_by port.old) (refusals_by refused.old port.old)) (Submit asked) result.0
+        (port_of (told_by port.new) (refusals_by refused.new port.new)) }
+    ensures claimed { MayClaim J.limits worker.old result.0 result.1 worker.new }
+    ensures before { before_by port.new ≡ before_by port.old }
+{
+    match port {
+        Some(port) => port.submit_and_claim(asked, worker),
+        None => (Err(refuse_at(port, refused)), None),
     }
 }
 

@@ -1,18 +1,19 @@
 //! The job book as one session sees it.
 ghost use Rattle.std.specs.Prelude.{◌≡◌, Err, true};
 ghost use Rattle.dd_book.specs.declared.call.Call.TheVariants.{Fetch};
-ghost use Rattle.dd_desk.specs.Replies.{IsTold};
+ghost use Rattle.dd_desk.specs.Replies.{IsTold, MayClaim};
 ghost use Rattle.dd_desk.specs.Receipts.{has_shut};
 ghost use Rattle.dd_desk.specs.declared.fault.DeskFault.TheVariants.{JournalFull, OutOfMemory};
 ghost use Rattle.dd_lines.specs.CountedDevices.{one_more};
 ghost use Rattle.dd_session.specs.Healths.{IsHealth};
 ghost use Rattle.dd_session.specs.Ports.{Tells, call_by, last_place, new_port, port_of, refused, told_at};
 ghost use Rattle.dd_session.specs.Leaving.{Leaves, SawEnd};
-ghost use Rattle.dd_wire.specs.declared.want.Want.TheVariants.{Fetch as FetchWant, Stop as StopWant};
+ghost use Rattle.dd_wire.specs.declared.want.Want.TheVariants.{Fetch as FetchWant, Stop as StopWant, Submit as SubmitWant};
 
 use crate::leaving::give_up_jobs;
 use dd_book::Reply;
 use dd_desk::{Desk, DeskFault, Naming, Pass};
+use dd_solve::Asked;
 use dd_wire::{Health, Want};
 use std::marker::Model;
 use std::sync::Wait;
@@ -135,6 +136,29 @@ impl<'a, J: Naming, R: Wait + Clock> DeskPort<'a, J, R> {
     {
         self.refusals = one_more(self.refusals);
         DeskFault::JournalFull
+    }
+
+    /// Asks for a new job, and claims by the pass of a worker as `Desk::submit_and_claim` does.
+    pub fn submit_and_claim(
+        &mut self,
+        asked: Asked,
+        worker: &mut Pass<J>,
+    ) -> (Result<Reply, DeskFault>, Option<Reply>)
+        ensures told { Tells (port_of (told_at self.old) self.old.refusals) (SubmitWant asked) result.0
+            (port_of (told_at self.new) self.new.refusals) }
+        ensures claimed { MayClaim J.limits worker.old result.0 result.1 worker.new }
+        ensures before { self.new.before ≡ self.old.before }
+    {
+        let (told, claim) = self
+            .desk
+            .submit_and_claim(self.rt, &mut self.pass, worker, asked);
+        match told {
+            Ok(reply) => (Ok(reply), claim),
+            Err(fault) => {
+                self.refusals = one_more(self.refusals);
+                (Err(fault), claim)
+            }
+        }
     }
 
     /// The place in the journal of the last event of the pass.
