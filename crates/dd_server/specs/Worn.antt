@@ -43,6 +43,10 @@ pub record SeesFewPasses (limits : LimitsOf) (saw : ℕ → Type 0) (used_up : B
   pub seen : saw given
   pub sees : are_passes_used limits given ≡ true → used_up ≡ true
 
+-- half of the passes that a run may give were given
+abbrev pub are_half_given : LimitsOf → ℕ → Bool
+are_half_given limits passes = nat_le (limits.passes - limits.passes / 2) passes
+
 -- whose last event has this place knows that the run is worn: the event stands in the last quarter
 abbrev pub KnowsWorn : LimitsOf → Option ℕ → Type 0
 KnowsWorn limits place = IsSomeAnd place (λ p. are_events_used limits p ≡ true)

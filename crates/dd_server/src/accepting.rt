@@ -8,6 +8,7 @@ use crate::run_state::RunState;
 use crate::runs::Runs;
 use crate::telling::KeepsRuns;
 use crate::terms::RunNaming;
+use dd_work::Gate;
 use std::io::Error;
 use std::net::TcpStream;
 use std::sync::{Arc, Wait};
@@ -25,22 +26,24 @@ const REST: u64 = 100;
 /// Accepts connections, each served on a thread of its own, until the server is stopped, or the run is used up, by whomever, and
 /// the next one begins with the connection that came last. An accept that fails shuts the book and stops the server; one that may do better
 /// when a session ends is tried again while a session is open.
-pub(crate) fn accept_connections<'s, E, J, L, K, R>(
+pub(crate) fn accept_connections<'s, E, J, L, K, R, G>(
     rt: &'s R,
     scope: &Scope<'s, E>,
     state: &'s RunState<'s, J>,
     runs: &Runs<L, K>,
     own: &mut OwnPass<J>,
     first: Option<TcpStream>,
+    gate: &'s G,
 ) -> Result<(), ServeFault>
 where
     J: RunNaming + Send + Sync,
     L: RunLimits,
     K: KeepsRuns,
     R: Threads + Wait + Clock + Eprint + Sync,
+    G: Gate + Sync,
 {
     if let Some(stream) = first {
-        start_connection(rt, scope, state, stream);
+        start_connection(rt, scope, state, stream, gate);
     }
     let looks = state.looks(rt);
     for stream in state.server.listener.incoming() {
@@ -49,10 +52,10 @@ where
         }
         match stream {
             Ok(stream) if state.is_used_up(&looks) => match hand_over(rt, state, runs, stream) {
-                Some(stream) => start_connection(rt, scope, state, stream),
+                Some(stream) => start_connection(rt, scope, state, stream, gate),
                 None => break,
             },
-            Ok(stream) => start_connection(rt, scope, state, stream),
+            Ok(stream) => start_connection(rt, scope, state, stream, gate),
             Err(error) if passes(&error) && may_do_better(rt, state, runs) => {
                 thread::sleep(rt, Duration::from_millis(REST))
             }
@@ -120,15 +123,17 @@ fn may_do_better<J: RunNaming, L: RunLimits, K: KeepsRuns, R: Wait>(
 }
 
 // One connection, on a thread of its own. Where memory or a thread can't be had, or a stop came before it, it is closed.
-fn start_connection<'s, E, J, R>(
+fn start_connection<'s, E, J, R, G>(
     rt: &'s R,
     scope: &Scope<'s, E>,
     state: &'s RunState<'s, J>,
     stream: TcpStream,
+    gate: &'s G,
 )
 where
     J: RunNaming + Send + Sync,
     R: Threads + Wait + Clock + Eprint + Sync,
+    G: Gate + Sync,
 {
     let Ok(stream) = Arc::new(state.server.alloc, stream) else {
         return;
@@ -140,7 +145,7 @@ where
         return;
     };
     let serve = move || {
-        serve_connection(rt, state, &stream);
+        serve_connection(rt, state, &stream, gate);
         state.stop.streams().lock(rt).remove(key)
     };
     state.note_silent();

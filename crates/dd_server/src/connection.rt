@@ -17,6 +17,7 @@ use crate::terms::RunNaming;
 use dd_desk::{BlankPass, DeskFault, Pass};
 use dd_lines::{CountedDevice, LineFault, write_whole};
 use dd_session::{BookPort, serve_lines, serve_socket, write_refusal};
+use dd_work::Gate;
 use std::cell::Cell;
 use std::io::{Read, Write};
 use std::net::TcpStream;
@@ -25,16 +26,17 @@ use std::time::{Clock, Duration};
 
 /// Serves a connection to its end, by a pass of its own, which it has once it needs one. Where there is no memory for one the
 /// client is told so, unless it is to shake hands first.
-pub(crate) fn serve_connection<J: RunNaming, R: Wait + Clock>(
+pub(crate) fn serve_connection<J: RunNaming, R: Wait + Clock + Eprint, G: Gate>(
     rt: &R,
     state: &RunState<'_, J>,
     stream: &TcpStream,
+    gate: &G,
 ) {
     // Without these it is served too.
     let _ = stream.set_nodelay(true);
     let _ = stream.set_write_timeout(Some(Duration::from_secs(CALL_WAIT)));
     match state.blank_pass(rt) {
-        Ok(blank) => match serve_session(rt, state, stream, blank) {
+        Ok(blank) => match serve_session(rt, state, stream, blank, gate) {
             Some(pass) => state.take_back(rt, pass),
             None => {
                 state.note_not_silent();
@@ -49,16 +51,17 @@ pub(crate) fn serve_connection<J: RunNaming, R: Wait + Clock>(
 }
 
 // The session of a pass, which comes back, if there is one by then.
-fn serve_session<J: RunNaming, R: Wait + Clock>(
+fn serve_session<J: RunNaming, R: Wait + Clock + Eprint, G: Gate>(
     rt: &R,
     state: &RunState<'_, J>,
     stream: &TcpStream,
     blank: BlankPass,
+    gate: &G,
 ) -> Option<Pass<J>>
     ensures { IfSome result (IsClients J.limits J.terms) }
 {
     let caller = Cell::new(None);
-    let mut port = RunPort::new(rt, state, blank, &caller);
+    let mut port = RunPort::new(rt, state, blank, &caller, gate);
     serve_port(rt, state, stream, &caller, &mut port);
     port.into_pass()
 }

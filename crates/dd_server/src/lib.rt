@@ -21,6 +21,7 @@ mod runs;
 mod server;
 mod server_state;
 mod session_stream;
+mod short_jobs;
 mod socket_stream;
 mod stop;
 mod stop_flag;

@@ -198,7 +198,7 @@ where
     G: Gate + Sync,
 {
     start_workers(rt, scope, state, own, gate)?;
-    accept_connections(rt, scope, state, runs, own, stream)?;
+    accept_connections(rt, scope, state, runs, own, stream, gate)?;
     wait_for_sessions(rt, state, runs);
     if !state.stop.is_ended() {
         // The server goes on: who still submits here is to connect anew, and not told that it is closing.

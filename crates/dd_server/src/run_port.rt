@@ -1,39 +1,45 @@
 //! The port of a run.
 ghost use Rattle.std.specs.Prelude.{◌≡◌, true, Err, IfSome, IsTrue, ◌↔◌, option_and_then};
-ghost use Rattle.dd_wire.specs.declared.want.Want.TheVariants.{Stop as StopWant};
+ghost use Rattle.dd_wire.specs.declared.want.Want.TheVariants.{Stop as StopWant, Submit};
 ghost use Rattle.dd_desk.specs.Receipts.{has_shut};
 ghost use Rattle.dd_session.specs.Ports.{AreClients, Tells, before_by, last_place, new_late_port, pass_by, port_of, receipts_by, refusals_by, told_by, told_in};
 ghost use Rattle.dd_server.specs.Worn.{KnowsWorn, is_submit};
 
 use crate::run_state::RunState;
+use crate::short_jobs::{ShortJobs, is_short, work};
 use crate::terms::RunNaming;
 use crate::wear::are_events_used;
 use dd_book::{Limits, Reply};
 use dd_desk::{BlankPass, DeskFault, Pass};
 use dd_session::{BookPort, LatePort};
+use dd_solve::Asked;
 use dd_wire::{Health, Want};
+use dd_work::Gate;
 use std::cell::Cell;
 use std::sync::Wait;
 use std::time::Clock;
 
 /// A port whose stop ends the run and the server, and which takes no submit but the first once the run is worn. It has no pass
-/// before a call needs one.
-pub(crate) struct RunPort<'a, J: RunNaming, R: Wait + Clock> {
+/// before a call needs one. On a short job its session works itself, where no other part waits.
+pub(crate) struct RunPort<'a, J: RunNaming, R: Wait + Clock, G> {
     port: LatePort<'a, J, R>,
     rt: &'a R,
     state: &'a RunState<'a, J>,
     limits: Limits,
     // Here the number of the pass is told.
     caller: &'a Cell<Option<u64>>,
+    gate: &'a G,
+    short_jobs: ShortJobs<J>,
 }
 
-impl<'a, J: RunNaming, R: Wait + Clock> RunPort<'a, J, R> {
+impl<'a, J: RunNaming, R: Wait + Clock + Eprint, G: Gate> RunPort<'a, J, R, G> {
     pub(crate) fn new(
         rt: &'a R,
         state: &'a RunState<'a, J>,
         blank: BlankPass,
         caller: &'a Cell<Option<u64>>,
-    ) -> RunPort<'a, J, R>
+        gate: &'a G,
+    ) -> RunPort<'a, J, R, G>
         ensures limits { result.limits ≡ state.now.server.now.limits }
         ensures port { result.port ≡ new_late_port state.now.server.now.args.workers }
     {
@@ -44,10 +50,12 @@ impl<'a, J: RunNaming, R: Wait + Clock> RunPort<'a, J, R> {
             state,
             limits: state.server.limits,
             caller,
+            gate,
+            short_jobs: ShortJobs::new(),
         }
     }
 
-    /// The pass within, if there is one.
+    /// The pass within, if there is one. That of a worker, if the session has one, comes back to the run.
     pub(crate) fn into_pass(self) -> Option<Pass<J>>
         ensures pass { result ≡ pass_by self.entry.port.port }
         ensures told { IfSome result (λ pass.
@@ -57,11 +65,14 @@ impl<'a, J: RunNaming, R: Wait + Clock> RunPort<'a, J, R> {
     {
         let RunPort {
             port,
-            rt: _,
-            state: _,
+            rt,
+            state,
             limits: _,
             caller: _,
+            gate: _,
+            short_jobs,
         } = self;
+        short_jobs.end(rt, state);
         port.into_pass()
     }
 
@@ -103,6 +114,28 @@ impl<'a, J: RunNaming, R: Wait + Clock> RunPort<'a, J, R> {
         }
     }
 
+    // A submit at the desk.
+    fn submit(&mut self, asked: Asked) -> Result<Reply, DeskFault>
+        ensures { Tells (port_of (told_by self.old.port.port)
+            (refusals_by self.old.port.refused self.old.port.port)) (Submit asked) result
+            (port_of (told_by self.new.port.port)
+            (refusals_by self.new.port.refused self.new.port.port)) }
+    {
+        if !is_short(&asked) || !self.gate.lets_others_work() {
+            return self.ask_desk(Want::Submit(asked));
+        }
+        let Some(ready) = self.short_jobs.take(self.rt, self.state) else {
+            return self.ask_desk(Want::Submit(asked));
+        };
+        let mut worker = ready.into_pass();
+        let (reply, claim) = self.port.submit_and_claim(asked, &mut worker);
+        self.note();
+        self.note_full(&reply);
+        self.short_jobs
+            .put_back(work(self.rt, self.state, self.gate, worker, claim));
+        reply
+    }
+
     // A call at the desk, and where it is a stop, that of the server.
     fn ask_desk(&mut self, want: Want) -> Result<Reply, DeskFault>
         ensures told { Tells (port_of (told_by self.old.port.port)
@@ -124,7 +157,7 @@ impl<'a, J: RunNaming, R: Wait + Clock> RunPort<'a, J, R> {
     }
 }
 
-impl<'a, J: RunNaming, R: Wait + Clock> BookPort for RunPort<'a, J, R> {
+impl<'a, J: RunNaming, R: Wait + Clock + Eprint, G: Gate> BookPort for RunPort<'a, J, R, G> {
     ghost use Rattle.dd_session.specs.Healths.{IsHealth};
     ghost use Rattle.dd_session.specs.Leaving.{HasEndedBy};
     ghost use Rattle.dd_session.specs.Ports.{refusals_by, told_by};
@@ -150,7 +183,10 @@ impl<'a, J: RunNaming, R: Wait + Clock> BookPort for RunPort<'a, J, R> {
         if is_submit(&want) && self.is_worn() {
             return Err(self.port.refuse());
         }
-        self.ask_desk(want)
+        match want {
+            Want::Submit(asked) => self.submit(asked),
+            Want::Cancel(_) | Want::Fetch(_) | Want::Stop => self.ask_desk(want),
+        }
     }
 
     fn fetch_within(&mut self, job: u64, wait: u64) -> Result<Reply, DeskFault> {

@@ -1,6 +1,6 @@
 //! When a run is used up.
 ghost use Rattle.std.specs.Prelude.{◌≡◌};
-ghost use Rattle.dd_server.specs.Worn.{are_events_used, are_few_left, are_passes_used};
+ghost use Rattle.dd_server.specs.Worn.{are_events_used, are_few_left, are_half_given, are_passes_used};
 
 use dd_book::Limits;
 
@@ -26,4 +26,12 @@ pub(crate) fn are_passes_used(limits: Limits, passes: u64) -> bool
 {
     let most = limits.passes();
     most - most / 16 <= passes
+}
+
+/// Is half of the passes given, where so many are?
+pub(crate) fn are_half_given(limits: Limits, passes: u64) -> bool
+    ensures { result ≡ are_half_given limits passes }
+{
+    let most = limits.passes();
+    most - most / 2 <= passes
 }

@@ -31,6 +31,10 @@ impl<J: RunNaming, R: Eprint, G: Gate> Gate for WorkerGate<'_, J, R, G> {
         self.gate.short()
     }
 
+    fn lets_others_work(&self) -> bool {
+        self.gate.lets_others_work()
+    }
+
     // Where one worker gave up, of whichever run, none waits on for its last calls: the server ends.
     fn may_rest(&self) -> bool {
         !self.state.server.lacks_memory.load(Ordering::SeqCst) && self.gate.may_rest()

@@ -10,4 +10,5 @@ mod pieces;
 mod rows;
 mod runs;
 pub mod serving;
+mod short;
 mod waits;

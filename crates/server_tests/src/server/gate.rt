@@ -56,6 +56,10 @@ impl<'a, R: Clock> Gate for HoldsFirst<'a, R> {
             self.signs.answered.store(true, Ordering::SeqCst);
         }
     }
+
+    fn lets_others_work(&self) -> bool {
+        false
+    }
 }
 
 // Holds until job 2 was answered, or the turns are used up.

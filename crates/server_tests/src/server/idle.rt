@@ -47,6 +47,10 @@ impl<'a, R: Clock> Gate for HoldsEach<'a, R> {
     }
 
     fn after(&self, _job: u64) {}
+
+    fn lets_others_work(&self) -> bool {
+        false
+    }
 }
 
 fn serve_held<R: Threads + Wait + Clock + Eprint + Sync>(
