@@ -1,7 +1,7 @@
 //! A short job, on which its session works itself while the only worker is held.
 use crate::server::client::{Client, Fetched, Way};
-use crate::server::serving::{LINES, serve};
-use dd_work::Gate;
+use crate::server::serving::{LINES, Run, serve};
+use dd_work::{Gate, NoGate};
 use std::alloc::Global;
 use std::net::{Net, SocketAddr, TcpListener, TcpStream};
 use std::sync::Wait;
@@ -143,5 +143,56 @@ fn a_session_works_on_its_short_job_while_the_worker_is_held(rt: HostRuntime) ->
     assert_eq!(rt; talk.stopped.as_str(), "{\"closing\":true}");
     // Beside at least three fetches two submits, claims and finishes, the shut and the worker's last claim.
     assert!(rt; events >= Some(11));
+    Ok(())
+}
+
+// Four tricks, and the client waits for its job.
+const FOUR_WAITS: &str =
+    r#"{"do":"solve","deal":"N:AKQJ... 9876... .AKQJ.. ..AKQJ.","trump":4,"first":0,"solutions":3,"wait":60000}"#;
+
+const THREE_ANSWERS: &str =
+    r#"{"cards":[{"equals":14336,"rank":14,"score":4,"suit":0}],"job":1,"state":"done"}
+{"cards":[{"equals":14336,"rank":14,"score":4,"suit":0}],"job":2,"state":"done"}
+{"cards":[{"equals":14336,"rank":14,"score":4,"suit":0}],"job":3,"state":"done"}
+{"closing":true}
+"#;
+
+// Three clients, each of which asks for a short job while those before it are still there, and the first one for a stop.
+fn ask_one_after_the_other<R: Net<Stream = TcpStream>>(
+    rt: &R,
+    alloc: Global,
+    address: SocketAddr,
+) -> io::Result<String> {
+    let one = TcpStream::connect(rt, address)?;
+    let mut first = Client::new(alloc, Way::Lines, &one)?;
+    let told = first.ask(FOUR_WAITS)?;
+    let two = TcpStream::connect(rt, address)?;
+    let mut second = Client::new(alloc, Way::Lines, &two)?;
+    let next = second.ask(FOUR_WAITS)?;
+    let three = TcpStream::connect(rt, address)?;
+    let mut third = Client::new(alloc, Way::Lines, &three)?;
+    let last = third.ask(FOUR_WAITS)?;
+    let stopped = first.ask(STOP)?;
+    let (told, next) = (told.as_str(), next.as_str());
+    let (last, stopped) = (last.as_str(), stopped.as_str());
+    Ok(format!(in alloc; "{told}\n{next}\n{last}\n{stopped}\n")?)
+}
+
+// Of six passes the run and its worker have one each, and the first client two, of which one is that of a worker. Half of them are
+// given then, so each other client has one. With two for the second the third would come to the next run. Each job is a submit, a
+// claim, a finish and a fetch; then there are the shut and the worker's last claim.
+#[test]
+fn a_session_leaves_the_last_half_of_the_passes_to_others(rt: HostRuntime) -> Result<(), Fail> {
+    let listener = TcpListener::bind(&rt, "127.0.0.1:0")?;
+    let address = listener.local_addr()?;
+    let run = Run { passes: 6, ..LINES };
+    let (ended, told) = thread::join(
+        &rt,
+        || serve(&rt, rt.alloc(), listener, run, &NoGate),
+        || ask_one_after_the_other(&rt, rt.alloc(), address).ok(),
+    );
+    let told = told.expect(&rt, "the clients have their replies");
+    assert_eq!(rt; told.as_str(), THREE_ANSWERS);
+    assert!(rt; ended == Some(Ok(14)));
     Ok(())
 }
