@@ -1,13 +1,13 @@
 -- A claim that comes with a submit.
-use Rattle.std.proofs.Common.{◌≡◌, ℕ, ◌+◌, List, [], ◌∷◌, ◌++◌, length, Some, None, Ok, Bool, true, false, cond, refl, sym, ap, ◌∙◌, subst}
+use Rattle.std.proofs.Common.{◌≡◌, ℕ, ◌+◌, [], ◌∷◌, ◌++◌, length, Some, None, Ok, Bool, true, false, cond, refl, sym, ap, ◌∙◌, subst}
 use Rattle.std.specs.Prelude.{IfSome, MatchOption, Option, unwrap_or}
 use Rattle.std.specs.Option.{is_some}
 use Rattle.dd_solve.specs.declared.asked.Asked.{Asked}
 use Rattle.dd_solve.specs.declared.asked.Asked.TheVariants.{Solve, Table, Target, Play}
 use Rattle.dd_book.specs.declared.call.Call.TheVariants.{Submit}
 use Rattle.dd_book.specs.declared.call.Reply.{Reply}
-use Rattle.dd_book.specs.declared.call.Reply.TheVariants.{Fault, NothingWaits, Submitted}
-use Rattle.dd_book.specs.Calls.{BookOf, IsIdle, after, claim_reply, claim_told, claimed, refusal_of, reply_of, with_jobs}
+use Rattle.dd_book.specs.declared.call.Reply.TheVariants.{NothingWaits, Submitted}
+use Rattle.dd_book.specs.Calls.{BookOf, IsIdle, after, claim_reply, claim_told, claimed, reply_of, with_jobs}
 use Rattle.dd_book.specs.Jobs.{JobOf, Turn, first_turn, new_job, next_turn}
 use Rattle.dd_book.proofs.CallerLemmas.{idle-not_shut, new-turn, refused}
 use Rattle.dd_book.specs.Limits.{LimitsOf}

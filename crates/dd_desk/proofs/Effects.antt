@@ -1,5 +1,5 @@
 -- What a call does to the number of jobs, and what its reply tells of their ends.
-use Rattle.std.proofs.Common.{◌≡◌, ℕ, suc, ◌+◌, ◌-◌, ◌<◌, ◌≤◌, ◌⊎◌, inl, inr, Bool, true, false, cond, not, refl, sym, ap, ◌∙◌, subst, arith, eq-eqb, leb-false, List, [], ◌∷◌, ◌++◌, length, Option, Some, None, nat_le}
+use Rattle.std.proofs.Common.{◌≡◌, ℕ, ◌+◌, ◌-◌, ◌<◌, ◌≤◌, ◌⊎◌, inl, inr, Bool, true, false, cond, refl, sym, ap, ◌∙◌, subst, arith, eq-eqb, leb-false, List, [], ◌∷◌, ◌++◌, length, Option, Some, None, nat_le}
 use Rattle.std.specs.Prelude.{◌==◌, option_and_then, option_map, unwrap_or, slice_get, slice_set}
 use Rattle.std.specs.Option.{is_some}
 use Rattle.std.proofs.lemmas.Bool.{cases_eq, not-false, not-true}

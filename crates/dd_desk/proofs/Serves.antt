@@ -1,6 +1,6 @@
 -- What is reserved serves: each call that an event is reserved for has room.
-use Rattle.std.proofs.Common.{◌≡◌, ℕ, ◌+◌, ◌-◌, ◌<◌, ◌≤◌, ◌||◌, inl, inr, Bool, true, false, cond, not, refl, sym, ap, ◌∙◌, subst, arith, List, [], ◌∷◌, ◌++◌, length, Option, Some, None, nat_eq}
-use Rattle.std.specs.Prelude.{IsSome, option_and_then}
+use Rattle.std.proofs.Common.{◌≡◌, ℕ, ◌+◌, ◌-◌, ◌<◌, ◌≤◌, ◌||◌, inl, inr, Bool, true, false, cond, not, refl, sym, ap, ◌∙◌, subst, arith, List, [], ◌∷◌, ◌++◌, length, Option, Some, None}
+use Rattle.std.specs.Prelude.{IsSome}
 use Rattle.std.specs.Option.{is_some}
 use Rattle.std.proofs.lemmas.Bool.{cases_eq}
 use Rattle.std.proofs.lemmas.Option.{same_Some}
@@ -12,7 +12,7 @@ use Rattle.dd_book.specs.declared.call.Outcome.TheVariants.{Stopped}
 use Rattle.dd_book.specs.declared.call.Reply.{Reply}
 use Rattle.dd_book.specs.declared.call.Reply.TheVariants as reply
 use Rattle.dd_book.specs.declared.job.Stage.TheVariants.{Cancelled as CancelledStage}
-use Rattle.dd_book.specs.Jobs.{JobOf, Turn, if_owned, is_open, is_open_job, job_at, next_turn, own_job, with_job, with_stage}
+use Rattle.dd_book.specs.Jobs.{JobOf, Turn, is_open, is_open_job, job_at, next_turn, own_job, with_job, with_stage}
 use Rattle.dd_book.specs.Calls.{BookOf, after, book_claimed, empty_book, finish_reply, jobs_cancelled, refusal_of, replies, reply_of, run}
 use Rattle.dd_book.specs.Counts.{running_in, waiting_in}
 use Rattle.dd_book.proofs.CallerLemmas.{cancel-least, ended-stays, job_at-place, recorded-counts, stale-same, turn-counts, own-is}

@@ -1,6 +1,6 @@
 -- The jobs of a pass are given up, one after the other.
 use Rattle.std.proofs.Common.{◌≡◌, ℕ, zero, suc, ◌+◌, ◌<◌, ◌≤◌, List, [], ◌∷◌, ◌++◌, length, length-append, drop, Option, None, Some, Ok, Err, inl, inr, refl, sym, ap, ◌∙◌, subst, arith, append_assoc, append-nil, true}
-use Rattle.std.specs.Prelude.{Contains, MatchOption, map, slice_get}
+use Rattle.std.specs.Prelude.{Contains, MatchOption, slice_get}
 use Rattle.std.proofs.lemmas.List.{drop-append-le}
 use Rattle.dd_book.specs.declared.call.Call.TheVariants as call
 use Rattle.dd_book.specs.declared.call.Reply.{Reply}
