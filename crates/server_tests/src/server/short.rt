@@ -179,7 +179,7 @@ fn ask_one_after_the_other<R: Net<Stream = TcpStream>>(
 }
 
 // Of six passes the run and its worker have one each, and the first client two, of which one is that of a worker. Half of them are
-// given then, so each other client has one. With two for the second the third would come to the next run. Each job is a submit, a
+// given then, so each other client has one. If the second had two, the next run would begin with the third. Each job is a submit, a
 // claim, a finish and a fetch; then there are the shut and the worker's last claim.
 #[test]
 fn a_session_leaves_the_last_half_of_the_passes_to_others(rt: HostRuntime) -> Result<(), Fail> {
