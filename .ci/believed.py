@@ -2,7 +2,8 @@
 """That the files which must be believed say so and rest on nothing else. A file of `specs/` whose first line begins with
 `-- To be believed:` imports, of this repository, only `specs` that begin so too, and what the compiler declares
 (`specs.declared`), and never proofs; and `docs/PROOF.md` lists just these files, under the heading `The definitions, in order
-of reading`. Where no file begins so there is nothing to look at. Prints `file:line: what` for each breach, and ends with
+of reading`. Where no file begins so there is nothing to look at. A lemma that opens a closed word stands only where it is
+listed here, so that nothing else can show what that word says. Prints `file:line: what` for each breach, and ends with
 status 1."""
 import glob
 import os
@@ -14,6 +15,7 @@ PAGE = "docs/PROOF.md"
 HEADING = "## The definitions, in order of reading"
 IMPORT = re.compile(r"\buse Rattle\.([a-z_]+)\.(specs|proofs)((?:\.[A-Za-z_]\w*)+)")
 FILE = re.compile(r"`([\w./-]+\.antt)`")
+OPENING = {"refused-tick": {"crates/dd_search/specs/Spent.antt", "crates/dd_search/proofs/meter/BudgetMeter/tick/Answers.antt"}}
 
 
 def lines_of(path):
@@ -55,6 +57,12 @@ if believed:
             breaches.append((PAGE, heading, f"does not list {path}, which begins with {BEGINNING!r}"))
         for path in sorted(listed.keys() - believed):
             breaches.append((PAGE, listed[path], f"lists {path}, which does not begin with {BEGINNING!r}"))
+
+for path in sorted(it for part in ("src", "specs", "proofs") for it in glob.glob(f"crates/*/{part}/**/*.*", recursive=True)):
+    for number, line in enumerate(lines_of(path), 1):
+        for name, places in OPENING.items():
+            if name in line and path not in places:
+                breaches.append((path, number, f"names {name}, which stands nowhere but in {', '.join(sorted(places))}"))
 
 for path, number, what in breaches:
     print(f"{path}:{number}: {what}")

@@ -1,3 +1,4 @@
 pub mod ClaimsBy
 pub mod Budgets
 pub mod Turns
+pub mod Spent

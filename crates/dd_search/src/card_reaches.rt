@@ -23,6 +23,7 @@ pub fn reaches<B: Bounds, M: Meter>(
     requires { has_card (legal position.now) card ≡ true }
     ensures answer { IfOk result (λ yes. yes ≡ nat_le tricks (score position.now card)) }
     ensures ends { EndsAs (M.says meter.new) result }
+    ensures limit { M.limit meter.new ≡ M.limit meter.old }
     // It has an answer where the meter can say nothing else than to go on.
     ensures answers { IsEndless M.says → IsOk result }
 {

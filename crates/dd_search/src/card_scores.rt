@@ -29,6 +29,7 @@ pub fn score<B: Bounds, M: Meter>(
     ensures bound { IfOk result (λ tricks. tricks ≤ 13) }
     ensures ticked { OnOk result (M.ticked meter.old meter.new) }
     ensures ends { EndsAs (M.says meter.new) result }
+    ensures limit { M.limit meter.new ≡ M.limit meter.old }
     // It has an answer where the meter can say nothing else than to go on.
     ensures answers { IsEndless M.says → IsOk result }
 {
@@ -54,6 +55,7 @@ pub fn score_up_to<B: Bounds, M: Meter>(
     requires most { score position.now card ≤ most }
     ensures value { IfOk result (λ tricks. tricks ≡ score position.now card) }
     ensures ends { EndsAs (M.says meter.new) result }
+    ensures limit { M.limit meter.new ≡ M.limit meter.old }
 {
     let mut tricks = most;
     'tricks: while tricks > 0 {

@@ -52,6 +52,7 @@ impl HaltWord {
 pub(crate) fn tick<M: Meter>(meter: &mut M) -> Result<(), HaltWord>
     ensures ticked { OnOk result (M.ticked meter.old meter.new) }
     ensures ends { EndsAs (M.says meter.new) result }
+    ensures limit { M.limit meter.new ≡ M.limit meter.old }
 {
     match go_on(meter) {
         Ok(()) => Ok(()),

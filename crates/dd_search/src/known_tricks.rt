@@ -23,6 +23,7 @@ pub fn value_at_least<B: Bounds, M: Meter>(
         (λ tricks. tricks ≡ won (side_of (mover position.now)) position.now) }
     ensures bound { IfOk result (λ tricks. tricks ≤ 13) }
     ensures ends { EndsAs (M.says meter.new) result }
+    ensures limit { M.limit meter.new ≡ M.limit meter.old }
     // It has an answer where the meter can say nothing else than to go on.
     ensures answers { IsEndless M.says → IsOk result }
 {
@@ -49,6 +50,7 @@ fn takes<B: Bounds, M: Meter>(
     ensures answer { IfOk result
         (λ yes. yes ≡ nat_le tricks (won (side_of (mover position.now)) position.now)) }
     ensures ends { EndsAs (M.says meter.new) result }
+    ensures limit { M.limit meter.new ≡ M.limit meter.old }
 {
     let north_south = position.mover().is_north_south();
     // East and West take so many where North and South do not take one more than the rest.

@@ -1,6 +1,7 @@
 //! How long a search may go on.
-ghost use Rattle.std.specs.Prelude.{◌≡◌, ◌+◌, ◌<◌, ◌≤◌, ◌↔◌, OnOk};
+ghost use Rattle.std.specs.Prelude.{◌≡◌, ◌+◌, ◌<◌, ◌≤◌, ◌↔◌, ℕ, Option, None, Some, OnOk};
 ghost use Rattle.dd_search.specs.Budgets.{EndsAs};
+ghost use Rattle.dd_search.specs.Spent.{WasSpent};
 
 use std::marker::Model;
 
@@ -26,7 +27,11 @@ pub enum Halt {
 
 /// Asked once at each position that a search visits, before anything else is done there.
 pub trait Meter {
+    ghost use Rattle.std.specs.Prelude.{ℕ, Option};
     ghost use Rattle.dd_search.specs.declared.meter.Tick.{Tick};
+
+    /// how many ticks may go in all, where that is limited: it never changes
+    ghost limit: { Self → Option ℕ };
 
     /// the second meter is what became of the first after one tick that went, or more
     ghost ticked: { Self → Self → Type 0 };
@@ -35,6 +40,7 @@ pub trait Meter {
 
     fn tick(&mut self) -> Tick
         ensures says { says self.new result }
+        ensures limit { limit self.new ≡ limit self.old }
         ensures went { result ≡ Tick.Go → ticked self.old self.new };
 
     /// more ticks after ticks are ticks
@@ -46,6 +52,7 @@ pub trait Meter {
 pub(crate) fn go_on<M: Meter>(meter: &mut M) -> Result<(), Halt>
     ensures ticked { OnOk result (M.ticked meter.old meter.new) }
     ensures ends { EndsAs (M.says meter.new) result }
+    ensures limit { M.limit meter.new ≡ M.limit meter.old }
 {
     match meter.tick() {
         Tick::Go => Ok(()),
@@ -59,7 +66,10 @@ pub(crate) fn go_on<M: Meter>(meter: &mut M) -> Result<(), Halt>
 pub struct Endless;
 
 impl Meter for Endless {
+    ghost use Rattle.std.specs.Prelude.{None};
     ghost use Rattle.dd_search.specs.declared.meter.Tick.{Tick};
+
+    ghost limit = { λ m. None };
 
     ghost ticked = { λ a b. Unit {0} };
 
@@ -114,20 +124,25 @@ impl Budget {
 }
 
 impl Meter for Budget {
+    ghost use Rattle.std.specs.Prelude.{Some};
     ghost use Rattle.dd_search.specs.declared.meter.Tick.{Tick};
     ghost use Rattle.dd_search.specs.Budgets.{later-budget};
+    ghost use Rattle.dd_search.specs.Spent.{WasSpent};
+
+    ghost limit = { λ b. Some b.limit };
 
     ghost ticked = { λ a b. (a.limit ≡ b.limit) × (a.count < b.count) };
 
-    ghost says = { λ b tick. (tick ≡ Tick.Spent → b.count ≡ b.limit) × (tick ≡ Tick.Stop → ⊥) };
+    ghost says = { λ b tick. (tick ≡ Tick.Spent → (b.count ≡ b.limit) × WasSpent b.limit)
+        × (tick ≡ Tick.Stop → ⊥) };
 
     ghost later = { λ a b c first second. later-budget a b c first second };
 
     /// Goes as long as fewer than the limit have gone, and is spent from then on.
     #[inline]
     fn tick(&mut self) -> Tick
-        ensures says { (result ≡ Tick.Spent → self.new.count ≡ self.new.limit) × (result
-            ≡ Tick.Stop → ⊥) }
+        ensures says { (result ≡ Tick.Spent → (self.new.count ≡ self.new.limit) × WasSpent self.new.limit)
+            × (result ≡ Tick.Stop → ⊥) }
         ensures went { result ≡ Tick.Go → (self.old.limit ≡ self.new.limit)
             × (self.old.count < self.new.count) }
         ensures spent { (result ≡ Tick.Spent) ↔ (self.old.count ≡ self.old.limit) }

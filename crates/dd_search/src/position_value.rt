@@ -28,6 +28,7 @@ pub fn value<B: Bounds, M: Meter>(
     ensures bound { IfOk result (λ tricks. tricks ≤ 13) }
     ensures ticked { OnOk result (M.ticked meter.old meter.new) }
     ensures ends { EndsAs (M.says meter.new) result }
+    ensures limit { M.limit meter.new ≡ M.limit meter.old }
     // It has an answer where the meter can say nothing else than to go on.
     ensures answers { IsEndless M.says → IsOk result }
 {
@@ -47,6 +48,7 @@ pub fn value_from_guess<B: Bounds, M: Meter>(
     ensures bound { IfOk result (λ tricks. tricks ≤ 13) }
     ensures ticked { OnOk result (M.ticked meter.old meter.new) }
     ensures ends { EndsAs (M.says meter.new) result }
+    ensures limit { M.limit meter.new ≡ M.limit meter.old }
     ensures answers { IsEndless M.says → IsOk result }
 {
     let found = north_souths_tricks(position, first_guess, Order::Best, table, meter)?;
@@ -74,6 +76,7 @@ pub(crate) fn north_souths_tricks<B: Bounds, M: Meter>(
     ensures within { IfOk result (λ found. found.tricks ≤ tricks_left position.now) }
     ensures ticked { OnOk result (M.ticked meter.old meter.new) }
     ensures ends { EndsAs (M.says meter.new) result }
+    ensures limit { M.limit meter.new ≡ M.limit meter.old }
 {
     go_on(meter)?;
     table.begin(position);

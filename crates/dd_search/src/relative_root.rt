@@ -30,6 +30,7 @@ pub(crate) fn by_relative_ranks<B: Bounds, M: Meter>(
     ensures winning_ranks { IfOk result (λ answer. IsAnswerBy start.now need answer.cards answer.yes) }
     ensures ticked { (m : M) → M.ticked m meter.old → OnOk result (M.ticked m meter.new) }
     ensures ends { EndsAs (M.says meter.new) result }
+    ensures limit { M.limit meter.new ≡ M.limit meter.old }
 {
     alike_claims();
     alike_strings();

@@ -47,6 +47,7 @@ fn relative_at_start<B: Bounds, M: Meter>(
     ensures winning_ranks { IfOk result (λ answer. IsAnswerBy coming.now need answer.cards answer.yes) }
     ensures ticked { OnOk result (M.ticked meter.old meter.new) }
     ensures ends { EndsAs (M.says meter.new) result }
+    ensures limit { M.limit meter.new ≡ M.limit meter.old }
 {
     tick(meter)?;
     answer_at_relative_start(coming, hint, above, need, table, meter)
@@ -69,6 +70,7 @@ fn answer_at_relative_start<B: Bounds, M: Meter>(
     // What had ticked before has ticked still.
     ensures ticked { (m : M) → M.ticked m meter.old → OnOk result (M.ticked m meter.new) }
     ensures ends { EndsAs (M.says meter.new) result }
+    ensures limit { M.limit meter.new ≡ M.limit meter.old }
 {
     let strings = coming.strings();
     if let Some(answer) = told_ranks(coming, &strings, hint, need, table) {
@@ -98,6 +100,7 @@ fn relative_at_second_hand<B: Bounds, M: Meter>(
     ensures winning_ranks { IfOk result (λ answer. IsAnswerBy trick.now need answer.cards answer.yes) }
     ensures ticked { OnOk result (M.ticked meter.old meter.new) }
     ensures ends { EndsAs (M.says meter.new) result }
+    ensures limit { M.limit meter.new ≡ M.limit meter.old }
 {
     tick(meter)?;
     relative_by_play(trick, Turn::Second, need, table, meter)
@@ -117,6 +120,7 @@ fn relative_at_third_hand<B: Bounds, M: Meter>(
     ensures winning_ranks { IfOk result (λ answer. IsAnswerBy trick.now need answer.cards answer.yes) }
     ensures ticked { OnOk result (M.ticked meter.old meter.new) }
     ensures ends { EndsAs (M.says meter.new) result }
+    ensures limit { M.limit meter.new ≡ M.limit meter.old }
 {
     tick(meter)?;
     relative_by_play(trick, Turn::Third, need, table, meter)
@@ -136,6 +140,7 @@ fn relative_at_fourth_hand<B: Bounds, M: Meter>(
     ensures winning_ranks { IfOk result (λ answer. IsAnswerBy trick.now need answer.cards answer.yes) }
     ensures ticked { OnOk result (M.ticked meter.old meter.new) }
     ensures ends { EndsAs (M.says meter.new) result }
+    ensures limit { M.limit meter.new ≡ M.limit meter.old }
 {
     tick(meter)?;
     relative_by_play(trick, Turn::Fourth, need, table, meter)
@@ -157,6 +162,7 @@ pub(crate) fn relative_by_lead<B: Bounds, M: Meter>(
     ensures winning_ranks { IfOk result (λ answer. IsAnswerBy trick.now need answer.cards answer.yes) }
     ensures ticked { (m : M) → M.ticked m meter.old → OnOk result (M.ticked m meter.new) }
     ensures ends { EndsAs (M.says meter.new) result }
+    ensures limit { M.limit meter.new ≡ M.limit meter.old }
 {
     let turn = Turn::First;
     let choices = trick.choices_at(0);
@@ -186,6 +192,7 @@ fn relative_by_play<B: Bounds, M: Meter>(
     ensures winning_ranks { IfOk result (λ answer. IsAnswerBy trick.now need answer.cards answer.yes) }
     ensures ticked { (m : M) → M.ticked m meter.old → OnOk result (M.ticked m meter.new) }
     ensures ends { EndsAs (M.says meter.new) result }
+    ensures limit { M.limit meter.new ≡ M.limit meter.old }
 {
     let choices = trick.choices_at(turn.cards_before());
     let highest = trick.tops_of(turn.cards_before(), choices);
@@ -224,6 +231,7 @@ fn relative_by_only_choice<B: Bounds, M: Meter>(
     ensures winning_ranks { IfOk result (λ answer. IsAnswerBy trick.now need answer.cards answer.yes) }
     ensures ticked { (m : M) → M.ticked m meter.old → OnOk result (M.ticked m meter.new) }
     ensures ends { EndsAs (M.says meter.new) result }
+    ensures limit { M.limit meter.new ≡ M.limit meter.old }
 {
     let leaders = trick.mover_at(turn.cards_before()).is_north_south();
     let mut seconds = seconds(trick, turn, highest);
@@ -254,6 +262,7 @@ fn relative_by_choices<B: Bounds, M: Meter>(
     ensures winning_ranks { IfOk result (λ answer. IsAnswerBy trick.now need answer.cards answer.yes) }
     ensures ticked { (m : M) → M.ticked m meter.old → OnOk result (M.ticked m meter.new) }
     ensures ends { EndsAs (M.says meter.new) result }
+    ensures limit { M.limit meter.new ≡ M.limit meter.old }
 {
     let leaders = trick.mover_at(turn.cards_before()).is_north_south();
     let settling = lead_history(trick, turn, table);
@@ -298,6 +307,7 @@ fn relative_after<B: Bounds, M: Meter>(
         (λ found. IsAnswerAfter trick.now need card found.cards found.yes) }
     ensures ticked { (m : M) → M.ticked m meter.old → OnOk result (M.ticked m meter.new) }
     ensures ends { EndsAs (M.says meter.new) result }
+    ensures limit { M.limit meter.new ≡ M.limit meter.old }
 {
     if let Some(found) = second_hands_ranks(trick, turn, card, need, seconds) {
         return Ok(found);
@@ -328,6 +338,7 @@ fn relative_by_trick<B: Bounds, M: Meter>(
         (λ found. IsAnswerAfter trick.now need card found.cards found.yes) }
     ensures ticked { (m : M) → M.ticked m meter.old → OnOk result (M.ticked m meter.new) }
     ensures ends { EndsAs (M.says meter.new) result }
+    ensures limit { M.limit meter.new ≡ M.limit meter.old }
 {
     // A copy stays in registers: so what is made of its cards before the question serves after it too.
     let own = trick.copy();
@@ -356,6 +367,7 @@ fn relative_after_trick<B: Bounds, M: Meter>(
         (λ answer. IsAnswerBy (after trick.now card) need answer.cards answer.yes) }
     ensures ticked { (m : M) → M.ticked m meter.old → OnOk result (M.ticked m meter.new) }
     ensures ends { EndsAs (M.says meter.new) result }
+    ensures limit { M.limit meter.new ≡ M.limit meter.old }
 {
     let left = trick.tricks_left_with(card);
     if need == 0 {

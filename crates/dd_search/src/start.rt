@@ -34,6 +34,7 @@ pub fn start_value<B: Bounds, M: Meter>(
         → depth_in found.1 u ≤ count_of u (all_cards start.now)) }
     ensures ticked { OnOk result (M.ticked meter.old meter.new) }
     ensures ends { EndsAs (M.says meter.new) result }
+    ensures limit { M.limit meter.new ≡ M.limit meter.old }
     // It has an answer where the meter can say nothing else than to go on.
     ensures answers { IsEndless M.says → IsOk result }
 {
@@ -55,6 +56,7 @@ pub fn start_value_from_guess<B: Bounds, M: Meter>(
         → depth_in found.1 u ≤ count_of u (all_cards start.now)) }
     ensures ticked { OnOk result (M.ticked meter.old meter.new) }
     ensures ends { EndsAs (M.says meter.new) result }
+    ensures limit { M.limit meter.new ≡ M.limit meter.old }
     // It has an answer where the meter can say nothing else than to go on.
     ensures answers { IsEndless M.says → IsOk result }
 {
@@ -75,6 +77,7 @@ pub fn start_value_for_first<B: Bounds, M: Meter>(
         → depth_in found.1 u ≤ count_of u (all_cards start.now)) }
     ensures ticked { OnOk result (M.ticked meter.old meter.new) }
     ensures ends { EndsAs (M.says meter.new) result }
+    ensures limit { M.limit meter.new ≡ M.limit meter.old }
     // It has an answer where the meter can say nothing else than to go on.
     ensures answers { IsEndless M.says → IsOk result }
 {
@@ -96,6 +99,7 @@ fn start_value_in_order<B: Bounds, M: Meter>(
         → depth_in found.1 u ≤ count_of u (all_cards start.now)) }
     ensures ticked { OnOk result (M.ticked meter.old meter.new) }
     ensures ends { EndsAs (M.says meter.new) result }
+    ensures limit { M.limit meter.new ≡ M.limit meter.old }
     // It has an answer where the meter can say nothing else than to go on.
     ensures answers { IsEndless M.says → IsOk result }
 {
@@ -125,6 +129,7 @@ pub fn start_scores<B: Bounds, M: Meter>(
     ensures within { IfOk result (λ found. (u : SuitOf)
         → depth_in found.1 u ≤ count_of u (all_cards start.now)) }
     ensures ends { EndsAs (M.says meter.new) result }
+    ensures limit { M.limit meter.new ≡ M.limit meter.old }
     // It has an answer where the meter can say nothing else than to go on.
     ensures answers { IsEndless M.says → IsOk result }
 {
@@ -146,6 +151,7 @@ fn scores_up_to<B: Bounds, M: Meter>(
     ensures scores { IfOk result (λ found. found.items ≡ map
         (λ c. (c, score start.now c)) (tops start.now)) }
     ensures ends { EndsAs (M.says meter.new) result }
+    ensures limit { M.limit meter.new ≡ M.limit meter.old }
 {
     let position = start.position();
     let mut scores = ArrayVec::new();

@@ -45,6 +45,7 @@ pub(crate) fn zero_window<B: Bounds, M: Meter>(
     ensures winning_ranks { IfOk result (λ answer. IsAnswerBy position.now need answer.cards answer.yes) }
     ensures ticked { OnOk result (M.ticked meter.old meter.new) }
     ensures ends { EndsAs (M.says meter.new) result }
+    ensures limit { M.limit meter.new ≡ M.limit meter.old }
 {
     answer_or_halt(zero_window_by_turn(position, need, table, meter))
 }
@@ -62,6 +63,7 @@ fn zero_window_by_turn<B: Bounds, M: Meter>(
     ensures winning_ranks { IfOk result (λ answer. IsAnswerBy position.now need answer.cards answer.yes) }
     ensures ticked { OnOk result (M.ticked meter.old meter.new) }
     ensures ends { EndsAs (M.says meter.new) result }
+    ensures limit { M.limit meter.new ≡ M.limit meter.old }
 {
     match Turn::of(position) {
         Turn::First => zero_window_at_first_hand(position, need, table, meter),
@@ -88,6 +90,7 @@ fn zero_window_at_first_hand<B: Bounds, M: Meter>(
     ensures winning_ranks { IfOk result (λ answer. IsAnswerBy position.now need answer.cards answer.yes) }
     ensures ticked { OnOk result (M.ticked meter.old meter.new) }
     ensures ends { EndsAs (M.says meter.new) result }
+    ensures limit { M.limit meter.new ≡ M.limit meter.old }
 {
     let Some(start) = TrickStart::of(position) else {
         unreachable!()
@@ -109,6 +112,7 @@ fn zero_window_at_start<B: Bounds, M: Meter>(
     ensures winning_ranks { IfOk result (λ answer. IsAnswerBy start.now need answer.cards answer.yes) }
     ensures ticked { OnOk result (M.ticked meter.old meter.new) }
     ensures ends { EndsAs (M.says meter.new) result }
+    ensures limit { M.limit meter.new ≡ M.limit meter.old }
 {
     tick(meter)?;
     answer_at_start(start, need, table, meter)
@@ -129,6 +133,7 @@ fn zero_window_at_second_hand<B: Bounds, M: Meter>(
     ensures winning_ranks { IfOk result (λ answer. IsAnswerBy position.now need answer.cards answer.yes) }
     ensures ticked { OnOk result (M.ticked meter.old meter.new) }
     ensures ends { EndsAs (M.says meter.new) result }
+    ensures limit { M.limit meter.new ≡ M.limit meter.old }
 {
     tick(meter)?;
     answer_by_play(position, Turn::Second, None, need, table, meter)
@@ -149,6 +154,7 @@ fn zero_window_at_third_hand<B: Bounds, M: Meter>(
     ensures winning_ranks { IfOk result (λ answer. IsAnswerBy position.now need answer.cards answer.yes) }
     ensures ticked { OnOk result (M.ticked meter.old meter.new) }
     ensures ends { EndsAs (M.says meter.new) result }
+    ensures limit { M.limit meter.new ≡ M.limit meter.old }
 {
     tick(meter)?;
     answer_by_play(position, Turn::Third, None, need, table, meter)
@@ -169,6 +175,7 @@ fn zero_window_at_fourth_hand<B: Bounds, M: Meter>(
     ensures winning_ranks { IfOk result (λ answer. IsAnswerBy position.now need answer.cards answer.yes) }
     ensures ticked { OnOk result (M.ticked meter.old meter.new) }
     ensures ends { EndsAs (M.says meter.new) result }
+    ensures limit { M.limit meter.new ≡ M.limit meter.old }
 {
     tick(meter)?;
     answer_by_play(position, Turn::Fourth, None, need, table, meter)
@@ -190,6 +197,7 @@ fn answer_at_start<B: Bounds, M: Meter>(
     // What had ticked before has ticked still.
     ensures ticked { (m : M) → M.ticked m meter.old → OnOk result (M.ticked m meter.new) }
     ensures ends { EndsAs (M.says meter.new) result }
+    ensures limit { M.limit meter.new ≡ M.limit meter.old }
 {
     // The table reads while the strings are found.
     let shape = Shape::of(start);
@@ -224,6 +232,7 @@ fn answer_by_leads<B: Bounds, M: Meter>(
     ensures winning_ranks { IfOk result (λ answer. IsAnswerBy start.now need answer.cards answer.yes) }
     ensures ticked { (m : M) → M.ticked m meter.old → OnOk result (M.ticked m meter.new) }
     ensures ends { EndsAs (M.says meter.new) result }
+    ensures limit { M.limit meter.new ≡ M.limit meter.old }
 {
     let position = start.position();
     if position.tricks_left() > FEW && table.takes_relative_starts() {
@@ -252,6 +261,7 @@ fn answer_by_play<B: Bounds, M: Meter>(
     ensures winning_ranks { IfOk result (λ answer. IsAnswerBy position.now need answer.cards answer.yes) }
     ensures ticked { (m : M) → M.ticked m meter.old → OnOk result (M.ticked m meter.new) }
     ensures ends { EndsAs (M.says meter.new) result }
+    ensures limit { M.limit meter.new ≡ M.limit meter.old }
 {
     let choices = tops_at(position, turn.cards_before());
     let mut others = choices;
@@ -292,6 +302,7 @@ fn answer_by_only_choice<B: Bounds, M: Meter>(
     ensures winning_ranks { IfOk result (λ answer. IsAnswerBy position.now need answer.cards answer.yes) }
     ensures ticked { (m : M) → M.ticked m meter.old → OnOk result (M.ticked m meter.new) }
     ensures ends { EndsAs (M.says meter.new) result }
+    ensures limit { M.limit meter.new ≡ M.limit meter.old }
 {
     let north_south = position.mover_at(turn.cards_before()).is_north_south();
     let none = Hand::new();
@@ -328,6 +339,7 @@ fn answer_by_choices<B: Bounds, M: Meter>(
     ensures winning_ranks { IfOk result (λ answer. IsAnswerBy position.now need answer.cards answer.yes) }
     ensures ticked { (m : M) → M.ticked m meter.old → OnOk result (M.ticked m meter.new) }
     ensures ends { EndsAs (M.says meter.new) result }
+    ensures limit { M.limit meter.new ≡ M.limit meter.old }
 {
     let north_south = position.mover_at(turn.cards_before()).is_north_south();
     let settling = lead_history(position, strings, table);
@@ -367,6 +379,7 @@ pub(crate) fn zero_window_in_order<B: Bounds, M: Meter>(
     ensures winning_ranks { IfOk result (λ answer. IsAnswerBy position.now need answer.cards answer.yes) }
     ensures ticked { OnOk result (M.ticked meter.old meter.new) }
     ensures ends { EndsAs (M.says meter.new) result }
+    ensures limit { M.limit meter.new ≡ M.limit meter.old }
 {
     match order {
         Order::Best => zero_window(position, need, table, meter),
@@ -427,6 +440,7 @@ fn answer_after<B: Bounds, M: Meter>(
         (λ found. IsAnswerAfter position.now need card found.cards found.yes) }
     ensures ticked { (m : M) → M.ticked m meter.old → OnOk result (M.ticked m meter.new) }
     ensures ends { EndsAs (M.says meter.new) result }
+    ensures limit { M.limit meter.new ≡ M.limit meter.old }
 {
     if let Some(found) = second_hands_answer(position, turn, card, need, seconds) {
         return Ok(found);
@@ -461,6 +475,7 @@ fn answer_after_trick<B: Bounds, M: Meter>(
     ensures winning_ranks { IfOk result (λ answer. IsAnswerBy position.now need answer.cards answer.yes) }
     ensures ticked { (m : M) → M.ticked m meter.old → OnOk result (M.ticked m meter.new) }
     ensures ends { EndsAs (M.says meter.new) result }
+    ensures limit { M.limit meter.new ≡ M.limit meter.old }
 {
     match answer_by_counting(position, need) {
         Some(yes) => Ok(Verdict::new(yes, Hand::new())),

@@ -1,6 +1,7 @@
 //! The numbers of a play's trace, from the last one back.
-ghost use Rattle.std.specs.Prelude.{◌≡◌, ◌+◌, ◌<◌, ◌≤◌, IfOk, IfNone, IfSome, IsOk, IsSome, length};
+ghost use Rattle.std.specs.Prelude.{◌≡◌, ◌+◌, ◌<◌, ◌≤◌, IfOk, IfNone, IfSome, IsOk, length};
 ghost use Rattle.dd_search.specs.Budgets.{EndsAs, IsEndless};
+ghost use Rattle.dd_search.specs.Spent.{IsSpent};
 ghost use Rattle.dd_cards.specs.Sides.{is_side, side_of};
 ghost use Rattle.dd_play.specs.Board.{IsBoard, mover, tricks_left};
 ghost use Rattle.dd_play.specs.Won.{won};
@@ -22,7 +23,7 @@ pub fn solve_play<B: Bounds>(
     budget: Option<u64>,
 ) -> Option<SolvedPlay>
     ensures solved { IfSome result (λ solved. solved ≡ play_trace request) }
-    ensures spent { IfNone result (IsSome budget) }
+    ensures spent { IfNone result (IsSpent budget) }
 {
     let mut count = request.cards().len();
     let mut tricks = number_within(&request, count, None, table, budget)?;
@@ -46,6 +47,7 @@ pub fn solve_play_part<B: Bounds, M: Meter>(
 ) -> Result<PlayPart, Halt>
     ensures solved { IfOk result (λ solved. solved ≡ position_tricks position side) }
     ensures ends { EndsAs (M.says meter.new) result }
+    ensures limit { M.limit meter.new ≡ M.limit meter.old }
     // It has a result where the meter can say nothing else than to go on.
     ensures answers { IsEndless M.says → IsOk result }
 {
@@ -88,7 +90,7 @@ fn number_within<B: Bounds>(
         × (next ≡ tricks_after request.now (count
         + 1))) }
     ensures number { IfSome result (λ tricks. tricks ≡ tricks_after request.now count) }
-    ensures spent { IfNone result (IsSome budget) }
+    ensures spent { IfNone result (IsSpent budget) }
 {
     let found = match budget {
         Some(limit) => number_after(request, count, next, table, &mut Budget::new(limit)),
@@ -118,6 +120,7 @@ fn number_after<B: Bounds, M: Meter>(
     ensures number { IfOk result (λ tricks. tricks ≡ tricks_after request.now count) }
     ensures bound { IfOk result (λ tricks. tricks ≤ 13) }
     ensures ends { EndsAs (M.says meter.new) result }
+    ensures limit { M.limit meter.new ≡ M.limit meter.old }
     ensures answers { IsEndless M.says → IsOk result }
 {
     let (position, won) = request.after(count);

@@ -90,6 +90,7 @@ pub fn solve_part<B: Bounds, M: Meter>(
     requires { part < PARTS }
     ensures solved { IfOk result (λ solved. solved ≡ part_result request.now part) }
     ensures ends { EndsAs (M.says meter.new) result }
+    ensures limit { M.limit meter.new ≡ M.limit meter.old }
     // It has a result where the meter can say nothing else than to go on.
     ensures answers { IsEndless M.says → IsOk result }
 {
@@ -108,6 +109,7 @@ pub fn solve_part_from_guess<B: Bounds, M: Meter>(
     requires { part < PARTS }
     ensures solved { IfOk result (λ solved. solved ≡ part_result request.now part) }
     ensures ends { EndsAs (M.says meter.new) result }
+    ensures limit { M.limit meter.new ≡ M.limit meter.old }
     ensures answers { IsEndless M.says → IsOk result }
 {
     let tricks = declarers_tricks(&request.opening(part), first_guess, table, meter)?;
@@ -129,6 +131,7 @@ fn declarers_tricks<B: Bounds, M: Meter>(
     ensures tricks { IfOk result (λ tricks. tricks ≡ tricks_left position.now - leaders_tricks position.now) }
     ensures bound { IfOk result (λ tricks. tricks ≤ 13) }
     ensures ends { EndsAs (M.says meter.new) result }
+    ensures limit { M.limit meter.new ≡ M.limit meter.old }
     ensures answers { IsEndless M.says → IsOk result }
 {
     let leaders = tricks_of_leaders(position, first_guess, table, meter)?;
@@ -145,6 +148,7 @@ fn tricks_of_leaders<B: Bounds, M: Meter>(
     requires start { position.now.trick ≡ [] }
     ensures value { IfOk result (λ tricks. tricks ≡ leaders_tricks position.now) }
     ensures ends { EndsAs (M.says meter.new) result }
+    ensures limit { M.limit meter.new ≡ M.limit meter.old }
     ensures answers { IsEndless M.says → IsOk result }
 {
     match TrickStart::of(position) {
@@ -162,6 +166,7 @@ fn value_at_start<B: Bounds, M: Meter>(
 ) -> Result<u8, Halt>
     ensures value { IfOk result (λ tricks. tricks ≡ leaders_tricks start.now) }
     ensures ends { EndsAs (M.says meter.new) result }
+    ensures limit { M.limit meter.new ≡ M.limit meter.old }
     ensures answers { IsEndless M.says → IsOk result }
 {
     match first_guess {

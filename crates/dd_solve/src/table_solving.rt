@@ -1,5 +1,6 @@
 //! All parts of a table, one after another.
-ghost use Rattle.std.specs.Prelude.{◌≡◌, ◌<◌, IfNone, IfSome, IsSome};
+ghost use Rattle.std.specs.Prelude.{◌≡◌, ◌<◌, IfNone, IfSome};
+ghost use Rattle.dd_search.specs.Spent.{IsSpent};
 ghost use Rattle.dd_solve.specs.Results.{contract_of, results, strain_results, tricks_of};
 
 use crate::solved_table::Results;
@@ -16,7 +17,7 @@ pub fn solve_table<B: Bounds>(
     budget: Option<u64>,
 ) -> Option<Results>
     ensures results { IfSome result (λ found. found ≡ results request.now) }
-    ensures spent { IfNone result (IsSome budget) }
+    ensures spent { IfNone result (IsSpent budget) }
 {
     let spades = solve_strain(request, Strain::Trump(Suit::Spades), table, budget)?;
     let hearts = solve_strain(request, Strain::Trump(Suit::Hearts), table, budget)?;
@@ -37,7 +38,7 @@ pub fn solve_strain<B: Bounds>(
     budget: Option<u64>,
 ) -> Option<[u8; 4]>
     ensures results { IfSome result (λ found. found ≡ strain_results request.now strain) }
-    ensures spent { IfNone result (IsSome budget) }
+    ensures spent { IfNone result (IsSpent budget) }
 {
     let all = request.hands().len(Seat::North);
     let west = tricks_within(request, strain, Seat::West, None, table, budget)?;
@@ -75,7 +76,7 @@ fn tricks_within<B: Bounds>(
 ) -> Option<u8>
     ensures tricks { IfSome result (λ tricks. tricks
         ≡ tricks_of request.now (record { strain = strain; declarer = declarer })) }
-    ensures spent { IfNone result (IsSome budget) }
+    ensures spent { IfNone result (IsSpent budget) }
 {
     let part = 4 * strain.code() + declarer.code();
     part_within(request, part, first_guess, table, budget)
@@ -91,7 +92,7 @@ fn part_within<B: Bounds>(
 ) -> Option<u8>
     requires { part < PARTS }
     ensures tricks { IfSome result (λ tricks. tricks ≡ tricks_of request.now (contract_of part)) }
-    ensures spent { IfNone result (IsSome budget) }
+    ensures spent { IfNone result (IsSpent budget) }
 {
     let solved = match budget {
         Some(limit) => solve_part_from_guess(

@@ -78,6 +78,7 @@ pub fn solve_target<B: Bounds, M: Meter>(
 ) -> Result<SolvedTarget, Halt>
     ensures solved { IfOk result (λ solved. solved ≡ solved_target request) }
     ensures ends { EndsAs (M.says meter.new) result }
+    ensures limit { M.limit meter.new ≡ M.limit meter.old }
     // It has an answer where the meter can say nothing else than to go on.
     ensures answers { IsEndless M.says → IsOk result }
     ensures unsearched { (request.target ≡ 0) ⊎ (tricks_left request.board < request.target) →
@@ -114,6 +115,7 @@ fn classes_reaching<B: Bounds, M: Meter>(
     requires board { IsBoard position.now }
     ensures found { IfOk result (λ found. found.items ≡ take most (all_reaching position.now target)) }
     ensures ends { EndsAs (M.says meter.new) result }
+    ensures limit { M.limit meter.new ≡ M.limit meter.old }
     ensures unsearched { (target ≡ 0) ⊎ (tricks_left position.now < target) → IsOk result }
 {
     let classes = classes(position);
@@ -133,6 +135,7 @@ fn first_reaching<B: Bounds, M: Meter>(
     requires classes { classes.now ≡ classes_of position.now }
     ensures found { IfOk result (λ found. found.items ≡ take most (all_reaching position.now target)) }
     ensures ends { EndsAs (M.says meter.new) result }
+    ensures limit { M.limit meter.new ≡ M.limit meter.old }
     ensures unsearched { (target ≡ 0) ⊎ (tricks_left position.now < target) → IsOk result }
 {
     let mut answer = ArrayVec::new();
@@ -162,6 +165,7 @@ fn card_reaches<B: Bounds, M: Meter>(
     requires legal { has_card (legal position.now) card ≡ true }
     ensures answer { IfOk result (λ yes. yes ≡ nat_le target (score position.now card)) }
     ensures ends { EndsAs (M.says meter.new) result }
+    ensures limit { M.limit meter.new ≡ M.limit meter.old }
     ensures unsearched { (target ≡ 0) ⊎ (tricks_left position.now < target) → IsOk result }
 {
     if target == 0 {

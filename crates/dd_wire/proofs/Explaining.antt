@@ -1,6 +1,6 @@
 -- What an explained reply is made of.
 use Rattle.std.proofs.Common.{◌≡◌, ◌∙◌, ℕ, ◌<◌, ◌≤◌, ◌⊎◌, Bool, true, false, cond, inl, inr, refl, ap, subst, List, [], ◌∷◌, length, Option, None, Some, String, Global, bytes_eq, nat_cmp, string_bytes}
-use Rattle.std.specs.Prelude.{codes, nat_lt, IsSome, Result, Ok, Err}
+use Rattle.std.specs.Prelude.{codes, nat_lt, Result, Ok, Err}
 use Rattle.std.specs.BTreeMap.{is_at}
 use Rattle.std.specs.Cmp.Lexicographic.{slice_cmp}
 use Rattle.std.specs.Map.{remove_entry}
@@ -11,6 +11,7 @@ use Rattle.serde_json.specs.Find.{get_member}
 use Rattle.serde_json.specs.View.{members_view, view}
 use Rattle.serde_json.specs.declared.value.Value.{Value}
 use Rattle.dd_lines.specs.Line.{longest_line}
+use Rattle.dd_search.specs.Spent.{IsSpent}
 use Rattle.dd_wire.specs.declared.fault.Fault.{Fault}
 use Rattle.dd_wire.specs.declared.fault.Fault.TheVariants.{LineTooLong, WrongField}
 use Rattle.dd_wire.specs.declared.line_asked.LineAsked.{LineAsked}
@@ -37,7 +38,7 @@ bare-waits _ meaning waits is = rw waits is
 
 -- the answer to what they ask, or that the budget was spent, replies to them
 pub bare-answered : (budget : Option ℕ) (members : Members) (asked : LineAsked) (text : List ℕ) → MeansBare members (Ok asked)
-    → IsAnswer asked text ⊎ (IsSearched asked × IsSome budget × (text ≡ spent_text)) → IsBareReply budget members text
+    → IsAnswer asked text ⊎ (IsSearched asked × IsSpent budget × (text ≡ spent_text)) → IsBareReply budget members text
 unfolding IsBareReply
 bare-answered budget _ asked text means (inl is) = inl (Ok asked, means, is)
 bare-answered budget _ asked text means (inr (searched, some, is)) = inr (asked, means, searched, some, is)

@@ -1,5 +1,5 @@
 -- A line has one reply without a budget, but where memory ran out.
-use Rattle.std.proofs.Common.{◌≡◌, ◌∙◌, ◌⊎◌, ℕ, ℤ, Bool, true, false, inl, inr, sym, ap, subst, true≢false, List, Option, None, Some}
+use Rattle.std.proofs.Common.{◌≡◌, ◌∙◌, ◌⊎◌, ℕ, ℤ, Bool, true, false, inl, inr, sym, ap, subst, List, Option, None, Some}
 use Rattle.std.specs.Prelude.{codes, length, nat_lt, MatchOption, Result, Ok, Err}
 use Rattle.std.specs.Bool.{MatchBool}
 use Rattle.serde_json.specs.Data.{Members}
@@ -74,8 +74,8 @@ module _ (one : HasOneValue) where
       inl (one-reply_to n a b (subst (λ (k : Result LineAsked Fault). IsReplyTo k a) (one-meaning line m n means_m means_n) is_a) is_b)
   one-reply line a b (inr (inl memory)) reply = inr (inl memory.2)
   one-reply line a b (inl reply) (inr (inl memory)) = inr (inr memory.2)
-  one-reply line a b (inr (inr spent)) reply = absurd (true≢false (sym spent.3))
-  one-reply line a b (inl reply) (inr (inr spent)) = absurd (true≢false (sym spent.3))
+  one-reply line a b (inr (inr spent)) reply = absurd spent.3
+  one-reply line a b (inl reply) (inr (inr spent)) = absurd spent.3
 
   -- ---- and one explained
   one-bare_reply : (members : Members) (meaning : Result LineAsked Fault) → OneText (IsBareReplyTo members meaning)
@@ -90,8 +90,8 @@ module _ (one : HasOneValue) where
   unfolding IsBareReply
   one-bare members a b (inl (m, means_m, is_a)) (inl (n, means_n, is_b)) =
       one-bare_reply members n a b (subst (λ (k : Result LineAsked Fault). IsBareReplyTo members k a) (one-bare_meaning members m n means_m means_n) is_a) is_b
-  one-bare members a b (inr spent) reply = absurd (true≢false (sym spent.3))
-  one-bare members a b (inl reply) (inr spent) = absurd (true≢false (sym spent.3))
+  one-bare members a b (inr spent) reply = absurd spent.3
+  one-bare members a b (inl reply) (inr spent) = absurd spent.3
 
   one-with_id : (members : Members) (id : List ℕ) → OneText (IsReplyWithId None members id)
   one-with_id members id a b (x, is_x, e) (y, is_y, f) = e ∙ ap (with_id id) (one-bare (without (codes "id") members) x y is_x is_y) ∙ sym f

@@ -1,9 +1,10 @@
 -- To be believed: the reply of the line tool to a line where its id is told again and a fault says why.
-use Rattle.std.specs.Prelude.{◌≡◌, ℕ, ◌<◌, ◌⊎◌, List, length, codes, nat_lt, Option, None, Some, IsSome, Result, Ok, Err, MatchOption}
+use Rattle.std.specs.Prelude.{◌≡◌, ℕ, ◌<◌, ◌⊎◌, List, length, codes, nat_lt, Option, None, Some, Result, Ok, Err, MatchOption}
 use Rattle.std.specs.Bool.{MatchBool}
 use Rattle.serde_json.specs.Data.{Members}
 use Rattle.serde_json.specs.Find.{get_member}
 use Rattle.dd_lines.specs.Line.{longest_line}
+use Rattle.dd_search.specs.Spent.{IsSpent}
 use Rattle.dd_wire.specs.declared.fault.Fault.{Fault}
 use Rattle.dd_wire.specs.declared.fault.Fault.TheVariants.{LineTooLong, NotAnObject, WrongField, OutOfMemory}
 use Rattle.dd_wire.specs.declared.line_asked.LineAsked.{LineAsked}
@@ -29,7 +30,7 @@ IsBareReplyTo members (Err fault) text = text ≡ fault_told fault (field_of mem
 unfoldable pub IsBareReply : Option ℕ → Members → List ℕ → Type 0
 IsBareReply budget members text =
     ((meaning : Result LineAsked Fault) × MeansBare members meaning × IsBareReplyTo members meaning text)
-    ⊎ ((asked : LineAsked) × MeansBare members (Ok asked) × IsSearched asked × IsSome budget × (text ≡ spent_text))
+    ⊎ ((asked : LineAsked) × MeansBare members (Ok asked) × IsSearched asked × IsSpent budget × (text ≡ spent_text))
 
 -- the reply to members with this id: that to the others, with the id
 abbrev pub IsReplyWithId : Option ℕ → Members → List ℕ → List ℕ → Type 0

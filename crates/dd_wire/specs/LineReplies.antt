@@ -1,6 +1,7 @@
 -- To be believed: the reply of the line tool to a line.
-use Rattle.std.specs.Prelude.{◌≡◌, ℕ, ◌<◌, ◌≤◌, ◌⊎◌, List, length, Option, IsSome, Result, Ok, Err}
+use Rattle.std.specs.Prelude.{◌≡◌, ℕ, ◌<◌, ◌≤◌, ◌⊎◌, List, length, Option, Result, Ok, Err}
 use Rattle.dd_lines.specs.Line.{longest_line}
+use Rattle.dd_search.specs.Spent.{IsSpent}
 use Rattle.dd_solve.specs.declared.asked.Asked.{Asked}
 use Rattle.dd_solve.specs.declared.asked.Asked.TheVariants.{Solve, Table, Target, Play}
 use Rattle.dd_solve.specs.Plays.{trace}
@@ -47,7 +48,7 @@ abbrev pub IsReply : Option ℕ → List ℕ → List ℕ → Type 0
 IsReply budget line text =
     ((meaning : Result LineAsked Fault) × Means line meaning × IsReplyTo meaning text)
     ⊎ ((0 < length line) × (length line ≤ longest_line) × (text ≡ fault_text OutOfMemory))
-    ⊎ ((asked : LineAsked) × Means line (Ok asked) × IsSearched asked × IsSome budget × (text ≡ spent_text))
+    ⊎ ((asked : LineAsked) × Means line (Ok asked) × IsSearched asked × IsSpent budget × (text ≡ spent_text))
 
 -- two texts are one, or one of them is this
 abbrev pub AreOneBut : List ℕ → List ℕ → List ℕ → Type 0

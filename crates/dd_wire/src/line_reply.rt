@@ -1,6 +1,7 @@
 //! The reply to a line.
-ghost use Rattle.std.specs.Prelude.{◌≡◌, ◌≤◌, ◌⊎◌, IsSome};
+ghost use Rattle.std.specs.Prelude.{◌≡◌, ◌≤◌, ◌⊎◌};
 ghost use Rattle.arrayvec.specs.ArrayString.{array_string_len};
+ghost use Rattle.dd_search.specs.Spent.{IsSpent, WasSpent};
 ghost use Rattle.dd_wire.specs.LineReplies.{IsAnswer, IsReply, IsSearched, asked_text};
 ghost use Rattle.dd_wire.specs.ParReplies.{TellsPar, rows_of};
 ghost use Rattle.dd_wire.specs.Replies.{spent_text};
@@ -13,7 +14,7 @@ use crate::play_reply::put_trace;
 use crate::reply::{put_answer, put_fault, put_spent, put_table};
 use crate::request_reader::read_request;
 use dd_lines::{LONGEST_REPLY, ReplyText};
-use dd_search::{Bounds, Budget, Endless};
+use dd_search::{Bounds, Budget, Endless, Halt};
 use dd_solve::{
     Asked, PlayRequest, Request, TableRequest, TargetRequest, solve, solve_play, solve_table,
     solve_target,
@@ -66,7 +67,7 @@ pub(crate) fn asked_reply<B: Bounds>(
     budget: Option<u64>,
 ) -> ReplyText
     ensures text { IsAnswer asked result.bytes ⊎
-        (IsSearched asked × IsSome budget × (result.bytes ≡ spent_text)) }
+        (IsSearched asked × IsSpent budget × (result.bytes ≡ spent_text)) }
     ensures bound { array_string_len result ≤ LONGEST_ANSWER }
 {
     let mut reply = ReplyText::new();
@@ -77,7 +78,7 @@ pub(crate) fn asked_reply<B: Bounds>(
 /// Puts the answer to what a line asks, or that the budget is spent.
 fn put_asked<B: Bounds>(reply: &mut ReplyText, asked: LineAsked, table: &mut B, budget: Option<u64>)
     ensures text { IsAnswer asked reply.new.bytes ⊎
-        (IsSearched asked × IsSome budget × (reply.new.bytes ≡ spent_text)) }
+        (IsSearched asked × IsSpent budget × (reply.new.bytes ≡ spent_text)) }
     ensures bound { array_string_len reply.new ≤ LONGEST_ANSWER }
 {
     match asked {
@@ -89,7 +90,7 @@ fn put_asked<B: Bounds>(reply: &mut ReplyText, asked: LineAsked, table: &mut B, 
 
 /// Puts the answer to a question of cards, or that the budget is spent.
 fn put_cards<B: Bounds>(reply: &mut ReplyText, asked: Asked, table: &mut B, budget: Option<u64>)
-    ensures text { (reply.new.bytes ≡ asked_text asked) ⊎ (IsSome budget × (reply.new.bytes ≡ spent_text)) }
+    ensures text { (reply.new.bytes ≡ asked_text asked) ⊎ (IsSpent budget × (reply.new.bytes ≡ spent_text)) }
     ensures bound { array_string_len reply.new ≤ LONGEST_ANSWER }
 {
     match (asked, budget) {
@@ -104,12 +105,14 @@ fn put_cards<B: Bounds>(reply: &mut ReplyText, asked: Asked, table: &mut B, budg
 
 /// Puts the answer to a request, or that the budget is spent.
 fn put_within<B: Bounds>(reply: &mut ReplyText, request: Request, table: &mut B, limit: u64)
-    ensures text { (reply.new.bytes ≡ asked_text (Asked.Solve request)) ⊎ (reply.new.bytes ≡ spent_text) }
+    ensures text { (reply.new.bytes ≡ asked_text (Asked.Solve request)) ⊎
+        (WasSpent limit × (reply.new.bytes ≡ spent_text)) }
     ensures bound { array_string_len reply.new ≤ LONGEST_ANSWER }
 {
     match solve(request, table, &mut Budget::new(limit)) {
         Ok(solved) => put_answer(reply, solved.answer()),
-        Err(_) => put_spent(reply),
+        Err(Halt::Spent) => put_spent(reply),
+        Err(Halt::Stopped) => unreachable!(),
     }
 }
 
@@ -132,7 +135,7 @@ fn put_results<B: Bounds>(
     budget: Option<u64>,
 )
     ensures text { (reply.new.bytes ≡ asked_text (Asked.Table request.now)) ⊎
-        (IsSome budget × (reply.new.bytes ≡ spent_text)) }
+        (IsSpent budget × (reply.new.bytes ≡ spent_text)) }
     ensures bound { array_string_len reply.new ≤ LONGEST_ANSWER }
 {
     match solve_table(request, table, budget) {
@@ -149,7 +152,7 @@ fn put_deal_par<B: Bounds>(
     budget: Option<u64>,
 )
     ensures text { TellsPar (rows_of (results asked.now.hands)) asked.now.conditions reply.new.bytes ⊎
-        (IsSome budget × (reply.new.bytes ≡ spent_text)) }
+        (IsSpent budget × (reply.new.bytes ≡ spent_text)) }
     ensures bound { array_string_len reply.new ≤ LONGEST_ANSWER }
 {
     match solve_table(asked.request(), table, budget) {
@@ -166,7 +169,7 @@ fn put_play<B: Bounds>(
     budget: Option<u64>,
 )
     ensures text { (reply.new.bytes ≡ asked_text (Asked.Play request)) ⊎
-        (IsSome budget × (reply.new.bytes ≡ spent_text)) }
+        (IsSpent budget × (reply.new.bytes ≡ spent_text)) }
     ensures bound { array_string_len reply.new ≤ LONGEST_ANSWER }
 {
     match solve_play(request, table, budget) {
@@ -182,12 +185,14 @@ fn put_target_within<B: Bounds>(
     table: &mut B,
     limit: u64,
 )
-    ensures text { (reply.new.bytes ≡ asked_text (Asked.Target request)) ⊎ (reply.new.bytes ≡ spent_text) }
+    ensures text { (reply.new.bytes ≡ asked_text (Asked.Target request)) ⊎
+        (WasSpent limit × (reply.new.bytes ≡ spent_text)) }
     ensures bound { array_string_len reply.new ≤ LONGEST_ANSWER }
 {
     match solve_target(request, table, &mut Budget::new(limit)) {
         Ok(solved) => put_answer(reply, solved.answer()),
-        Err(_) => put_spent(reply),
+        Err(Halt::Spent) => put_spent(reply),
+        Err(Halt::Stopped) => unreachable!(),
     }
 }
 

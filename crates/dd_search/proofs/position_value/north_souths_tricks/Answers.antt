@@ -11,6 +11,7 @@ window-init g c = record {
   window = c.window-window.ensures;
   within = claims-within c.args.position.now c.window-window.result.0 c.window-window.result.1 c.tricks_left-left.ensures.board c.window-window.ensures;
   ticked = c.in_ok-go_on.ensures.ticked;
+  limit = c.go_on.ensures.limit;
 }
 
 pub window-preserved-then-is_yes : goal.window-preserved-then-is_yes
@@ -26,6 +27,7 @@ window-preserved-then-is_yes g c =
       window = (here, c.window.invariant.window.1);
       within = claims-within p ours c.window.theirs c.tricks_left-left.ensures.board (here, c.window.invariant.window.1);
       ticked = g.met.M.Meter.later c.args.meter.now c.window.meter c.zero_window_in_order.new.meter c.window.invariant.ticked c.in_ok-answer.ensures.ticked;
+      limit = c.zero_window_in_order.ensures.limit ∙ c.window.invariant.limit;
     }
 
 pub window-preserved : goal.window-preserved
@@ -42,6 +44,7 @@ window-preserved g c =
       window = (c.window.invariant.window.0, here);
       within = claims-within p c.window.ours theirs c.tricks_left-left.ensures.board (c.window.invariant.window.0, here);
       ticked = g.met.M.Meter.later c.args.meter.now c.window.meter c.zero_window_in_order.new.meter c.window.invariant.ticked c.in_ok-answer.ensures.ticked;
+      limit = c.zero_window_in_order.ensures.limit ∙ c.window.invariant.limit;
     }
 
 pub returns-clause-theirs : goal.returns-clause-theirs

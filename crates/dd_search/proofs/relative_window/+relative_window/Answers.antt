@@ -27,6 +27,7 @@ relative_by_choices-tries-init g t c = record {
   lead = λ d has. inl (ap (λ cards. has_card cards d) c.requires.choices ∙ has);
   legal = λ d has. top-legal c.args.trick.now d (ap (λ cards. has_card cards d) (sym c.requires.choices) ∙ has);
   ticked = λ m h. h;
+  limit = refl;
 }
 
 -- the card that is tried may be played
@@ -54,6 +55,7 @@ relative_by_choices-tries-preserved g t c =
           (answered-against p need c.in-Some.card ranks b found.yes here (ap (λ (x : Bool). beq x b) (sym c.is_yes.ensures) ∙ c.if-is_yes-leaders.false)) c.tries.invariant.lead;
       legal = λ d has. c.tries.invariant.legal d (c.still_untried-untried.ensures.among d has);
       ticked = λ m before. c.in_ok-found.ensures.ticked m (c.tries.invariant.ticked m before);
+      limit = c.relative_after.ensures.limit ∙ c.tries.invariant.limit;
     }
 
 pub relative_by_choices-returns-clause-winning_ranks : goal.relative_by_choices-returns-clause-winning_ranks

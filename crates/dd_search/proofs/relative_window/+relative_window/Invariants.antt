@@ -1,4 +1,4 @@
-use Rattle.std.proofs.Common.{◌+◌, ◌*◌, length}
+use Rattle.std.proofs.Common.{◌≡◌, ◌+◌, ◌*◌, length}
 use mathlib.Core.Bool.{not}
 use Rattle.dd_play.specs.Board.{cards_left}
 use Rattle.dd_play.specs.Play.{after}
@@ -49,6 +49,7 @@ invariant-relative_by_choices-tries g l = record {
   lead : AllLead l.trick l.need l.untried l.ranks (not l.leaders);
   legal : AllLegal l.trick l.untried;
   ticked : (m : g.row.M.Denot) → g.M.Meter.ticked m l.fn.meter → g.M.Meter.ticked m l.meter;
+  limit : g.M.Meter.limit l.meter ≡ g.M.Meter.limit l.fn.meter;
 }
 
 abbrev pub decreases-relative_by_choices-tries : goal.decreases-relative_by_choices-tries

@@ -46,6 +46,7 @@ loop-class-preserved g c =
           ∙ scores-more c.args.start.now classes c.loop-class.class-index class c.loop-class.scores.items c.in_ok-score.score c.loop-class-test.true here c.loop-class.invariant.scores
           (c.in_ok-score.ensures.value ∙ ap (λ (q : Board). score q class.top) c.position-position.ensures.value);
       few = omega arith;
+      limit = c.score_up_to.ensures.limit ∙ c.loop-class.invariant.limit;
     }
 
 pub returns-clause-scores : goal.returns-clause-scores

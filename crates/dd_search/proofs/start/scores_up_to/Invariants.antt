@@ -8,4 +8,5 @@ abbrev pub invariant-loop-class : goal.invariant-loop-class
 invariant-loop-class g l = record {
   scores : l.scores.items ≡ map (top_score l.start) (take l.class-index l.classes);
   few : length l.scores.items ≤ l.class-index;
+  limit : g.M.Meter.limit l.meter ≡ g.M.Meter.limit l.fn.meter;
 }

@@ -52,6 +52,15 @@ later-ticked g t c m before = elim c.match-turn.branch [
   | answer_after-in-Fourth+in_ok-later-in-Fourth w ↦ subst (λ n. g.M.Meter.ticked m n) (sym w.meter-is) (w.in_ok-later-in-Fourth.ensures.ticked m before)
 ]
 
+-- and the meter's limit is what it was
+later-limit : (g : _) (t : _) (c : answer_after-After-is_yes g t) → g.M.Meter.limit c.match-turn.meter ≡ g.M.Meter.limit c.args.meter.now
+later-limit g t c = elim c.match-turn.branch [
+  | answer_after-in-First+in_ok-later-in-First w ↦ ap g.M.Meter.limit w.meter-is ∙ w.zero_window_at_second_hand.ensures.limit
+  | answer_after-in-Second+in_ok-later-in-Second w ↦ ap g.M.Meter.limit w.meter-is ∙ w.zero_window_at_third_hand.ensures.limit
+  | answer_after-in-Third+in_ok-later-in-Third w ↦ ap g.M.Meter.limit w.meter-is ∙ w.zero_window_at_fourth_hand.ensures.limit
+  | answer_after-in-Fourth+in_ok-later-in-Fourth w ↦ ap g.M.Meter.limit w.meter-is ∙ w.answer_after_trick.ensures.limit
+]
+
 pub answer_after-returns-clause-found : goal.answer_after-returns-clause-found
 answer_after-returns-clause-found g t c =
     let at = goal.at.answer_after-returns-clause-found g t c in
@@ -67,6 +76,9 @@ answer_after-returns-clause-found g t c =
 pub answer_after-returns-clause-ticked : goal.answer_after-returns-clause-ticked
 answer_after-returns-clause-ticked g t c = later-ticked g t (goal.at.answer_after-returns-clause-ticked g t c).After-is_yes
 
+pub answer_after-returns-clause-limit : goal.answer_after-returns-clause-limit
+answer_after-returns-clause-limit g t c = later-limit g t (goal.at.answer_after-returns-clause-limit g t c).After-is_yes
+
 -- ---- one choice
 
 pub answer_by_choices-tries-init : goal.answer_by_choices-tries-init
@@ -74,6 +86,7 @@ answer_by_choices-tries-init g t c = record {
   lead = λ d has. inl (ap (λ cards. has_card cards d) c.requires.choices ∙ has);
   legal = λ d has. top-legal c.args.position.now d (ap (λ cards. has_card cards d) (sym c.requires.choices) ∙ has);
   ticked = λ m h. h;
+  limit = refl;
 }
 
 -- the card that is tried may be played
@@ -109,6 +122,7 @@ answer_by_choices-tries-preserved g t c =
           (answered-against p need c.in-Some.card winning_ranks b found.yes here (ap (λ (x : Bool). beq x b) (sym c.is_yes.ensures) ∙ c.if-is_yes-north_south.false)) c.tries.invariant.lead;
       legal = λ d has. c.tries.invariant.legal d (c.still_untried-untried.ensures.among d has);
       ticked = λ m before. c.in_ok-found.ensures.ticked m (c.tries.invariant.ticked m before);
+      limit = c.answer_after.ensures.limit ∙ c.tries.invariant.limit;
     }
 
 pub answer_by_choices-returns-clause-winning_ranks : goal.answer_by_choices-returns-clause-winning_ranks

@@ -1,4 +1,4 @@
-use Rattle.std.proofs.Common.{◌+◌, ◌*◌, length}
+use Rattle.std.proofs.Common.{◌≡◌, ◌+◌, ◌*◌, length}
 use mathlib.Core.Bool.{not}
 use Rattle.dd_play.specs.Board.{cards_left}
 use Rattle.dd_search.proofs.Relied.{AllLead, AllLegal}
@@ -45,6 +45,7 @@ invariant-answer_by_choices-tries g l = record {
   lead : AllLead l.position l.need l.untried l.cards (not l.north_south);
   legal : AllLegal l.position l.untried;
   ticked : (m : g.row.M.Denot) → g.M.Meter.ticked m l.fn.meter → g.M.Meter.ticked m l.meter;
+  limit : g.M.Meter.limit l.meter ≡ g.M.Meter.limit l.fn.meter;
 }
 
 abbrev pub decreases-answer_by_choices-tries : goal.decreases-answer_by_choices-tries

@@ -35,12 +35,14 @@ loop-class-preserved g c =
             ∙ sym (reached-more p c.args.target classes place class c.loop-class-test.true here (sym told ∙ w.if-branch.true));
         few = (let longer = w.push.ensures.len in let same = ap (λ a. length a.items) w.answer-is in omega arith);
         most = (let longer = w.push.ensures.len in let same = ap (λ a. length a.items) w.answer-is in omega arith);
+        limit = c.card_reaches.ensures.limit ∙ c.loop-class.invariant.limit;
       }
       | else-branch w ↦ record {
         found = ap (λ a. a.items) w.answer-is ∙ c.loop-class.invariant.found
             ∙ sym (reached-past p c.args.target classes place class c.loop-class-test.true here (sym told ∙ w.if-branch.false));
         few = (let same = ap (λ a. length a.items) w.answer-is in omega arith);
         most = (let same = ap (λ a. length a.items) w.answer-is in omega arith);
+        limit = c.card_reaches.ensures.limit ∙ c.loop-class.invariant.limit;
       }
     ]
 

@@ -8,4 +8,5 @@ invariant-loop-class g l = record {
   found : l.answer.items ≡ reached l.position l.target (take l.class-index l.classes);
   few : length l.answer.items ≤ l.class-index;
   most : length l.answer.items ≤ l.most;
+  limit : g.M.Meter.limit l.meter ≡ g.M.Meter.limit l.fn.meter;
 }
