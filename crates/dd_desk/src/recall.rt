@@ -76,6 +76,7 @@ pub(crate) fn recall<J: Naming, R: Wait>(
         receipts,
         marks,
         spare: _,
+        made: _,
         next: _,
         places: _,
         of: _,

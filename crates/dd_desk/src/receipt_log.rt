@@ -23,6 +23,8 @@ pub(crate) struct ReceiptLog<J: Naming> {
     pub(crate) marks: Vec<Note<Entry>>,
     // Room for the event of a shut.
     pub(crate) spare: Option<Box<Entry>>,
+    // Room for the event of the next call, which was made before the lock was asked for.
+    pub(crate) made: Option<Box<Entry>>,
     // The place after the last one, and the sum of the places.
     pub(crate) next: u64,
     pub(crate) places: u64,
@@ -56,6 +58,7 @@ impl<J: Naming> ReceiptLog<J> {
             receipts,
             marks,
             spare: Some(spare),
+            made: None,
             next: 0,
             places: 0,
             of: PhantomData,
@@ -63,13 +66,14 @@ impl<J: Naming> ReceiptLog<J> {
     }
 }
 
-/// Room for an event, and in the log of a caller for its receipt and its mark. A shut may take what
-/// is kept for one, any other call leaves it.
+/// Room for an event, and in the log of a caller for its receipt and its mark. What was made before is taken first. A shut may take
+/// what is kept for one, any other call leaves it.
 pub(crate) fn room_for(
     alloc: Global,
     receipts: &mut Vec<Receipt>,
     marks: &mut Vec<Note<Entry>>,
     spare: &mut Option<Box<Entry>>,
+    made: &mut Option<Box<Entry>>,
     shuts: bool,
 ) -> Result<Box<Entry>, AllocError>
     ensures receipts { (receipts.new.items ≡ receipts.old.items)
@@ -90,12 +94,30 @@ pub(crate) fn room_for(
     let more = if shuts { 1 } else { 2 };
     receipts.reserve(more)?;
     marks.reserve(more)?;
+    if let Some(made) = made.take() {
+        return Ok(made);
+    }
     if shuts {
         if let Some(kept) = spare.take() {
             return Ok(kept);
         }
     }
     blank(alloc)
+}
+
+impl<J: Naming> ReceiptLog<J> {
+    /// Makes what the next call needs, as far as there is memory: under the lock that would hold up others.
+    pub(crate) fn make_ready(&mut self, alloc: Global)
+        ensures number { self.new.number ≡ self.old.number }
+        ensures receipts { (self.new.receipts.items ≡ self.old.receipts.items)
+            × (vec_len self.new.receipts ≡ vec_len self.old.receipts) }
+    {
+        if self.made.is_none() {
+            self.made = blank(alloc).ok();
+        }
+        let _ = self.receipts.reserve(2);
+        let _ = self.marks.reserve(2);
+    }
 }
 
 /// A log, with one part of each ledger: its receipts are counted, and their places added up.
@@ -107,4 +129,14 @@ pub(crate) struct CountedLog<J: Naming> {
     pub ghost parts: { (count.parts ≡ 1) × (sum.parts ≡ 1) },
     pub ghost amounts: { (count.amount ≡ vec_len log.receipts)
         × (sum.amount ≡ sum_of_places log.receipts.items) },
+}
+
+impl<J: Naming> CountedLog<J> {
+    /// The same of its log.
+    pub(crate) fn make_ready(&mut self, alloc: Global)
+        ensures number { self.new.log.number ≡ self.old.log.number }
+        ensures receipts { self.new.log.receipts.items ≡ self.old.log.receipts.items }
+    {
+        self.log.make_ready(alloc)
+    }
 }

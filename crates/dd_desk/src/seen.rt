@@ -71,6 +71,7 @@ fn last_seen<J: Naming>(log: &mut ReceiptLog<J>) -> Seen<J>
         receipts,
         marks,
         spare: _,
+        made: _,
         next: _,
         places: _,
         of: _,
