@@ -1,5 +1,5 @@
 /* A library to be loaded before the program's own (LD_PRELOAD), which refuses memory: of what the program asks for by malloc and
-   realloc the allocation whose number REFUSED is, and each from the number SINCE on; and, once the file OUT is there, each of at
+   realloc as many as TIMES says (1) from the allocation on whose number REFUSED is, and each from the number SINCE on; and, once the file OUT is there, each of at
    least LEAST bytes, those of the C library's own threads too, where SECONDS is given for so long after the first of these. */
 #define _GNU_SOURCE
 #include <errno.h>
@@ -7,14 +7,14 @@
 #include <time.h>
 #include <unistd.h>
 
-static long count, refused = -1, since, least, lasting, began;
+static long count, refused = -1, times, since, least, lasting, began;
 static char *out;
 extern void *__libc_malloc(size_t), *__libc_calloc(size_t, size_t), *__libc_realloc(void *, size_t), *__libc_memalign(size_t, size_t);
 
 static long number(const char *name) { char *text = getenv(name); return text ? atol(text) : 0; }
 
 static void look(void) {
-    if (refused < 0) { refused = number("REFUSED"); since = number("SINCE"); least = number("LEAST"); lasting = number("SECONDS") * 1000000000; out = getenv("OUT"); }
+    if (refused < 0) { refused = number("REFUSED"); times = number("TIMES"); since = number("SINCE"); least = number("LEAST"); lasting = number("SECONDS") * 1000000000; out = getenv("OUT"); }
 }
 
 /* Is memory out for so many bytes? */
@@ -32,7 +32,7 @@ static int is_out(size_t size) {
 static int is_refused(size_t size) {
     look();
     long now = __atomic_add_fetch(&count, 1, __ATOMIC_RELAXED);
-    return now == refused || (since && now >= since) || is_out(size);
+    return (refused && now >= refused && now < refused + (times ? times : 1)) || (since && now >= since) || is_out(size);
 }
 
 void *malloc(size_t size) {

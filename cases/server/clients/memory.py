@@ -1,7 +1,8 @@
 """Memory that is refused to a server, by `cases/tools/refuse.c`, which is built here (a C compiler is needed). Words: which of
 `once`, `start`, `worker`, `stop`, `away`, `lost` and `idle` (all).
 
-Each of the first 320 allocations is refused once: a client's job is done, or the client is told (19, the number of a job whose
+Each of the first 320 allocations is refused once, and then with the next one, so that a call which asks for memory a second time
+has none: a client's job is done, or the client is told (19, the number of a job whose
 fetch was refused, or the end of its connection) and asks anew; a stop ends the program; and a program that can't go on says so,
 with status 1. Each ends within 15 seconds. Memory that stays out from the start, or for a worker, ends the program with status 1.
 Where no list can grow any more, a client that is told 19 stops the program all the same.
@@ -10,8 +11,8 @@ Where no list can grow any more, a client that is told 19 stops the program all 
 connection is told 19 each time (over a WebSocket its connection ends), a new connection ends or is told 19, one that leaves
 leaves, and one that waits waits. Then the server goes on: each job that was taken is done and right, or cancelled where its client
 has left, the old connection and a new one are served, and a stop ends the program within 15 seconds.
-`lost`: memory is never given again. With jobs open the program ends by itself, with status 1: who waits is told 19 or the number of
-its job, each other one by the end of its connection. Without an open job it goes on to say 19, to a stop too, and a signal ends it.
+`lost`: memory is never given again. With jobs open the program ends by itself, with status 1: who waits is told 19, the number of
+its job, its state or its answer, each other one by the end of its connection. Without an open job it goes on to say 19, to a stop too, and a signal ends it.
 Where memory goes out when a stop was taken, the program ends within 15 seconds too.
 `idle`: memory is never given again, and of four workers one has a job; then of two runs the later one has a job. The program ends
 as soon as where all workers have one: when this gives up, the others find no memory for their last claim, and wait for none."""
@@ -83,9 +84,9 @@ def port_of(process):
     return int(found[1]) if found else 0
 
 
-def run(shim, refused):
+def run(shim, refused, times):
     """What the program ended with, what it said, and whether a job was done and a stop obeyed."""
-    with start(shim, REFUSED=str(refused)) as process:
+    with start(shim, REFUSED=str(refused), TIMES=str(times)) as process:
         try:
             port = port_of(process)
             # One try meets the refusal, and the next ones don't.
@@ -99,16 +100,22 @@ def run(shim, refused):
 
 
 def once(shim, _):
+    # A call's memory is asked for before the lock is, and where there is none, again under the lock: so a worker waits after two refusals.
+    for times, waits in ((1, 0), (2, 1)):
+        refuse(shim, times, waits)
+
+
+def refuse(shim, times, waits):
     with concurrent.futures.ThreadPoolExecutor(4) as pool:
-        ends = list(pool.map(lambda refused: run(shim, refused), range(1, ALLOCATIONS + 1)))
+        ends = list(pool.map(lambda refused: run(shim, refused, times), range(1, ALLOCATIONS + 1)))
     for refused, (status, said, done, stopped) in enumerate(ends, 1):
         if status == 0:
             check(f"allocation {refused}", (said in ("", SHORT), done, stopped), (True, True, True))
         else:
             check(f"allocation {refused}", (status, said.removeprefix(SHORT)), (1, OUT))
     served, short = sum(end[0] == 0 for end in ends), sum(SHORT in end[1] for end in ends)
-    check("runs that served, and workers that waited", (served > ALLOCATIONS // 2, short > 0), (True, True))
-    print(f"memory: of {ALLOCATIONS} allocations refused singly {served} end no run, {short} of these a worker's; the others end it with status 1")
+    check("runs that served, and workers that waited", (served > ALLOCATIONS // 2, short >= waits), (True, True))
+    print(f"memory: of {ALLOCATIONS} allocations refused {times} at once {served} end no run, {short} of these a worker's; the others end it with status 1")
 
 
 def end(process, least, most, said):
@@ -293,7 +300,9 @@ def lost_with_jobs(shim, out, websocket, workers):
         check(f"an old connection: {set(told)}", set(told) <= {None, '{"fault":19}'}, True)
         check(f"new ones: {new}", new <= {None, '{"fault":16}', '{"fault":19}'}, True)
         waited = clients.waiter.line()
-        check(f"who waits: {waited}", not isinstance(waited, str) or waited == '{"fault":19}' or number_of(waited) > 0, True)
+        job = int(re.search(r'"job":(\d+)', waited)[1]) if isinstance(waited, str) and "job" in waited else 0
+        replies = (f'{{"job":{job}}}', done(clients.rows[0][1], job)) if job else ('{"fault":19}', None)
+        check(f"who waits: {waited}", not isinstance(waited, str) or waited in replies or is_open(waited, job), True)
         held = clients.holder.line()
         check(f"who holds: {held}", isinstance(held, str), False)
     print(f"memory: lost with jobs open, over {name}, {workers} workers: the program ends after {taken:.1f} s; a stop is told {stop_told}, an old connection {sorted(map(str, set(told)))}, new ones {sorted(map(str, new))}, who waits {waited if isinstance(waited, str) else None}", flush=True)
