@@ -4,7 +4,7 @@
 # fragments, 10,000 pings; 100,000 lines by 50 clients. Meanwhile an honest client gets each answer right, and at the end the
 # program tells as many events as the clients can account for. Then 150 clients under a limit of 64 descriptors; strangers: a page,
 # a client that takes its replies slowly, handshakes without an end or with a wrong head, clients that send nothing; memory that
-# is refused once or twice, is away for ten seconds or stays out (`memory`, which wants a C compiler); searches that are cancelled and must
+# is refused, is away for ten seconds or stays out (`memory`, which wants a C compiler); searches that are cancelled and must
 # not run on; one that hangs up while its reply waits; what one run has: its connections and its events, to the last one; a
 # stranger that uses up each event that is free while 64 clients have tables open (`kept`); 64 clients that connect anew at 15 where
 # runs are short (`anew`); and newcomers who are more than the worker can begin, beside an honest client. Words: which of `lines`,

@@ -1,6 +1,7 @@
 /* A library to be loaded before the program's own (LD_PRELOAD), which refuses memory: of what the program asks for by malloc and
-   realloc as many as TIMES says (1) from the allocation on whose number REFUSED is, and each from the number SINCE on; and, once the file OUT is there, each of at
-   least LEAST bytes, those of the C library's own threads too, where SECONDS is given for so long after the first of these. */
+   realloc as many as TIMES says (1) from the allocation on whose number REFUSED is, and each from the number SINCE on; and, once
+   the file OUT is there, each of at least LEAST bytes, those of the C library's own threads too, where SECONDS is given for so long
+   after the first of these. */
 #define _GNU_SOURCE
 #include <errno.h>
 #include <stdlib.h>

@@ -2,9 +2,9 @@
 `once`, `start`, `worker`, `stop`, `away`, `lost` and `idle` (all).
 
 Each of the first 320 allocations is refused once, and then with the next one, so that a call which asks for memory a second time
-has none: a client's job is done, or the client is told (19, the number of a job whose
-fetch was refused, or the end of its connection) and asks anew; a stop ends the program; and a program that can't go on says so,
-with status 1. Each ends within 15 seconds. Memory that stays out from the start, or for a worker, ends the program with status 1.
+has none: a client's job is done, or the client is told (19, the number of a job whose fetch was refused, or the end of its
+connection) and asks anew; a stop ends the program; and a program that can't go on says so, with status 1. Each ends within 15
+seconds. Memory that stays out from the start, or for a worker, ends the program with status 1.
 Where no list can grow any more, a client that is told 19 stops the program all the same.
 
 `away`: with jobs open every allocation is refused for ten seconds, and then each is given again. Meanwhile a client on an old
@@ -12,7 +12,8 @@ connection is told 19 each time (over a WebSocket its connection ends), a new co
 leaves, and one that waits waits. Then the server goes on: each job that was taken is done and right, or cancelled where its client
 has left, the old connection and a new one are served, and a stop ends the program within 15 seconds.
 `lost`: memory is never given again. With jobs open the program ends by itself, with status 1: who waits is told 19, the number of
-its job, its state or its answer, each other one by the end of its connection. Without an open job it goes on to say 19, to a stop too, and a signal ends it.
+its job, its state or its answer, each other one by the end of its connection. Without an open job it goes on to say 19, to a stop
+too, and a signal ends it.
 Where memory goes out when a stop was taken, the program ends within 15 seconds too.
 `idle`: memory is never given again, and of four workers one has a job; then of two runs the later one has a job. The program ends
 as soon as where all workers have one: when this gives up, the others find no memory for their last claim, and wait for none."""

@@ -1,4 +1,4 @@
--- To be believed: that a search went on until its budget was spent.
+-- To be believed: that a budget was spent.
 use Rattle.std.specs.Prelude.{◌≡◌, ℕ, Option, None, Some}
 
 -- A budget of so many ticks was spent: one tick more was asked for when all had gone. The word is closed, so that nothing shows this
