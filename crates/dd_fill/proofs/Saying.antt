@@ -6,6 +6,7 @@ use Rattle.dd_lines.specs.CountedDevices.{bytes_of}
 use Rattle.dd_lines.specs.declared.counted_device.CountedDevice.{CountedDevice}
 use Rattle.dd_lines.specs.declared.engine.LineFault.{LineFault}
 use Rattle.dd_lines.specs.Served.{StopsAtFailedWrite, WroteText}
+use Rattle.dd_search.specs.Spent.{IsSpent}
 use Rattle.dd_file.specs.declared.engine.FileFault.{FileFault}
 use Rattle.dd_file.specs.declared.wanted.Wanted.{Wanted}
 use Rattle.dd_file.specs.Notices.{Notice, Hears}
@@ -55,9 +56,9 @@ said (notice ∷ notices) before after (between, step, hears) =
       hears = (between.errors, step.says, subst (λ (b : Bool). Hears (SaysNotice b) between.errors notices after.errors) step.shows more.hears);
     }
 
-module _ (may_spend : Type 0) (wanted : Wanted) (before after : SayingOf) where
-  pub filled-said : (r0 r1 w0 w1 : Option (List ℕ)) → FilledTelling (IsTold may_spend) SaysTold wanted before after r0 r1 w0 w1
-      → FilledTelling (IsTold may_spend) (SaysNotice before.shows) wanted before.errors after.errors r0 r1 w0 w1
+module _ (spent : Type 0) (wanted : Wanted) (before after : SayingOf) where
+  pub filled-said : (r0 r1 w0 w1 : Option (List ℕ)) → FilledTelling (IsTold spent) SaysTold wanted before after r0 r1 w0 w1
+      → FilledTelling (IsTold spent) (SaysNotice before.shows) wanted before.errors after.errors r0 r1 w0 w1
   filled-said r0 r1 w0 w1 all =
       record {
         input = all.input;
@@ -69,8 +70,8 @@ module _ (may_spend : Type 0) (wanted : Wanted) (before after : SayingOf) where
         told = (said _ before after all.told).hears;
       }
 
-  pub begun-said : (r0 r1 w0 w1 : Option (List ℕ)) (fault : FileFault) → FilledBeginning (IsTold may_spend) SaysTold wanted before after r0 r1 w0 w1 fault
-      → FilledBeginning (IsTold may_spend) (SaysNotice before.shows) wanted before.errors after.errors r0 r1 w0 w1 fault
+  pub begun-said : (r0 r1 w0 w1 : Option (List ℕ)) (fault : FileFault) → FilledBeginning (IsTold spent) SaysTold wanted before after r0 r1 w0 w1 fault
+      → FilledBeginning (IsTold spent) (SaysNotice before.shows) wanted before.errors after.errors r0 r1 w0 w1 fault
   begun-said r0 r1 w0 w1 fault some =
       record {
         input = some.input;
@@ -97,31 +98,40 @@ pub record Stays (before after : SayingOf) : Type 0 where
 stays : (notices : List Notice) (before after : SayingOf) → Hears SaysTold before notices after → Stays before after
 stays notices before after hears = (let all = said notices before after hears in record { table = all.table; reference = all.reference })
 
-pub ends-stays : {R W : Type 0} (remaining : R → Option (List ℕ)) (contents : W → Option (List ℕ)) (may_spend : Type 0) (wanted : Wanted) (before after : SayingOf)
+pub ends-stays : {R W : Type 0} (remaining : R → Option (List ℕ)) (contents : W → Option (List ℕ)) (spent : Type 0) (wanted : Wanted) (before after : SayingOf)
     (reader reader2 : CountedDevice R) (writer writer2 : CountedDevice W) (result : Result (Unit {0}) FileFault)
-    → OnOk result (FillsTelling remaining contents (IsTold may_spend) SaysTold wanted before after reader reader2 writer writer2)
-    → IfErr result (FillsBeginning remaining contents (IsTold may_spend) SaysTold wanted before after reader reader2 writer writer2) → Stays before after
-ends-stays remaining contents may_spend wanted before after reader reader2 writer writer2 (Ok done) all some = stays _ before after all.told
-ends-stays remaining contents may_spend wanted before after reader reader2 writer writer2 (Err fault) all some = stays some.notices before after some.hears
+    → OnOk result (FillsTelling remaining contents (IsTold spent) SaysTold wanted before after reader reader2 writer writer2)
+    → IfErr result (FillsBeginning remaining contents (IsTold spent) SaysTold wanted before after reader reader2 writer writer2) → Stays before after
+ends-stays remaining contents spent wanted before after reader reader2 writer writer2 (Ok done) all some = stays _ before after all.told
+ends-stays remaining contents spent wanted before after reader reader2 writer writer2 (Err fault) all some = stays some.notices before after some.hears
 
 -- and this was said
-pub ends-told : {R W : Type 0} (remaining : R → Option (List ℕ)) (contents : W → Option (List ℕ)) (may_spend : Type 0) (wanted : Wanted) (before after : SayingOf)
+pub ends-told : {R W : Type 0} (remaining : R → Option (List ℕ)) (contents : W → Option (List ℕ)) (spent : Type 0) (wanted : Wanted) (before after : SayingOf)
     (reader reader2 : CountedDevice R) (writer writer2 : CountedDevice W) (result : Result (Unit {0}) FileFault)
-    → OnOk result (FillsTelling remaining contents (IsTold may_spend) SaysTold wanted before after reader reader2 writer writer2)
-    → IfErr result (FillsBeginning remaining contents (IsTold may_spend) SaysTold wanted before after reader reader2 writer writer2)
+    → OnOk result (FillsTelling remaining contents (IsTold spent) SaysTold wanted before after reader reader2 writer writer2)
+    → IfErr result (FillsBeginning remaining contents (IsTold spent) SaysTold wanted before after reader reader2 writer writer2)
     → StopsAtFirstFailure reader reader2 writer writer2 result
-    → FillsSaying remaining contents may_spend wanted before.shows reader reader2 writer writer2 before.errors after.errors result
-ends-told remaining contents may_spend wanted before after reader reader2 writer writer2 (Ok done) all some first =
-    record { ok = filled-said may_spend wanted before after _ _ _ _ all; err = tt; first = first }
-ends-told remaining contents may_spend wanted before after reader reader2 writer writer2 (Err fault) all some first =
-    record { ok = tt; err = begun-said may_spend wanted before after _ _ _ _ fault some; first = first }
+    → FillsSaying remaining contents spent wanted before.shows reader reader2 writer writer2 before.errors after.errors result
+ends-told remaining contents spent wanted before after reader reader2 writer writer2 (Ok done) all some first =
+    record { ok = filled-said spent wanted before after _ _ _ _ all; err = tt; first = first }
+ends-told remaining contents spent wanted before after reader reader2 writer writer2 (Err fault) all some first =
+    record { ok = tt; err = begun-said spent wanted before after _ _ _ _ fault some; first = first }
 
 -- and at the end no progress is shown
-pub ends-said : {R W : Type 0} (remaining : R → Option (List ℕ)) (contents : W → Option (List ℕ)) (may_spend : Type 0) (wanted : Wanted) (shows : Bool) (before after last : Sink)
+pub ends-said : {R W : Type 0} (remaining : R → Option (List ℕ)) (contents : W → Option (List ℕ)) (spent : Type 0) (wanted : Wanted) (shows : Bool) (before after last : Sink)
     (reader reader2 : CountedDevice R) (writer writer2 : CountedDevice W) (result : Result (Unit {0}) FileFault)
-    → FillsSaying remaining contents may_spend wanted shows reader reader2 writer writer2 before after result → SaysAll (clear_texts shows) after last
-    → Fills remaining contents may_spend wanted shows reader reader2 writer writer2 before last result
-ends-said remaining contents may_spend wanted shows before after last reader reader2 writer writer2 (Ok done) fills cleared =
+    → FillsSaying remaining contents spent wanted shows reader reader2 writer writer2 before after result → SaysAll (clear_texts shows) after last
+    → Fills remaining contents spent wanted shows reader reader2 writer writer2 before last result
+ends-said remaining contents spent wanted shows before after last reader reader2 writer writer2 (Ok done) fills cleared =
     record { ok = record { between = after; filled = fills.ok; cleared = cleared }; err = tt; first = fills.first }
-ends-said remaining contents may_spend wanted shows before after last reader reader2 writer writer2 (Err fault) fills cleared =
+ends-said remaining contents spent wanted shows before after last reader reader2 writer writer2 (Err fault) fills cleared =
     record { ok = tt; err = record { between = after; filled = fills.err; cleared = cleared }; first = fills.first }
+
+-- so where the limit has the budget's number
+pub ends-named : {R W : Type 0} (remaining : R → Option (List ℕ)) (contents : W → Option (List ℕ)) (budget named : Option ℕ) (wanted : Wanted) (shows : Bool) (before after last : Sink)
+    (reader reader2 : CountedDevice R) (writer writer2 : CountedDevice W) (result : Result (Unit {0}) FileFault) → budget ≡ named
+    → FillsSaying remaining contents (IsSpent named) wanted shows reader reader2 writer writer2 before after result → SaysAll (clear_texts shows) after last
+    → Fills remaining contents (IsSpent budget) wanted shows reader reader2 writer writer2 before last result
+ends-named remaining contents budget named wanted shows before after last reader reader2 writer writer2 result same fills cleared =
+    ends-said remaining contents (IsSpent budget) wanted shows before after last reader reader2 writer writer2 result
+    (subst (λ (n : Option ℕ). FillsSaying remaining contents (IsSpent n) wanted shows reader reader2 writer writer2 before after result) (sym same) fills) cleared

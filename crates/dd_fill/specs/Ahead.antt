@@ -21,8 +21,8 @@ pub record AnsweredOf : Type 0 where
 -- `Fills`, as a word that only proofs which ask for it open: so it goes through the calls of threads as it is
 unfoldable pub FillsFile : {R W : Type 0} → (R → Option (List ℕ)) → (W → Option (List ℕ)) → Type 0 → Wanted → Bool
     → CountedDevice R → CountedDevice R → CountedDevice W → CountedDevice W → Sink → Sink → Result (Unit {0}) FileFault → Type 0
-FillsFile remaining contents may_spend wanted shows reader_old reader_new writer_old writer_new errors_old errors_new result =
-    Fills remaining contents may_spend wanted shows reader_old reader_new writer_old writer_new errors_old errors_new result
+FillsFile remaining contents spent wanted shows reader_old reader_new writer_old writer_new errors_old errors_new result =
+    Fills remaining contents spent wanted shows reader_old reader_new writer_old writer_new errors_old errors_new result
 
 -- What is known of who says which games are left: the names of its references to the table and to the device, whether it shows progress, and the
 -- device.
@@ -40,8 +40,8 @@ pub record SaysTold (before : SayingOf) (notice : Notice) (after : SayingOf) : T
   pub says : SaysNotice before.shows before.errors notice after.errors
 
 -- What was written, and what was said of its games while it was.
-pub record FillsSaying {R W : Type 0} (remaining : R → Option (List ℕ)) (contents : W → Option (List ℕ)) (may_spend : Type 0) (wanted : Wanted) (shows : Bool)
+pub record FillsSaying {R W : Type 0} (remaining : R → Option (List ℕ)) (contents : W → Option (List ℕ)) (spent : Type 0) (wanted : Wanted) (shows : Bool)
     (reader_old reader_new : CountedDevice R) (writer_old writer_new : CountedDevice W) (errors_old errors_new : Sink) (result : Result (Unit {0}) FileFault) : Type 0 where
-  pub ok : OnOk result (FillsTelling remaining contents (IsTold may_spend) (SaysNotice shows) wanted errors_old errors_new reader_old reader_new writer_old writer_new)
-  pub err : IfErr result (FillsBeginning remaining contents (IsTold may_spend) (SaysNotice shows) wanted errors_old errors_new reader_old reader_new writer_old writer_new)
+  pub ok : OnOk result (FillsTelling remaining contents (IsTold spent) (SaysNotice shows) wanted errors_old errors_new reader_old reader_new writer_old writer_new)
+  pub err : IfErr result (FillsBeginning remaining contents (IsTold spent) (SaysNotice shows) wanted errors_old errors_new reader_old reader_new writer_old writer_new)
   pub first : StopsAtFirstFailure reader_old reader_new writer_old writer_new result

@@ -8,17 +8,12 @@ use Rattle.dd_solve.specs.Results.{all_strains, strain_results}
 abbrev pub table_of : FourHands → List (List ℕ)
 table_of hands = map (strain_results hands) all_strains
 
--- The deal's results are told; or none are, which may be where a search may be given up.
+-- The deal's results are told; or none are, where this holds: that a search was given up.
 abbrev pub IsTold : Type 0 → FourHands → Option (List (List ℕ)) → Type 0
-IsTold may_spend hands None = may_spend
-IsTold may_spend hands (Some table) = table ≡ table_of hands
+IsTold spent hands None = spent
+IsTold spent hands (Some table) = table ≡ table_of hands
 
 -- the same of its results in a strain
 abbrev pub IsRowTold : Type 0 → FourHands → Strain → Option (List ℕ) → Type 0
-IsRowTold may_spend hands strain None = may_spend
-IsRowTold may_spend hands strain (Some row) = row ≡ strain_results hands strain
-
--- a search may be given up where there is a budget
-abbrev pub MaySpend : Option ℕ → Type 0
-MaySpend None = ⊥
-MaySpend (Some positions) = Unit {0}
+IsRowTold spent hands strain None = spent
+IsRowTold spent hands strain (Some row) = row ≡ strain_results hands strain

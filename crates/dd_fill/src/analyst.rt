@@ -1,9 +1,10 @@
 //! Who knows the results of deals, and says which games are left.
 ghost use Rattle.std.specs.Prelude.{◌≡◌, IfSome};
-ghost use Rattle.dd_fill.specs.Told.{IsRowTold, IsTold, MaySpend};
+ghost use Rattle.dd_fill.specs.Told.{IsRowTold, IsTold};
+ghost use Rattle.dd_search.specs.Spent.{IsSpent};
 
 use crate::deal::Deal;
-use crate::limit::Limit;
+use crate::limit::{Limit, LimitName};
 use crate::note::{no_game, note_of};
 use crate::pool::Pool;
 use crate::progress::{say, show_progress};
@@ -20,16 +21,16 @@ use std::sync::Wait;
 /// time within a limit. It says on a device which games are left, and that a file has none.
 // What it has but for the table and the device is behind shared references: else its makers learn nothing of these two.
 #[derive(Drop)]
-pub(crate) struct DealAnalyst<'r, 'p, 't, 'e, W, B, E, L> {
+pub(crate) struct DealAnalyst<'r, 'p, 't, 'e, W, B, E, N: LimitName> {
     pub(crate) rt: &'r W,
     pub(crate) pool: &'p Option<&'p Pool>,
     pub(crate) table: &'t mut B,
     pub(crate) errors: &'e mut CountedDevice<E>,
     pub(crate) shows_progress: bool,
-    pub(crate) limit: &'r L,
+    pub(crate) limit: &'r Limit<N>,
 }
 
-impl<'r, 'p, 't, 'e, W: Wait, B: Bounds, E: Write, L: Limit> DealAnalyst<
+impl<'r, 'p, 't, 'e, W: Wait, B: Bounds, E: Write, N: LimitName> DealAnalyst<
     'r,
     'p,
     't,
@@ -37,7 +38,7 @@ impl<'r, 'p, 't, 'e, W: Wait, B: Bounds, E: Write, L: Limit> DealAnalyst<
     W,
     B,
     E,
-    L,
+    N,
 > {
     /// Nothing was asked and told yet.
     pub(crate) fn new(
@@ -46,8 +47,8 @@ impl<'r, 'p, 't, 'e, W: Wait, B: Bounds, E: Write, L: Limit> DealAnalyst<
         table: &'t mut B,
         errors: &'e mut CountedDevice<E>,
         shows_progress: bool,
-        limit: &'r L,
-    ) -> DealAnalyst<'r, 'p, 't, 'e, W, B, E, L>
+        limit: &'r Limit<N>,
+    ) -> DealAnalyst<'r, 'p, 't, 'e, W, B, E, N>
         ensures same_table { result.table.ghost_name ≡ table.entry.ghost_name }
         ensures same_reference { result.errors.ghost_name ≡ errors.entry.ghost_name }
         ensures errors { result.errors.now ≡ errors.old }
@@ -64,13 +65,14 @@ impl<'r, 'p, 't, 'e, W: Wait, B: Bounds, E: Write, L: Limit> DealAnalyst<
     }
 }
 
-impl<'r, 'p, 't, 'e, W: Wait, B: Bounds, E: Write, L: Limit> Analyst
-    for DealAnalyst<'r, 'p, 't, 'e, W, B, E, L> {
+impl<'r, 'p, 't, 'e, W: Wait, B: Bounds, E: Write, N: LimitName> Analyst
+    for DealAnalyst<'r, 'p, 't, 'e, W, B, E, N> {
     ghost use Rattle.dd_fill.specs.Ahead.{SayingOf, SaysTold};
     ghost use Rattle.dd_fill.specs.Said.{sink_of};
     ghost use Rattle.dd_fill.specs.Told.{IsTold};
+    ghost use Rattle.dd_search.specs.Spent.{IsSpent};
 
-    ghost gives = { IsTold L.may_spend };
+    ghost gives = { IsTold (IsSpent N.positions) };
 
     ghost State = { SayingOf };
 
@@ -84,13 +86,12 @@ impl<'r, 'p, 't, 'e, W: Wait, B: Bounds, E: Write, L: Limit> Analyst
     ghost way = { SaysTold };
 
     fn results(&mut self, deal: &Hands) -> Option<Results> {
-        let budget = self.limit.positions();
         results_of(
             self.rt,
             *self.pool,
             &Deal::new(deal),
             &mut *self.table,
-            budget,
+            self.limit.positions,
         )
     }
 
@@ -128,7 +129,7 @@ fn results_of<W: Wait, B: Bounds>(
     table: &mut B,
     budget: Option<u64>,
 ) -> Option<Results>
-    ensures { IsTold (MaySpend budget) deal.now result }
+    ensures { IsTold (IsSpent budget) deal.now result }
 {
     let spades = row_of(rt, pool, deal, SPADES, table, budget)?;
     let hearts = row_of(rt, pool, deal, HEARTS, table, budget)?;
@@ -147,7 +148,7 @@ fn row_of<W: Wait, B: Bounds>(
     table: &mut B,
     budget: Option<u64>,
 ) -> Option<Row>
-    ensures { IsRowTold (MaySpend budget) deal.now strain result }
+    ensures { IsRowTold (IsSpent budget) deal.now strain result }
 {
     match found_ahead(rt, pool, deal, strain, budget) {
         Some(told) => told,
@@ -163,7 +164,7 @@ fn found_ahead<W: Wait>(
     strain: Strain,
     budget: Option<u64>,
 ) -> Option<Option<Row>>
-    ensures { IfSome result (IsRowTold (MaySpend budget) deal.now strain) }
+    ensures { IfSome result (IsRowTold (IsSpent budget) deal.now strain) }
 {
     pool?.row_of(rt, deal, strain, budget)
 }

@@ -1,6 +1,7 @@
 //! A strain of a deal whose results were searched for.
 ghost use Rattle.std.specs.Prelude.{◌≡◌, IfSome};
-ghost use Rattle.dd_fill.specs.Told.{IsRowTold, MaySpend};
+ghost use Rattle.dd_fill.specs.Told.{IsRowTold};
+ghost use Rattle.dd_search.specs.Spent.{IsSpent};
 
 use crate::deal::Deal;
 use crate::solving::{Row, solve_row};
@@ -19,13 +20,14 @@ pub(crate) struct Answered {
 
 impl Model for Answered {
     ghost use Rattle.dd_fill.specs.Ahead.{AnsweredOf};
-    ghost use Rattle.dd_fill.specs.Told.{IsRowTold, MaySpend};
+    ghost use Rattle.dd_fill.specs.Told.{IsRowTold};
+    ghost use Rattle.dd_search.specs.Spent.{IsSpent};
 
     ghost Value = { AnsweredOf };
 
     ghost view = { λ a. record { deal = a.deal; strain = a.strain; budget = a.budget; row = a.row } };
 
-    ghost invariant = { λ a. IsRowTold (MaySpend a.budget) a.deal a.strain a.row };
+    ghost invariant = { λ a. IsRowTold (IsSpent a.budget) a.deal a.strain a.row };
 }
 
 impl Answered {
@@ -52,7 +54,7 @@ impl Answered {
         strain: Strain,
         budget: Option<u64>,
     ) -> Option<Option<Row>>
-        ensures { IfSome result (IsRowTold (MaySpend budget) deal.now strain) }
+        ensures { IfSome result (IsRowTold (IsSpent budget) deal.now strain) }
     {
         let Answered {
             deal: own,

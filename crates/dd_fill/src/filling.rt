@@ -3,10 +3,10 @@ ghost use Rattle.std.specs.Prelude.{◌≡◌, ◌<◌, length};
 ghost use Rattle.dd_fill.specs.Ahead.{FillsFile, FillsSaying};
 ghost use Rattle.dd_fill.specs.Said.{sink_of};
 ghost use Rattle.dd_fill.specs.Served.{Fills};
-ghost use Rattle.dd_fill.specs.Told.{MaySpend};
+ghost use Rattle.dd_search.specs.Spent.{IsSpent};
 
 use crate::analyst::DealAnalyst;
-use crate::limit::{Limit, NoLimit, Within};
+use crate::limit::{Limit, LimitName};
 use crate::pool::{Pool, search_ahead};
 use crate::progress::clear_progress;
 use dd_file::{FileFault, Wanted, fill_file};
@@ -14,6 +14,7 @@ use dd_lines::CountedDevice;
 use dd_search::Bounds;
 use std::alloc::Global;
 use std::io::{Read, Write};
+use std::marker::Brand;
 use std::sync::Wait;
 use std::thread::{Threads, for_each_mut, join_mut};
 
@@ -45,9 +46,9 @@ pub fn fill_deals<
 ) -> Result<(), FileFault>
     requires { 0 < length buffer.old }
     // All was read, and what was written is the file with its lines, by the results of its deals, of which none were given up
-    // without a budget; or a beginning of that, where a call failed or memory ran out.
+    // where a budget of just this number was not spent; or a beginning of that, where a call failed or memory ran out.
     // Of each game that lacks a tag which is wanted a line was said, and else nothing but how far it is, where that is shown.
-    ensures { Fills R.remaining O.contents (MaySpend budget) wanted shows_progress
+    ensures { Fills R.remaining O.contents (IsSpent budget) wanted shows_progress
         reader.old reader.new writer.old writer.new
         (sink_of E.contents errors.old) (sink_of E.contents errors.new) result }
 {
@@ -104,7 +105,7 @@ fn fill_with_help<
     buffer: &mut [u8],
 ) -> Result<(), FileFault>
     requires { 0 < length buffer.old }
-    ensures { FillsFile R.remaining O.contents (MaySpend budget) wanted shows_progress
+    ensures { FillsFile R.remaining O.contents (IsSpent budget) wanted shows_progress
         reader.old reader.new writer.old writer.new
         (sink_of E.contents errors.old) (sink_of E.contents errors.new) result }
 {
@@ -158,42 +159,27 @@ fn fill_by<W: Wait, R: Read, O: Write, E: Write, B: Bounds>(
     buffer: &mut [u8],
 ) -> Result<(), FileFault>
     requires { 0 < length buffer.old }
-    ensures { FillsFile R.remaining O.contents (MaySpend budget) wanted shows_progress
+    ensures { FillsFile R.remaining O.contents (IsSpent budget) wanted shows_progress
         reader.old reader.new writer.old writer.new
         (sink_of E.contents errors.old) (sink_of E.contents errors.new) result }
 {
-    match budget {
-        Some(positions) => fill_within(
-            rt,
-            alloc,
-            wanted,
-            reader,
-            writer,
-            errors,
-            shows_progress,
-            pool,
-            table,
-            Within { positions },
-            buffer,
-        ),
-        None => fill_within(
-            rt,
-            alloc,
-            wanted,
-            reader,
-            writer,
-            errors,
-            shows_progress,
-            pool,
-            table,
-            NoLimit,
-            buffer,
-        ),
-    }
+    fill_within::<Brand, W, R, O, E, B>(
+        rt,
+        alloc,
+        wanted,
+        reader,
+        writer,
+        errors,
+        shows_progress,
+        pool,
+        table,
+        budget,
+        buffer,
+    )
 }
 
-// The same, each search within a limit.
-fn fill_within<W: Wait, R: Read, O: Write, E: Write, B: Bounds, L: Limit>(
+// The same, each search within a limit that has a name.
+fn fill_within<N: LimitName, W: Wait, R: Read, O: Write, E: Write, B: Bounds>(
     rt: &W,
     alloc: Global,
     wanted: Wanted,
@@ -203,11 +189,12 @@ fn fill_within<W: Wait, R: Read, O: Write, E: Write, B: Bounds, L: Limit>(
     shows_progress: bool,
     pool: Option<&Pool>,
     table: &mut B,
-    limit: L,
+    budget: Option<u64>,
     buffer: &mut [u8],
 ) -> Result<(), FileFault>
-    requires { 0 < length buffer.old }
-    ensures { Fills R.remaining O.contents L.may_spend wanted shows_progress
+    requires buffer { 0 < length buffer.old }
+    requires named { budget ≡ N.positions }
+    ensures { Fills R.remaining O.contents (IsSpent budget) wanted shows_progress
         reader.old reader.new writer.old writer.new
         (sink_of E.contents errors.old) (sink_of E.contents errors.new) result }
 {
@@ -221,7 +208,7 @@ fn fill_within<W: Wait, R: Read, O: Write, E: Write, B: Bounds, L: Limit>(
         shows_progress,
         pool,
         table,
-        limit,
+        Limit::<N>::new(budget),
         buffer,
     );
     clear_progress(shows_progress, errors);
@@ -229,7 +216,7 @@ fn fill_within<W: Wait, R: Read, O: Write, E: Write, B: Bounds, L: Limit>(
 }
 
 // The same, where the last line of a terminal may be left.
-fn fill_saying<W: Wait, R: Read, O: Write, E: Write, B: Bounds, L: Limit>(
+fn fill_saying<W: Wait, R: Read, O: Write, E: Write, B: Bounds, N: LimitName>(
     rt: &W,
     alloc: Global,
     wanted: Wanted,
@@ -239,11 +226,11 @@ fn fill_saying<W: Wait, R: Read, O: Write, E: Write, B: Bounds, L: Limit>(
     shows_progress: bool,
     pool: Option<&Pool>,
     table: &mut B,
-    limit: L,
+    limit: Limit<N>,
     buffer: &mut [u8],
 ) -> Result<(), FileFault>
     requires { 0 < length buffer.old }
-    ensures { FillsSaying R.remaining O.contents L.may_spend wanted shows_progress
+    ensures { FillsSaying R.remaining O.contents (IsSpent N.positions) wanted shows_progress
         reader.old reader.new writer.old writer.new
         (sink_of E.contents errors.old) (sink_of E.contents errors.new) result }
 {
@@ -252,18 +239,18 @@ fn fill_saying<W: Wait, R: Read, O: Write, E: Write, B: Bounds, L: Limit>(
 }
 
 // The same by an analyst, which keeps its references.
-fn fill_by_analyst<'r, 'p, 't, 'e, W: Wait, R: Read, O: Write, E: Write, B: Bounds, L: Limit>(
+fn fill_by_analyst<'r, 'p, 't, 'e, W: Wait, R: Read, O: Write, E: Write, B: Bounds, N: LimitName>(
     alloc: Global,
     wanted: Wanted,
     reader: &mut CountedDevice<R>,
     writer: &mut CountedDevice<O>,
-    analyst: &mut DealAnalyst<'r, 'p, 't, 'e, W, B, E, L>,
+    analyst: &mut DealAnalyst<'r, 'p, 't, 'e, W, B, E, N>,
     buffer: &mut [u8],
 ) -> Result<(), FileFault>
     requires { 0 < length buffer.old }
     ensures same_table { analyst.new.table.ghost_name ≡ analyst.old.table.ghost_name }
     ensures same_reference { analyst.new.errors.ghost_name ≡ analyst.old.errors.ghost_name }
-    ensures fills { FillsSaying R.remaining O.contents L.may_spend wanted analyst.old.shows_progress
+    ensures fills { FillsSaying R.remaining O.contents (IsSpent N.positions) wanted analyst.old.shows_progress
         reader.old reader.new writer.old writer.new
         (sink_of E.contents analyst.old.errors.now) (sink_of E.contents analyst.new.errors.now) result }
 {

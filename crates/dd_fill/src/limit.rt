@@ -1,38 +1,38 @@
 //! How long the search for a result may be.
-ghost use Rattle.std.specs.Prelude.{IfSome};
+ghost use Rattle.std.specs.Prelude.{◌≡◌};
 
-/// The most positions that the search for one of the twenty results of a deal visits.
-pub(crate) trait Limit: Copy {
-    /// what holds where such a search may be given up
-    ghost may_spend: { Type 0 };
+use std::marker::{Brand, PhantomData};
 
-    /// The most positions. `None` lets each search go on to its end.
-    fn positions(&self) -> Option<u64>
-        ensures { IfSome result (λ _. Self.may_spend) };
+/// Names a limit: what an analyst may tell of a deal can speak of a name, and not of a number that is known when the program runs.
+pub(crate) trait LimitName {
+    ghost use Rattle.std.specs.Prelude.{ℕ, Option};
+
+    /// the most positions of a search, if there is a limit
+    ghost positions: { Option ℕ };
 }
 
-/// No limit.
-#[derive(Clone, Copy, Debug, Drop)]
-pub(crate) struct NoLimit;
+impl LimitName for Brand {
+    ghost use Rattle.std.specs.Prelude.{None};
 
-impl Limit for NoLimit {
-    ghost may_spend = { ⊥ };
-
-    fn positions(&self) -> Option<u64> {
-        None
-    }
+    ghost positions = { None };
 }
 
-/// So many positions.
-#[derive(Clone, Copy, Debug, Drop)]
-pub(crate) struct Within {
-    pub(crate) positions: u64,
+/// The most positions that the search for one of the twenty results of a deal visits. `None` lets each search go on to its end.
+#[derive(Drop)]
+pub(crate) struct Limit<N: LimitName> {
+    pub(crate) positions: Option<u64>,
+    of: PhantomData<N>,
+    pub ghost named: { positions ≡ N.positions },
 }
 
-impl Limit for Within {
-    ghost may_spend = { Unit {0} };
-
-    fn positions(&self) -> Option<u64> {
-        Some(self.positions)
+impl<N: LimitName> Limit<N> {
+    /// So many positions.
+    pub(crate) fn new(positions: Option<u64>) -> Limit<N>
+        requires { positions ≡ N.positions }
+    {
+        Limit {
+            positions,
+            of: PhantomData,
+        }
     }
 }

@@ -1,7 +1,8 @@
 //! What the threads of a run over a file share.
 ghost use Rattle.std.specs.Prelude.{IfSome};
 ghost use Rattle.dd_file.specs.Deals.{IsThirteen};
-ghost use Rattle.dd_fill.specs.Told.{IsRowTold, MaySpend};
+ghost use Rattle.dd_fill.specs.Told.{IsRowTold};
+ghost use Rattle.dd_search.specs.Spent.{IsSpent};
 
 use crate::answered::Answered;
 use crate::deal::Deal;
@@ -53,7 +54,7 @@ impl Pool {
         strain: Strain,
         budget: Option<u64>,
     ) -> Option<Option<Row>>
-        ensures { IfSome result (IsRowTold (MaySpend budget) deal.now strain) }
+        ensures { IfSome result (IsRowTold (IsSpent budget) deal.now strain) }
     {
         let mut queue = self.queue.lock(rt);
         queue.pass_to(strain);

@@ -1,6 +1,7 @@
 //! The results of a deal by strains, found over a table.
 ghost use Rattle.std.specs.Prelude.{◌≡◌};
-ghost use Rattle.dd_fill.specs.Told.{table_of, IsRowTold, MaySpend};
+ghost use Rattle.dd_fill.specs.Told.{table_of, IsRowTold};
+ghost use Rattle.dd_search.specs.Spent.{IsSpent};
 
 use crate::deal::Deal;
 use dd_cards::{Strain, Suit};
@@ -40,7 +41,7 @@ pub(crate) fn solve_row<B: Bounds>(
     table: &mut B,
     budget: Option<u64>,
 ) -> Option<Row>
-    ensures { IsRowTold (MaySpend budget) deal.now strain result }
+    ensures { IsRowTold (IsSpent budget) deal.now strain result }
 {
     solve_strain(&deal.request(), strain, table, budget)
 }

@@ -25,7 +25,7 @@ use Rattle.dd_file.specs.declared.engine.FileFault.TheVariants as file
 use Rattle.dd_file.specs.declared.wanted.Wanted.{Wanted}
 use Rattle.dd_fill.specs.Said.{Sink}
 use Rattle.dd_fill.specs.Served.{FilledInPart, FilledSaying}
-use Rattle.dd_fill.specs.Told.{MaySpend}
+use Rattle.dd_search.specs.Spent.{IsSpent}
 use Rattle.dd_desk.specs.Events.{EventOf}
 use Rattle.dd_server.specs.Histories.{IsJournalOfRun}
 use Rattle.dd_server.specs.Runs.{AreTold}
@@ -284,36 +284,36 @@ abbrev pub sink_of : Device → Sink
 sink_of device = record { bytes = device.bytes; failures = device.failures }
 
 -- all that came was read and passed on with its lines, it was said of each game that lacks one why, and no call of these two devices failed
-pub record FillsFile (may_spend : Type 0) (wanted : Wanted) (shows : Bool) (old new : Streams) : Type 0 where
-  pub filled : FilledSaying may_spend wanted shows old.input.bytes new.input.bytes old.output.bytes new.output.bytes (sink_of old.errors) (sink_of new.errors)
+pub record FillsFile (spent : Type 0) (wanted : Wanted) (shows : Bool) (old new : Streams) : Type 0 where
+  pub filled : FilledSaying spent wanted shows old.input.bytes new.input.bytes old.output.bytes new.output.bytes (sink_of old.errors) (sink_of new.errors)
   pub reads : new.input.failures ≡ old.input.failures
   pub writes : new.output.failures ≡ old.output.failures
 
 -- What was written is a beginning of that for what was read, and so is what was said of its games on the standard error, up to this state of it.
 abbrev pub FillsInPart : Type 0 → Wanted → Bool → Streams → Streams → Device → FileFault → Type 0
-FillsInPart may_spend wanted shows old new noted fault =
-    FilledInPart may_spend wanted shows old.input.bytes new.input.bytes old.output.bytes new.output.bytes (sink_of old.errors) (sink_of noted) fault
+FillsInPart spent wanted shows old new noted fault =
+    FilledInPart spent wanted shows old.input.bytes new.input.bytes old.output.bytes new.output.bytes (sink_of old.errors) (sink_of noted) fault
 
 -- a read failed, and what was written is a beginning of what was to come; that was said behind the notes of games
-pub record FailsToReadFile (may_spend : Type 0) (wanted : Wanted) (shows : Bool) (old new : Streams) : Type 0 where
+pub record FailsToReadFile (spent : Type 0) (wanted : Wanted) (shows : Bool) (old new : Streams) : Type 0 where
   pub noted : Device
-  pub filled : FillsInPart may_spend wanted shows old new noted file.Read
+  pub filled : FillsInPart spent wanted shows old new noted file.Read
   pub reads : Fails old.input new.input
   pub writes : new.output.failures ≡ old.output.failures
   pub said : Writes (line_of ReadFailed) noted new.errors
 
 -- the same of a write
-pub record FailsToWriteFile (may_spend : Type 0) (wanted : Wanted) (shows : Bool) (old new : Streams) : Type 0 where
+pub record FailsToWriteFile (spent : Type 0) (wanted : Wanted) (shows : Bool) (old new : Streams) : Type 0 where
   pub noted : Device
-  pub filled : FillsInPart may_spend wanted shows old new noted file.Write
+  pub filled : FillsInPart spent wanted shows old new noted file.Write
   pub reads : new.input.failures ≡ old.input.failures
   pub writes : Fails old.output new.output
   pub said : Writes (line_of WriteFailed) noted new.errors
 
 -- the same where memory ran out, and no call failed
-pub record RunsOutOfMemory (may_spend : Type 0) (wanted : Wanted) (shows : Bool) (old new : Streams) : Type 0 where
+pub record RunsOutOfMemory (spent : Type 0) (wanted : Wanted) (shows : Bool) (old new : Streams) : Type 0 where
   pub noted : Device
-  pub filled : FillsInPart may_spend wanted shows old new noted file.Memory
+  pub filled : FillsInPart spent wanted shows old new noted file.Memory
   pub reads : new.input.failures ≡ old.input.failures
   pub writes : new.output.failures ≡ old.output.failures
   pub said : Writes (line_of OutOfMemory) noted new.errors
@@ -327,11 +327,11 @@ ending_of (Err file.Memory) = OutOfMemory
 
 -- the input is passed on with the lines that are wanted, up to this ending; the progress is shown, or not
 abbrev pub EndsFilling : Type 0 → Wanted → Bool → Streams → Streams → Ending → Type 0
-EndsFilling may_spend wanted shows old new Filled = FillsFile may_spend wanted shows old new
-EndsFilling may_spend wanted shows old new ReadFailed = FailsToReadFile may_spend wanted shows old new
-EndsFilling may_spend wanted shows old new WriteFailed = FailsToWriteFile may_spend wanted shows old new
-EndsFilling may_spend wanted shows old new OutOfMemory = RunsOut old new ⊎ RunsOutOfMemory may_spend wanted shows old new
-EndsFilling may_spend wanted shows old new _ = ⊥
+EndsFilling spent wanted shows old new Filled = FillsFile spent wanted shows old new
+EndsFilling spent wanted shows old new ReadFailed = FailsToReadFile spent wanted shows old new
+EndsFilling spent wanted shows old new WriteFailed = FailsToWriteFile spent wanted shows old new
+EndsFilling spent wanted shows old new OutOfMemory = RunsOut old new ⊎ RunsOutOfMemory spent wanted shows old new
+EndsFilling spent wanted shows old new _ = ⊥
 
 -- what is said where a name is no tag's
 abbrev pub tags_line : List ℕ
@@ -347,7 +347,7 @@ pub record RefusesTags (ending : Ending) (old new : Streams) : Type 0 where
 -- the same of tags that a text names, or not
 abbrev pub FillsWanted : Option Wanted → Option ℕ → Bool → Streams → Streams → Ending → Type 0
 FillsWanted None budget shows old new ending = RefusesTags ending old new
-FillsWanted (Some wanted) budget shows old new ending = EndsFilling (MaySpend budget) wanted shows old new ending
+FillsWanted (Some wanted) budget shows old new ending = EndsFilling (IsSpent budget) wanted shows old new ending
 
 abbrev pub FillsUntil : List ℕ → Option ℕ → Bool → Streams → Streams → Ending → Type 0
 FillsUntil tags budget shows old new ending = FillsWanted (wanted_by tags) budget shows old new ending

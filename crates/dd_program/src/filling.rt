@@ -1,6 +1,6 @@
 //! The filling of files.
 ghost use Rattle.std.specs.Prelude.{◌≡◌, ◌≤◌, IfErr, OnOk};
-ghost use Rattle.dd_fill.specs.Told.{MaySpend};
+ghost use Rattle.dd_search.specs.Spent.{IsSpent};
 ghost use Rattle.dd_command.specs.CommandLine.{IsTableSize};
 ghost use Rattle.dd_program.specs.Endings.{ending_of, line_of, state_of, streams, tags_line, EndsFilling, FillsUntil, Writes};
 
@@ -86,7 +86,7 @@ fn fill_wanted<W: Threads + Wait + Sync, R: Read, O: Write, E: Write>(
     errors: &mut CountedDevice<E>,
 ) -> Ending
     requires { IsTableSize args.entries }
-    ensures { EndsFilling (MaySpend args.budget) wanted args.shows_progress
+    ensures { EndsFilling (IsSpent args.budget) wanted args.shows_progress
         (streams (state_of R.remaining reader.old) (state_of O.contents output.old)
         (state_of E.contents errors.old))
         (streams (state_of R.remaining reader.new) (state_of O.contents output.new)
@@ -137,7 +137,7 @@ fn fill_over<W: Threads + Wait + Sync, B: Bounds, H: Bounds + Send, R: Read, O: 
     table: &mut B,
     others: &mut [H],
 ) -> Ending
-    ensures { EndsFilling (MaySpend args.budget) wanted args.shows_progress
+    ensures { EndsFilling (IsSpent args.budget) wanted args.shows_progress
         (streams (state_of R.remaining reader.old) (state_of O.contents output.old)
         (state_of E.contents errors.old))
         (streams (state_of R.remaining reader.new) (state_of O.contents output.new)
