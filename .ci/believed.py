@@ -3,8 +3,8 @@
 `-- To be believed:` imports, of this repository, only `specs` that begin so too, and what the compiler declares
 (`specs.declared`), and never proofs; and `docs/PROOF.md` lists just these files, under the heading `The definitions, in order
 of reading`. Where no file begins so there is nothing to look at. A lemma that opens a closed word stands only where it is
-listed here, so that nothing else can show what that word says. Prints `file:line: what` for each breach, and ends with
-status 1."""
+listed here, and only the word's own file unfolds it, so that nothing else can show what that word says. Prints `file:line: what`
+for each breach, and ends with status 1."""
 import glob
 import os
 import re
@@ -15,7 +15,13 @@ PAGE = "docs/PROOF.md"
 HEADING = "## The definitions, in order of reading"
 IMPORT = re.compile(r"\buse Rattle\.([a-z_]+)\.(specs|proofs)((?:\.[A-Za-z_]\w*)+)")
 FILE = re.compile(r"`([\w./-]+\.antt)`")
-OPENING = {"refused-tick": {"crates/dd_search/specs/Spent.antt", "crates/dd_search/proofs/meter/BudgetMeter/tick/Answers.antt"}}
+SPENT, SIGHTINGS, DESK = "crates/dd_search/specs/Spent.antt", "crates/dd_desk/specs/Sightings.antt", "crates/dd_desk/proofs"
+OPENING = {
+    "refused-tick": {SPENT, "crates/dd_search/proofs/meter/BudgetMeter/tick/Answers.antt"},
+    "seen-journal": {SIGHTINGS, f"{DESK}/locked_state/LockedState/seen/Answers.antt", f"{DESK}/recall/recall/Answers.antt", f"{DESK}/seen/follow/Answers.antt"},
+    "refused-call": {SIGHTINGS, f"{DESK}/recording/record_held/Answers.antt"},
+}
+CLOSED = {"WasSpent": SPENT, "WasSeen": SIGHTINGS, "WasRefused": SIGHTINGS}
 
 
 def lines_of(path):
@@ -63,6 +69,9 @@ for path in sorted(it for part in ("src", "specs", "proofs") for it in glob.glob
         for name, places in OPENING.items():
             if name in line and path not in places:
                 breaches.append((path, number, f"names {name}, which stands nowhere but in {', '.join(sorted(places))}"))
+        for word, place in CLOSED.items():
+            if re.search(rf"\bunfolding\b.*\b{word}\b", line) and path != place:
+                breaches.append((path, number, f"unfolds {word}, which is closed but in {place}"))
 
 for path, number, what in breaches:
     print(f"{path}:{number}: {what}")

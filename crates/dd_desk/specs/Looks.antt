@@ -14,6 +14,7 @@ use Rattle.dd_desk.specs.Faults.{IsOfCall}
 use Rattle.dd_desk.specs.Receipts.{HasReceipts, PassOf}
 use Rattle.dd_desk.specs.Replies.{IsAnswered}
 use Rattle.dd_desk.specs.Reserve.{IsRefused}
+use Rattle.dd_desk.specs.Sightings.{WasSeen}
 
 -- what a pass has seen of its desk: its number, and a journal
 pub record SeenOf : Type 0 where
@@ -27,25 +28,29 @@ seen_of number journal = record { number = number; journal = journal }
 abbrev pub GoesOn : List EventOf → List EventOf → Type 0
 GoesOn seen journal = take (length seen) journal ≡ seen
 
--- a worker has a part under this claim or has none, as this tells, at a desk of these limits after a journal that one thread could
--- have made, and that goes on from the one that the worker has seen
+-- A worker has a part under this claim or has none, as this tells, after a journal that was seen at a desk of these limits, and that
+-- goes on from the one that the worker has seen. One thread could have made it.
 pub record SeesRunning (limits : LimitsOf) (seen : SeenOf) (job claim : ℕ) (runs : Bool) : Type 0 where
   pub journal : List EventOf
   pub legal : IsLegal limits journal
+  pub was : WasSeen limits journal
   pub goes_on : GoesOn seen.journal journal
   pub sees : runs ≡ runs_at (replay limits journal).jobs seen.number job claim
 
--- the caller has an open job or has none, as this tells, at a desk of these limits after a journal that one thread could have made
+-- The caller has an open job or has none, as this tells, after a journal that was seen at a desk of these limits. One thread could
+-- have made it.
 pub record SeesOpen (limits : LimitsOf) (caller : ℕ) (has : Bool) : Type 0 where
   pub journal : List EventOf
   pub legal : IsLegal limits journal
+  pub was : WasSeen limits journal
   pub sees : has ≡ nat_le 1 (open_of caller (replay limits journal).jobs)
 
--- Of a journal of these limits that one thread could have made so many events have still room, and after it so many jobs are
--- open, whoever owns them.
+-- Of a journal that was seen at a desk of these limits so many events have still room, and after it so many jobs are open, whoever
+-- owns them. One thread could have made it.
 pub record SeesTally (limits : LimitsOf) (tally : Tally) : Type 0 where
   pub journal : List EventOf
   pub legal : IsLegal limits journal
+  pub was : WasSeen limits journal
   pub left : tally.events_left + length journal ≡ limits.events
   pub jobs : tally.open_jobs ≡ open_in (replay limits journal).jobs
 
@@ -54,11 +59,12 @@ abbrev pub is_ended_job : Option JobOf → Bool
 is_ended_job None = false
 is_ended_job (Some job) = not (is_open job)
 
--- the pass's job of this number has ended, at a desk of these limits after a journal that one thread could have made, and in
--- which all receipts of the pass stand
+-- The pass's job of this number has ended, after a journal that was seen at a desk of these limits, and in which all receipts of the
+-- pass stand. One thread could have made it.
 pub record SeesEnd (limits : LimitsOf) (pass : PassOf) (job : ℕ) : Type 0 where
   pub journal : List EventOf
   pub legal : IsLegal limits journal
+  pub was : WasSeen limits journal
   pub has : HasReceipts journal pass
   pub sees : is_ended_job (own_job (replay limits journal).jobs pass.number job) ≡ true
 

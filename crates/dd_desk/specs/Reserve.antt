@@ -15,6 +15,7 @@ use Rattle.dd_book.specs.Counts.{running_in, waiting_in}
 use Rattle.dd_desk.specs.Events.{EventOf, IsLegal, event, replay}
 use Rattle.dd_desk.specs.Faults.{MatchDeskFault}
 use Rattle.dd_desk.specs.Receipts.{HasReceipts, PassOf}
+use Rattle.dd_desk.specs.Sightings.{WasRefused, WasSeen}
 use Rattle.dd_desk.specs.declared.fault.DeskFault.{DeskFault}
 
 -- a state that a job keeps
@@ -92,19 +93,22 @@ journal_after limits journal caller call = journal ++ event caller call (reply_o
 abbrev pub HasRoom : LimitsOf → List EventOf → ℕ → Call → Type 0
 HasRoom limits journal caller call = HasReserve limits (journal_after limits journal caller call)
 
--- a call of this pass is refused so at a desk of these limits after a journal that one thread could have made, and in which
--- all receipts of the pass stand: as a full journal exactly where it has no room for the call
+-- This call of this pass was refused so at a desk of these limits, after a journal in which all receipts of the pass stand: as a full
+-- journal exactly where it has no room for the call. One thread could have made the journal.
 pub record IsRefused (limits : LimitsOf) (pass : PassOf) (call : Call) (fault : DeskFault) : Type 0 where
   pub journal : List EventOf
   pub legal : IsLegal limits journal
+  pub was : WasRefused limits journal pass.number call fault
   pub has : HasReceipts journal pass
   pub reserve : HasReserve limits journal
   pub why : MatchDeskFault fault (HasRoom limits journal pass.number call → ⊥) (HasRoom limits journal pass.number call)
 
--- so many events are neither made nor reserved at a desk of these limits after a journal that one thread could have made
+-- So many events are neither made nor reserved after a journal that was seen at a desk of these limits. One thread could have
+-- made it.
 pub record SeesFree (limits : LimitsOf) (free : ℕ) : Type 0 where
   pub journal : List EventOf
   pub legal : IsLegal limits journal
+  pub was : WasSeen limits journal
   pub sees : length journal + reserved limits journal + free ≡ limits.events
 
 -- ---- what is reserved for

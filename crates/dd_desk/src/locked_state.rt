@@ -4,6 +4,7 @@ ghost use Rattle.dd_book.specs.Calls.{IsIdle};
 ghost use Rattle.dd_book.specs.Jobs.{is_open_job, open_in, own_job};
 ghost use Rattle.dd_desk.specs.Looks.{SeesOpen, SeesRunning, SeesTally};
 ghost use Rattle.dd_desk.specs.Reserve.{SeesFree, reserved};
+ghost use Rattle.dd_desk.specs.Sightings.{WasSeen};
 ghost use Rattle.dd_desk.specs.Receipts.{below};
 ghost use Rattle.dd_desk.specs.Entries.{AreBeginnings, event_in, journal_in};
 
@@ -121,6 +122,14 @@ impl<J: Naming> LockedState<J> {
         Ok(CountedLog { log, count, sum })
     }
 
+    // The book with its journal, as a look sees it.
+    fn seen(&self) -> &History
+        ensures history { result.now ≡ self.now.history }
+        ensures was { WasSeen J.limits self.now.history.journal.items }
+    {
+        &self.history
+    }
+
     /// Must a fetch of this job wait? It must exactly while the job is the caller's and open, and nobody shut.
     pub(crate) fn keeps_fetch_waiting(&self, caller: u64, job: u64) -> bool
         ensures { MatchBool result
@@ -136,7 +145,7 @@ impl<J: Naming> LockedState<J> {
     pub(crate) fn has_open(&self, caller: u64) -> bool
         ensures { SeesOpen J.limits caller result }
     {
-        self.history.has_open(caller)
+        self.seen().has_open(caller)
     }
 
     /// How many events the journal still has room for, and how many jobs are open.
@@ -146,7 +155,7 @@ impl<J: Naming> LockedState<J> {
         ensures jobs { result.open_jobs ≡ open_in self.now.history.book.jobs }
         ensures sees { SeesTally J.limits result }
     {
-        self.history.tally()
+        self.seen().tally()
     }
 
     /// Has the worker that has seen this a part of the job of this number under this claim number?
@@ -186,7 +195,7 @@ impl<J: Naming> LockedState<J> {
             ≡ self.now.history.limits.events }
         ensures sees { SeesFree J.limits result }
     {
-        self.history.free()
+        self.seen().free()
     }
 
     /// Must a claim wait? It must exactly while nothing waits, nobody shut, and some job is open or some event free: else no

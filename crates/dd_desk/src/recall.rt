@@ -2,6 +2,7 @@
 ghost use Rattle.std.specs.Prelude.{◌≡◌, ◌<◌, map, vec_len, vec_capacity, Some, slice_get, slice_index_or};
 ghost use Rattle.dd_desk.specs.declared.entry.Entry.{Entry as Known};
 ghost use Rattle.dd_desk.specs.Receipts.{HasReceipts, pass_of};
+ghost use Rattle.dd_desk.specs.Sightings.{WasSeen};
 
 use crate::entry::Entry;
 use crate::locked_state::LockedState;
@@ -60,6 +61,7 @@ pub(crate) fn recall<J: Naming, R: Wait>(
         × (vec_len log.new.receipts ≡ vec_len log.old.receipts) }
     ensures has { HasReceipts state.old.history.journal.items
         (pass_of log.old.number log.old.receipts.items) }
+    ensures was { WasSeen J.limits state.old.history.journal.items }
 {
     let LockedState {
         history,

@@ -2,6 +2,7 @@
 ghost use Rattle.std.specs.Prelude.{◌≡◌, ◌<◌, length, vec_len, vec_capacity, Some, slice_get};
 ghost use Rattle.dd_desk.specs.Looks.{GoesOn};
 ghost use Rattle.dd_desk.specs.Receipts.{HasReceipts, pass_of};
+ghost use Rattle.dd_desk.specs.Sightings.{WasSeen};
 
 use crate::entry::Entry;
 use crate::locked_state::LockedState;
@@ -101,6 +102,7 @@ pub(crate) fn follow<J: Naming, R: Wait>(rt: &R, state: &mut LockedState<J>, see
     ensures history { state.new.history ≡ state.old.history }
     ensures seen { seen.new ≡ seen.old }
     ensures goes_on { GoesOn seen.old.journal state.old.history.journal.items }
+    ensures was { WasSeen J.limits state.old.history.journal.items }
 {
     let LockedState {
         history,

@@ -10,7 +10,7 @@ use Rattle.dd_book.specs.Limits.{LimitsOf}
 use Rattle.dd_desk.specs.declared.fault.DeskFault.{DeskFault}
 use Rattle.dd_desk.specs.Receipts.{PassOf, ReceiptOf, is_shut, receipt}
 use Rattle.dd_desk.specs.Replies.{IsTold}
-use Rattle.dd_session.specs.Leaving.{HasEndedBy, SawEnd, ThenLeaves}
+use Rattle.dd_session.specs.Leaving.{SawAt, SawBy, ThenLeaves}
 use Rattle.dd_session.specs.Ports.{AreClients, AsksNoStop, DeskPortOf, LatePortOf, before_by, new_late_port, pass_by, port_of, refusals_by, told_by, told_in}
 use Rattle.dd_session.specs.Sockets.{ServesMessages}
 use Rattle.dd_work.specs.Rounds.{AreRounds, Works}
@@ -45,7 +45,7 @@ works_alone budget before after none works =
 -- the pass of a port that was just made, when some lines were served over it and it was left
 clients-of : (limits : LimitsOf) (terms : Terms) (port : Option DeskPortOf) (refused : ℕ) (pass : Option PassOf) → before_by port ≡ 0 → pass ≡ pass_by port
     → IfSome pass (λ p. told_in p.receipts ≡ told_by port) → IfSome pass (λ p. AreClients p.number p.receipts)
-    → ThenLeaves (ServesMessages terms.manner (port_of [] 0)) (HasEndedBy limits port) (port_of (told_by port) (refusals_by refused port))
+    → ThenLeaves (ServesMessages terms.manner (port_of [] 0)) (SawBy limits port) (port_of (told_by port) (refusals_by refused port))
     → (terms.manner.allow_stop ≡ false → AsksNoStop [] (told_by port)) → IfSome pass (IsClients limits terms)
 clients-of limits terms None refused None begun is told calls asked leave = tt
 clients-of limits terms None refused (Some p) begun is told calls asked leave = cc
@@ -55,20 +55,20 @@ clients-of limits terms (Some port) refused (Some p) begun is told calls asked l
     record {
       calls = calls;
       refusals = port.refusals;
-      asked = subst (λ (n : ℕ). ThenLeaves (ServesMessages terms.manner (port_of [] 0)) (SawEnd limits n p) (port_of (told_in p.receipts) port.refusals)) begun
-          (subst (λ (q : PassOf). ThenLeaves (ServesMessages terms.manner (port_of [] 0)) (SawEnd limits port.before q) (port_of (told_in p.receipts) port.refusals)) same
-          (subst (λ l. ThenLeaves (ServesMessages terms.manner (port_of [] 0)) (HasEndedBy limits (Some port)) (port_of l port.refusals)) (sym told) asked));
+      asked = subst (λ (n : ℕ). ThenLeaves (ServesMessages terms.manner (port_of [] 0)) (SawAt limits n p) (port_of (told_in p.receipts) port.refusals)) begun
+          (subst (λ (q : PassOf). ThenLeaves (ServesMessages terms.manner (port_of [] 0)) (SawAt limits port.before q) (port_of (told_in p.receipts) port.refusals)) same
+          (subst (λ l. ThenLeaves (ServesMessages terms.manner (port_of [] 0)) (SawBy limits (Some port)) (port_of l port.refusals)) (sym told) asked));
       leave = λ none. subst (AsksNoStop []) (sym told) (leave none);
     }
 
 pub clients_pass : (limits : LimitsOf) (terms : Terms) (workers : ℕ) (start after : LatePortOf) (pass : Option PassOf) → start ≡ new_late_port workers → before_by after.port ≡ 0 → pass ≡ pass_by after.port
     → IfSome pass (λ p. told_in p.receipts ≡ told_by after.port) → IfSome pass (λ p. AreClients p.number p.receipts)
-    → ThenLeaves (λ between. ServesMessages terms.manner (port_of (told_by start.port) (refusals_by start.refused start.port)) between) (HasEndedBy limits after.port)
+    → ThenLeaves (λ between. ServesMessages terms.manner (port_of (told_by start.port) (refusals_by start.refused start.port)) between) (SawBy limits after.port)
     (port_of (told_by after.port) (refusals_by after.refused after.port))
     → (terms.manner.allow_stop ≡ false → AsksNoStop (told_by start.port) (told_by after.port)) → IfSome pass (IsClients limits terms)
 clients_pass limits terms workers start after pass fresh begun is told calls asked leave =
     clients-of limits terms after.port after.refused pass begun is told calls
-    (subst (λ (s : LatePortOf). ThenLeaves (λ between. ServesMessages terms.manner (port_of (told_by s.port) (refusals_by s.refused s.port)) between) (HasEndedBy limits after.port)
+    (subst (λ (s : LatePortOf). ThenLeaves (λ between. ServesMessages terms.manner (port_of (told_by s.port) (refusals_by s.refused s.port)) between) (SawBy limits after.port)
     (port_of (told_by after.port) (refusals_by after.refused after.port))) fresh asked)
     (λ none. subst (λ (s : LatePortOf). AsksNoStop (told_by s.port) (told_by after.port)) fresh (leave none))
 

@@ -3,7 +3,7 @@ use Rattle.std.specs.Prelude.{◌≡◌, ◌⊎◌, ℕ, List, [], All, true, fa
 use Rattle.std.specs.List.{list_all}
 use Rattle.dd_book.specs.Limits.{LimitsOf}
 use Rattle.dd_desk.specs.Receipts.{PassOf, ReceiptOf, is_shut}
-use Rattle.dd_session.specs.Leaving.{SawEnd, ThenLeaves}
+use Rattle.dd_session.specs.Leaving.{SawAt, ThenLeaves}
 use Rattle.dd_session.specs.Ports.{AreClients, AsksNoStop, port_of, told_in}
 use Rattle.dd_session.specs.Sockets.{ServesMessages}
 use Rattle.dd_work.specs.Rounds.{AreRounds}
@@ -19,7 +19,7 @@ AreShuts receipts = list_all (λ (r : ReceiptOf). is_shut r.call) receipts ≡ t
 pub record IsClients (limits : LimitsOf) (terms : Terms) (pass : PassOf) : Type 0 where
   pub calls : AreClients pass.number pass.receipts
   pub refusals : ℕ
-  pub asked : ThenLeaves (ServesMessages terms.manner (port_of [] 0)) (SawEnd limits 0 pass) (port_of (told_in pass.receipts) refusals)
+  pub asked : ThenLeaves (ServesMessages terms.manner (port_of [] 0)) (SawAt limits 0 pass) (port_of (told_in pass.receipts) refusals)
   pub leave : terms.manner.allow_stop ≡ false → AsksNoStop [] (told_in pass.receipts)
 
 -- the pass of a worker, with rounds of a claim and its finish, within the budget; or of a client

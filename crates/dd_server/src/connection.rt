@@ -78,7 +78,7 @@ fn serve_port<J: RunNaming, R: Wait + Clock, P: BookPort>(
     // Whatever came, the port was asked for just what some lines want that were answered in the manner that was asked for, and left.
     ensures asked { ThenLeaves (λ between. ServesMessages J.terms.manner
         (port_of (P.told port.old) (P.refusals port.old)) between)
-        (P.ended port.new) (port_of (P.told port.new) (P.refusals port.new)) }
+        (P.saw port.new) (port_of (P.told port.new) (P.refusals port.new)) }
     ensures leave { J.terms.manner.allow_stop ≡ false
         → AsksNoStop (P.told port.old) (P.told port.new) }
 {
@@ -110,15 +110,15 @@ fn serve_streams<J: RunNaming, S: Read, W: Write, P: BookPort>(
         (λ between. ServesAll S.remaining W.contents J.terms.manner
         (port_of (P.told port.old) (P.refusals port.old)) between
         reader.old reader.new writer.old writer.new)
-        (P.ended port.new) (port_of (P.told port.new) (P.refusals port.new))) }
+        (P.saw port.new) (port_of (P.told port.new) (P.refusals port.new))) }
     ensures err { OnErr result (ThenLeaves
         (λ between. ServesBeginning S.remaining W.contents J.terms.manner
         (port_of (P.told port.old) (P.refusals port.old)) between
         reader.old reader.new writer.old writer.new)
-        (P.ended port.new) (port_of (P.told port.new) (P.refusals port.new))) }
+        (P.saw port.new) (port_of (P.told port.new) (P.refusals port.new))) }
     ensures asked { ThenLeaves (λ between. ServesMessages J.terms.manner
         (port_of (P.told port.old) (P.refusals port.old)) between)
-        (P.ended port.new) (port_of (P.told port.new) (P.refusals port.new)) }
+        (P.saw port.new) (port_of (P.told port.new) (P.refusals port.new)) }
     ensures leave { J.terms.manner.allow_stop ≡ false
         → AsksNoStop (P.told port.old) (P.told port.new) }
 {

@@ -1,8 +1,8 @@
 //! The port of a run.
-ghost use Rattle.std.specs.Prelude.{◌≡◌, true, Err, IfSome, IsTrue, ◌↔◌, option_and_then};
-ghost use Rattle.dd_wire.specs.declared.want.Want.TheVariants.{Stop as StopWant, Submit};
+ghost use Rattle.std.specs.Prelude.{◌≡◌, ◌⊎◌, true, Err, IfErr, IfSome, IsTrue, ◌↔◌, option_and_then};
+ghost use Rattle.dd_wire.specs.declared.want.Want.TheVariants.{Fetch, Stop as StopWant, Submit};
 ghost use Rattle.dd_desk.specs.Receipts.{has_shut};
-ghost use Rattle.dd_session.specs.Ports.{AreClients, Tells, before_by, last_place, new_late_port, pass_by, port_of, receipts_by, refusals_by, told_by, told_in};
+ghost use Rattle.dd_session.specs.Ports.{AreClients, RefusesWant, Tells, before_by, last_place, new_late_port, number_of, pass_by, port_of, receipts_by, refusals_by, told_by, told_in};
 ghost use Rattle.dd_server.specs.Worn.{KnowsWorn, is_submit};
 
 use crate::run_state::RunState;
@@ -144,6 +144,7 @@ impl<'a, J: RunNaming, R: Wait + Clock + Eprint, G: Gate> RunPort<'a, J, R, G> {
             (refusals_by self.new.port.refused self.new.port.port)) }
         ensures stop { want ≡ StopWant → result ≡ Err DeskFault.OutOfMemory
             → has_shut (receipts_by self.old.port.port) ≡ true }
+        ensures refused { IfErr result (RefusesWant J.limits (number_of self.new.port.port) want) }
     {
         let stops = is_stop(&want);
         let reply = self.port.ask(want);
@@ -159,14 +160,14 @@ impl<'a, J: RunNaming, R: Wait + Clock + Eprint, G: Gate> RunPort<'a, J, R, G> {
 
 impl<'a, J: RunNaming, R: Wait + Clock + Eprint, G: Gate> BookPort for RunPort<'a, J, R, G> {
     ghost use Rattle.dd_session.specs.Healths.{IsHealth};
-    ghost use Rattle.dd_session.specs.Leaving.{HasEndedBy};
+    ghost use Rattle.dd_session.specs.Leaving.{SawBy};
     ghost use Rattle.dd_session.specs.Ports.{refusals_by, told_by};
 
     ghost told = { λ s. told_by s.port.port };
 
     ghost refusals = { λ s. refusals_by s.port.refused s.port.port };
 
-    ghost ended = { λ s job. HasEndedBy J.limits s.port.port job };
+    ghost saw = { λ s sight. SawBy J.limits s.port.port sight };
 
     ghost shows = { λ s health. IsHealth J.limits s.port.workers health };
 
@@ -179,6 +180,9 @@ impl<'a, J: RunNaming, R: Wait + Clock + Eprint, G: Gate> BookPort for RunPort<'
             → is_submit want ≡ true → result ≡ Err DeskFault.JournalFull }
         ensures stop { want ≡ StopWant → result ≡ Err DeskFault.OutOfMemory
             → has_shut (receipts_by self.old.port.port) ≡ true }
+        // A submit may be refused unasked, by a run that is worn, and nothing else.
+        ensures refused { IfErr result (λ fault. (is_submit want ≡ true)
+            ⊎ RefusesWant J.limits (number_of self.new.port.port) want fault) }
     {
         if is_submit(&want) && self.is_worn() {
             return Err(self.port.refuse());
@@ -189,7 +193,13 @@ impl<'a, J: RunNaming, R: Wait + Clock + Eprint, G: Gate> BookPort for RunPort<'
         }
     }
 
-    fn fetch_within(&mut self, job: u64, wait: u64) -> Result<Reply, DeskFault> {
+    fn fetch_within(&mut self, job: u64, wait: u64) -> Result<Reply, DeskFault>
+        ensures told { Tells (port_of (told_by self.old.port.port)
+            (refusals_by self.old.port.refused self.old.port.port)) (Fetch job) result
+            (port_of (told_by self.new.port.port)
+            (refusals_by self.new.port.refused self.new.port.port)) }
+        ensures refused { IfErr result (RefusesWant J.limits (number_of self.new.port.port) (Fetch job)) }
+    {
         let reply = self.port.fetch_within(job, wait);
         self.note();
         self.note_full(&reply);

@@ -11,8 +11,8 @@ use Rattle.dd_desk.specs.Looks.{IsToldIfOpen, SeesEnd, is_ended_job}
 use Rattle.dd_desk.specs.Events.{EventOf, replay}
 use Rattle.dd_desk.specs.Receipts.{HasReceipts, PassOf, ReceiptOf, pass_of, receipt}
 use Rattle.dd_lines.specs.CountedDevices.{one_more}
-use Rattle.dd_session.specs.GivingUp.{GivesUpAt}
-use Rattle.dd_session.specs.Leaving.{GivesUp, Leaves, SawEnd, made_by, own_jobs}
+use Rattle.dd_session.specs.GivingUp.{GivesUpAt, SeesAt}
+use Rattle.dd_session.specs.Leaving.{GivesUp, JobSight, Ended, Refused, Leaves, RefusedCancel, SawAt, SawEnd, made_by, own_jobs}
 use Rattle.dd_session.specs.Ports.{AreClients, Exchange, port_of, count_more, told_in, told_of}
 use Rattle.dd_session.proofs.Gaining.{count_more-add}
 use Rattle.dd_session.proofs.Telling.{AreClients-append, told_in-append}
@@ -40,29 +40,34 @@ splits-at (r ∷ rs) gained (suc place) within = splits-at rs gained place (omeg
 in-tail : (x : ℕ) (xs : List ℕ) (y : ℕ) → Contains xs y → Contains (x ∷ xs) y
 in-tail x xs y (place, within, is) = (suc place, omega (arith, within), is)
 
+-- the job that was seen
+abbrev job_of : JobSight → ℕ
+job_of (Ended job) = job
+job_of (Refused job) = job
+
 -- some jobs are given up, and then more
-gives-up-more : (ended : ℕ → Type 0) (jobs more : List ℕ) (news later : List Exchange) (refused others : ℕ) → GivesUp ended jobs news refused → GivesUp ended more later others
-    → GivesUp ended (jobs ++ more) (news ++ later) (refused + others)
-gives-up-more ended [] more news later refused others (none, count) rest =
+gives-up-more : (saw : JobSight → Type 0) (jobs more : List ℕ) (news later : List Exchange) (refused others : ℕ) → GivesUp saw jobs news refused → GivesUp saw more later others
+    → GivesUp saw (jobs ++ more) (news ++ later) (refused + others)
+gives-up-more saw [] more news later refused others (none, count) rest =
     let sum : others ≡ refused + others = omega (arith, count) in
-    subst (λ (l : List Exchange). GivesUp ended more (l ++ later) (refused + others)) (sym none) (subst (λ (n : ℕ). GivesUp ended more later n) sum rest)
-gives-up-more ended (job ∷ jobs) more news later refused others (inl (has, gives)) rest =
-    inl (has, gives-up-more ended jobs more news later refused others gives rest)
-gives-up-more ended (job ∷ jobs) more news later refused others (inr (inl (reply, after, finds, told, gives))) rest =
-    inr (inl (reply, after ++ later, finds, ap (λ (l : List Exchange). l ++ later) told, gives-up-more ended jobs more after later refused others gives rest))
-gives-up-more ended (job ∷ jobs) more news later refused others (inr (inr (fewer, count, gives))) rest =
-    inr (inr (fewer + others, omega (arith, count), gives-up-more ended jobs more news later fewer others gives rest))
+    subst (λ (l : List Exchange). GivesUp saw more (l ++ later) (refused + others)) (sym none) (subst (λ (n : ℕ). GivesUp saw more later n) sum rest)
+gives-up-more saw (job ∷ jobs) more news later refused others (inl (has, gives)) rest =
+    inl (has, gives-up-more saw jobs more news later refused others gives rest)
+gives-up-more saw (job ∷ jobs) more news later refused others (inr (inl (reply, after, finds, told, gives))) rest =
+    inr (inl (reply, after ++ later, finds, ap (λ (l : List Exchange). l ++ later) told, gives-up-more saw jobs more after later refused others gives rest))
+gives-up-more saw (job ∷ jobs) more news later refused others (inr (inr (fewer, count, denied, gives))) rest =
+    inr (inr (fewer + others, omega (arith, count), denied, gives-up-more saw jobs more news later fewer others gives rest))
 
 -- what is known of the jobs that have ended may be told otherwise
-gives-up-as : (ended others : ℕ → Type 0) (jobs : List ℕ) (news : List Exchange) (refused : ℕ) → ((job : ℕ) → Contains jobs job → ended job → others job)
-    → GivesUp ended jobs news refused → GivesUp others jobs news refused
-gives-up-as ended others [] news refused turn gives = gives
-gives-up-as ended others (job ∷ jobs) news refused turn (inl (has, gives)) =
-    inl (turn job (0, omega arith, refl) has, gives-up-as ended others jobs news refused (λ j in'. turn j (in-tail job jobs j in')) gives)
-gives-up-as ended others (job ∷ jobs) news refused turn (inr (inl (reply, after, finds, told, gives))) =
-    inr (inl (reply, after, finds, told, gives-up-as ended others jobs after refused (λ j in'. turn j (in-tail job jobs j in')) gives))
-gives-up-as ended others (job ∷ jobs) news refused turn (inr (inr (fewer, count, gives))) =
-    inr (inr (fewer, count, gives-up-as ended others jobs news fewer (λ j in'. turn j (in-tail job jobs j in')) gives))
+gives-up-as : (saw others : JobSight → Type 0) (jobs : List ℕ) (news : List Exchange) (refused : ℕ) → ((sight : JobSight) → Contains jobs (job_of sight) → saw sight → others sight)
+    → GivesUp saw jobs news refused → GivesUp others jobs news refused
+gives-up-as saw others [] news refused turn gives = gives
+gives-up-as saw others (job ∷ jobs) news refused turn (inl (has, gives)) =
+    inl (turn (Ended job) (0, omega arith, refl) has, gives-up-as saw others jobs news refused (λ j in'. turn j (in-tail job jobs (job_of j) in')) gives)
+gives-up-as saw others (job ∷ jobs) news refused turn (inr (inl (reply, after, finds, told, gives))) =
+    inr (inl (reply, after, finds, told, gives-up-as saw others jobs after refused (λ j in'. turn j (in-tail job jobs (job_of j) in')) gives))
+gives-up-as saw others (job ∷ jobs) news refused turn (inr (inr (fewer, count, denied, gives))) =
+    inr (inr (fewer, count, turn (Refused job) (0, omega arith, refl) denied, gives-up-as saw others jobs news fewer (λ j in'. turn j (in-tail job jobs (job_of j) in')) gives))
 
 -- the jobs of the receipts before this place are given up: whatever gives up the others, gives up all from the first on
 pub record GoesOver (limits : LimitsOf) (start : PassOf) (first count place : ℕ) (now : PassOf) (counted : ℕ) : Type 0 where
@@ -93,9 +98,21 @@ sees-first limits before mid gained job number receipts s =
     record {
       journal = s.journal;
       legal = s.legal;
+      was = s.was;
       has = has-first s.journal before.number before.receipts gained (subst (HasReceipts s.journal) (λ i. pass_of (number i) (receipts i)) s.has);
       sees = subst (λ (n : ℕ). is_ended_job (own_job (replay limits s.journal).jobs n job) ≡ true) number s.sees;
     }
+
+-- so of each job that is given up
+sees-first-of : (limits : LimitsOf) (before mid : PassOf) (gained : List ReceiptOf) → mid.number ≡ before.number → mid.receipts ≡ before.receipts ++ gained → (sight : JobSight) → SeesAt limits mid sight → SeesAt limits before sight
+sees-first-of limits before mid gained number receipts (Ended job) sees = sees-first limits before mid gained job number receipts sees
+sees-first-of limits before mid gained number receipts (Refused job) denied = subst (λ (n : ℕ). RefusedCancel limits n job) number denied
+
+-- what was seen before, once it was given up
+saw-then : (limits : LimitsOf) (before after : PassOf) (n : ℕ) (gained : List ReceiptOf) → after.number ≡ before.number → after.receipts ≡ before.receipts ++ gained → (sight : JobSight)
+    → Contains (own_jobs (told_in (drop n before.receipts))) (job_of sight) → SeesAt limits before sight → SawAt limits n after sight
+saw-then limits before after n gained number receipts (Ended job) in' sees = record { seen = before; later = gained; same = λ i. pass_of (number i) (receipts i); made = in'; sees = sees }
+saw-then limits before after n gained number receipts (Refused job) in' denied = subst (λ (k : ℕ). RefusedCancel limits k job) (sym number) denied
 
 -- ---- by a pass
 
@@ -138,7 +155,7 @@ module _ {limits : LimitsOf} where
         receipts = ap (λ (p : PassOf). p.receipts) same ∙ sym (append-nil before.receipts);
         clients = tt;
         refused = 1;
-        gives_up = inr (inr (0, refl, (refl, refl)));
+        gives_up = inr (inr (0, refl, (fault, (refused.journal, refused.was)), (refl, refl)));
         counts = more;
       }
 
@@ -152,9 +169,9 @@ module _ {limits : LimitsOf} where
         receipts = then.receipts ∙ ap (λ (l : List ReceiptOf). l ++ then.gained) first.receipts ∙ append_assoc before.receipts first.gained then.gained;
         clients = AreClients-append before.number first.gained then.gained first.clients (subst (λ (k : ℕ). AreClients k then.gained) first.number then.clients);
         refused = first.refused + then.refused;
-        gives_up = subst (λ (t : List Exchange). GivesUp (SeesEnd limits before) (jobs ++ more) t (first.refused + then.refused)) (sym (told_in-append first.gained then.gained))
-            (gives-up-more (SeesEnd limits before) jobs more (told_in first.gained) (told_in then.gained) first.refused then.refused first.gives_up
-            (gives-up-as (SeesEnd limits mid) (SeesEnd limits before) more (told_in then.gained) then.refused (λ job in'. sees-first limits before mid first.gained job first.number first.receipts) then.gives_up));
+        gives_up = subst (λ (t : List Exchange). GivesUp (SeesAt limits before) (jobs ++ more) t (first.refused + then.refused)) (sym (told_in-append first.gained then.gained))
+            (gives-up-more (SeesAt limits before) jobs more (told_in first.gained) (told_in then.gained) first.refused then.refused first.gives_up
+            (gives-up-as (SeesAt limits mid) (SeesAt limits before) more (told_in then.gained) then.refused (λ sight in'. sees-first-of limits before mid first.gained first.number first.receipts sight) then.gives_up));
         counts = then.counts ∙ ap (λ (n : ℕ). count_more n then.refused) first.counts ∙ count_more-add count first.refused then.refused;
       }
 
@@ -195,12 +212,12 @@ module _ {limits : LimitsOf} where
   -- ---- and what the port then tells
 
   pub Leaves-desk : (before after : PassOf) (n count counted : ℕ) → n ≤ length before.receipts → GivesUpAt limits (own_jobs (told_in (drop n before.receipts))) before count after counted
-      → Leaves (SawEnd limits n after) (port_of (told_in (drop n before.receipts)) count) (port_of (told_in (drop n after.receipts)) counted)
+      → Leaves (SawAt limits n after) (port_of (told_in (drop n before.receipts)) count) (port_of (told_in (drop n after.receipts)) counted)
   Leaves-desk before after n count counted within gives = (
     told_in gives.gained,
     gives.refused,
-    gives-up-as (SeesEnd limits before) (SawEnd limits n after) (own_jobs (told_in (drop n before.receipts))) (told_in gives.gained) gives.refused
-        (λ job in' sees. record { seen = before; later = gives.gained; same = λ i. pass_of (gives.number i) (gives.receipts i); made = in'; sees = sees }) gives.gives_up,
+    gives-up-as (SeesAt limits before) (SawAt limits n after) (own_jobs (told_in (drop n before.receipts))) (told_in gives.gained) gives.refused
+        (saw-then limits before after n gives.gained gives.number gives.receipts) gives.gives_up,
     ap (λ (l : List Exchange). port_of l counted)
         (ap (λ (rs : List ReceiptOf). told_in (drop n rs)) gives.receipts
         ∙ ap told_in (drop-append-le n before.receipts gives.gained within)

@@ -15,7 +15,7 @@ use Rattle.dd_wire.specs.Wants.{MeansWant}
 use Rattle.dd_wire.proofs.CallerLemmas.{no-stop-explained, no-stop-line}
 use Rattle.dd_session.specs.declared.manner.Manner.{Manner}
 use Rattle.dd_session.specs.Manners.{MeansIn}
-use Rattle.dd_session.specs.Leaving.{GivesUp, Leaves, own_jobs}
+use Rattle.dd_session.specs.Leaving.{GivesUp, JobSight, Leaves, own_jobs}
 use Rattle.dd_session.specs.Ports.{AreNoStops, AsksNoStop, PortOf, Exchange}
 use Rattle.dd_session.specs.Serving.{Says, SaysAfter, SaysEnd, SaysOne, SaysState, awaited, new_job}
 use Rattle.dd_session.specs.Served.{AreServed, IsServed, ServedAll, ServedBeginning}
@@ -106,17 +106,17 @@ messages-no-stop outer before after (manner, within, messages, replies, served) 
 -- ---- when the session leaves
 
 -- it cancels, and asks for nothing else
-gives-no-stop : (ended : ℕ → Type 0) (jobs : List ℕ) (news : List Exchange) (refused : ℕ) → GivesUp ended jobs news refused → AreNoStops news
-gives-no-stop ended [] news refused (none, count) = subst AreNoStops (sym none) tt
-gives-no-stop ended (job ∷ jobs) news refused (inl (has, gives)) = gives-no-stop ended jobs news refused gives
-gives-no-stop ended (job ∷ jobs) news refused (inr (inl (reply, later, finds, told, gives))) = subst AreNoStops (sym told) (λ e. cc, gives-no-stop ended jobs later refused gives)
-gives-no-stop ended (job ∷ jobs) news refused (inr (inr (others, count, gives))) = gives-no-stop ended jobs news others gives
+gives-no-stop : (saw : JobSight → Type 0) (jobs : List ℕ) (news : List Exchange) (refused : ℕ) → GivesUp saw jobs news refused → AreNoStops news
+gives-no-stop saw [] news refused (none, count) = subst AreNoStops (sym none) tt
+gives-no-stop saw (job ∷ jobs) news refused (inl (has, gives)) = gives-no-stop saw jobs news refused gives
+gives-no-stop saw (job ∷ jobs) news refused (inr (inl (reply, later, finds, told, gives))) = subst AreNoStops (sym told) (λ e. cc, gives-no-stop saw jobs later refused gives)
+gives-no-stop saw (job ∷ jobs) news refused (inr (inr (others, count, denied, gives))) = gives-no-stop saw jobs news others gives
 
 -- so the port was asked for no stop before, and isn't then
-pub leaves-no-stop : (ended : ℕ → Type 0) (before : List Exchange) (between after : PortOf) → AsksNoStop before between.told → Leaves ended between after → AsksNoStop before after.told
-leaves-no-stop ended before between after asks (news, refused, gives, gained) =
+pub leaves-no-stop : (saw : JobSight → Type 0) (before : List Exchange) (between after : PortOf) → AsksNoStop before between.told → Leaves saw between after → AsksNoStop before after.told
+leaves-no-stop saw before between after asks (news, refused, gives, gained) =
     record {
       gained = asks.gained ++ news;
       told = ap (λ (p : PortOf). p.told) gained ∙ ap (λ (l : List Exchange). l ++ news) asks.told ∙ append_assoc before asks.gained news;
-      no_stops = both-no-stops asks.gained news asks.no_stops (gives-no-stop ended (own_jobs between.told) news refused gives);
+      no_stops = both-no-stops asks.gained news asks.no_stops (gives-no-stop saw (own_jobs between.told) news refused gives);
     }

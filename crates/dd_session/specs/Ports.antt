@@ -2,10 +2,12 @@
 use Rattle.std.specs.Prelude.{◌≡◌, ℕ, zero, suc, Bool, true, false, List, [], ◌∷◌, ◌++◌, length, drop, ◌-◌, Option, None, Some, option_map, slice_get, Result, Ok, Err}
 use Rattle.dd_book.specs.declared.call.Call.{Call}
 use Rattle.dd_book.specs.declared.call.Reply.{Reply}
+use Rattle.dd_book.specs.Limits.{LimitsOf}
 use Rattle.dd_desk.specs.declared.fault.DeskFault.{DeskFault}
 use Rattle.dd_desk.specs.Events.{IsBy}
 use Rattle.dd_desk.specs.Faults.{IsOfCall}
 use Rattle.dd_desk.specs.Receipts.{ReceiptOf, PassOf}
+use Rattle.dd_desk.specs.Sightings.{RefusesCall}
 use Rattle.dd_lines.specs.CountedDevices.{one_more}
 use Rattle.dd_wire.specs.declared.want.Want.{Want}
 
@@ -57,6 +59,11 @@ call_by caller (Want.Submit asked) = Call.Submit caller asked
 call_by caller (Want.Cancel job) = Call.Cancel caller job
 call_by caller (Want.Fetch job) = Call.Fetch caller job
 call_by caller Want.Stop = Call.Shut
+
+-- a desk of these limits refused the caller of this number the call that makes a want known; of who has no number nothing is said
+abbrev pub RefusesWant : LimitsOf → Option ℕ → Want → DeskFault → Type 0
+RefusesWant limits None want fault = Unit {0}
+RefusesWant limits (Some number) want fault = RefusesCall limits number (call_by number want) fault
 
 -- what a call with this reply tells: its want, whoever called; a worker's calls make no want known
 abbrev pub told_of : Call → Reply → List Exchange

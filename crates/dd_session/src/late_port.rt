@@ -1,11 +1,11 @@
 //! The job book as a session sees it that has no pass before it needs one.
-ghost use Rattle.std.specs.Prelude.{◌≡◌, Err, IfSome, None, Some, true, ℕ, option_and_then};
+ghost use Rattle.std.specs.Prelude.{◌≡◌, Err, IfErr, IfSome, None, Some, true, ℕ, option_and_then};
 ghost use Rattle.dd_desk.specs.Receipts.{has_shut};
 ghost use Rattle.dd_desk.specs.Replies.{MayClaim};
 ghost use Rattle.dd_desk.specs.declared.fault.DeskFault.TheVariants.{JournalFull, OutOfMemory};
 ghost use Rattle.dd_lines.specs.CountedDevices.{one_more};
-ghost use Rattle.dd_session.specs.Leaving.{HasEndedBy, Leaves};
-ghost use Rattle.dd_session.specs.Ports.{AreClients, Tells, before_by, last_place, new_late_port, number_of, pass_by, port_of, receipts_by, refusals_by, told_by, told_in};
+ghost use Rattle.dd_session.specs.Leaving.{SawBy, Leaves};
+ghost use Rattle.dd_session.specs.Ports.{AreClients, RefusesWant, Tells, before_by, last_place, new_late_port, number_of, pass_by, port_of, receipts_by, refusals_by, told_by, told_in};
 ghost use Rattle.dd_wire.specs.declared.want.Want.TheVariants.{Fetch, Stop as StopWant, Submit};
 
 use crate::port::{BookPort, DeskPort, health_of, one_more};
@@ -89,6 +89,7 @@ impl<'a, J: Naming, R: Wait + Clock> LatePort<'a, J, R> {
             (refusals_by self.old.refused self.old.port)) (Submit asked) result.0
             (port_of (told_by self.new.port) (refusals_by self.new.refused self.new.port)) }
         ensures claimed { MayClaim J.limits worker.old result.0 result.1 worker.new }
+        ensures refused { IfErr result.0 (RefusesWant J.limits (number_of self.new.port) (Submit asked)) }
     {
         enrol_at(
             self.rt,
@@ -141,14 +142,14 @@ impl<'a, J: Naming, R: Wait + Clock> LatePort<'a, J, R> {
 
 impl<'a, J: Naming, R: Wait + Clock> BookPort for LatePort<'a, J, R> {
     ghost use Rattle.dd_session.specs.Healths.{IsHealth};
-    ghost use Rattle.dd_session.specs.Leaving.{HasEndedBy};
+    ghost use Rattle.dd_session.specs.Leaving.{SawBy};
     ghost use Rattle.dd_session.specs.Ports.{refusals_by, told_by};
 
     ghost told = { λ p. told_by p.port };
 
     ghost refusals = { λ p. refusals_by p.refused p.port };
 
-    ghost ended = { λ p job. HasEndedBy J.limits p.port job };
+    ghost saw = { λ p sight. SawBy J.limits p.port sight };
 
     ghost shows = { λ p health. IsHealth J.limits p.workers health };
 
@@ -158,6 +159,7 @@ impl<'a, J: Naming, R: Wait + Clock> BookPort for LatePort<'a, J, R> {
             (port_of (told_by self.new.port) (refusals_by self.new.refused self.new.port)) }
         ensures stop { want ≡ StopWant → result ≡ Err OutOfMemory
             → has_shut (receipts_by self.old.port) ≡ true }
+        ensures refused { IfErr result (RefusesWant J.limits (number_of self.new.port) want) }
     {
         enrol_at(
             self.rt,
@@ -171,7 +173,12 @@ impl<'a, J: Naming, R: Wait + Clock> BookPort for LatePort<'a, J, R> {
         ask_at(&mut self.port, &mut self.refused, want)
     }
 
-    fn fetch_within(&mut self, job: u64, wait: u64) -> Result<Reply, DeskFault> {
+    fn fetch_within(&mut self, job: u64, wait: u64) -> Result<Reply, DeskFault>
+        ensures told { Tells (port_of (told_by self.old.port)
+            (refusals_by self.old.refused self.old.port)) (Fetch job) result
+            (port_of (told_by self.new.port) (refusals_by self.new.refused self.new.port)) }
+        ensures refused { IfErr result (RefusesWant J.limits (number_of self.new.port) (Fetch job)) }
+    {
         enrol_at(
             self.rt,
             self.desk,
@@ -191,7 +198,7 @@ impl<'a, J: Naming, R: Wait + Clock> BookPort for LatePort<'a, J, R> {
     // Who has no pass has no job, and takes none.
     fn leave(&mut self)
         ensures none { self.old.port ≡ None → self.new.port ≡ None }
-        ensures leaves { Leaves (HasEndedBy J.limits self.new.port)
+        ensures leaves { Leaves (SawBy J.limits self.new.port)
             (port_of (told_by self.old.port) (refusals_by self.old.refused self.old.port))
             (port_of (told_by self.new.port) (refusals_by self.new.refused self.new.port)) }
     {
@@ -235,6 +242,7 @@ fn refuse_at<J: Naming, R: Wait + Clock>(
     ensures told { told_by port.new ≡ told_by port.old }
     ensures counted { refusals_by refused.new port.new ≡ one_more (refusals_by refused.old port.old) }
     ensures receipts { receipts_by port.new ≡ receipts_by port.old }
+    ensures number { number_of port.new ≡ number_of port.old }
     ensures before { before_by port.new ≡ before_by port.old }
 {
     match port {
@@ -256,6 +264,7 @@ fn ask_at<J: Naming, R: Wait + Clock>(
         (port_of (told_by port.new) (refusals_by refused.new port.new)) }
     ensures stop { want ≡ StopWant → result ≡ Err OutOfMemory
         → has_shut (receipts_by port.old) ≡ true }
+    ensures refused { IfErr result (RefusesWant J.limits (number_of port.new) want) }
     ensures before { before_by port.new ≡ before_by port.old }
 {
     match port {
@@ -274,6 +283,7 @@ fn submit_at<J: Naming, R: Wait + Clock>(
     ensures told { Tells (port_of (told_by port.old) (refusals_by refused.old port.old)) (Submit asked) result.0
         (port_of (told_by port.new) (refusals_by refused.new port.new)) }
     ensures claimed { MayClaim J.limits worker.old result.0 result.1 worker.new }
+    ensures refused { IfErr result.0 (RefusesWant J.limits (number_of port.new) (Submit asked)) }
     ensures before { before_by port.new ≡ before_by port.old }
 {
     match port {
@@ -291,6 +301,7 @@ fn fetch_at<J: Naming, R: Wait + Clock>(
 ) -> Result<Reply, DeskFault>
     ensures told { Tells (port_of (told_by port.old) (refusals_by refused.old port.old)) (Fetch job) result
         (port_of (told_by port.new) (refusals_by refused.new port.new)) }
+    ensures refused { IfErr result (RefusesWant J.limits (number_of port.new) (Fetch job)) }
     ensures before { before_by port.new ≡ before_by port.old }
 {
     match port {
@@ -302,7 +313,7 @@ fn fetch_at<J: Naming, R: Wait + Clock>(
 // The port is left, if it is there.
 fn leave_at<J: Naming, R: Wait + Clock>(port: &mut Option<DeskPort<'_, J, R>>)
     ensures none { port.old ≡ None → port.new ≡ None }
-    ensures leaves { (refused : ℕ) → Leaves (HasEndedBy J.limits port.new)
+    ensures leaves { (refused : ℕ) → Leaves (SawBy J.limits port.new)
         (port_of (told_by port.old) (refusals_by refused port.old))
         (port_of (told_by port.new) (refusals_by refused port.new)) }
     ensures before { before_by port.new ≡ before_by port.old }

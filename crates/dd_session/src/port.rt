@@ -1,13 +1,14 @@
 //! The job book as one session sees it.
-ghost use Rattle.std.specs.Prelude.{◌≡◌, Err, true};
+ghost use Rattle.std.specs.Prelude.{◌≡◌, Err, IfErr, true};
 ghost use Rattle.dd_book.specs.declared.call.Call.TheVariants.{Fetch};
 ghost use Rattle.dd_desk.specs.Replies.{IsTold, MayClaim};
 ghost use Rattle.dd_desk.specs.Receipts.{has_shut};
+ghost use Rattle.dd_desk.specs.Sightings.{RefusesCall};
 ghost use Rattle.dd_desk.specs.declared.fault.DeskFault.TheVariants.{JournalFull, OutOfMemory};
 ghost use Rattle.dd_lines.specs.CountedDevices.{one_more};
 ghost use Rattle.dd_session.specs.Healths.{IsHealth};
 ghost use Rattle.dd_session.specs.Ports.{Tells, call_by, last_place, new_port, port_of, refused, told_at};
-ghost use Rattle.dd_session.specs.Leaving.{Leaves, SawEnd};
+ghost use Rattle.dd_session.specs.Leaving.{Leaves, SawAt};
 ghost use Rattle.dd_wire.specs.declared.want.Want.TheVariants.{Fetch as FetchWant, Stop as StopWant, Submit as SubmitWant};
 
 use crate::leaving::give_up_jobs;
@@ -23,7 +24,7 @@ use std::time::{Clock, Duration};
 /// The job book as one caller sees it, or what stands for it.
 pub trait BookPort {
     ghost use Rattle.std.specs.Prelude.{ℕ, List};
-    ghost use Rattle.dd_session.specs.Leaving.{Leaves};
+    ghost use Rattle.dd_session.specs.Leaving.{JobSight, Leaves};
     ghost use Rattle.dd_session.specs.Ports.{Exchange, Tells, port_of};
     ghost use Rattle.dd_wire.specs.declared.health.Health.{Health};
     ghost use Rattle.dd_wire.specs.declared.want.Want.TheVariants.{Fetch};
@@ -32,8 +33,8 @@ pub trait BookPort {
     ghost told: { Self → List Exchange };
     /// how many calls were refused, up to the greatest number, where the count stays
     ghost refusals: { Self → ℕ };
-    /// what the port has seen of a job that it made: the job has ended
-    ghost ended: { Self → ℕ → Type 0 };
+    /// what the port has seen of a job that it made: the job has ended, or its cancel was refused
+    ghost saw: { Self → JobSight → Type 0 };
     /// what the port sees of its run when it looks
     ghost shows: { Self → Health → Type 0 };
 
@@ -54,7 +55,7 @@ pub trait BookPort {
     /// Cancels the jobs that were made over the port, each that has not ended: nobody is left who
     /// could fetch them.
     fn leave(&mut self)
-        ensures { Leaves (ended self.new) (port_of (told self.old) (refusals self.old))
+        ensures { Leaves (saw self.new) (port_of (told self.old) (refusals self.old))
             (port_of (told self.new) (refusals self.new)) };
 }
 
@@ -147,6 +148,8 @@ impl<'a, J: Naming, R: Wait + Clock> DeskPort<'a, J, R> {
         ensures told { Tells (port_of (told_at self.old) self.old.refusals) (SubmitWant asked) result.0
             (port_of (told_at self.new) self.new.refusals) }
         ensures claimed { MayClaim J.limits worker.old result.0 result.1 worker.new }
+        ensures refused { IfErr result.0 (RefusesCall J.limits self.new.pass.number
+            (call_by self.new.pass.number (SubmitWant asked))) }
         ensures before { self.new.before ≡ self.old.before }
     {
         let (told, claim) = self
@@ -197,14 +200,14 @@ impl<'a, J: Naming, R: Wait + Clock> DeskPort<'a, J, R> {
 
 impl<'a, J: Naming, R: Wait + Clock> BookPort for DeskPort<'a, J, R> {
     ghost use Rattle.dd_session.specs.Healths.{IsHealth};
-    ghost use Rattle.dd_session.specs.Leaving.{SawEnd};
+    ghost use Rattle.dd_session.specs.Leaving.{SawAt};
     ghost use Rattle.dd_session.specs.Ports.{told_at};
 
     ghost told = { λ p. told_at p };
 
     ghost refusals = { λ p. p.refusals };
 
-    ghost ended = { λ p job. SawEnd J.limits p.before p.pass job };
+    ghost saw = { λ p sight. SawAt J.limits p.before p.pass sight };
 
     ghost shows = { λ p health. IsHealth J.limits p.workers health };
 
@@ -213,6 +216,8 @@ impl<'a, J: Naming, R: Wait + Clock> BookPort for DeskPort<'a, J, R> {
             (port_of (told_at self.new) self.new.refusals) }
         ensures stop { want ≡ StopWant → result ≡ Err OutOfMemory
             → has_shut self.old.pass.receipts ≡ true }
+        ensures refused { IfErr result (RefusesCall J.limits self.new.pass.number
+            (call_by self.new.pass.number want)) }
         ensures before { self.new.before ≡ self.old.before }
     {
         match call(self.rt, self.desk, &mut self.pass, want) {
@@ -227,6 +232,8 @@ impl<'a, J: Naming, R: Wait + Clock> BookPort for DeskPort<'a, J, R> {
     fn fetch_within(&mut self, job: u64, wait: u64) -> Result<Reply, DeskFault>
         ensures told { Tells (port_of (told_at self.old) self.old.refusals) (FetchWant job) result
             (port_of (told_at self.new) self.new.refusals) }
+        ensures refused { IfErr result (RefusesCall J.limits self.new.pass.number
+            (call_by self.new.pass.number (FetchWant job))) }
         ensures before { self.new.before ≡ self.old.before }
     {
         match fetch_within(self.rt, self.desk, &mut self.pass, job, wait) {
@@ -243,7 +250,7 @@ impl<'a, J: Naming, R: Wait + Clock> BookPort for DeskPort<'a, J, R> {
     }
 
     fn leave(&mut self)
-        ensures leaves { Leaves (SawEnd J.limits self.new.before self.new.pass)
+        ensures leaves { Leaves (SawAt J.limits self.new.before self.new.pass)
             (port_of (told_at self.old) self.old.refusals)
             (port_of (told_at self.new) self.new.refusals) }
         ensures before { self.new.before ≡ self.old.before }

@@ -1,5 +1,8 @@
-use Rattle.std.proofs.Common.{ap, ◌∙◌, arith, map}
+use Rattle.std.proofs.Common.{ap, ◌∙◌, arith, map, subst}
+use Rattle.dd_book.specs.Limits.{LimitsOf}
 use Rattle.dd_desk.specs.Entries.{event_in, journal_in}
+use Rattle.dd_desk.specs.Events.{IsLegal}
+use Rattle.dd_desk.specs.Sightings.{seen-journal}
 use Rattle.dd_desk.proofs.Beginnings.{beginnings-same, goes-on}
 use Rattle.dd_desk.proofs.seen.follow.Goals as goal
 
@@ -18,3 +21,8 @@ returns-clause-goes_on g c =
     rw (← c.seen.view_is) (goes-on (λ n. n.known) state.marks.items state.history.journal.items seen.number seen.place seen.mark.known state.knows state.beginnings
     (omega (arith, c.if-place-len.false, c.len.ensures, state.history.journal.ok.0)) c.seen.invariant.1
     (λ x y there is. c.compare.ensures.entries x y there (ap (λ m. m.known) c.again-other.ensures.1 ∙ is)))
+
+pub returns-clause-was : goal.returns-clause-was
+returns-clause-was g c =
+    let state = c.args.state.now in
+    seen-journal g.J.Naming.limits state.history.journal.items (subst (λ (l : LimitsOf). IsLegal l state.history.journal.items) state.limits_are state.history.legal)
