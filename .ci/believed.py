@@ -20,8 +20,9 @@ OPENING = {
     "refused-tick": {SPENT, "crates/dd_search/proofs/meter/BudgetMeter/tick/Answers.antt"},
     "seen-journal": {SIGHTINGS, f"{DESK}/locked_state/LockedState/seen/Answers.antt", f"{DESK}/recall/recall/Answers.antt", f"{DESK}/seen/follow/Answers.antt"},
     "refused-call": {SIGHTINGS, f"{DESK}/recording/record_held/Answers.antt"},
+    "cut-wait": {SIGHTINGS, f"{DESK}/desk/Desk/fetch_within/Answers.antt"},
 }
-CLOSED = {"WasSpent": SPENT, "WasSeen": SIGHTINGS, "WasRefused": SIGHTINGS}
+CLOSED = {"WasSpent": SPENT, "WasSeen": SIGHTINGS, "WasRefused": SIGHTINGS, "CutsWait": SIGHTINGS}
 
 
 def lines_of(path):

@@ -1,5 +1,5 @@
--- To be believed: that a journal was seen at a desk, and that a call was refused there.
-use Rattle.std.specs.Prelude.{ℕ, List}
+-- To be believed: that a journal was seen at a desk, that a call was refused there, and that a wait was cut off.
+use Rattle.std.specs.Prelude.{◌≡◌, ◌⊎◌, ℕ, Bool, true, List}
 use Rattle.dd_book.specs.declared.call.Call.{Call}
 use Rattle.dd_book.specs.Limits.{LimitsOf}
 use Rattle.dd_desk.specs.declared.fault.DeskFault.{DeskFault}
@@ -29,3 +29,13 @@ refused-call limits journal caller call fault of-call = tt
 -- it refused this call of the caller of this number so, after some journal
 abbrev pub RefusesCall : LimitsOf → ℕ → Call → DeskFault → Type 0
 RefusesCall limits caller call fault = (journal : List EventOf) × WasRefused limits journal caller call fault
+
+-- A fetch at a desk that was to wait so many nanoseconds was cut off: they were over, or the book was shut. This word is closed as
+-- well, and `cut-wait` stands only where such a fetch ends.
+pub CutsWait : ℕ → Type 0
+CutsWait nanoseconds = Unit {0}
+
+-- where a fetch that waited ends
+pub cut-wait : (nanoseconds : ℕ) (over shut : Bool) → (over ≡ true) ⊎ (shut ≡ true) → CutsWait nanoseconds
+unfolding CutsWait
+cut-wait nanoseconds over shut either = tt

@@ -1,8 +1,9 @@
 //! The port of a run.
-ghost use Rattle.std.specs.Prelude.{◌≡◌, ◌⊎◌, true, Err, IfErr, IfSome, IsTrue, ◌↔◌, option_and_then};
+ghost use Rattle.std.specs.Prelude.{◌≡◌, ◌⊎◌, true, Err, IfErr, IfOk, IfSome, IsTrue, ◌↔◌, option_and_then};
 ghost use Rattle.dd_wire.specs.declared.want.Want.TheVariants.{Fetch, Stop as StopWant, Submit};
 ghost use Rattle.dd_desk.specs.Receipts.{has_shut};
 ghost use Rattle.dd_session.specs.Ports.{AreClients, RefusesWant, Tells, before_by, last_place, new_late_port, number_of, pass_by, port_of, receipts_by, refusals_by, told_by, told_in};
+ghost use Rattle.dd_session.specs.Serving.{EndsIn};
 ghost use Rattle.dd_server.specs.Worn.{KnowsWorn, is_submit};
 
 use crate::run_state::RunState;
@@ -198,6 +199,7 @@ impl<'a, J: RunNaming, R: Wait + Clock + Eprint, G: Gate> BookPort for RunPort<'
             (refusals_by self.old.port.refused self.old.port.port)) (Fetch job) result
             (port_of (told_by self.new.port.port)
             (refusals_by self.new.port.refused self.new.port.port)) }
+        ensures ends { IfOk result (EndsIn wait) }
         ensures refused { IfErr result (RefusesWant J.limits (number_of self.new.port.port) (Fetch job)) }
     {
         let reply = self.port.fetch_within(job, wait);

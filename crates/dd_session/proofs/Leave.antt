@@ -17,7 +17,7 @@ use Rattle.dd_session.specs.declared.manner.Manner.{Manner}
 use Rattle.dd_session.specs.Manners.{MeansIn}
 use Rattle.dd_session.specs.Leaving.{GivesUp, JobSight, Leaves, own_jobs}
 use Rattle.dd_session.specs.Ports.{AreNoStops, AsksNoStop, PortOf, Exchange}
-use Rattle.dd_session.specs.Serving.{Says, SaysAfter, SaysEnd, SaysOne, SaysState, awaited, new_job}
+use Rattle.dd_session.specs.Serving.{EndsInTime, Says, SaysAfter, SaysEnd, SaysOne, SaysState, awaited, new_job}
 use Rattle.dd_session.specs.Served.{AreServed, IsServed, ServedAll, ServedBeginning}
 use Rattle.dd_session.specs.Sockets.{ServesMessages}
 
@@ -27,24 +27,24 @@ one-no-stop : (want : Want) (said : Result Reply DeskFault) (news : List Exchang
 one-no-stop want (Ok reply) news refused none (is, count) = subst AreNoStops (sym is) (none, tt)
 one-no-stop want (Err fault) news refused none (of_call, is, count) = subst AreNoStops (sym is) tt
 
-state-no-stop : (asked : Asked) (made : Reply) (job : ℕ) (said : Result Reply DeskFault) (news : List Exchange) (refused : ℕ) → SaysState asked made job said news refused → AreNoStops news
-state-no-stop asked made job said news refused (inl (state, says, is, count)) = subst AreNoStops (sym is) (λ e. cc, (λ e. cc, tt))
-state-no-stop asked made job said news refused (inr (fault, of_call, says, is, count)) = subst AreNoStops (sym is) (λ e. cc, tt)
+state-no-stop : (wait : ℕ) (asked : Asked) (made : Reply) (job : ℕ) (said : Result Reply DeskFault) (news : List Exchange) (refused : ℕ) → SaysState wait asked made job said news refused → AreNoStops news
+state-no-stop wait asked made job said news refused (inl (state, says, ends, is, count)) = subst AreNoStops (sym is) (λ e. cc, (λ e. cc, tt))
+state-no-stop wait asked made job said news refused (inr (fault, of_call, says, is, count)) = subst AreNoStops (sym is) (λ e. cc, tt)
 
-after-no-stop : (asked : Asked) (first said : Result Reply DeskFault) (news : List Exchange) (refused : ℕ) → SaysAfter asked first said news refused → AreNoStops news
-after-no-stop asked (Err fault) said news refused (is, one) = one-no-stop (Submit asked) (Err fault) news refused (λ e. cc) one
-after-no-stop asked (Ok made) said news refused says = go (new_job made) says
+after-no-stop : (wait : ℕ) (asked : Asked) (first said : Result Reply DeskFault) (news : List Exchange) (refused : ℕ) → SaysAfter wait asked first said news refused → AreNoStops news
+after-no-stop wait asked (Err fault) said news refused (is, one) = one-no-stop (Submit asked) (Err fault) news refused (λ e. cc) one
+after-no-stop wait asked (Ok made) said news refused says = go (new_job made) says
   where
-    go : (job : Option ℕ) → MatchOption job ((said ≡ Ok made) × SaysOne (Submit asked) (Ok made) news refused) (λ j. SaysState asked made j said news refused) → AreNoStops news
+    go : (job : Option ℕ) → MatchOption job ((said ≡ Ok made) × SaysOne (Submit asked) (Ok made) news refused) (λ j. SaysState wait asked made j said news refused) → AreNoStops news
     go None (is, one) = one-no-stop (Submit asked) (Ok made) news refused (λ e. cc) one
-    go (Some job) state = state-no-stop asked made job said news refused state
+    go (Some job) state = state-no-stop wait asked made job said news refused state
 
 says-no-stop : (wish : Wish) (said : Result Reply DeskFault) (news : List Exchange) (refused : ℕ) → (wish.want ≡ Stop → ⊥) → Says wish said news refused → AreNoStops news
 says-no-stop wish said news refused none says = go (awaited wish.wait wish.want) says
   where
-    go : (asked : Option Asked) → MatchOption asked (SaysOne wish.want said news refused) (λ a. SaysEnd a said news refused) → AreNoStops news
-    go None one = one-no-stop wish.want said news refused none one
-    go (Some asked) (first, after) = after-no-stop asked first said news refused after
+    go : (asked : Option Asked) → MatchOption asked (SaysOne wish.want said news refused × EndsInTime wish.wait wish.want said) (λ a. SaysEnd wish.wait a said news refused) → AreNoStops news
+    go None (one, ends) = one-no-stop wish.want said news refused none one
+    go (Some asked) (first, after) = after-no-stop wish.wait asked first said news refused after
 
 -- ---- what was told
 

@@ -1,10 +1,11 @@
 //! The job book as a session sees it that has no pass before it needs one.
-ghost use Rattle.std.specs.Prelude.{◌≡◌, Err, IfErr, IfSome, None, Some, true, ℕ, option_and_then};
+ghost use Rattle.std.specs.Prelude.{◌≡◌, Err, IfErr, IfOk, IfSome, None, Some, true, ℕ, option_and_then};
 ghost use Rattle.dd_desk.specs.Receipts.{has_shut};
 ghost use Rattle.dd_desk.specs.Replies.{MayClaim};
 ghost use Rattle.dd_desk.specs.declared.fault.DeskFault.TheVariants.{JournalFull, OutOfMemory};
 ghost use Rattle.dd_lines.specs.CountedDevices.{one_more};
 ghost use Rattle.dd_session.specs.Leaving.{SawBy, Leaves};
+ghost use Rattle.dd_session.specs.Serving.{EndsIn};
 ghost use Rattle.dd_session.specs.Ports.{AreClients, RefusesWant, Tells, before_by, last_place, new_late_port, number_of, pass_by, port_of, receipts_by, refusals_by, told_by, told_in};
 ghost use Rattle.dd_wire.specs.declared.want.Want.TheVariants.{Fetch, Stop as StopWant, Submit};
 
@@ -177,6 +178,7 @@ impl<'a, J: Naming, R: Wait + Clock> BookPort for LatePort<'a, J, R> {
         ensures told { Tells (port_of (told_by self.old.port)
             (refusals_by self.old.refused self.old.port)) (Fetch job) result
             (port_of (told_by self.new.port) (refusals_by self.new.refused self.new.port)) }
+        ensures ends { IfOk result (EndsIn wait) }
         ensures refused { IfErr result (RefusesWant J.limits (number_of self.new.port) (Fetch job)) }
     {
         enrol_at(
@@ -301,6 +303,7 @@ fn fetch_at<J: Naming, R: Wait + Clock>(
 ) -> Result<Reply, DeskFault>
     ensures told { Tells (port_of (told_by port.old) (refusals_by refused.old port.old)) (Fetch job) result
         (port_of (told_by port.new) (refusals_by refused.new port.new)) }
+    ensures ends { IfOk result (EndsIn wait) }
     ensures refused { IfErr result (RefusesWant J.limits (number_of port.new) (Fetch job)) }
     ensures before { before_by port.new ≡ before_by port.old }
 {

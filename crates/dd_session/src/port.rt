@@ -1,5 +1,5 @@
 //! The job book as one session sees it.
-ghost use Rattle.std.specs.Prelude.{◌≡◌, Err, IfErr, true};
+ghost use Rattle.std.specs.Prelude.{◌≡◌, Err, IfErr, IfOk, true};
 ghost use Rattle.dd_book.specs.declared.call.Call.TheVariants.{Fetch};
 ghost use Rattle.dd_desk.specs.Replies.{IsTold, MayClaim};
 ghost use Rattle.dd_desk.specs.Receipts.{has_shut};
@@ -9,6 +9,7 @@ ghost use Rattle.dd_lines.specs.CountedDevices.{one_more};
 ghost use Rattle.dd_session.specs.Healths.{IsHealth};
 ghost use Rattle.dd_session.specs.Ports.{Tells, call_by, last_place, new_port, port_of, refused, told_at};
 ghost use Rattle.dd_session.specs.Leaving.{Leaves, SawAt};
+ghost use Rattle.dd_session.specs.Serving.{EndsIn};
 ghost use Rattle.dd_wire.specs.declared.want.Want.TheVariants.{Fetch as FetchWant, Stop as StopWant, Submit as SubmitWant};
 
 use crate::leaving::give_up_jobs;
@@ -23,7 +24,8 @@ use std::time::{Clock, Duration};
 
 /// The job book as one caller sees it, or what stands for it.
 pub trait BookPort {
-    ghost use Rattle.std.specs.Prelude.{ℕ, List};
+    ghost use Rattle.std.specs.Prelude.{ℕ, List, IfOk};
+    ghost use Rattle.dd_session.specs.Serving.{EndsIn};
     ghost use Rattle.dd_session.specs.Leaving.{JobSight, Leaves};
     ghost use Rattle.dd_session.specs.Ports.{Exchange, Tells, port_of};
     ghost use Rattle.dd_wire.specs.declared.health.Health.{Health};
@@ -43,10 +45,12 @@ pub trait BookPort {
         ensures { Tells (port_of (told self.old) (refusals self.old)) want result
             (port_of (told self.new) (refusals self.new)) };
 
-    /// The same for a fetch that waits until the job has ended, so many milliseconds at the most.
+    /// The same for a fetch that waits until the job has ended, so many milliseconds at the most. It tells of an open job only
+    /// where the wait was cut off.
     fn fetch_within(&mut self, job: u64, wait: u64) -> Result<Reply, DeskFault>
-        ensures { Tells (port_of (told self.old) (refusals self.old)) (Fetch job) result
-            (port_of (told self.new) (refusals self.new)) };
+        ensures told { Tells (port_of (told self.old) (refusals self.old)) (Fetch job) result
+            (port_of (told self.new) (refusals self.new)) }
+        ensures ends { IfOk result (EndsIn wait) };
 
     /// How the run is. It is no call of the book, and nothing changes.
     fn health(&self) -> Health
@@ -232,6 +236,7 @@ impl<'a, J: Naming, R: Wait + Clock> BookPort for DeskPort<'a, J, R> {
     fn fetch_within(&mut self, job: u64, wait: u64) -> Result<Reply, DeskFault>
         ensures told { Tells (port_of (told_at self.old) self.old.refusals) (FetchWant job) result
             (port_of (told_at self.new) self.new.refusals) }
+        ensures ends { IfOk result (EndsIn wait) }
         ensures refused { IfErr result (RefusesCall J.limits self.new.pass.number
             (call_by self.new.pass.number (FetchWant job))) }
         ensures before { self.new.before ≡ self.old.before }
@@ -292,7 +297,8 @@ fn fetch_within<J: Naming, R: Wait + Clock>(
     job: u64,
     wait: u64,
 ) -> Result<Reply, DeskFault>
-    ensures { IsTold J.limits pass.old (Fetch pass.old.number job) result pass.new }
+    ensures told { IsTold J.limits pass.old (Fetch pass.old.number job) result pass.new }
+    ensures ends { IfOk result (EndsIn wait) }
 {
     let (told, _) = desk.fetch_within(rt, pass, job, Duration::from_millis(wait));
     told

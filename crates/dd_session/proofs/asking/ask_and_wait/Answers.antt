@@ -12,7 +12,7 @@ pub returns-in-Fetch : goal.returns-in-Fetch
 returns-in-Fetch g c =
     let before : PortOf = port_of (g.P.BookPort.told c.args.port.now) (g.P.BookPort.refusals c.args.port.now) in
     let after : PortOf = port_of (g.P.BookPort.told c.fetch_within.new.self) (g.P.BookPort.refusals c.fetch_within.new.self) in
-    rw c.in-Fetch.is (answers_fetch before after c.args.wait c.in-Fetch.job c.fetch_within.result c.fetch_within.ensures)
+    rw c.in-Fetch.is (answers_fetch before after c.args.wait c.in-Fetch.job c.fetch_within.result c.fetch_within.ensures.told c.fetch_within.ensures.ends)
 
 pub returns-in-Stop : goal.returns-in-Stop
 returns-in-Stop g c =
