@@ -1,5 +1,5 @@
 -- To be believed: what is said on the standard error of a file, text by text.
-use Rattle.std.specs.Prelude.{◌≡◌, ◌⊎◌, ℕ, zero, suc, Bool, true, false, List, [], ◌∷◌, ◌++◌, codes, Option}
+use Rattle.std.specs.Prelude.{◌≡◌, ◌⊎◌, ℕ, zero, suc, Bool, true, false, List, [], ◌∷◌, ◌++◌, Option}
 use Rattle.std.specs.Io.KnownBytes.{Appends}
 use Rattle.dd_lines.specs.CountedDevices.{FailedOnce, bytes_of, failures_of}
 use Rattle.dd_lines.specs.declared.counted_device.CountedDevice.{CountedDevice}

@@ -12,7 +12,7 @@ use Rattle.dd_desk.specs.Events.{EventOf, replay}
 use Rattle.dd_desk.specs.Receipts.{HasReceipts, PassOf, ReceiptOf, pass_of, receipt}
 use Rattle.dd_lines.specs.CountedDevices.{one_more}
 use Rattle.dd_session.specs.GivingUp.{GivesUpAt, SeesAt}
-use Rattle.dd_session.specs.Leaving.{GivesUp, JobSight, Ended, Refused, Leaves, RefusedCancel, SawAt, SawEnd, made_by, own_jobs}
+use Rattle.dd_session.specs.Leaving.{GivesUp, JobSight, Ended, Refused, Leaves, RefusedCancel, SawAt, made_by, own_jobs}
 use Rattle.dd_session.specs.Ports.{AreClients, Exchange, port_of, count_more, told_in, told_of}
 use Rattle.dd_session.proofs.Gaining.{count_more-add}
 use Rattle.dd_session.proofs.Telling.{AreClients-append, told_in-append}

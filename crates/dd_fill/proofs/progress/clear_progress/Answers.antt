@@ -1,4 +1,4 @@
-use Rattle.std.proofs.Common.{true, subst, sym}
+use Rattle.std.proofs.Common.{subst, sym}
 use Rattle.dd_fill.specs.Said.{SaysAll, clear_texts, sink_of}
 use Rattle.dd_fill.proofs.Saying.{clear-none, says-one}
 use Rattle.dd_fill.proofs.progress.clear_progress.Goals as goal

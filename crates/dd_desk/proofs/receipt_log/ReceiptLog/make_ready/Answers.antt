@@ -1,4 +1,4 @@
-use Rattle.std.proofs.Common.{◌≡◌, ◌∙◌, ap, sym, arith}
+use Rattle.std.proofs.Common.{◌∙◌, ap, sym, arith}
 use Rattle.dd_desk.specs.Receipts.{has_shut}
 use Rattle.dd_desk.proofs.receipt_log.ReceiptLog.make_ready.Goals as goal
 
