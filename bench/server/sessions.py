@@ -1,8 +1,10 @@
-"""How soon sessions that wait are told: SESSIONS RUNS (1,000 and 3). One worker searches a full deal, and meanwhile each session asks for
-a position of one card, with a wait. Then the worker does these jobs one after the other. Two times are shown: that of the first
-hundred replies after the reply to the deal, by the median; and of each reply the time after its job's end by the median and the most,
-where each job is taken to last as long as the others. The last column is how often a thread of the server waited, for each job. Then
-the same without the server, in plain Rust: one bell for all, and a bell for each (`bells.rs`)."""
+"""How soon sessions that wait are told: SESSIONS RUNS (1,000 and 3). One worker searches a full deal, and meanwhile each session asks
+for a position of five cards a hand, with a wait: on shorter ones sessions work themselves. Then the worker does these jobs one after
+the other. Two times are shown: that of the first hundred replies after the reply to the deal, by the median; and of each reply the
+time after its job's end by the median and the most, where each job is taken to last as long as the others. The last column is how
+often a thread of the server waited, for each job. Then the same without the server, in plain Rust: one bell for all, and a bell for
+each (`bells.rs`)."""
+import json
 import os
 import select
 import subprocess
@@ -13,10 +15,19 @@ import time
 HERE = os.path.dirname(os.path.abspath(__file__))
 CASES = os.path.join(HERE, "..", "..", "cases")
 sys.path.insert(0, os.path.join(CASES, "server", "clients"))
-from client import CLOSING, ONE_CARD, ONE_CARD_REPLY, STOP, Server, check, more_descriptors, recorded, waiting  # noqa: E402
+from client import CLOSING, STOP, Server, check, more_descriptors, recorded, waiting  # noqa: E402
 
 sessions = int(sys.argv[1]) if len(sys.argv) > 1 else 1_000
 runs = int(sys.argv[2]) if len(sys.argv) > 2 else 3
+
+
+def five_cards():
+    """The first recorded position with five cards a hand and none on the trick, and its reply."""
+    for request, reply in recorded("small"):
+        asked = json.loads(request)
+        if sum(asked["deal"].count(rank) for rank in "23456789TJQKA") == 20 and not asked.get("played"):
+            return request, reply
+    sys.exit("bench/server: no recorded position has five cards a hand")
 
 
 def slowest():
@@ -32,7 +43,7 @@ def slowest():
     return max(times)
 
 
-def run(deal):
+def run(deal, position, expected):
     server = Server("--allow-stop", workers=1)
     first, clients = server.connect(), [server.connect() for _ in range(sessions)]
     ears = select.epoll()
@@ -43,7 +54,7 @@ def run(deal):
     # The worker has it before the others ask.
     time.sleep(0.05)
     for client in clients:
-        client.send(waiting(ONE_CARD))
+        client.send(waiting(position))
     before, begun, told = server.switches(), None, {}
     while len(told) < sessions:
         for number, _ in ears.poll(60):
@@ -55,7 +66,7 @@ def run(deal):
                 begun = now
     after = server.switches()
     for client in clients:
-        check("the answer", client.line().partition(',"job"')[0] + "}", ONE_CARD_REPLY)
+        check("the answer", client.line().partition(',"job"')[0] + "}", expected)
     check("a stop", clients[0].ask(STOP), CLOSING)
     server.end()
     ordered = sorted(told.values())
@@ -67,10 +78,11 @@ def run(deal):
 
 more_descriptors()
 taken, deal = slowest()
+position, expected = five_cards()
 print(f"{sessions} sessions that wait, 1 worker, behind a deal of {1000 * taken:.0f} ms; {os.cpu_count()} processors, load {os.getloadavg()[0]:.1f}")
 print("median of the first 100, ms  median beside its turn, ms  latest, ms  a job, ms  switches a job")
 for _ in range(runs):
-    early, median, latest, each, count = run(deal)
+    early, median, latest, each, count = run(deal, position, expected)
     print(f"{1000 * early:27.2f}  {1000 * median:26.2f}  {1000 * latest:10.2f}  {1000 * each:9.3f}  {count / sessions:14.1f}")
 with tempfile.TemporaryDirectory() as folder:
     subprocess.run(["rustc", "-O", "--edition", "2021", "-o", f"{folder}/bells", f"{HERE}/bells.rs"], check=True)
