@@ -3,8 +3,8 @@
 `-- To be believed:` imports, of this repository, only `specs` that begin so too, and what the compiler declares
 (`specs.declared`), and never proofs; and `docs/PROOF.md` lists just these files, under the heading `The definitions, in order
 of reading`. Where no file begins so there is nothing to look at. A lemma that opens a closed word stands only where it is
-listed here, and only the word's own file unfolds it, so that nothing else can show what that word says. Prints `file:line: what`
-for each breach, and ends with status 1."""
+listed here, and only the word's own file unfolds it, and none renames it, so that nothing else can show what that word says. Prints
+`file:line: what` for each breach, and ends with status 1."""
 import glob
 import os
 import re
@@ -71,8 +71,8 @@ for path in sorted(it for part in ("src", "specs", "proofs") for it in glob.glob
             if name in line and path not in places:
                 breaches.append((path, number, f"names {name}, which stands nowhere but in {', '.join(sorted(places))}"))
         for word, place in CLOSED.items():
-            if re.search(rf"\bunfolding\b.*\b{word}\b", line) and path != place:
-                breaches.append((path, number, f"unfolds {word}, which is closed but in {place}"))
+            if re.search(rf"\bunfolding\b.*\b{word}\b|\b{word}\s+as\b", line) and path != place:
+                breaches.append((path, number, f"unfolds or renames {word}, which is closed but in {place}"))
 
 for path, number, what in breaches:
     print(f"{path}:{number}: {what}")
