@@ -46,7 +46,7 @@ pub trait BookPort {
             (port_of (told self.new) (refusals self.new)) };
 
     /// The same for a fetch that waits until the job has ended, so many milliseconds at the most. It tells of an open job only
-    /// where the wait was cut off.
+    /// where a wait of this length was cut off.
     fn fetch_within(&mut self, job: u64, wait: u64) -> Result<Reply, DeskFault>
         ensures told { Tells (port_of (told self.old) (refusals self.old)) (Fetch job) result
             (port_of (told self.new) (refusals self.new)) }
