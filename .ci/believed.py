@@ -19,10 +19,11 @@ SPENT, SIGHTINGS, DESK = "crates/dd_search/specs/Spent.antt", "crates/dd_desk/sp
 OPENING = {
     "refused-tick": {SPENT, "crates/dd_search/proofs/meter/BudgetMeter/tick/Answers.antt"},
     "seen-journal": {SIGHTINGS, f"{DESK}/locked_state/LockedState/seen/Answers.antt", f"{DESK}/recall/recall/Answers.antt", f"{DESK}/seen/follow/Answers.antt"},
+    "passes-given": {SIGHTINGS, f"{DESK}/locked_state/LockedState/given/Answers.antt"},
     "refused-call": {SIGHTINGS, f"{DESK}/recording/record_held/Answers.antt"},
     "cut-wait": {SIGHTINGS, f"{DESK}/desk/Desk/fetch_within/Answers.antt"},
 }
-CLOSED = {"WasSpent": SPENT, "WasSeen": SIGHTINGS, "WasRefused": SIGHTINGS, "CutsWait": SIGHTINGS}
+CLOSED = {"WasSpent": SPENT, "WasSeen": SIGHTINGS, "HasGiven": SIGHTINGS, "WasRefused": SIGHTINGS, "CutsWait": SIGHTINGS}
 
 
 def lines_of(path):

@@ -1,5 +1,5 @@
--- To be believed: that a journal was seen at a desk, that a call was refused there, and that a wait was cut off.
-use Rattle.std.specs.Prelude.{◌≡◌, ◌⊎◌, ℕ, Bool, true, List}
+-- To be believed: that a journal was seen at a desk, how many passes it had given, that a call was refused there, and that a wait was cut off.
+use Rattle.std.specs.Prelude.{◌≡◌, ◌⊎◌, ◌≤◌, ℕ, Bool, true, List}
 use Rattle.dd_book.specs.declared.call.Call.{Call}
 use Rattle.dd_book.specs.Limits.{LimitsOf}
 use Rattle.dd_desk.specs.declared.fault.DeskFault.{DeskFault}
@@ -15,6 +15,20 @@ WasSeen limits journal = Unit {0}
 pub seen-journal : (limits : LimitsOf) (journal : List EventOf) → IsLegal limits journal → WasSeen limits journal
 unfolding WasSeen
 seen-journal limits journal legal = tt
+
+-- A desk of these limits had given so many passes when its lock was held. This word is closed as well, and `passes-given` stands
+-- only where they are counted.
+pub HasGiven : LimitsOf → ℕ → Type 0
+HasGiven limits count = Unit {0}
+
+-- under the lock
+pub passes-given : (limits : LimitsOf) (count : ℕ) → count ≤ limits.passes → HasGiven limits count
+unfolding HasGiven
+passes-given limits count most = tt
+
+-- it had given as many as it may
+abbrev pub HasNoPassLeft : LimitsOf → Type 0
+HasNoPassLeft limits = HasGiven limits limits.passes
 
 -- A desk of these limits refused this call of the caller of this number so, after this journal. The word is closed too: nothing
 -- shows it but `refused-call`, and that stands where a call at a desk ends with a fault, and nowhere else.

@@ -1,10 +1,10 @@
 //! What lies under the desk's lock.
-ghost use Rattle.std.specs.Prelude.{◌≡◌, ◌+◌, ◌<◌, ◌≤◌, true, false, [], length, map, take, vec_len, vec_capacity, Some, ◌⊎◌, MatchResult, MatchBool, IfOk};
+ghost use Rattle.std.specs.Prelude.{◌≡◌, ◌+◌, ◌<◌, ◌≤◌, true, false, [], length, map, take, vec_len, vec_capacity, Some, ◌⊎◌, MatchResult, MatchBool, IfErr, IfOk};
 ghost use Rattle.dd_book.specs.Calls.{IsIdle};
 ghost use Rattle.dd_book.specs.Jobs.{is_open_job, open_in, own_job};
 ghost use Rattle.dd_desk.specs.Looks.{SeesOpen, SeesRunning, SeesTally};
 ghost use Rattle.dd_desk.specs.Reserve.{SeesFree, reserved};
-ghost use Rattle.dd_desk.specs.Sightings.{WasSeen};
+ghost use Rattle.dd_desk.specs.Sightings.{HasGiven, HasNoPassLeft, WasSeen};
 ghost use Rattle.dd_desk.specs.Receipts.{below};
 ghost use Rattle.dd_desk.specs.Entries.{AreBeginnings, event_in, journal_in};
 
@@ -100,10 +100,14 @@ impl<J: Naming> LockedState<J> {
             (λ _. self.new.given ≡ self.old.given) }
         ensures full { MatchResult result (λ _. self.old.given < self.old.history.limits.passes)
             (λ _. self.old.given ≡ self.old.history.limits.passes) }
+        ensures left { IfErr result (λ _. HasNoPassLeft J.limits) }
         ensures same { self.new.history ≡ self.old.history }
     {
+        if self.given() >= self.history.limits.passes() {
+            return Err(blank);
+        }
         let LockedState {
-            history,
+            history: _,
             marks: _,
             past: _,
             given,
@@ -112,14 +116,19 @@ impl<J: Naming> LockedState<J> {
             spare_count,
             spare_sum,
         } = self;
-        if *given >= history.limits.passes() {
-            return Err(blank);
-        }
         let log = ReceiptLog::new(blank, *given + 1);
         let count = spare_count.split_off(1, 0);
         let sum = spare_sum.split_off(1, 0);
         *given += 1;
         Ok(CountedLog { log, count, sum })
+    }
+
+    /// How many passes were given.
+    pub(crate) fn given(&self) -> u64
+        ensures same { result ≡ self.now.given }
+        ensures given { HasGiven J.limits result }
+    {
+        self.given
     }
 
     // The book with its journal, as a look sees it.

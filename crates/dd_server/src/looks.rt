@@ -44,12 +44,13 @@ pub(crate) struct DeskLooks<'a, J: RunNaming, R> {
 impl<J: RunNaming, R: Wait> Looks for DeskLooks<'_, J, R> {
     ghost use Rattle.dd_desk.specs.Looks.{SeesOpen, SeesTally};
     ghost use Rattle.dd_desk.specs.Reserve.{SeesFree};
+    ghost use Rattle.dd_desk.specs.Sightings.{HasGiven};
 
     ghost saw_tally = { λ _ tally. SeesTally J.limits tally };
 
     ghost saw_free = { λ _ free. SeesFree J.limits free };
 
-    ghost saw_given = { λ _ _. Unit {0} };
+    ghost saw_given = { λ _ given. HasGiven J.limits given };
 
     ghost saw_open = { λ _ caller has. SeesOpen J.limits caller has };
 

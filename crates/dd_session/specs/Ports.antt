@@ -7,7 +7,7 @@ use Rattle.dd_desk.specs.declared.fault.DeskFault.{DeskFault}
 use Rattle.dd_desk.specs.Events.{IsBy}
 use Rattle.dd_desk.specs.Faults.{IsOfCall}
 use Rattle.dd_desk.specs.Receipts.{ReceiptOf, PassOf}
-use Rattle.dd_desk.specs.Sightings.{RefusesCall}
+use Rattle.dd_desk.specs.Sightings.{HasNoPassLeft, RefusesCall}
 use Rattle.dd_lines.specs.CountedDevices.{one_more}
 use Rattle.dd_wire.specs.declared.want.Want.{Want}
 
@@ -60,9 +60,10 @@ call_by caller (Want.Cancel job) = Call.Cancel caller job
 call_by caller (Want.Fetch job) = Call.Fetch caller job
 call_by caller Want.Stop = Call.Shut
 
--- a desk of these limits refused the caller of this number the call that makes a want known; of who has no number nothing is said
+-- A desk of these limits refused the caller of this number the call that makes a want known. Who has no number was refused since all
+-- passes were given.
 abbrev pub RefusesWant : LimitsOf → Option ℕ → Want → DeskFault → Type 0
-RefusesWant limits None want fault = Unit {0}
+RefusesWant limits None want fault = HasNoPassLeft limits
 RefusesWant limits (Some number) want fault = RefusesCall limits number (call_by number want) fault
 
 -- what a call with this reply tells: its want, whoever called; a worker's calls make no want known

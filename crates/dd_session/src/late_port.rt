@@ -1,7 +1,8 @@
 //! The job book as a session sees it that has no pass before it needs one.
-ghost use Rattle.std.specs.Prelude.{◌≡◌, Err, IfErr, IfOk, IfSome, None, Some, true, ℕ, option_and_then};
+ghost use Rattle.std.specs.Prelude.{◌≡◌, Err, IfErr, IfOk, IfSome, IsSome, None, Some, true, ℕ, option_and_then};
 ghost use Rattle.dd_desk.specs.Receipts.{has_shut};
 ghost use Rattle.dd_desk.specs.Replies.{MayClaim};
+ghost use Rattle.dd_desk.specs.Sightings.{HasNoPassLeft};
 ghost use Rattle.dd_desk.specs.declared.fault.DeskFault.TheVariants.{JournalFull, OutOfMemory};
 ghost use Rattle.dd_lines.specs.CountedDevices.{one_more};
 ghost use Rattle.dd_session.specs.Leaving.{SawBy, Leaves};
@@ -36,14 +37,14 @@ pub struct LatePort<'a, J: Naming, R: Wait + Clock> {
 }
 
 impl<'a, J: Naming, R: Wait + Clock> Model for LatePort<'a, J, R> {
-    ghost use Rattle.std.specs.Prelude.{◌≡◌};
+    ghost use Rattle.std.specs.Prelude.{◌≡◌, IsSome, None};
     ghost use Rattle.dd_session.specs.Ports.{LatePortOf, before_by};
 
     ghost Value = { LatePortOf };
 
     ghost view = { λ p. record { port = p.port; refused = p.refused; workers = p.workers } };
 
-    ghost invariant = { λ p. before_by p.port ≡ 0 };
+    ghost invariant = { λ p. (before_by p.port ≡ 0) × (p.port ≡ None → IsSome p.blank) };
 }
 
 impl<'a, J: Naming, R: Wait + Clock> LatePort<'a, J, R> {
@@ -218,6 +219,9 @@ fn enrol_at<'a, J: Naming, R: Wait + Clock>(
     port: &mut Option<DeskPort<'a, J, R>>,
     blank: &mut Option<BlankPass>,
 )
+    requires either { port.old ≡ None → IsSome blank.old }
+    ensures either { port.new ≡ None → IsSome blank.new }
+    ensures left { port.new ≡ None → HasNoPassLeft J.limits }
     ensures told { told_by port.new ≡ told_by port.old }
     ensures refusals { refusals_by refused port.new ≡ refusals_by refused port.old }
     ensures receipts { receipts_by port.new ≡ receipts_by port.old }
@@ -245,6 +249,7 @@ fn refuse_at<J: Naming, R: Wait + Clock>(
     ensures counted { refusals_by refused.new port.new ≡ one_more (refusals_by refused.old port.old) }
     ensures receipts { receipts_by port.new ≡ receipts_by port.old }
     ensures number { number_of port.new ≡ number_of port.old }
+    ensures none { port.new ≡ None → port.old ≡ None }
     ensures before { before_by port.new ≡ before_by port.old }
 {
     match port {
@@ -262,6 +267,8 @@ fn ask_at<J: Naming, R: Wait + Clock>(
     refused: &mut u64,
     want: Want,
 ) -> Result<Reply, DeskFault>
+    requires left { port.old ≡ None → HasNoPassLeft J.limits }
+    ensures none { port.new ≡ None → port.old ≡ None }
     ensures told { Tells (port_of (told_by port.old) (refusals_by refused.old port.old)) want result
         (port_of (told_by port.new) (refusals_by refused.new port.new)) }
     ensures stop { want ≡ StopWant → result ≡ Err OutOfMemory
@@ -282,6 +289,8 @@ fn submit_at<J: Naming, R: Wait + Clock>(
     asked: Asked,
     worker: &mut Pass<J>,
 ) -> (Result<Reply, DeskFault>, Option<Reply>)
+    requires left { port.old ≡ None → HasNoPassLeft J.limits }
+    ensures none { port.new ≡ None → port.old ≡ None }
     ensures told { Tells (port_of (told_by port.old) (refusals_by refused.old port.old)) (Submit asked) result.0
         (port_of (told_by port.new) (refusals_by refused.new port.new)) }
     ensures claimed { MayClaim J.limits worker.old result.0 result.1 worker.new }
@@ -301,6 +310,8 @@ fn fetch_at<J: Naming, R: Wait + Clock>(
     job: u64,
     wait: u64,
 ) -> Result<Reply, DeskFault>
+    requires left { port.old ≡ None → HasNoPassLeft J.limits }
+    ensures none { port.new ≡ None → port.old ≡ None }
     ensures told { Tells (port_of (told_by port.old) (refusals_by refused.old port.old)) (Fetch job) result
         (port_of (told_by port.new) (refusals_by refused.new port.new)) }
     ensures ends { IfOk result (EndsIn wait) }
@@ -316,6 +327,7 @@ fn fetch_at<J: Naming, R: Wait + Clock>(
 // The port is left, if it is there.
 fn leave_at<J: Naming, R: Wait + Clock>(port: &mut Option<DeskPort<'_, J, R>>)
     ensures none { port.old ≡ None → port.new ≡ None }
+    ensures kept { port.new ≡ None → port.old ≡ None }
     ensures leaves { (refused : ℕ) → Leaves (SawBy J.limits port.new)
         (port_of (told_by port.old) (refusals_by refused port.old))
         (port_of (told_by port.new) (refusals_by refused port.new)) }
