@@ -16,14 +16,16 @@ HEADING = "## The definitions, in order of reading"
 IMPORT = re.compile(r"\buse Rattle\.([a-z_]+)\.(specs|proofs)((?:\.[A-Za-z_]\w*)+)")
 FILE = re.compile(r"`([\w./-]+\.antt)`")
 SPENT, SIGHTINGS, DESK = "crates/dd_search/specs/Spent.antt", "crates/dd_desk/specs/Sightings.antt", "crates/dd_desk/proofs"
+TICK = "crates/dd_search/proofs/meter/BudgetMeter/tick/Answers.antt"
 OPENING = {
-    "refused-tick": {SPENT, "crates/dd_search/proofs/meter/BudgetMeter/tick/Answers.antt"},
+    "refused-tick": {SPENT, TICK},
+    "granted-tick": {SPENT, TICK},
     "seen-journal": {SIGHTINGS, f"{DESK}/locked_state/LockedState/seen/Answers.antt", f"{DESK}/recall/recall/Answers.antt", f"{DESK}/seen/follow/Answers.antt"},
     "passes-given": {SIGHTINGS, f"{DESK}/locked_state/LockedState/given/Answers.antt"},
     "refused-call": {SIGHTINGS, f"{DESK}/recording/record_held/Answers.antt"},
     "cut-wait": {SIGHTINGS, f"{DESK}/desk/Desk/fetch_within/Answers.antt"},
 }
-CLOSED = {"WasSpent": SPENT, "WasSeen": SIGHTINGS, "HasGiven": SIGHTINGS, "WasRefused": SIGHTINGS, "CutsWait": SIGHTINGS}
+CLOSED = {"WasSpent": SPENT, "WasTicked": SPENT, "WasSeen": SIGHTINGS, "HasGiven": SIGHTINGS, "WasRefused": SIGHTINGS, "CutsWait": SIGHTINGS}
 
 
 def lines_of(path):

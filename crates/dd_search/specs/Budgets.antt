@@ -1,6 +1,7 @@
 -- How long a search goes on: what ends it without an answer, and a limited number of ticks.
-use Rattle.std.specs.Prelude.{◌≡◌, ℕ, ◌<◌, Result, IfErr}
+use Rattle.std.specs.Prelude.{◌≡◌, ℕ, ◌<◌, Option, Result, IfErr}
 use Rattle.std.proofs.Common.{◌∙◌, arith}
+use Rattle.dd_search.specs.Spent.{WasTicked}
 use Rattle.dd_search.specs.declared.meter.Tick.{Tick}
 use Rattle.dd_search.specs.declared.meter.Tick.TheVariants.{Go, Stop, Spent as SpentTick}
 use Rattle.dd_search.specs.declared.meter.Halt.{Halt}
@@ -24,10 +25,17 @@ pub record CountedTicks : Type 0 where
   pub limit : ℕ
   pub count : ℕ
 
--- the second has the first's limit, and more of it has gone
+-- the second has the first's limit, more of it has gone, and a tick of such a budget went
 abbrev pub IsLater : CountedTicks → CountedTicks → Type 0
-IsLater a b = (a.limit ≡ b.limit) × (a.count < b.count)
+IsLater a b = (a.limit ≡ b.limit) × (a.count < b.count) × WasTicked a.limit
 
 -- later than later is later
 pub later-budget : (a b c : CountedTicks) → IsLater a b → IsLater b c → IsLater a c
-later-budget a b c first second = let x = first.1 in let y = second.1 in (first.0 ∙ second.0, omega (arith, x, y))
+later-budget a b c first second = let x = first.1 in let y = second.1 in (first.0 ∙ second.0, omega (arith, x, y), first.2)
+
+-- a meter of this limit has ticked
+pub record HasTicked {M : Type 0} (limit : M → Option ℕ) (ticked : M → M → Type 0) (most : Option ℕ) : Type 0 where
+  pub before : M
+  pub after : M
+  pub went : ticked before after
+  pub same : limit after ≡ most

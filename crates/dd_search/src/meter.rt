@@ -1,7 +1,7 @@
 //! How long a search may go on.
 ghost use Rattle.std.specs.Prelude.{◌≡◌, ◌+◌, ◌<◌, ◌≤◌, ◌↔◌, ℕ, Option, None, Some, OnOk};
 ghost use Rattle.dd_search.specs.Budgets.{EndsAs};
-ghost use Rattle.dd_search.specs.Spent.{WasSpent};
+ghost use Rattle.dd_search.specs.Spent.{WasSpent, WasTicked};
 
 use std::marker::Model;
 
@@ -127,11 +127,11 @@ impl Meter for Budget {
     ghost use Rattle.std.specs.Prelude.{Some};
     ghost use Rattle.dd_search.specs.declared.meter.Tick.{Tick};
     ghost use Rattle.dd_search.specs.Budgets.{later-budget};
-    ghost use Rattle.dd_search.specs.Spent.{WasSpent};
+    ghost use Rattle.dd_search.specs.Spent.{WasSpent, WasTicked};
 
     ghost limit = { λ b. Some b.limit };
 
-    ghost ticked = { λ a b. (a.limit ≡ b.limit) × (a.count < b.count) };
+    ghost ticked = { λ a b. (a.limit ≡ b.limit) × (a.count < b.count) × WasTicked a.limit };
 
     ghost says = { λ b tick. (tick ≡ Tick.Spent → (b.count ≡ b.limit) × WasSpent b.limit)
         × (tick ≡ Tick.Stop → ⊥) };
@@ -144,7 +144,7 @@ impl Meter for Budget {
         ensures says { (result ≡ Tick.Spent → (self.new.count ≡ self.new.limit) × WasSpent self.new.limit)
             × (result ≡ Tick.Stop → ⊥) }
         ensures went { result ≡ Tick.Go → (self.old.limit ≡ self.new.limit)
-            × (self.old.count < self.new.count) }
+            × (self.old.count < self.new.count) × WasTicked self.old.limit }
         ensures spent { (result ≡ Tick.Spent) ↔ (self.old.count ≡ self.old.limit) }
         ensures stays { result ≡ Tick.Spent → self.new ≡ self.old }
         ensures counts { result ≡ Tick.Go → self.new

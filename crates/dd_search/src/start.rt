@@ -6,7 +6,7 @@ ghost use Rattle.dd_play.specs.Covers.{count_of};
 ghost use Rattle.dd_play.specs.Value.{leaders_tricks, score};
 ghost use Rattle.dd_equal.specs.EqualCards.{classes_of, tops};
 ghost use Rattle.dd_rank.specs.Depths.{all_cards, depth_in, Covers};
-ghost use Rattle.dd_search.specs.Budgets.{EndsAs, IsEndless};
+ghost use Rattle.dd_search.specs.Budgets.{EndsAs, HasTicked, IsEndless};
 
 use crate::card_scores::score_up_to;
 use crate::guess::guess;
@@ -128,6 +128,7 @@ pub fn start_scores<B: Bounds, M: Meter>(
         → Covers start.now (depth_in found.1) q → leaders_tricks q ≡ leaders_tricks start.now) }
     ensures within { IfOk result (λ found. (u : SuitOf)
         → depth_in found.1 u ≤ count_of u (all_cards start.now)) }
+    ensures ticked { OnOk result (HasTicked M.limit M.ticked (M.limit meter.old)) }
     ensures ends { EndsAs (M.says meter.new) result }
     ensures limit { M.limit meter.new ≡ M.limit meter.old }
     // It has an answer where the meter can say nothing else than to go on.

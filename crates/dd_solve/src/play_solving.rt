@@ -1,7 +1,7 @@
 //! The numbers of a play's trace, from the last one back.
-ghost use Rattle.std.specs.Prelude.{◌≡◌, ◌+◌, ◌<◌, ◌≤◌, IfOk, IfNone, IfSome, IsOk, length};
+ghost use Rattle.std.specs.Prelude.{◌≡◌, ◌+◌, ◌<◌, ◌≤◌, IfOk, IfNone, IfSome, IsOk, None, OnOk, length};
 ghost use Rattle.dd_search.specs.Budgets.{EndsAs, IsEndless};
-ghost use Rattle.dd_search.specs.Spent.{IsSpent};
+ghost use Rattle.dd_search.specs.Spent.{IsSpent, IsTicked};
 ghost use Rattle.dd_cards.specs.Sides.{is_side, side_of};
 ghost use Rattle.dd_play.specs.Board.{IsBoard, mover, tricks_left};
 ghost use Rattle.dd_play.specs.Won.{won};
@@ -23,6 +23,7 @@ pub fn solve_play<B: Bounds>(
     budget: Option<u64>,
 ) -> Option<SolvedPlay>
     ensures solved { IfSome result (λ solved. solved ≡ play_trace request) }
+    ensures ticked { IfSome result (λ _. IsTicked budget) }
     ensures spent { IfNone result (IsSpent budget) }
 {
     let mut count = request.cards().len();
@@ -46,6 +47,7 @@ pub fn solve_play_part<B: Bounds, M: Meter>(
     meter: &mut M,
 ) -> Result<PlayPart, Halt>
     ensures solved { IfOk result (λ solved. solved ≡ position_tricks position side) }
+    ensures ticked { OnOk result (M.ticked meter.old meter.new) }
     ensures ends { EndsAs (M.says meter.new) result }
     ensures limit { M.limit meter.new ≡ M.limit meter.old }
     // It has a result where the meter can say nothing else than to go on.
@@ -90,6 +92,7 @@ fn number_within<B: Bounds>(
         × (next ≡ tricks_after request.now (count
         + 1))) }
     ensures number { IfSome result (λ tricks. tricks ≡ tricks_after request.now count) }
+    ensures ticked { next ≡ None → IfSome result (λ _. IsTicked budget) }
     ensures spent { IfNone result (IsSpent budget) }
 {
     let found = match budget {
@@ -119,6 +122,7 @@ fn number_after<B: Bounds, M: Meter>(
         + 1))) }
     ensures number { IfOk result (λ tricks. tricks ≡ tricks_after request.now count) }
     ensures bound { IfOk result (λ tricks. tricks ≤ 13) }
+    ensures ticked { next ≡ None → OnOk result (M.ticked meter.old meter.new) }
     ensures ends { EndsAs (M.says meter.new) result }
     ensures limit { M.limit meter.new ≡ M.limit meter.old }
     ensures answers { IsEndless M.says → IsOk result }

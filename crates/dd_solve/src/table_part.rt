@@ -1,5 +1,5 @@
 //! The parts of a table, each of which is solved by itself.
-ghost use Rattle.std.specs.Prelude.{◌≡◌, ◌-◌, ◌<◌, ◌≤◌, ◌↔◌, ◌&&◌, ◌==◌, [], IfOk, IsOk, IsTrue};
+ghost use Rattle.std.specs.Prelude.{◌≡◌, ◌-◌, ◌<◌, ◌≤◌, ◌↔◌, ◌&&◌, ◌==◌, [], IfOk, IsOk, IsTrue, OnOk};
 ghost use Rattle.dd_cards.specs.Same.{same_hands};
 ghost use Rattle.dd_cards.specs.Sides.{side_of};
 ghost use Rattle.dd_play.specs.Board.{tricks_left, mover};
@@ -89,6 +89,7 @@ pub fn solve_part<B: Bounds, M: Meter>(
 ) -> Result<SolvedPart, Halt>
     requires { part < PARTS }
     ensures solved { IfOk result (λ solved. solved ≡ part_result request.now part) }
+    ensures ticked { OnOk result (M.ticked meter.old meter.new) }
     ensures ends { EndsAs (M.says meter.new) result }
     ensures limit { M.limit meter.new ≡ M.limit meter.old }
     // It has a result where the meter can say nothing else than to go on.
@@ -108,6 +109,7 @@ pub fn solve_part_from_guess<B: Bounds, M: Meter>(
 ) -> Result<SolvedPart, Halt>
     requires { part < PARTS }
     ensures solved { IfOk result (λ solved. solved ≡ part_result request.now part) }
+    ensures ticked { OnOk result (M.ticked meter.old meter.new) }
     ensures ends { EndsAs (M.says meter.new) result }
     ensures limit { M.limit meter.new ≡ M.limit meter.old }
     ensures answers { IsEndless M.says → IsOk result }
@@ -130,6 +132,7 @@ fn declarers_tricks<B: Bounds, M: Meter>(
     requires start { position.now.trick ≡ [] }
     ensures tricks { IfOk result (λ tricks. tricks ≡ tricks_left position.now - leaders_tricks position.now) }
     ensures bound { IfOk result (λ tricks. tricks ≤ 13) }
+    ensures ticked { OnOk result (M.ticked meter.old meter.new) }
     ensures ends { EndsAs (M.says meter.new) result }
     ensures limit { M.limit meter.new ≡ M.limit meter.old }
     ensures answers { IsEndless M.says → IsOk result }
@@ -147,6 +150,7 @@ fn tricks_of_leaders<B: Bounds, M: Meter>(
 ) -> Result<u8, Halt>
     requires start { position.now.trick ≡ [] }
     ensures value { IfOk result (λ tricks. tricks ≡ leaders_tricks position.now) }
+    ensures ticked { OnOk result (M.ticked meter.old meter.new) }
     ensures ends { EndsAs (M.says meter.new) result }
     ensures limit { M.limit meter.new ≡ M.limit meter.old }
     ensures answers { IsEndless M.says → IsOk result }
@@ -165,6 +169,7 @@ fn value_at_start<B: Bounds, M: Meter>(
     meter: &mut M,
 ) -> Result<u8, Halt>
     ensures value { IfOk result (λ tricks. tricks ≡ leaders_tricks start.now) }
+    ensures ticked { OnOk result (M.ticked meter.old meter.new) }
     ensures ends { EndsAs (M.says meter.new) result }
     ensures limit { M.limit meter.new ≡ M.limit meter.old }
     ensures answers { IsEndless M.says → IsOk result }

@@ -1,6 +1,6 @@
 //! All parts of a table, one after another.
 ghost use Rattle.std.specs.Prelude.{◌≡◌, ◌<◌, IfNone, IfSome};
-ghost use Rattle.dd_search.specs.Spent.{IsSpent};
+ghost use Rattle.dd_search.specs.Spent.{IsSpent, IsTicked};
 ghost use Rattle.dd_solve.specs.Results.{contract_of, results, strain_results, tricks_of};
 
 use crate::solved_table::Results;
@@ -17,6 +17,7 @@ pub fn solve_table<B: Bounds>(
     budget: Option<u64>,
 ) -> Option<Results>
     ensures results { IfSome result (λ found. found ≡ results request.now) }
+    ensures ticked { IfSome result (λ _. IsTicked budget) }
     ensures spent { IfNone result (IsSpent budget) }
 {
     let spades = solve_strain(request, Strain::Trump(Suit::Spades), table, budget)?;
@@ -38,6 +39,7 @@ pub fn solve_strain<B: Bounds>(
     budget: Option<u64>,
 ) -> Option<[u8; 4]>
     ensures results { IfSome result (λ found. found ≡ strain_results request.now strain) }
+    ensures ticked { IfSome result (λ _. IsTicked budget) }
     ensures spent { IfNone result (IsSpent budget) }
 {
     let all = request.hands().len(Seat::North);
@@ -76,6 +78,7 @@ fn tricks_within<B: Bounds>(
 ) -> Option<u8>
     ensures tricks { IfSome result (λ tricks. tricks
         ≡ tricks_of request.now (record { strain = strain; declarer = declarer })) }
+    ensures ticked { IfSome result (λ _. IsTicked budget) }
     ensures spent { IfNone result (IsSpent budget) }
 {
     let part = 4 * strain.code() + declarer.code();
@@ -92,6 +95,7 @@ fn part_within<B: Bounds>(
 ) -> Option<u8>
     requires { part < PARTS }
     ensures tricks { IfSome result (λ tricks. tricks ≡ tricks_of request.now (contract_of part)) }
+    ensures ticked { IfSome result (λ _. IsTicked budget) }
     ensures spent { IfNone result (IsSpent budget) }
 {
     let solved = match budget {
