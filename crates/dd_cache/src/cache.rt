@@ -343,7 +343,7 @@ impl<B: Bounds> Bounds for Cache<B> {
         let strings = OwnerStrings::of(start);
         self.learn(start, &strings, depths, interval);
         if interval.lo == interval.hi || is_worth_sharing(start) {
-            self.behind.note_by(start, &strings, depths, interval);
+            self.behind.note(start, depths, interval);
         }
     }
 

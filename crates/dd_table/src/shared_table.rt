@@ -89,6 +89,23 @@ impl SharedTable {
         self.shard(strings.shape()).lock(rt).look_by(start, strings)
     }
 
+    // The same without waiting: nothing too where another thread holds the shard.
+    pub(crate) fn try_look_by(
+        &self,
+        start: &TrickStart,
+        strings: &OwnerStrings,
+    ) -> Option<(Interval, Depths)>
+        requires { strings.now ≡ strings_of start.now }
+        ensures holds { IfSome result (λ told. (q : Board) → IsBoard q
+            → Covers start.now (depth_in told.1) q → Holds told.0 (leaders_tricks q)) }
+        ensures within { IfSome result (λ told. (u : Suit)
+            → depth_in told.1 u ≤ count_of u (all_cards start.now)) }
+    {
+        self.shard(strings.shape())
+            .try_lock()?
+            .look_by(start, strings)
+    }
+
     // Tells the shard of the position with these strings, under one lock, bounds of the value of each position that this
     // one covers at these depths. Where there is no memory for them nothing is kept.
     pub(crate) fn note_by<R: Wait>(
@@ -105,8 +122,25 @@ impl SharedTable {
             → Holds interval (leaders_tricks q) }
     {
         let mut shard = self.shard(strings.shape()).lock(rt);
-        // Bounds more that find no memory are bounds less to look at, and no fault.
-        let _ = shard.note_by(start, strings, depths, interval);
+        keep(&mut shard, start, strings, depths, interval);
+    }
+
+    // The same without waiting: nothing is kept either where another thread holds the shard.
+    pub(crate) fn try_note_by(
+        &self,
+        start: &TrickStart,
+        strings: &OwnerStrings,
+        depths: Depths,
+        interval: Interval,
+    )
+        requires strings { strings.now ≡ strings_of start.now }
+        requires within { (u : Suit) → depth_in depths u ≤ count_of u (all_cards start.now) }
+        requires holds { (q : Board) → IsBoard q → Covers start.now (depth_in depths) q
+            → Holds interval (leaders_tricks q) }
+    {
+        if let Some(mut shard) = self.shard(strings.shape()).try_lock() {
+            keep(&mut shard, start, strings, depths, interval);
+        }
     }
 
     /// The number of shapes in all shards, added up one shard after the other: while others note it may be no moment's.
@@ -117,6 +151,23 @@ impl SharedTable {
         }
         sum
     }
+}
+
+// Tells the shard.
+fn keep(
+    shard: &mut Shard,
+    start: &TrickStart,
+    strings: &OwnerStrings,
+    depths: Depths,
+    interval: Interval,
+)
+    requires strings { strings.now ≡ strings_of start.now }
+    requires within { (u : Suit) → depth_in depths u ≤ count_of u (all_cards start.now) }
+    requires holds { (q : Board) → IsBoard q → Covers start.now (depth_in depths) q
+        → Holds interval (leaders_tricks q) }
+{
+    // Bounds more that find no memory are bounds less to look at, and no fault.
+    let _ = shard.note_by(start, strings, depths, interval);
 }
 
 // The place of the shard for a shape, among so many.

@@ -48,6 +48,16 @@ impl SharedTable {
         Some((interval, Depths::full(start)))
     }
 
+    // Offers what these bounds say of a position with these strings to its cell, where they are a value and the cell is empty.
+    fn offer_exact(&self, start: &TrickStart, strings: &OwnerStrings, interval: Interval)
+        requires strings { strings.now ≡ strings_of start.now }
+        requires holds { Holds interval (leaders_tricks start.now) }
+    {
+        if interval.lo == interval.hi {
+            self.offer(start, strings, interval.lo);
+        }
+    }
+
     // Offers the value of a position with these strings to its cell, where that is empty.
     fn offer(&self, start: &TrickStart, strings: &OwnerStrings, value: u8)
         requires strings { strings.now ≡ strings_of start.now }
@@ -87,24 +97,32 @@ impl<'a, R: Wait> Bounds for View<'a, R> {
         }
     }
 
-    /// The same, where what the shard tells has to settle the question: else the front is asked, whose values always do.
+    /// The same, where what the shard tells has to settle the question: else the front is asked, whose values always do. It waits for
+    /// no other thread, so that the search that asks at each start has nothing in it that may wait.
     fn settle(
         &mut self,
         start: &TrickStart,
         strings: &OwnerStrings,
         need: u8,
     ) -> Option<(Interval, Depths)> {
-        match self.table.look_by(self.rt, start, strings) {
+        match self.table.try_look_by(start, strings) {
             Some(told) if need <= told.0.lo || told.0.hi < need => Some(told),
             _ => self.table.exact(start, strings),
         }
     }
 
-    /// Tells the shard of the position, and offers a value to the front.
+    /// Tells the shard of the position, and offers a value to the front. It waits for the shard: what a whole search found is kept.
     fn note(&mut self, start: &TrickStart, depths: Depths, interval: Interval) {
-        self.note_by(start, &OwnerStrings::of(start), depths, interval);
+        // The proof reads here that a position covers itself.
+        let _ = start.position();
+        covered_positions();
+        let strings = OwnerStrings::of(start);
+        self.table
+            .note_by(self.rt, start, &strings, depths, interval);
+        self.table.offer_exact(start, &strings, interval);
     }
 
+    /// The same without waiting: where another thread holds the shard this is not told.
     fn note_by(
         &mut self,
         start: &TrickStart,
@@ -115,10 +133,7 @@ impl<'a, R: Wait> Bounds for View<'a, R> {
         // The proof reads here that a position covers itself.
         let _ = start.position();
         covered_positions();
-        self.table
-            .note_by(self.rt, start, strings, depths, interval);
-        if interval.lo == interval.hi {
-            self.table.offer(start, strings, interval.lo);
-        }
+        self.table.try_note_by(start, strings, depths, interval);
+        self.table.offer_exact(start, strings, interval);
     }
 }
