@@ -20,7 +20,7 @@ TICK = "crates/dd_search/proofs/meter/BudgetMeter/tick/Answers.antt"
 OPENING = {
     "refused-tick": {SPENT, TICK},
     "granted-tick": {SPENT, TICK},
-    "seen-journal": {SIGHTINGS, f"{DESK}/locked_state/LockedState/seen/Answers.antt", f"{DESK}/recall/recall/Answers.antt", f"{DESK}/seen/follow/Answers.antt"},
+    "seen-journal": {SIGHTINGS, f"{DESK}/locked_state/LockedState/seen/Answers.antt", f"{DESK}/recall/recall/Answers.antt", f"{DESK}/seen/goes_on/Answers.antt"},
     "passes-given": {SIGHTINGS, f"{DESK}/locked_state/LockedState/given/Answers.antt"},
     "refused-call": {SIGHTINGS, f"{DESK}/recording/record_held/Answers.antt"},
     "cut-wait": {SIGHTINGS, f"{DESK}/desk/Desk/fetch_within/Answers.antt"},

@@ -1,5 +1,5 @@
 //! What lies under the desk's lock.
-ghost use Rattle.std.specs.Prelude.{◌≡◌, ◌+◌, ◌<◌, ◌≤◌, true, false, [], length, map, take, vec_len, vec_capacity, Some, ◌⊎◌, MatchResult, MatchBool, IfErr, IfOk};
+ghost use Rattle.std.specs.Prelude.{◌≡◌, ◌+◌, ◌<◌, ◌≤◌, true, false, [], length, map, take, vec_len, vec_capacity, Some, ◌⊎◌, MatchResult, MatchBool, IfErr, IfOk, IfSome};
 ghost use Rattle.dd_book.specs.Calls.{IsIdle};
 ghost use Rattle.dd_book.specs.Jobs.{is_open_job, open_in, own_job};
 ghost use Rattle.dd_desk.specs.Looks.{SeesOpen, SeesRunning, SeesTally};
@@ -16,7 +16,7 @@ use crate::history::History;
 use crate::names::{Naming, PlaceSums, ReceiptCounts};
 use crate::past::Past;
 use crate::receipt_log::{CountedLog, ReceiptLog};
-use crate::seen::{Seen, follow};
+use crate::seen::{Seen, follow, goes_on};
 use crate::tally::Tally;
 use dd_book::Limits;
 use once_cell::race::Note;
@@ -180,6 +180,17 @@ impl<J: Naming> LockedState<J> {
     {
         follow(rt, self, seen);
         self.history.runs(seen.number(), job, claim)
+    }
+
+    /// The same, where the journal goes on from what the worker has seen: it always does.
+    pub(crate) fn may_still_run(&mut self, seen: &mut Seen<J>, job: u64, claim: u64) -> Option<bool>
+        ensures seen { seen.new ≡ seen.old }
+        ensures sees { IfSome result (SeesRunning J.limits seen.old job claim) }
+    {
+        if !goes_on(self, seen) {
+            return None;
+        }
+        Some(self.history.runs(seen.number(), job, claim))
     }
 
     /// Whose bells are to ring after a call.

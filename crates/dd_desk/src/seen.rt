@@ -1,5 +1,5 @@
 //! What a pass has seen of its desk.
-ghost use Rattle.std.specs.Prelude.{◌≡◌, ◌<◌, length, vec_len, vec_capacity, Some, slice_get};
+ghost use Rattle.std.specs.Prelude.{◌≡◌, ◌<◌, IsTrue, length, vec_len, vec_capacity, Some, slice_get};
 ghost use Rattle.dd_desk.specs.Looks.{GoesOn};
 ghost use Rattle.dd_desk.specs.Receipts.{HasReceipts, pass_of};
 ghost use Rattle.dd_desk.specs.Sightings.{WasSeen};
@@ -104,6 +104,18 @@ pub(crate) fn follow<J: Naming, R: Wait>(rt: &R, state: &mut LockedState<J>, see
     ensures goes_on { GoesOn seen.old.journal state.old.history.journal.items }
     ensures was { WasSeen J.limits state.old.history.journal.items }
 {
+    if !goes_on(state, seen) {
+        wait_forever(rt)
+    }
+}
+
+/// Does the journal go on from the one that was seen? It always does, though the types don't tell.
+pub(crate) fn goes_on<J: Naming>(state: &mut LockedState<J>, seen: &mut Seen<J>) -> bool
+    ensures history { state.new.history ≡ state.old.history }
+    ensures seen { seen.new ≡ seen.old }
+    ensures goes_on { IsTrue result → GoesOn seen.old.journal state.old.history.journal.items }
+    ensures was { WasSeen J.limits state.old.history.journal.items }
+{
     let LockedState {
         history,
         marks,
@@ -116,8 +128,9 @@ pub(crate) fn follow<J: Naming, R: Wait>(rt: &R, state: &mut LockedState<J>, see
     } = state;
     let place = seen.place as usize;
     if place >= history.len() {
-        wait_forever(rt)
+        return false;
     }
     let other = seen.mark.again();
     compare(marks, place, other);
+    true
 }
