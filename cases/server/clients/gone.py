@@ -53,6 +53,9 @@ def settle(client):
 def end(server, client, known, open_jobs):
     """Stops the program. Besides what is known each job that was left open has its cancel, and workers have claimed and finished."""
     settle(client)
+    # A worker may still be in the search for a job that was cancelled, which it gives up within milliseconds. Stopped in it, the worker
+    # would leave without its last claim.
+    time.sleep(0.1)
     check("a stop", client.ask(STOP), CLOSING)
     client.close()
     events, status, said = server.end()

@@ -14,10 +14,6 @@ use std::sync::Wait;
 /// part is claimed.
 const LEAST_BUDGET_AHEAD: u64 = 1_000_000;
 
-/// The parts behind a strain's first one in the order in which they are searched ahead: first the one whose leader is the partner of the
-/// first one's leader, since the lead of one side helps with the other lead of that side most.
-const BEHIND: [u8; 3] = [2, 1, 3];
-
 /// What a worker remembers of the tables that it works on. It bears on the time alone.
 #[derive(Clone, Copy, Debug)]
 pub(crate) struct Remembered {
@@ -90,7 +86,7 @@ fn search_ahead<J: Naming, B: Bounds, R: Wait>(
     held: HeldPart<'_, J, R>,
 ) {
     let (mut held, mut last) = (held, first);
-    for behind in BEHIND {
+    for behind in 1..4 {
         if last.is_none() {
             return;
         }
