@@ -98,7 +98,7 @@ impl<'a, R: Wait> Bounds for View<'a, R> {
     }
 
     /// The same, where what the shard tells has to settle the question: else the front is asked, whose values always do. It waits for
-    /// no other thread, so that the search that asks at each start has nothing in it that may wait.
+    /// no lock, so that a search, which asks at each start, has nothing in it that may wait.
     fn settle(
         &mut self,
         start: &TrickStart,
