@@ -4,6 +4,7 @@ use crate::table::positions::{
 };
 use dd_cards::{Seat, Suit};
 use dd_play::{Interval, TrickStart};
+use dd_rank::OwnerStrings;
 use dd_search::{Bounds, Endless, NoTable, start_value};
 use dd_table::SharedTable;
 use std::alloc::AllocError;
@@ -124,5 +125,30 @@ fn bounds_that_are_no_value_do_not_reach_the_front(rt: HostRuntime) -> Result<()
     );
     assert!(rt; tell(&mut view, &start(&rt, ACE, Seat::North), true) == Some(1));
     assert!(rt; bounds_told(&mut view, &behind) == None);
+    Ok(())
+}
+
+// The same as a search does it, which knows the strings: that the value is not above what it is.
+fn tell_in_a_search<B: Bounds>(table: &mut B, start: &TrickStart) -> Option<u8> {
+    let (tricks, depths) = start_value(start, &mut NoTable, &mut Endless).ok()?;
+    let strings = OwnerStrings::of(start);
+    table.note_by(start, &strings, depths, Interval { lo: 0, hi: tricks });
+    Some(tricks)
+}
+
+// What a search is told of the question whether two tricks are taken.
+fn told_in_a_search<B: Bounds>(table: &mut B, start: &TrickStart) -> Option<(u8, u8)> {
+    let (interval, _) = table.settle(start, &OwnerStrings::of(start), 2)?;
+    Some((interval.lo, interval.hi))
+}
+
+#[test]
+fn a_search_is_told_what_another_one_told(rt: HostRuntime) -> Result<(), AllocError> {
+    let table = SharedTable::new(rt.alloc(), 1, 64)?;
+    let mut view = table.view(&rt);
+    let behind = start(&rt, BEHIND, Seat::North);
+    assert!(rt; told_in_a_search(&mut view, &behind) == None);
+    assert!(rt; tell_in_a_search(&mut view, &behind) == Some(1));
+    assert!(rt; told_in_a_search(&mut view, &behind) == Some((0, 1)));
     Ok(())
 }
