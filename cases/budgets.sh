@@ -10,7 +10,7 @@ for tool in python3 rustc; do
 done
 work=$(mktemp -d)
 trap 'rm -rf "$work"' EXIT
-"${DDSERVE:-$here/../ddserve}" --version > /dev/null
+"${DDSERVE:-$here/../ddserve}" serve --help > /dev/null
 rustc --cfg pages --check-cfg "cfg(pages)" -C opt-level=3 --edition 2021 -o "$work/peer" "$here/../bench/peer/search.rs"
 python3 - "${DDSERVE:-$here/../crates/ddserve/out/ddserve}" "$work/peer" "$here/data" <<'PY'
 import json

@@ -9,7 +9,7 @@ top=$(cd -- "$here/.." && pwd)
 for tool in python3 flock truncate cmp; do
     command -v "$tool" > /dev/null || { echo "cases/bulk: the command $tool is missing" >&2; exit 77; }
 done
-"${DDSERVE:-$top/ddserve}" --version > /dev/null
+"${DDSERVE:-$top/ddserve}" serve --help > /dev/null
 DDSERVE=$(readlink -f -- "${DDSERVE:-$top/crates/ddserve/out/ddserve}")
 export DDSERVE
 work=$(mktemp -d)

@@ -13,7 +13,7 @@ work=$(mktemp -d)
 trap 'rm -rf "$work"' EXIT
 # `DDSERVE` names another built program. It is started without the script `ddserve`, whose tools would be refused memory too.
 program=${DDSERVE:-$here/../crates/ddserve/out/ddserve}
-[ -n "${DDSERVE:-}" ] || "$here/../ddserve" --version > /dev/null
+[ -n "${DDSERVE:-}" ] || "$here/../ddserve" serve --help > /dev/null
 cc -O2 -shared -fPIC -o "$work/refuse.so" "$here/tools/refuse.c"
 # The first lines of a file of requests, changed by sed, and their replies.
 put() {

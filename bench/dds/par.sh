@@ -17,7 +17,7 @@ work=$(mktemp -d)
 trap 'rm -rf "$work"' EXIT
 bash "$here/peer.sh" "${DDS_PEER:-$work/peer}"
 g++ -O3 -march=x86-64-v3 -flto=auto -pthread -I"${DDS_PEER:-$work/peer}/include" -o "$work/dds" "$here/dds.cpp" "${DDS_PEER:-$work/peer}/libdds.a"
-"${DDSERVE:-$top/ddserve}" solve < /dev/null
+"${DDSERVE:-$top/ddserve}" serve --help > /dev/null
 python3 "$top/bench/tools/deals.py" 13 "$full" --seed "$seed" --requests > "$work/13.jsonl"
 grep '"dealer"' "$top/cases/data/par.jsonl" > "$work/recorded.jsonl"
 while [ "$(cat "$work/lines.jsonl" 2> /dev/null | wc -l)" -lt 20000 ]; do cat "$work/recorded.jsonl" >> "$work/lines.jsonl"; done

@@ -20,7 +20,7 @@ work=$(mktemp -d)
 trap 'rm -rf "$work"' EXIT
 bash "$here/peer.sh" "${DDS_PEER:-$work/peer}"
 g++ -O3 -march=x86-64-v3 -flto=auto -pthread -I"${DDS_PEER:-$work/peer}/include" -o "$work/dds" "$here/dds.cpp" "${DDS_PEER:-$work/peer}/libdds.a"
-"${DDSERVE:-$top/ddserve}" solve < /dev/null
+"${DDSERVE:-$top/ddserve}" serve --help > /dev/null
 ours="${DDSERVE:-$top/crates/ddserve/out/ddserve}"
 python3 "$top/bench/tools/plays.py" "$ours" "$plays" --seed "$seed" > "$work/plays.jsonl"
 

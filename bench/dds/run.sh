@@ -30,7 +30,7 @@ trap 'rm -rf "$work"' EXIT
 g++ -O2 -o "$work/debian" "$here/dds.cpp" -ldds
 bash "$here/peer.sh" "${DDS_PEER:-$work/peer}"
 g++ -O3 -march=x86-64-v3 -flto=auto -pthread -I"${DDS_PEER:-$work/peer}/include" -o "$work/dds" "$here/dds.cpp" "${DDS_PEER:-$work/peer}/libdds.a"
-"${DDSERVE:-$top/ddserve}" solve < /dev/null
+"${DDSERVE:-$top/ddserve}" serve --help > /dev/null
 for cards in 1 4 6; do
     python3 "$top/bench/tools/deals.py" "$cards" 2000 --seed $((2000 + cards)) --requests > "$work/small$cards.jsonl"
 done

@@ -21,7 +21,7 @@ for tool in python3 rustc; do
     command -v "$tool" > /dev/null || { echo "bench/server: the command $tool is missing" >&2; exit 1; }
 done
 export DDSERVE=${DDSERVE:-$top/ddserve} PYTHONDONTWRITEBYTECODE=1
-"$DDSERVE" --version > /dev/null
+"$DDSERVE" serve --help > /dev/null
 work=$(mktemp -d)
 trap 'rm -rf "$work"' EXIT
 rustc -O --edition 2021 -o "$work/load" "$here/clients/load.rs"

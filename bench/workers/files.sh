@@ -7,7 +7,7 @@ set -eu
 here=$(cd -- "$(dirname -- "$0")" && pwd)
 top=$(cd -- "$here/../.." && pwd)
 command -v python3 > /dev/null || { echo "bench/workers: the command python3 is missing" >&2; exit 1; }
-"${DDSERVE:-$top/ddserve}" --version > /dev/null
+"${DDSERVE:-$top/ddserve}" serve --help > /dev/null
 
 python3 - "${1:-3}" "${DDSERVE:-$top/crates/ddserve/out/ddserve}" "$top/examples/record.pbn" <<'PY'
 import os

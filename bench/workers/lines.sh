@@ -26,7 +26,7 @@ for kind in scores tables; do
     [ "$kind" = scores ] || source=$here/dds_tables.cpp
     g++ -O3 -march=x86-64-v3 -flto=auto -pthread -I"$peer/include" -o "$work/$kind" "$source" "$peer/libdds.a"
 done
-"${DDSERVE:-$top/ddserve}" solve < /dev/null
+"${DDSERVE:-$top/ddserve}" serve --help > /dev/null
 python3 "$top/bench/tools/deals.py" 13 "$deals" --seed "$seed" --requests > "$work/scores.jsonl"
 python3 "$top/bench/tools/deals.py" 13 "$tables" --seed "$seed" --requests \
     | sed 's/"do":"solve"/"do":"table"/; s/,"trump".*}$/}/' > "$work/tables.jsonl"

@@ -20,7 +20,7 @@ need_root() {
 
 # `DDSERVE` names another built program. `ddserve` is the path of the program itself.
 need_program() {
-    "${DDSERVE:-$top/ddserve}" --version > /dev/null
+    "${DDSERVE:-$top/ddserve}" serve --help > /dev/null
     ddserve=$(readlink -f -- "${DDSERVE:-$top/crates/ddserve/out/ddserve}")
     export DDSERVE=$ddserve
 }

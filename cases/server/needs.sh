@@ -35,5 +35,5 @@ need_python() {
 
 # Proves and builds the program where it isn't built, so that no start waits for it. `DDSERVE` names another built program.
 need_program() {
-    "${DDSERVE:-$here/../../ddserve}" --version > /dev/null
+    "${DDSERVE:-$here/../../ddserve}" serve --help > /dev/null
 }

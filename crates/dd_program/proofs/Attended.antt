@@ -3,16 +3,15 @@ use Rattle.std.proofs.Common.{◌≡◌, ◌∙◌, ◌<◌, ℕ, refl, sym, ap,
 use Rattle.std.specs.Prelude.{IsOk, Result, Ok, Err, string_bytes}
 use Rattle.std.proofs.KnownBytes.{Appends-nil, Appends-trans}
 use Rattle.dd_lines.specs.CountedDevices.{FailedOnce}
-use Rattle.dd_command.specs.declared.command_line.Args.{Args}
-use Rattle.dd_command.specs.declared.command_line.Args.TheVariants.{Fill, Serve}
 use Rattle.dd_server.specs.declared.args.ServeFault.{ServeFault}
 use Rattle.dd_server.specs.declared.args.ServeFault.TheVariants.{Listen, OutOfMemory as NoMemoryLeft}
 use Rattle.dd_desk.specs.Events.{EventOf}
 use Rattle.dd_server.specs.Runs.{AreTold}
 use Rattle.dd_server.specs.declared.terms.Terms.{Terms}
-use Rattle.dd_program.specs.declared.ending.Ending.{Ending}
-use Rattle.dd_program.specs.declared.ending.Ending.TheVariants.{WriteFailed}
-use Rattle.dd_program.specs.Endings.{AnswersUntil, AreRuns, Device, EndsSo, FillsUntil, ServesUntil, Streams, TellingOf, TellsNext, TellsRun, TellsText, Writes, WritesAll, WritesBeginning, closed_text, closed_texts, line_of, listening_text, streams, terms_for}
+use Rattle.dd_streams.specs.declared.ending.Ending.{Ending}
+use Rattle.dd_streams.specs.declared.ending.Ending.TheVariants.{WriteFailed}
+use Rattle.dd_program.specs.Endings.{AreRuns, EndsSo, ServesUntil, TellingOf, TellsNext, TellsRun, TellsText, closed_text, closed_texts, listening_text, terms_for}
+use Rattle.dd_streams.specs.Endings.{Device, Writes, WritesAll, WritesBeginning, line_of, streams}
 
 -- ---- texts, one after another
 
@@ -133,18 +132,3 @@ pub untold-start : {S : Type 0} (way : S → List EventOf → S → Type 0) (wat
 untold-start way watcher terms events address line input before output errors errors2 ending line-is ending-is begins said =
     subst (ServesUntil way watcher watcher terms events (streams input before errors) (streams input output errors2)) (sym ending-is)
     (record { input = refl; output = inl (refl, (address, subst (λ l. WritesBeginning l before output) line-is begins)); said = said })
-
--- so what arguments of `serve` ask for is done
-pub as-serve : {S : Type 0} (way : S → List EventOf → S → Type 0) (watcher watcher2 : S) (args : Args) (listen : String Global) (workers shards entries : ℕ) (budget : Option ℕ) (events : ℕ)
-    (idle : Option ℕ) (websocket allow_stop explain is_terminal : Bool) (old new : Streams) (ending : Ending)
-    → args ≡ Serve listen workers shards entries budget events idle websocket allow_stop explain
-    → ServesUntil way watcher watcher2 (terms_for budget allow_stop explain) events old new ending → AnswersUntil way watcher watcher2 is_terminal args old new ending
-as-serve way watcher watcher2 args listen workers shards entries budget events idle websocket allow_stop explain is_terminal old new ending is serves =
-    subst (λ a. AnswersUntil way watcher watcher2 is_terminal a old new ending) (sym is) serves
-
--- and what those of `pbn` do
-pub as-fill : {S : Type 0} (way : S → List EventOf → S → Type 0) (watcher : S) (args : Args) (tags : String Global) (budget : Option ℕ) (entries workers : ℕ) (text : List ℕ) (is_terminal : Bool)
-    (old new : Streams) (ending : Ending) → args ≡ Fill tags budget entries workers → text ≡ string_bytes tags → FillsUntil text budget is_terminal old new ending
-    → AnswersUntil way watcher watcher is_terminal args old new ending
-as-fill way watcher args tags budget entries workers text is_terminal old new ending is same fills =
-    subst (λ a. AnswersUntil way watcher watcher is_terminal a old new ending) (sym is) (refl, subst (λ t. FillsUntil t budget is_terminal old new ending) same fills)

@@ -1,3 +1,2 @@
 mod Attended
-mod FilledUntil
-mod NamedTags
+mod Done

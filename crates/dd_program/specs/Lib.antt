@@ -1,3 +1,1 @@
-pub mod ListenFaults
 pub mod Endings
-pub mod Tags

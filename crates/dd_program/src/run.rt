@@ -1,24 +1,15 @@
 //! What the program does: from its arguments and its streams to its ending.
-ghost use Rattle.std.specs.Prelude.{◌≡◌, ◌≤◌, ◌*◌, IfOk, IfErr, IfSome, option_map};
-ghost use Rattle.clap.specs.Words.{kind_of};
-ghost use Rattle.dd_command.specs.CommandLine.{IsIdle, IsInRange, IsTableSize};
-ghost use Rattle.dd_program.specs.Endings.{line_of, state_of, streams, arguments_of, Device, AskFor, Explains, Writes, SolvesUntil, ShowsUntil, Runs};
-ghost use Rattle.dd_tool.specs.Served.{IsReplyAs};
+ghost use Rattle.std.specs.Prelude.{◌≡◌, ◌≤◌, ◌*◌, IfSome, option_map};
+ghost use Rattle.dd_command.specs.CommandLine.{IsIdle};
+ghost use Rattle.dd_program.specs.Endings.{Runs};
+ghost use Rattle.dd_streams.specs.Endings.{state_of, streams, arguments_of};
 
-use crate::ahead::solve_ahead;
-use crate::ending::Ending;
-use crate::filling::{FillArgs, fill};
 use crate::serving::serve;
-use clap::Error;
-use clap::error::ErrorKind;
-use dd_cache::Cache;
-use dd_command::{Args, ArgumentsFault, not_text, read_args};
-use dd_lines::{CountedDevice, LineFault, write_whole};
-use dd_search::Bounds;
+use dd_command::ArgumentsFault;
+use dd_lines::CountedDevice;
 use dd_server::{KeepsRuns, ServeArgs, TellsRuns};
-use dd_table::SharedTable;
-use dd_tool::tell_lines;
-use std::alloc::{AllocError, Global};
+use dd_streams::{Ending, ServeOptions, run_streams};
+use std::alloc::Global;
 use std::io::{Read, Write};
 use std::net::{Net, TcpListener, TcpStream};
 use std::sync::Wait;
@@ -27,20 +18,6 @@ use std::time::Clock;
 
 /// How many milliseconds a run that is worn waits for its sessions: ten minutes.
 const GRACE: u64 = 600_000;
-
-/// The most bytes that one read takes.
-const PIECE: usize = 4_096;
-
-/// What the parser of arguments says of an option that there isn't.
-const NO_OPTION: &str = "error: unexpected argument '-";
-
-/// What is said of a file that is named in place of being the standard input.
-const FILE_OF_PBN: &str =
-    "ddserve: files are read from the standard input, as in: ddserve pbn < FILE\n";
-
-/// The same of a file of lines.
-const FILE_OF_LINES: &str =
-    "ddserve: files are read from the standard input, as in: ddserve solve < FILE\n";
 
 /// Does what the arguments ask for: answers the lines of the input on the output, serves the clients of an address, passes a
 /// file on with its lines, shows help or the version on the output, or says on the standard error what is wrong with the
@@ -69,27 +46,10 @@ pub fn run_program<
         (streams (state_of R.remaining reader.new) (state_of O.contents output.new)
         (state_of E.contents errors.new)) result }
 {
-    match args_of(alloc, arguments) {
-        Ok(
-            Args::Solve {
-                budget,
-                entries,
-                workers: 1,
-                explain,
-            },
-        ) => solve(rt, alloc, budget, explain, entries, reader, output, errors),
-        Ok(
-            Args::Solve {
-                budget,
-                entries,
-                workers,
-                explain,
-            },
-        ) => solve_ahead(
-            rt, alloc, workers, budget, explain, entries, reader, output, errors,
-        ),
-        Ok(
-            Args::Serve {
+    match run_streams(rt, alloc, arguments, reader, output, errors, is_terminal) {
+        Ok(ending) => ending,
+        Err(
+            ServeOptions {
                 listen,
                 workers,
                 shards,
@@ -124,26 +84,6 @@ pub fn run_program<
                 watcher,
             )
         }
-        Ok(
-            Args::Fill {
-                tags,
-                budget,
-                entries,
-                workers,
-            },
-        ) => {
-            let args = FillArgs {
-                budget,
-                entries,
-                workers,
-                shows_progress: is_terminal,
-            };
-            fill(rt, alloc, tags.as_str(), args, reader, output, errors)
-        }
-        Err(error) => match error.kind() {
-            ErrorKind::OutOfMemory => fail(errors, Ending::OutOfMemory),
-            _ => show(alloc, &error, output, errors),
-        },
     }
 }
 
@@ -156,131 +96,4 @@ fn milliseconds(seconds: Option<u64>) -> Option<u64>
         Some(seconds) => Some(seconds * 1_000),
         None => None,
     }
-}
-
-/// What the arguments ask for. The error is a bad line, a call for help or for the version, or lack of memory.
-fn args_of(alloc: Global, arguments: Result<Vec<String>, ArgumentsFault>) -> Result<Args, Error>
-    ensures asked { IfOk result (AskFor (arguments_of arguments)) }
-    ensures in_range { IfOk result IsInRange }
-    ensures error { IfErr result (λ error. Explains (arguments_of arguments) (kind_of error)) }
-{
-    match arguments {
-        Ok(arguments) => read_args(alloc, arguments.as_slice()),
-        Err(ArgumentsFault::NotText) => Err(not_text(alloc)),
-        Err(ArgumentsFault::OutOfMemory) => Err(AllocError.into()),
-    }
-}
-
-/// Answers the lines of the input, each within the budget, explained or not, over a view of a table of one shard, behind a
-/// cache.
-fn solve<W: Wait, R: Read, O: Write, E: Write>(
-    rt: &W,
-    alloc: Global,
-    budget: Option<u64>,
-    explain: bool,
-    entries: u32,
-    reader: &mut CountedDevice<R>,
-    output: &mut CountedDevice<O>,
-    errors: &mut CountedDevice<E>,
-) -> Ending
-    requires { IsTableSize entries }
-    ensures { SolvesUntil (IsReplyAs explain budget)
-        (streams (state_of R.remaining reader.old) (state_of O.contents output.old)
-        (state_of E.contents errors.old))
-        (streams (state_of R.remaining reader.new) (state_of O.contents output.new)
-        (state_of E.contents errors.new)) result }
-{
-    let Ok(table) = SharedTable::new(alloc, 1, entries) else {
-        return fail(errors, Ending::OutOfMemory);
-    };
-    let Ok(mut cache) = Cache::new(alloc, table.view(rt)) else {
-        return fail(errors, Ending::OutOfMemory);
-    };
-    solve_over(alloc, budget, explain, reader, output, errors, &mut cache)
-}
-
-/// Answers the lines of the input over a table, each within the budget, explained or not.
-fn solve_over<B: Bounds, R: Read, O: Write, E: Write>(
-    alloc: Global,
-    budget: Option<u64>,
-    explain: bool,
-    reader: &mut CountedDevice<R>,
-    output: &mut CountedDevice<O>,
-    errors: &mut CountedDevice<E>,
-    table: &mut B,
-) -> Ending
-    ensures { SolvesUntil (IsReplyAs explain budget)
-        (streams (state_of R.remaining reader.old) (state_of O.contents output.old)
-        (state_of E.contents errors.old))
-        (streams (state_of R.remaining reader.new) (state_of O.contents output.new)
-        (state_of E.contents errors.new)) result }
-{
-    let mut buffer = [0; PIECE];
-    match tell_lines(alloc, reader, output, table, budget, explain, &mut buffer) {
-        Ok(()) => Ending::Answered,
-        Err(LineFault::Read) => fail(errors, Ending::ReadFailed),
-        Err(LineFault::Write) => fail(errors, Ending::WriteFailed),
-    }
-}
-
-/// Shows help or the version on the output, and any other error on the standard error.
-fn show<O: Write, E: Write>(
-    alloc: Global,
-    error: &Error,
-    output: &mut CountedDevice<O>,
-    errors: &mut CountedDevice<E>,
-) -> Ending
-    ensures { (input : Device) → ShowsUntil (kind_of error.now)
-        (streams input (state_of O.contents output.old) (state_of E.contents errors.old))
-        (streams input (state_of O.contents output.new) (state_of E.contents errors.new)) result }
-{
-    let Ok(text) = text_of(alloc, error) else {
-        return fail(errors, Ending::OutOfMemory);
-    };
-    match error.kind() {
-        ErrorKind::DisplayHelp | ErrorKind::DisplayVersion => {
-            match write_whole(output, text.as_bytes()) {
-                Ok(()) => Ending::Shown,
-                Err(_) => fail(errors, Ending::WriteFailed),
-            }
-        }
-        _ => {
-            // Where the standard error fails too, there is no place left to say so.
-            let _ = write_whole(errors, text.as_bytes());
-            Ending::BadLine
-        }
-    }
-}
-
-/// What is shown of an error: its text, and a hint where a file seems to be named.
-fn text_of(alloc: Global, error: &Error) -> Result<String, AllocError> {
-    let mut text = error.to_string(alloc)?;
-    let hint = hint_of(error.kind(), text.as_str());
-    text.push_str(hint)?;
-    Ok(text)
-}
-
-/// What is added to an error of this kind and text: how `pbn` and `solve` take a file, where one of them has a word that is no
-/// option. The text has the usage of the command.
-fn hint_of(kind: ErrorKind, text: &str) -> &'static str {
-    if kind != ErrorKind::UnknownArgument || text.starts_with(NO_OPTION) {
-        ""
-    } else if text.contains(" pbn [OPTIONS]") {
-        FILE_OF_PBN
-    } else if text.contains(" solve [OPTIONS]") {
-        FILE_OF_LINES
-    } else {
-        ""
-    }
-}
-
-/// Says on the standard error why the program ends before its work is done, and ends so.
-pub(crate) fn fail<E: Write>(errors: &mut CountedDevice<E>, ending: Ending) -> Ending
-    ensures ending { result ≡ ending }
-    ensures says { Writes (line_of ending)
-        (state_of E.contents errors.old) (state_of E.contents errors.new) }
-{
-    // Where it fails too, there is no place left to say so.
-    let _ = write_whole(errors, ending.line().as_bytes());
-    ending
 }

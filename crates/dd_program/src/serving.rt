@@ -1,18 +1,17 @@
 //! The serving of clients.
 ghost use Rattle.std.specs.Prelude.{◌≡◌, ◌<◌, ◌≤◌, ℕ, List, All, IfOk, IsOk, OnOk, OnErr, false, length, string_bytes};
 ghost use Rattle.dd_command.specs.CommandLine.{IsEventCount};
-ghost use Rattle.dd_program.specs.Endings.{EndsSo, limits_for, listening_text, state_of, streams, Device, ServesUntil, WritesAll, WritesBeginning};
+ghost use Rattle.dd_program.specs.Endings.{EndsSo, limits_for, listening_text, ServesUntil};
+ghost use Rattle.dd_streams.specs.Endings.{state_of, streams, Device, WritesAll, WritesBeginning};
 ghost use Rattle.dd_command.specs.declared.command_line.TheConstants.{MOST_WORKERS};
 ghost use Rattle.dd_server.specs.ServeArgs.{HasTableSize, terms_by};
 
-use crate::ending::Ending;
-use crate::listen_fault::ListenFault;
-use crate::run::fail;
 use crate::telling::{Telling, serve_told, tell};
 use dd_book::Limits;
 use dd_limits::{MOST_JOBS, MOST_OPEN_JOBS, MOST_PASSES};
 use dd_lines::CountedDevice;
 use dd_server::{KeepsRuns, ServeArgs, ServeFault, TellsRuns};
+use dd_streams::{Ending, ListenFault, fail};
 use std::alloc::{AllocError, Global};
 use std::io::Write;
 use std::net::{Net, SocketAddr, TcpListener, TcpStream};

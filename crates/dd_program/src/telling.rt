@@ -1,7 +1,8 @@
 //! What is told of the runs of a server.
 ghost use Rattle.std.specs.Prelude.{◌≡◌, ◌<◌, ◌≤◌, List, All, IsOk, OnOk, OnErr, false, length};
 ghost use Rattle.dd_desk.specs.Events.{EventOf};
-ghost use Rattle.dd_program.specs.Endings.{closed_text, closed_texts, state_of, TellsText, WritesAll, WritesBeginning};
+ghost use Rattle.dd_program.specs.Endings.{closed_text, closed_texts, TellsText};
+ghost use Rattle.dd_streams.specs.Endings.{state_of, WritesAll, WritesBeginning};
 ghost use Rattle.dd_server.specs.Histories.{IsJournalOfRun};
 ghost use Rattle.dd_server.specs.Runs.{AreTold};
 ghost use Rattle.dd_server.specs.ServeArgs.{HasTableSize, terms_by};
@@ -88,7 +89,8 @@ impl<'a, O: Write, V> Telling<'a, O, V> {
 }
 
 impl<'a, O: Write, K: KeepsRuns, V: TellsRuns<K>> TellsRuns<RunKept<K>> for Telling<'a, O, V> {
-    ghost use Rattle.dd_program.specs.Endings.{TellingOf, TellsRun, state_of};
+    ghost use Rattle.dd_program.specs.Endings.{TellingOf, TellsRun};
+    ghost use Rattle.dd_streams.specs.Endings.{state_of};
 
     ghost State = { TellingOf V.State };
 

@@ -1,36 +1,29 @@
 -- Whose pass it is.
-use Rattle.std.proofs.Common.{◌≡◌, ◌∙◌, ℕ, List, [], ◌∷◌, ◌++◌, length, Option, None, Some, Ok, Err, Bool, false, inl, inr, refl, sym, ap, subst}
-use Rattle.std.specs.Prelude.{All, IfSome, Result, ◌&&◌}
-use Rattle.std.specs.List.{list_all}
+use Rattle.std.proofs.Common.{arith, ◌≡◌, ◌∙◌, ℕ, List, [], ◌∷◌, ◌++◌, length, Option, None, Some, Ok, Err, false, inl, inr, refl, sym, ap, subst}
+use Rattle.std.specs.Prelude.{All, IfSome, Result}
 use Rattle.std.proofs.lemmas.List.Elements.{All-append, All-cons, All-nil, All-weaker}
-use Rattle.std.proofs.lemmas.List.Folds.{list_all-append}
 use Rattle.dd_book.specs.declared.call.Call.TheVariants.{Shut}
 use Rattle.dd_book.specs.declared.call.Reply.{Reply}
 use Rattle.dd_book.specs.Limits.{LimitsOf}
 use Rattle.dd_desk.specs.declared.fault.DeskFault.{DeskFault}
-use Rattle.dd_desk.specs.Receipts.{PassOf, ReceiptOf, is_shut, receipt}
+use Rattle.dd_desk.specs.Receipts.{PassOf, ReceiptOf, receipt}
 use Rattle.dd_desk.specs.Replies.{IsTold}
 use Rattle.dd_session.specs.Leaving.{SawAt, SawBy, ThenLeaves}
 use Rattle.dd_session.specs.Ports.{AreClients, AsksNoStop, DeskPortOf, LatePortOf, before_by, new_late_port, pass_by, port_of, refusals_by, told_by, told_in}
 use Rattle.dd_session.specs.Sockets.{ServesMessages}
 use Rattle.dd_work.specs.Rounds.{AreRounds, Works}
-use Rattle.dd_server.specs.Callers.{AreCallers, AreShuts, IsCallers, IsClients, IsWorkersOrClients}
+use Rattle.dd_server.specs.Callers.{AreCallers, ShutsOnce, IsCallers, IsClients, IsWorkersOrClients}
 use Rattle.dd_server.specs.declared.terms.Terms.{Terms}
 
 -- ---- the run's own
 
--- shuts, and more of them
-AreShuts-append : (rs more : List ReceiptOf) → AreShuts rs → AreShuts more → AreShuts (rs ++ more)
-AreShuts-append rs more shuts others =
-    list_all-append (λ (r : ReceiptOf). is_shut r.call) rs more
-    ∙ ap (λ (b : Bool). b && list_all (λ (r : ReceiptOf). is_shut r.call) more) shuts ∙ others
-
--- a pass that shut the book once more
-pub shuts_more : (limits : LimitsOf) (before after : PassOf) (said : Result Reply DeskFault) → AreShuts before.receipts → IsTold limits before Shut said after → AreShuts after.receipts
-shuts_more limits before after (Ok reply) shuts answered =
-    subst (λ (p : PassOf). AreShuts p.receipts) (sym answered.gained)
-    (AreShuts-append before.receipts (receipt (length answered.journal) Shut reply ∷ []) shuts refl)
-shuts_more limits before after (Err fault) shuts (of_call, same, refused) = subst (λ (p : PassOf). AreShuts p.receipts) (sym same) shuts
+-- a pass that has told nothing, and shut the book
+pub shuts_once : (limits : LimitsOf) (before after : PassOf) (said : Result Reply DeskFault) → before.receipts ≡ [] → IsTold limits before Shut said after → ShutsOnce after.receipts
+shuts_once limits before after (Ok reply) none answered =
+    subst (λ (p : PassOf). ShutsOnce p.receipts) (sym answered.gained)
+    (subst (λ (l : List ReceiptOf). ShutsOnce (l ++ receipt (length answered.journal) Shut reply ∷ [])) (sym none) (omega arith, refl))
+shuts_once limits before after (Err fault) none (of_call, same, refused) =
+    subst (λ (p : PassOf). ShutsOnce p.receipts) (sym same) (subst ShutsOnce (sym none) (omega arith, refl))
 
 -- ---- a worker's
 
@@ -86,7 +79,7 @@ pub callers_alone : (limits : LimitsOf) (terms : Terms) (own : ℕ) (passes : Li
 callers_alone limits terms own passes each = All-weaker (IsWorkersOrClients limits terms) (IsCallers limits terms own) (λ pass here. inr here) passes each
 
 -- these and the run's own
-pub callers_with_own : (limits : LimitsOf) (terms : Terms) (passes : List PassOf) (own : PassOf) → All (IsWorkersOrClients limits terms) passes → AreShuts own.receipts
+pub callers_with_own : (limits : LimitsOf) (terms : Terms) (passes : List PassOf) (own : PassOf) → All (IsWorkersOrClients limits terms) passes → ShutsOnce own.receipts
     → All (IsCallers limits terms own.number) (passes ++ own ∷ [])
 callers_with_own limits terms passes own each shuts =
     All-append (IsCallers limits terms own.number) passes (own ∷ []) (callers_alone limits terms own.number passes each)

@@ -1,9 +1,8 @@
 //! The pass of a run.
-ghost use Rattle.std.specs.Prelude.{◌≡◌, [], false, None, Err};
+ghost use Rattle.std.specs.Prelude.{◌≡◌, [], None, Err};
 ghost use Rattle.std.specs.Option.{ForSome};
 ghost use Rattle.dd_desk.specs.declared.fault.DeskFault.TheVariants.{OutOfMemory};
-ghost use Rattle.dd_desk.specs.Receipts.{has_shut};
-ghost use Rattle.dd_server.specs.Callers.{AreShuts};
+ghost use Rattle.dd_server.specs.Callers.{ShutsOnce};
 
 use crate::new_pass::NewPass;
 use crate::run_state::RunState;
@@ -19,8 +18,8 @@ pub(crate) struct OwnPass<J: RunNaming> {
     pass: Pass<J>,
     // What the shut was told, if there was one.
     told: Option<Result<Reply, DeskFault>>,
-    ghost fresh: { told ≡ None → has_shut pass.receipts ≡ false },
-    ghost alone: { AreShuts pass.receipts },
+    ghost fresh: { told ≡ None → pass.receipts ≡ [] },
+    ghost alone: { ShutsOnce pass.receipts },
     ghost had_memory: { ForSome told (λ said. said ≡ Err OutOfMemory → ⊥) },
 }
 
@@ -34,7 +33,7 @@ impl<J: RunNaming> OwnPass<J> {
     }
 
     /// Shuts the book, where this pass has not, and ends the run.
-    #[tactic(auto, using(crate::proofs::Callers::shuts_more))]
+    #[tactic(auto, using(crate::proofs::Callers::shuts_once))]
     pub(crate) fn shut<R: Wait>(&mut self, rt: &R, state: &RunState<'_, J>) -> FlagIsSet {
         let OwnPass { pass, told } = self;
         match told {
@@ -50,7 +49,7 @@ impl<J: RunNaming> OwnPass<J> {
 
     /// The pass within.
     pub(crate) fn into_pass(self) -> Pass<J>
-        ensures { AreShuts result.receipts }
+        ensures { ShutsOnce result.receipts }
     {
         let OwnPass { pass, told: _ } = self;
         pass

@@ -1,7 +1,7 @@
 //! One run: a desk of its own, its workers and its connections.
 ghost use Rattle.std.specs.Prelude.{◌≡◌, map, IfOk};
 ghost use Rattle.once_cell.specs.Once.{cell_name};
-ghost use Rattle.dd_server.specs.Callers.{AreCallers, AreShuts};
+ghost use Rattle.dd_server.specs.Callers.{AreCallers, ShutsOnce};
 ghost use Rattle.dd_server.specs.Histories.{IsHistory};
 
 use crate::accepting::{accept_connections, wait_for_sessions};
@@ -162,7 +162,7 @@ fn keep_open<
     stream: Option<TcpStream>,
     gate: &G,
 ) -> Result<(Pass<J>, Result<(), ServeFault>), ServeFault>
-    ensures { IfOk result (λ kept. AreShuts kept.0.receipts) }
+    ensures { IfOk result (λ kept. ShutsOnce kept.0.receipts) }
 {
     // The run's own pass, by which it shuts the book.
     let Ok(pass) = state.enrol(rt) else {

@@ -1,6 +1,6 @@
 //! Lines that several threads answer.
 use crate::program::devices::{Devices, Outcome, SOUND, run_line};
-use dd_program::Ending;
+use dd_streams::Ending;
 use std::alloc::AllocError;
 use std::net::{Net, TcpListener, TcpStream};
 use std::sync::Wait;

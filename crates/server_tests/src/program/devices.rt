@@ -1,7 +1,8 @@
 //! Devices of memory, and a run over them.
 use dd_command::ArgumentsFault;
 use dd_lines::CountedDevice;
-use dd_program::{Ending, Unwatched, run_program};
+use dd_program::{Unwatched, run_program};
+use dd_streams::Ending;
 use std::alloc::{AllocError, Global};
 use std::io;
 use std::io::{Error, ErrorKind, Read, Write};

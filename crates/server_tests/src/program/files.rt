@@ -1,6 +1,6 @@
 //! Files of PBN: what comes out, what is said of their games, and how the run ends.
 use crate::program::devices::{Devices, Outcome, SOUND, run_line};
-use dd_program::Ending;
+use dd_streams::Ending;
 use std::test::Fail;
 
 // A game with a suit in each hand, and one without a deal.

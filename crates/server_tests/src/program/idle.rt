@@ -1,7 +1,7 @@
 //! The program as a server of a client that sends nothing.
 use crate::program::asking::run_at;
 use crate::server::client::{Client, Way};
-use dd_program::Ending;
+use dd_streams::Ending;
 use std::alloc::Global;
 use std::net::{Net, SocketAddr, TcpListener, TcpStream};
 use std::test::Fail;

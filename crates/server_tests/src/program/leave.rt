@@ -2,7 +2,7 @@
 use crate::program::asking::{converse, run_at};
 use crate::program::devices::Outcome;
 use crate::server::client::Way;
-use dd_program::Ending;
+use dd_streams::Ending;
 use std::alloc::{AllocError, Global};
 use std::net::{Net, Shutdown, SocketAddr, TcpListener, TcpStream};
 use std::os::fd::OwnedFd;

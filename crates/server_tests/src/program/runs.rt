@@ -1,6 +1,6 @@
 use crate::program::devices::{Devices, Outcome, SOUND, run_line, run_over};
 use dd_command::{ArgumentsFault, VERSION, given_arguments};
-use dd_program::{Ending, ListenFault};
+use dd_streams::{Ending, ListenFault};
 use std::alloc::{AllocError, Global};
 use std::env::FillError;
 use std::net::{Net, TcpListener, TcpStream};

@@ -3,7 +3,8 @@ use Rattle.std.specs.Prelude.{All, IsOk}
 use Rattle.dd_server.specs.Histories.{IsJournalOfRun}
 use Rattle.dd_server.specs.Runs.{AreTold}
 use Rattle.dd_server.specs.ServeArgs.{terms_by}
-use Rattle.dd_program.specs.Endings.{AreRuns, TellsText, closed_texts, state_of}
+use Rattle.dd_program.specs.Endings.{AreRuns, TellsText, closed_texts}
+use Rattle.dd_streams.specs.Endings.{state_of}
 use Rattle.dd_program.proofs.Attended.{carried, ends-so}
 use Rattle.dd_program.proofs.serving.attend.Goals as goal
 

@@ -1,6 +1,6 @@
-use Rattle.std.proofs.Common.{length, ◌-◌, ◌≡◌, [], ℕ, ◌≤◌, take, drop}
-use Rattle.dd_program.specs.Tags.{named_in, no_tags}
-use Rattle.dd_program.proofs.tags.named_in.Given as goal
+use Rattle.std.proofs.Common.{length, ◌-◌, ◌≡◌, [], ◌≤◌, take, drop}
+use Rattle.dd_streams.specs.Tags.{named_in, no_tags}
+use Rattle.dd_streams.proofs.tags.named_in.Given as goal
 
 -- what is still to come, from the name that has begun, names what the whole text does
 abbrev pub invariant-loop-length : goal.invariant-loop-length

@@ -1,6 +1,6 @@
 //! The tags that are wanted, by their names.
 ghost use Rattle.std.specs.Prelude.{◌≡◌, ◌+◌, ◌-◌, ◌<◌, [], drop, length};
-ghost use Rattle.dd_program.specs.Tags.{named_in, no_tags, wanted_by, with_tag};
+ghost use Rattle.dd_streams.specs.Tags.{named_in, no_tags, wanted_by, with_tag};
 
 use dd_file::Wanted;
 

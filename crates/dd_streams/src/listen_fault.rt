@@ -1,7 +1,7 @@
 //! Why the program can't listen at the address that it was given.
 ghost use Rattle.std.specs.Prelude.{◌≡◌, ◌↔◌, ◌⊎◌};
-ghost use Rattle.dd_program.specs.ListenFaults.{line_of_fault};
-ghost use Rattle.dd_program.specs.declared.listen_fault.ListenFault.TheVariants.{NoAddress, InUse, Elsewhere, NotPermitted};
+ghost use Rattle.dd_streams.specs.ListenFaults.{line_of_fault};
+ghost use Rattle.dd_streams.specs.declared.listen_fault.ListenFault.TheVariants.{NoAddress, InUse, Elsewhere, NotPermitted};
 
 use std::io::ErrorKind;
 
@@ -22,7 +22,7 @@ pub enum ListenFault {
 
 impl ListenFault {
     /// The fault that an error of this kind tells of.
-    pub(crate) fn of(kind: ErrorKind) -> ListenFault
+    pub fn of(kind: ErrorKind) -> ListenFault
         ensures no_address { (result ≡ NoAddress)
             ↔ ((kind ≡ ErrorKind.InvalidInput) ⊎ (kind ≡ ErrorKind.NotFound)) }
         ensures in_use { (result ≡ InUse) ↔ (kind ≡ ErrorKind.AddrInUse) }

@@ -1,7 +1,7 @@
 -- To be believed: what is said of an address that can't be listened at.
 use Rattle.std.specs.Prelude.{ℕ, List, codes}
-use Rattle.dd_program.specs.declared.listen_fault.ListenFault.{ListenFault}
-use Rattle.dd_program.specs.declared.listen_fault.ListenFault.TheVariants.{NoAddress, InUse, Elsewhere, NotPermitted, Other}
+use Rattle.dd_streams.specs.declared.listen_fault.ListenFault.{ListenFault}
+use Rattle.dd_streams.specs.declared.listen_fault.ListenFault.TheVariants.{NoAddress, InUse, Elsewhere, NotPermitted, Other}
 
 -- the line that the standard error gets of it
 abbrev pub line_of_fault : ListenFault → List ℕ

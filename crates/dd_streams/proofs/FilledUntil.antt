@@ -6,8 +6,8 @@ use Rattle.dd_file.specs.declared.engine.FileFault.{FileFault}
 use Rattle.dd_file.specs.declared.engine.FileFault.TheVariants.{Read, Write, Memory}
 use Rattle.dd_file.specs.declared.wanted.Wanted.{Wanted}
 use Rattle.dd_fill.specs.Served.{FilledSaying, Fills}
-use Rattle.dd_program.specs.declared.ending.Ending.{Ending}
-use Rattle.dd_program.specs.Endings.{Device, EndsFilling, Writes, ending_of, line_of, sink_of, state_of, streams}
+use Rattle.dd_streams.specs.declared.ending.Ending.{Ending}
+use Rattle.dd_streams.specs.Endings.{Device, EndsFilling, Writes, ending_of, line_of, sink_of, state_of, streams}
 
 -- so a filling ends, by what the filler answers
 pub ends-filling : {R W : Type 0} (spent : Type 0) (wanted : Wanted) (shows : Bool) (remaining : R → Option (List ℕ)) (contents : W → Option (List ℕ)) (reader reader2 : CountedDevice R)

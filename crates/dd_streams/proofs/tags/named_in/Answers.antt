@@ -1,6 +1,6 @@
-use Rattle.std.proofs.Common.{rules, ◌≡◌, ◌∙◌, ◌≤◌, ℕ, arith, refl, sym, ap}
-use Rattle.dd_program.proofs.NamedTags.{comma-named, more-named, named-comma, named-end}
-use Rattle.dd_program.proofs.tags.named_in.Goals as goal
+use Rattle.std.proofs.Common.{rules, ◌∙◌, arith, sym}
+use Rattle.dd_streams.proofs.NamedTags.{comma-named, more-named, named-comma, named-end}
+use Rattle.dd_streams.proofs.tags.named_in.Goals as goal
 
 pub loop-length-init : goal.loop-length-init
 loop-length-init c = search rules

@@ -1,5 +1,5 @@
 -- The names of tags, one after another.
-use Rattle.std.proofs.Common.{◌≡◌, ◌∙◌, ℕ, suc, ◌<◌, ◌≤◌, ◌+◌, ◌++◌, ◌∷◌, [], List, Bool, Option, Some, None, true, false, refl, sym, ap, length, take, drop, get_or}
+use Rattle.std.proofs.Common.{◌≡◌, ◌∙◌, ℕ, suc, ◌<◌, ◌≤◌, ◌+◌, [], List, Bool, Option, Some, true, false, refl, sym, ap, length, take, drop, get_or}
 use Rattle.std.specs.Prelude.{◌==◌, option_and_then}
 use Rattle.std.proofs.Math.Seq.{drop-cons, take-suc}
 use Rattle.std.proofs.Math.ListN.{drop_of_length-le}
@@ -7,7 +7,7 @@ use Rattle.std.proofs.Math.Numerals.{add-one}
 use Rattle.std.proofs.lemmas.Bool.{eqb-true}
 use Rattle.std.proofs.lemmas.List.{take_all}
 use Rattle.dd_file.specs.declared.wanted.Wanted.{Wanted}
-use Rattle.dd_program.specs.Tags.{named_in, with_tag}
+use Rattle.dd_streams.specs.Tags.{named_in, with_tag}
 
 -- at a comma the name has ended
 pub named-comma : (wanted : Wanted) (rest : List ℕ) (at : ℕ) → at < length rest → get_or rest at 0 ≡ 44

@@ -1,10 +1,16 @@
 //! How a run of the program ends.
 ghost use Rattle.std.specs.Prelude.{◌≡◌};
 ghost use Rattle.std.specs.Process.{exit_status};
-ghost use Rattle.dd_program.specs.Endings.{line_of, status_of};
+ghost use Rattle.dd_streams.specs.Endings.{line_of, no_server_line, state_of, status_of, Writes};
 
 use crate::listen_fault::ListenFault;
+use dd_lines::{CountedDevice, write_whole};
+use std::io::Write;
 use std::process::ExitCode;
+
+/// What is said where a program without a server is asked for one.
+const NO_SERVER: &str =
+    "ddserve: this program has no server; ./ddserve serve starts the one that has\n";
 
 /// How a run ended.
 #[derive(Clone, Copy, Debug, PartialEq, Eq)]
@@ -70,4 +76,25 @@ impl Ending {
     {
         ExitCode::from(self.status())
     }
+}
+
+/// Says on the standard error why the program ends before its work is done, and ends so.
+pub fn fail<E: Write>(errors: &mut CountedDevice<E>, ending: Ending) -> Ending
+    ensures ending { result ≡ ending }
+    ensures says { Writes (line_of ending)
+        (state_of E.contents errors.old) (state_of E.contents errors.new) }
+{
+    // Where it fails too, there is no place left to say so.
+    let _ = write_whole(errors, ending.line().as_bytes());
+    ending
+}
+
+/// Says on the standard error that this program has no server, where its arguments ask for one.
+pub fn refuse_server<E: Write>(errors: &mut CountedDevice<E>) -> Ending
+    ensures ending { result ≡ Ending.BadLine }
+    ensures says { Writes no_server_line (state_of E.contents errors.old) (state_of E.contents errors.new) }
+{
+    // Where it fails there is no place left to say so.
+    let _ = write_whole(errors, NO_SERVER.as_bytes());
+    Ending::BadLine
 }

@@ -1,7 +1,7 @@
 use Rattle.dd_search.specs.Spent.{IsSpent}
-use Rattle.dd_program.specs.Endings.{state_of}
-use Rattle.dd_program.proofs.FilledUntil.{ends-filling}
-use Rattle.dd_program.proofs.filling.fill_over.Goals as goal
+use Rattle.dd_streams.specs.Endings.{state_of}
+use Rattle.dd_streams.proofs.FilledUntil.{ends-filling}
+use Rattle.dd_streams.proofs.filling.fill_over.Goals as goal
 
 pub returns : goal.returns
 returns g c =

@@ -1,11 +1,10 @@
 //! Lines that several threads answer.
 ghost use Rattle.std.specs.Prelude.{◌≡◌, ◌≤◌};
 ghost use Rattle.dd_command.specs.CommandLine.{IsTableSize};
-ghost use Rattle.dd_program.specs.Endings.{state_of, streams, SolvesUntil};
+ghost use Rattle.dd_streams.specs.Endings.{state_of, streams, SolvesUntil};
 ghost use Rattle.dd_tool.specs.Served.{IsReplyAs};
 
-use crate::ending::Ending;
-use crate::run::fail;
+use crate::ending::{Ending, fail};
 use dd_cache::Cache;
 use dd_lines::{CountedDevice, LineFault};
 use dd_search::Bounds;

@@ -2,11 +2,10 @@
 ghost use Rattle.std.specs.Prelude.{◌≡◌, ◌≤◌, IfErr, OnOk};
 ghost use Rattle.dd_search.specs.Spent.{IsSpent};
 ghost use Rattle.dd_command.specs.CommandLine.{IsTableSize};
-ghost use Rattle.dd_program.specs.Endings.{ending_of, line_of, state_of, streams, tags_line, EndsFilling, FillsUntil, Writes};
+ghost use Rattle.dd_streams.specs.Endings.{ending_of, line_of, state_of, streams, tags_line, EndsFilling, FillsUntil, Writes};
 
 use crate::ahead::{SHARDS, caches};
-use crate::ending::Ending;
-use crate::run::fail;
+use crate::ending::{Ending, fail};
 use crate::tags::wanted_by;
 use dd_cache::Cache;
 use dd_file::{FileFault, Wanted};

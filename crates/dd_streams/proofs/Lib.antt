@@ -1,0 +1,3 @@
+mod DoneUntil
+mod FilledUntil
+mod NamedTags

@@ -1,0 +1,3 @@
+pub mod ListenFaults
+pub mod Endings
+pub mod Tags
