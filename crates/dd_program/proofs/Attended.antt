@@ -1,6 +1,6 @@
 -- What is told of runs, and how the serving of clients ends.
-use Rattle.std.proofs.Common.{◌≡◌, ◌∙◌, ◌<◌, ℕ, refl, sym, ap, subst, inl, inr, Bool, true, false, List, [], ◌∷◌, ◌++◌, append_assoc, length, Option, String, Global}
-use Rattle.std.specs.Prelude.{IsOk, Result, Ok, Err, string_bytes}
+use Rattle.std.proofs.Common.{◌≡◌, ◌∙◌, ◌<◌, ℕ, refl, sym, ap, subst, inl, inr, Bool, true, false, List, [], ◌∷◌, ◌++◌, append_assoc, length}
+use Rattle.std.specs.Prelude.{IsOk, Result, Ok, Err}
 use Rattle.std.proofs.KnownBytes.{Appends-nil, Appends-trans}
 use Rattle.dd_lines.specs.CountedDevices.{FailedOnce}
 use Rattle.dd_server.specs.declared.args.ServeFault.{ServeFault}
@@ -10,7 +10,7 @@ use Rattle.dd_server.specs.Runs.{AreTold}
 use Rattle.dd_server.specs.declared.terms.Terms.{Terms}
 use Rattle.dd_streams.specs.declared.ending.Ending.{Ending}
 use Rattle.dd_streams.specs.declared.ending.Ending.TheVariants.{WriteFailed}
-use Rattle.dd_program.specs.Endings.{AreRuns, EndsSo, ServesUntil, TellingOf, TellsNext, TellsRun, TellsText, closed_text, closed_texts, listening_text, terms_for}
+use Rattle.dd_program.specs.Endings.{AreRuns, EndsSo, ServesUntil, TellingOf, TellsNext, TellsRun, TellsText, closed_text, closed_texts, listening_text}
 use Rattle.dd_streams.specs.Endings.{Device, Writes, WritesAll, WritesBeginning, line_of, streams}
 
 -- ---- texts, one after another

@@ -1,6 +1,5 @@
 use Rattle.std.proofs.Common.{◌∙◌, subst}
 use Rattle.dd_streams.specs.Endings.{WritesAll, state_of}
-use Rattle.dd_program.proofs.Attended.{untold-start}
 use Rattle.dd_program.proofs.serving.serve.Goals as goal
 
 pub returns-in-Ok-tell : goal.returns-in-Ok-tell
