@@ -41,7 +41,7 @@ newer_instruction() { # PROGRAM
 }
 if [ -z "$v2$v3" ]; then
     built=$top/crates/ddserve/out/ddserve
-    [ -x "$built" ] || fail 'no program is built: start ./ddserve once, or name one by --v2 or --v3'
+    [ -x "$built" ] || fail 'no program is built: start ./ddserve serve --help once, or name one by --v2 or --v3'
     newer=$(newer_instruction "$built")
     if [ -n "$newer" ]; then v3=$built; else v2=$built; fi
 fi

@@ -51,7 +51,7 @@ packed() { # WANTED WORDS..: the forms in the package that build.sh makes of the
 }
 built=$work/clone/crates/ddserve/out
 mkdir -p "$built"
-packed 'no program is built: start ./ddserve once, or name one by --v2 or --v3'
+packed 'no program is built: start ./ddserve serve --help once, or name one by --v2 or --v3'
 for noted in x86-64-v2 x86-64-v3 nothing; do
     if [ "$noted" = nothing ]; then rm "$built/processor"; else echo "$noted" > "$built/processor"; fi
     for form in v2 v3; do
