@@ -289,6 +289,28 @@ RunsOnStreams arguments is_terminal old new (Ok ending) =
     ⊎ ((ending ≡ OutOfMemory) × RunsOut old new)
 RunsOnStreams arguments is_terminal old new (Err options) = AskFor arguments (serve_by options) × IsInRange (serve_by options) × (new ≡ old)
 
+-- ---- the run of a program without a server
+
 -- what is said where a program without a server is asked for one
 abbrev pub no_server_line : List ℕ
 no_server_line = codes "ddserve: this program has no server; ./ddserve serve starts the one that has\n"
+
+-- the arguments ask for a server with these options; that there is none was said, and nothing else was done
+pub record RefusesServer (arguments : Words) (ending : Ending) (old new : Streams) : Type 0 where
+  pub options : ServeOptions
+  pub asks : AskFor arguments (serve_by options)
+  pub ends : ending ≡ BadLine
+  pub input : new.input ≡ old.input
+  pub output : new.output ≡ old.output
+  pub said : Writes no_server_line old.errors new.errors
+
+-- What a run without a server does up to its ending: what a run on the streams does, or it refuses a server where the arguments ask for
+-- one.
+abbrev pub RunsWithoutServer : Words → Bool → Streams → Streams → Ending → Type 0
+RunsWithoutServer arguments is_terminal old new ending =
+    RunsOnStreams arguments is_terminal old new (Ok ending) ⊎ RefusesServer arguments ending old new
+
+-- the same ending where a run has one, with nothing more said; a bad line where it has none, of which just that is said
+abbrev pub EndsWithoutServer : Result Ending ServeOptions → Device → Device → Ending → Type 0
+EndsWithoutServer (Ok ends) old new ending = (ending ≡ ends) × (new ≡ old)
+EndsWithoutServer (Err options) old new ending = (ending ≡ BadLine) × Writes no_server_line old new

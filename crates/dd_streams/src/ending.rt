@@ -90,7 +90,7 @@ pub fn fail<E: Write>(errors: &mut CountedDevice<E>, ending: Ending) -> Ending
 }
 
 /// Says on the standard error that this program has no server, where its arguments ask for one.
-pub fn refuse_server<E: Write>(errors: &mut CountedDevice<E>) -> Ending
+pub(crate) fn refuse_server<E: Write>(errors: &mut CountedDevice<E>) -> Ending
     ensures ending { result ≡ Ending.BadLine }
     ensures says { Writes no_server_line (state_of E.contents errors.old) (state_of E.contents errors.new) }
 {

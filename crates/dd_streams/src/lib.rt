@@ -9,7 +9,7 @@ mod options;
 mod run;
 mod tags;
 
-pub use ending::{Ending, fail, refuse_server};
+pub use ending::{Ending, fail};
 pub use listen_fault::ListenFault;
 pub use options::ServeOptions;
-pub use run::run_streams;
+pub use run::{run_streams, run_without_server};

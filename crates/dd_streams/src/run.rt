@@ -2,11 +2,11 @@
 ghost use Rattle.std.specs.Prelude.{◌≡◌, ◌≤◌, IfOk, IfErr};
 ghost use Rattle.clap.specs.Words.{kind_of};
 ghost use Rattle.dd_command.specs.CommandLine.{IsInRange, IsTableSize};
-ghost use Rattle.dd_streams.specs.Endings.{state_of, streams, arguments_of, Device, AskFor, Explains, RunsOnStreams, ShowsUntil, SolvesUntil};
+ghost use Rattle.dd_streams.specs.Endings.{state_of, streams, arguments_of, Device, AskFor, EndsWithoutServer, Explains, RunsOnStreams, RunsWithoutServer, ShowsUntil, SolvesUntil};
 ghost use Rattle.dd_tool.specs.Served.{IsReplyAs};
 
 use crate::ahead::solve_ahead;
-use crate::ending::{Ending, fail};
+use crate::ending::{Ending, fail, refuse_server};
 use crate::filling::{FillArgs, fill};
 use crate::options::ServeOptions;
 use clap::Error;
@@ -122,6 +122,40 @@ pub fn run_streams<W: Threads + Wait + Sync, R: Read, O: Write, E: Write>(
             ErrorKind::OutOfMemory => Ok(fail(errors, Ending::OutOfMemory)),
             _ => Ok(show(alloc, &error, output, errors)),
         },
+    }
+}
+
+/// Does the same where there is no server. Where the arguments ask for one it says on the standard error that this program has none,
+/// and ends as at a bad line.
+pub fn run_without_server<W: Threads + Wait + Sync, R: Read, O: Write, E: Write>(
+    rt: &W,
+    alloc: Global,
+    arguments: Result<Vec<String>, ArgumentsFault>,
+    reader: &mut CountedDevice<R>,
+    output: &mut CountedDevice<O>,
+    errors: &mut CountedDevice<E>,
+    is_terminal: bool,
+) -> Ending
+    ensures { RunsWithoutServer (arguments_of arguments) is_terminal
+        (streams (state_of R.remaining reader.old) (state_of O.contents output.old)
+        (state_of E.contents errors.old))
+        (streams (state_of R.remaining reader.new) (state_of O.contents output.new)
+        (state_of E.contents errors.new)) result }
+{
+    let run = run_streams(rt, alloc, arguments, reader, output, errors, is_terminal);
+    end_without_server(run, errors)
+}
+
+/// How a run ends where there is no server: where it has no ending it is refused.
+fn end_without_server<E: Write>(
+    run: Result<Ending, ServeOptions>,
+    errors: &mut CountedDevice<E>,
+) -> Ending
+    ensures { EndsWithoutServer run (state_of E.contents errors.old) (state_of E.contents errors.new) result }
+{
+    match run {
+        Ok(ending) => ending,
+        Err(_options) => refuse_server(errors),
     }
 }
 

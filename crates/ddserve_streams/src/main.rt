@@ -7,7 +7,7 @@
 
 use dd_command::given_arguments;
 use dd_lines::CountedDevice;
-use dd_streams::{refuse_server, run_streams};
+use dd_streams::run_without_server;
 use std::io;
 use std::io::IsTerminal;
 use std::process::ExitCode;
@@ -18,7 +18,7 @@ fn main(rt: HostRuntime) -> ExitCode {
     let mut errors = CountedDevice::new(rt.stderr());
     let is_terminal = rt.stderr().is_terminal();
     let arguments = given_arguments(&rt);
-    let run = run_streams(
+    run_without_server(
         &rt,
         rt.alloc(),
         arguments,
@@ -26,9 +26,6 @@ fn main(rt: HostRuntime) -> ExitCode {
         &mut output,
         &mut errors,
         is_terminal,
-    );
-    match run {
-        Ok(ending) => ending.exit_code(),
-        Err(_) => refuse_server(&mut errors).exit_code(),
-    }
+    )
+    .exit_code()
 }
