@@ -7,12 +7,12 @@ use Rattle.std.proofs.lemmas.List.Sums.{get_or-le-sum_by, sum_by-cons, sum_by-se
 use Rattle.std.proofs.lemmas.Option.{cond_some, get_or_from_slice_get, same_Some, slice_get_within}
 use Rattle.dd_cards.specs.Same.{same_hands}
 use Rattle.dd_play.specs.Board.{tricks_left}
-use Rattle.dd_solve.specs.Plays as plays
-use Rattle.dd_solve.specs.Plays.{position_at, trace, tricks_after}
-use Rattle.dd_solve.specs.Results.{hands_results}
-use Rattle.dd_solve.specs.Same.{same_question, same_target}
-use Rattle.dd_solve.specs.declared.asked.Asked.{Asked}
-use Rattle.dd_solve.specs.declared.asked.Asked.TheVariants.{Solve, Table, Target, Play}
+use Rattle.dd_request.specs.Plays as plays
+use Rattle.dd_request.specs.Plays.{position_at, trace, tricks_after}
+use Rattle.dd_request.specs.Results.{hands_results}
+use Rattle.dd_request.specs.Same.{same_question, same_target}
+use Rattle.dd_request.specs.declared.asked.Asked.{Asked}
+use Rattle.dd_request.specs.declared.asked.Asked.TheVariants.{Solve, Table, Target, Play}
 use Rattle.dd_book.specs.declared.call.Outcome.{Outcome}
 use Rattle.dd_book.specs.declared.call.Outcome.TheVariants.{Solved as SolvedOutcome, Part as PartOutcome, Target as TargetOutcome, PlayPart as PlayPartOutcome, Spent as SpentOutcome, Stopped}
 use Rattle.dd_book.specs.declared.job.Stage.{Stage}

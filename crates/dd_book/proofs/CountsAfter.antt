@@ -3,7 +3,7 @@ use Rattle.std.proofs.Common.{◌≡◌, ℕ, ◌+◌, ◌≤◌, Bool, true, fa
 use Rattle.std.specs.Prelude.{Option, option_and_then, option_map, unwrap_or}
 use Rattle.std.specs.Option.{is_some}
 use Rattle.std.specs.List.{count_by, position}
-use Rattle.dd_solve.specs.declared.asked.Asked.{Asked}
+use Rattle.dd_request.specs.declared.asked.Asked.{Asked}
 use Rattle.dd_book.specs.declared.call.Call.TheVariants as call
 use Rattle.dd_book.specs.declared.call.Outcome.{Outcome}
 use Rattle.dd_book.specs.declared.call.Outcome.TheVariants.{Stopped}

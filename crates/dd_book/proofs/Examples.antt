@@ -2,10 +2,10 @@
 use Rattle.std.proofs.Common.{◌≡◌, ℕ, refl, List, [], ◌∷◌, Some, None}
 use Rattle.std.specs.Prelude.{Option, option_map}
 use Rattle.dd_cards.specs.Hands.{FourHands}
-use Rattle.dd_solve.specs.Plays as plays
-use Rattle.dd_solve.specs.Questions.{Question}
-use Rattle.dd_solve.specs.declared.asked.Asked.{Asked}
-use Rattle.dd_solve.specs.declared.asked.Asked.TheVariants.{Solve, Table, Play}
+use Rattle.dd_request.specs.Plays as plays
+use Rattle.dd_request.specs.Questions.{Question}
+use Rattle.dd_request.specs.declared.asked.Asked.{Asked}
+use Rattle.dd_request.specs.declared.asked.Asked.TheVariants.{Solve, Table, Play}
 use Rattle.dd_book.specs.declared.job.Stage.TheVariants.{Open}
 use Rattle.dd_book.specs.declared.parts.Part.{Part}
 use Rattle.dd_book.specs.declared.parts.Part.TheVariants.{Waiting, Running, Number}

@@ -4,8 +4,8 @@ use Rattle.std.specs.Prelude.{Option, not, slice_get}
 use Rattle.std.specs.List.{find, list_any, position, range_with_len}
 use Rattle.std.proofs.lemmas.List.Quantifiers.{position-Some}
 use Rattle.std.proofs.lemmas.Option.{same_Some, slice_get-get_or, slice_get_within}
-use Rattle.dd_solve.specs.declared.asked.Asked.{Asked}
-use Rattle.dd_solve.specs.declared.asked.Asked.TheVariants.{Solve, Table, Target, Play}
+use Rattle.dd_request.specs.declared.asked.Asked.{Asked}
+use Rattle.dd_request.specs.declared.asked.Asked.TheVariants.{Solve, Table, Target, Play}
 use Rattle.dd_book.specs.declared.parts.Part.{Part}
 use Rattle.dd_book.specs.declared.parts.Part.TheVariants.{Waiting}
 use Rattle.dd_book.specs.declared.job.Stage.{Stage}

@@ -10,7 +10,7 @@ use Rattle.dd_play.specs.Board.{Board}
 use Rattle.dd_play.specs.Same.{same_board}
 use Rattle.dd_play.specs.Won.{won}
 use Rattle.dd_play.proofs.CallerLemmas.{same_board-is}
-use Rattle.dd_solve.specs.Plays.{Play, PositionTricks, declarers, position_at, position_tricks, tricks_after, tricks_won}
+use Rattle.dd_request.specs.Plays.{Play, PositionTricks, declarers, position_at, position_tricks, tricks_after, tricks_won}
 use Rattle.dd_book.specs.Jobs.{is_of_play}
 
 -- two sides are the same by the code where they are by the test

@@ -5,7 +5,7 @@ ghost use Rattle.dd_book.specs.Parts.{is_waiting};
 ghost use Rattle.dd_book.specs.Jobs.{first_parts};
 
 use crate::parts::first_waiting_parts;
-use dd_solve::Asked;
+use dd_request::Asked;
 
 /// How many parts of open jobs wait and how many run.
 #[derive(Clone, Copy, Debug, PartialEq, Eq)]

@@ -5,8 +5,8 @@ use Rattle.dd_book.specs.Limits.{LimitsOf}
 use Rattle.dd_book.specs.declared.call.Call.{Call}
 use Rattle.dd_book.specs.declared.call.Call.TheVariants.{Submit, Claim, Finish, Cancel, Fetch, Shut}
 use Rattle.dd_book.specs.declared.call.Reply.TheVariants as reply
-use Rattle.dd_solve.specs.declared.asked.Asked.{Asked}
-use Rattle.dd_solve.specs.declared.asked.Asked.TheVariants.{Solve, Table, Target, Play}
+use Rattle.dd_request.specs.declared.asked.Asked.{Asked}
+use Rattle.dd_request.specs.declared.asked.Asked.TheVariants.{Solve, Table, Target, Play}
 use Rattle.std.specs.Option.{is_some}
 use Rattle.dd_book.specs.Jobs.{Turn, first_turn, new_job, next_turn}
 use Rattle.dd_book.specs.Calls.{BookOf, IsIdle, after, book_claimed, claim_told, claimed, empty_book, refusal_of, reply_of, run, with_jobs}

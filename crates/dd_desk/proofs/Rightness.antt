@@ -2,10 +2,10 @@
 use Rattle.std.proofs.Common.{◌≡◌, ℕ, List, [], ◌∷◌, ◌++◌, map, sym, ap, ◌∙◌}
 use Rattle.std.specs.Prelude.{All}
 use Rattle.std.proofs.lemmas.List.Elements.{All-nil, All-cons}
-use Rattle.dd_solve.specs.declared.asked.Asked.{Asked}
-use Rattle.dd_solve.specs.Questions.{SolvedQuestion, solved_question}
-use Rattle.dd_solve.specs.Results.{HandsResults, hands_results}
-use Rattle.dd_solve.specs.Targets.{SolvedTargetQuestion, solved_target}
+use Rattle.dd_request.specs.declared.asked.Asked.{Asked}
+use Rattle.dd_request.specs.Questions.{SolvedQuestion, solved_question}
+use Rattle.dd_request.specs.Results.{HandsResults, hands_results}
+use Rattle.dd_request.specs.Targets.{SolvedTargetQuestion, solved_target}
 use Rattle.dd_book.specs.declared.call.Call.{Call}
 use Rattle.dd_book.specs.declared.call.JobState.{JobState}
 use Rattle.dd_book.specs.declared.call.JobState.TheVariants as shown

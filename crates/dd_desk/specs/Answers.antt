@@ -1,12 +1,12 @@
 -- To be believed: what makes right what callers are told of their jobs.
 use Rattle.std.specs.Prelude.{◌≡◌, ℕ, List, Some, All}
-use Rattle.dd_solve.specs.declared.asked.Asked.{Asked}
-use Rattle.dd_solve.specs.declared.asked.Asked.TheVariants.{Solve, Table, Target, Play}
-use Rattle.dd_solve.specs.Questions.{solved_question}
-use Rattle.dd_solve.specs.Results.{hands_results}
-use Rattle.dd_solve.specs.Targets.{solved_target}
-use Rattle.dd_solve.specs.Plays as plays
-use Rattle.dd_solve.specs.Plays.{trace}
+use Rattle.dd_request.specs.declared.asked.Asked.{Asked}
+use Rattle.dd_request.specs.declared.asked.Asked.TheVariants.{Solve, Table, Target, Play}
+use Rattle.dd_request.specs.Questions.{solved_question}
+use Rattle.dd_request.specs.Results.{hands_results}
+use Rattle.dd_request.specs.Targets.{solved_target}
+use Rattle.dd_request.specs.Plays as plays
+use Rattle.dd_request.specs.Plays.{trace}
 use Rattle.dd_book.specs.Asks.{asked_at, submitted}
 use Rattle.dd_book.specs.declared.call.JobState.{JobState}
 use Rattle.dd_book.specs.declared.call.JobState.TheVariants as shown

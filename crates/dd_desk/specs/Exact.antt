@@ -1,8 +1,8 @@
 -- What a reply carries by the types of its answers.
 use Rattle.std.specs.Prelude.{◌≡◌, List, map}
-use Rattle.dd_solve.specs.Questions.{solved_question}
-use Rattle.dd_solve.specs.Results.{hands_results}
-use Rattle.dd_solve.specs.Targets.{solved_target}
+use Rattle.dd_request.specs.Questions.{solved_question}
+use Rattle.dd_request.specs.Results.{hands_results}
+use Rattle.dd_request.specs.Targets.{solved_target}
 use Rattle.dd_book.specs.declared.call.JobState.{JobState}
 use Rattle.dd_book.specs.declared.call.JobState.TheVariants as shown
 use Rattle.dd_book.specs.declared.call.Reply.{Reply}

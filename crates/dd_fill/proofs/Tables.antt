@@ -8,7 +8,7 @@ use Rattle.dd_cards.specs.Seats.{next_seat}
 use Rattle.dd_cards.specs.Hands.{FourHands, hand_of}
 use Rattle.dd_file.specs.Deals.{IsThirteen}
 use Rattle.dd_score.specs.Tables.{IsTable}
-use Rattle.dd_solve.specs.Results.{Contract, tricks_of}
+use Rattle.dd_request.specs.Results.{Contract, tricks_of}
 use Rattle.dd_fill.specs.Told.{table_of}
 
 hand-thirteen : (hands : FourHands) (seat : Seat) → IsThirteen hands → length (hand_of hands seat) ≡ 13

@@ -2,7 +2,7 @@
 use Rattle.std.specs.Prelude.{◌≡◌, ℕ, List, map, Option, None, Some}
 use Rattle.dd_cards.specs.declared.strain.Strain.{Strain}
 use Rattle.dd_cards.specs.Hands.{FourHands}
-use Rattle.dd_solve.specs.Results.{all_strains, strain_results}
+use Rattle.dd_request.specs.Results.{all_strains, strain_results}
 
 -- the twenty results of a deal: a list for each strain
 abbrev pub table_of : FourHands → List (List ℕ)

@@ -3,7 +3,7 @@ ghost use Rattle.std.specs.Prelude.{◌≡◌, ◌↔◌, IsTrue};
 ghost use Rattle.dd_file.specs.Deals.{IsThirteen};
 
 use dd_cards::Hands;
-use dd_solve::TableRequest;
+use dd_request::TableRequest;
 use std::marker::Model;
 
 /// A deal of thirteen cards a hand.

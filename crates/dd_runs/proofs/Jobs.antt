@@ -8,14 +8,14 @@ use Rattle.std.proofs.lemmas.Bool.Decides.{eqb_tells}
 use Rattle.std.proofs.lemmas.Option.{cond_some, same_Some}
 use Rattle.dd_cards.specs.Hands.{FourHands}
 use Rattle.dd_cards.specs.Same.{same_hands}
-use Rattle.dd_solve.specs.Questions.{solved_question}
-use Rattle.dd_solve.specs.Results.{hands_results}
-use Rattle.dd_solve.specs.Targets.{solved_target}
-use Rattle.dd_solve.specs.Same.{same_question, same_target}
-use Rattle.dd_solve.specs.Plays as plays
-use Rattle.dd_solve.specs.Plays.{trace, tricks_after}
-use Rattle.dd_solve.specs.declared.asked.Asked.{Asked}
-use Rattle.dd_solve.specs.declared.asked.Asked.TheVariants.{Solve, Table, Target, Play}
+use Rattle.dd_request.specs.Questions.{solved_question}
+use Rattle.dd_request.specs.Results.{hands_results}
+use Rattle.dd_request.specs.Targets.{solved_target}
+use Rattle.dd_request.specs.Same.{same_question, same_target}
+use Rattle.dd_request.specs.Plays as plays
+use Rattle.dd_request.specs.Plays.{trace, tricks_after}
+use Rattle.dd_request.specs.declared.asked.Asked.{Asked}
+use Rattle.dd_request.specs.declared.asked.Asked.TheVariants.{Solve, Table, Target, Play}
 use Rattle.dd_book.specs.declared.call.Call.{Call}
 use Rattle.dd_book.specs.declared.call.Call.TheVariants.{Submit, Claim, Finish, Cancel, Fetch, Shut}
 use Rattle.dd_book.specs.declared.call.Outcome.{Outcome}
@@ -31,7 +31,7 @@ use Rattle.dd_book.specs.Next.{next_part}
 use Rattle.dd_book.specs.Parts.{is_ended, runs_by}
 use Rattle.dd_book.specs.Jobs.{JobOf, Turn, chosen, if_owned, is_of_play, is_open, job_after, job_at, job_with, first_turn, new_job, next_turn, own_job, parts_of, play_stage, shown_stage, stage_after, table_stage, turn, turn_at, turn_of, with_claim, with_job, with_stage}
 use Rattle.dd_book.specs.Calls.{BookOf, after, book_claimed, cancel_told, claim_told, claimed, fetch_told, jobs_after_finish, jobs_cancelled, reply_of, with_jobs}
-use Rattle.dd_solve.proofs.CallerLemmas.{same_question-is, same_target-is}
+use Rattle.dd_request.proofs.CallerLemmas.{same_question-is, same_target-is}
 use Rattle.dd_book.proofs.CallerLemmas.{job_at-place, next-within, refused, slice_get-push_here}
 use Rattle.dd_runs.specs.Steps.{CarriesRight, IsRight}
 use Rattle.dd_runs.proofs.Lists.{set-from, set-or, slice_get-left, slice_get-push-or}

@@ -4,13 +4,13 @@ use Rattle.std.specs.List.{list_all}
 use Rattle.std.proofs.lemmas.Option.{same_Some}
 use Rattle.dd_play.specs.Board.{Board}
 use Rattle.dd_play.specs.Value.{leaders_tricks}
-use Rattle.dd_solve.specs.declared.asked.Asked.{Asked}
-use Rattle.dd_solve.specs.declared.asked.Asked.TheVariants.{Solve, Table, Target, Play}
-use Rattle.dd_solve.specs.Plays as plays
-use Rattle.dd_solve.specs.Plays.{trace}
-use Rattle.dd_solve.specs.Questions.{SolvedQuestion, solved_question}
-use Rattle.dd_solve.specs.Results.{HandsResults, hands_results}
-use Rattle.dd_solve.specs.Targets.{SolvedTargetQuestion, solved_target}
+use Rattle.dd_request.specs.declared.asked.Asked.{Asked}
+use Rattle.dd_request.specs.declared.asked.Asked.TheVariants.{Solve, Table, Target, Play}
+use Rattle.dd_request.specs.Plays as plays
+use Rattle.dd_request.specs.Plays.{trace}
+use Rattle.dd_request.specs.Questions.{SolvedQuestion, solved_question}
+use Rattle.dd_request.specs.Results.{HandsResults, hands_results}
+use Rattle.dd_request.specs.Targets.{SolvedTargetQuestion, solved_target}
 use Rattle.dd_shard.specs.Entries.{Told}
 use Rattle.dd_book.specs.declared.call.Call.{Call}
 use Rattle.dd_book.specs.declared.call.Call.TheVariants.{Submit}

@@ -4,12 +4,12 @@ use Rattle.std.specs.declared.option.Option.{Option}
 use Rattle.std.specs.declared.option.Option.TheVariants.{None, Some}
 use Rattle.dd_play.specs.Board.{Board}
 use Rattle.dd_play.specs.Value.{leaders_tricks}
-use Rattle.dd_solve.specs.declared.asked.Asked.{Asked}
-use Rattle.dd_solve.specs.declared.asked.Asked.TheVariants.{Solve, Table, Target, Play}
-use Rattle.dd_solve.specs.Plays.{Play as PlayOf, trace}
-use Rattle.dd_solve.specs.Questions.{SolvedQuestion, solved_question}
-use Rattle.dd_solve.specs.Results.{HandsResults, hands_results}
-use Rattle.dd_solve.specs.Targets.{SolvedTargetQuestion, solved_target}
+use Rattle.dd_request.specs.declared.asked.Asked.{Asked}
+use Rattle.dd_request.specs.declared.asked.Asked.TheVariants.{Solve, Table, Target, Play}
+use Rattle.dd_request.specs.Plays.{Play as PlayOf, trace}
+use Rattle.dd_request.specs.Questions.{SolvedQuestion, solved_question}
+use Rattle.dd_request.specs.Results.{HandsResults, hands_results}
+use Rattle.dd_request.specs.Targets.{SolvedTargetQuestion, solved_target}
 use Rattle.dd_shard.specs.Entries.{Entries, Told}
 use Rattle.dd_book.specs.declared.call.Call.{Call}
 use Rattle.dd_book.specs.declared.call.Call.TheVariants.{Submit}

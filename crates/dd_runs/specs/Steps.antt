@@ -7,10 +7,10 @@ use Rattle.dd_play.specs.Board.{Board, IsBoard}
 use Rattle.dd_play.specs.Covers.{count_of}
 use Rattle.dd_play.specs.Value.{leaders_tricks}
 use Rattle.dd_rank.specs.Depths.{Covers, all_cards, depth_in}
-use Rattle.dd_solve.specs.Plays.{position_tricks}
-use Rattle.dd_solve.specs.Questions.{solved_question}
-use Rattle.dd_solve.specs.Results.{part_result}
-use Rattle.dd_solve.specs.Targets.{solved_target}
+use Rattle.dd_request.specs.Plays.{position_tricks}
+use Rattle.dd_request.specs.Questions.{solved_question}
+use Rattle.dd_request.specs.Results.{part_result}
+use Rattle.dd_request.specs.Targets.{solved_target}
 use Rattle.dd_shard.specs.Entries.{Entries, Looks, Notes, Told}
 use Rattle.dd_table.specs.Front.{Exact, Gets, Sets}
 use Rattle.dd_book.specs.declared.call.Call.{Call}

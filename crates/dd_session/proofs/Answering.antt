@@ -4,7 +4,7 @@ use Rattle.std.specs.Prelude.{IfOk, None, Some, Result}
 use Rattle.dd_lines.specs.CountedDevices.{one_more}
 use Rattle.dd_book.specs.declared.call.Reply.{Reply}
 use Rattle.dd_desk.specs.declared.fault.DeskFault.{DeskFault}
-use Rattle.dd_solve.specs.declared.asked.Asked.{Asked}
+use Rattle.dd_request.specs.declared.asked.Asked.{Asked}
 use Rattle.dd_wire.specs.declared.want.Want.{Want}
 use Rattle.dd_wire.specs.declared.want.Want.TheVariants.{Submit, Cancel, Fetch, Stop}
 use Rattle.dd_wire.specs.declared.wish.Wish.{Wish}

@@ -3,7 +3,7 @@ use Rattle.std.proofs.Common.{◌≡◌, ℕ, List, [], ◌∷◌, ◌++◌, Boo
 use Rattle.std.specs.Prelude.{Result, Some, None, MatchOption, OnOk, OnErr}
 use Rattle.std.specs.Bool.{MatchBool}
 use Rattle.std.proofs.lemmas.Bool.{cases_Bool}
-use Rattle.dd_solve.specs.declared.asked.Asked.{Asked}
+use Rattle.dd_request.specs.declared.asked.Asked.{Asked}
 use Rattle.dd_book.specs.declared.call.Reply.{Reply}
 use Rattle.dd_desk.specs.declared.fault.DeskFault.{DeskFault}
 use Rattle.dd_wire.specs.declared.want.Want.{Want}

@@ -6,7 +6,7 @@ ghost use Rattle.dd_session.specs.Serving.{Answers, new_job};
 use crate::port::BookPort;
 use dd_book::Reply;
 use dd_desk::DeskFault;
-use dd_solve::Asked;
+use dd_request::Asked;
 use dd_wire::{Want, Wish};
 
 /// What the port says to a wish. A fetch may wait for the end of its job. A submit that may wait is followed by a fetch of

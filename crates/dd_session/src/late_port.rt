@@ -13,7 +13,7 @@ ghost use Rattle.dd_wire.specs.declared.want.Want.TheVariants.{Fetch, Stop as St
 use crate::port::{BookPort, DeskPort, health_of, one_more};
 use dd_book::Reply;
 use dd_desk::{BlankPass, Desk, DeskFault, Naming, Pass};
-use dd_solve::Asked;
+use dd_request::Asked;
 use dd_wire::{Health, Want};
 use std::marker::Model;
 use std::sync::Wait;

@@ -15,7 +15,7 @@ ghost use Rattle.dd_wire.specs.declared.want.Want.TheVariants.{Fetch as FetchWan
 use crate::leaving::give_up_jobs;
 use dd_book::Reply;
 use dd_desk::{Desk, DeskFault, Naming, Pass};
-use dd_solve::Asked;
+use dd_request::Asked;
 use dd_wire::{Health, Want};
 use std::marker::Model;
 use std::sync::Wait;

@@ -1,10 +1,6 @@
 pub mod Answered
 pub mod Best
 pub mod ByScore
-pub mod Openings
-pub mod Parts
-pub mod Regular
-pub mod CardByCard
-pub mod SameLaws
-pub mod CallerLemmas
+pub mod Leads
+pub mod Numbers
 pub mod Reaching

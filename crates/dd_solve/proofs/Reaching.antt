@@ -15,8 +15,8 @@ use Rattle.dd_play.specs.Value.{score}
 use Rattle.dd_play.proofs.CallerLemmas.{all}
 use Rattle.dd_equal.specs.EqualCards.{EqualCards, tops, class_of, classes_of}
 use Rattle.dd_search.proofs.CallerLemmas.{score-most, few-classes}
-use Rattle.dd_solve.specs.ScoredClasses.{ScoredClass}
-use Rattle.dd_solve.specs.Targets.{target_class, all_reaching, reaching}
+use Rattle.dd_request.specs.ScoredClasses.{ScoredClass}
+use Rattle.dd_request.specs.Targets.{target_class, all_reaching, reaching}
 
 -- does a class reach the target?
 abbrev pub does_reach : Board → ℕ → EqualCards → Bool

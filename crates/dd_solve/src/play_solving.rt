@@ -5,13 +5,12 @@ ghost use Rattle.dd_search.specs.Spent.{IsSpent, IsTicked};
 ghost use Rattle.dd_cards.specs.Sides.{is_side, side_of};
 ghost use Rattle.dd_play.specs.Board.{IsBoard, mover, tricks_left};
 ghost use Rattle.dd_play.specs.Won.{won};
-ghost use Rattle.dd_solve.specs.Plays.{play_trace, position_tricks, tricks_after};
+ghost use Rattle.dd_request.specs.Plays.{play_trace, position_tricks, tricks_after};
 
-use crate::play_request::PlayRequest;
-use crate::solved_play::{PlayPart, SolvedPlay, Trace, TraceList};
 use arrayvec::ArrayVec;
 use dd_cards::Side;
 use dd_play::Position;
+use dd_request::{PlayPart, PlayRequest, SolvedPlay, Trace};
 use dd_search::{Bounds, Budget, Endless, Halt, Meter, value, value_at_least};
 
 /// Finds the trace of a play. It goes from the last card back, so that each search finds what the one before it learned. The

@@ -6,78 +6,12 @@ ghost use Rattle.dd_play.specs.Board.{tricks_left, mover};
 ghost use Rattle.dd_play.specs.Value.{leaders_tricks};
 ghost use Rattle.dd_play.specs.Won.{won};
 ghost use Rattle.dd_search.specs.Budgets.{EndsAs, IsEndless};
-ghost use Rattle.dd_solve.specs.Results.{part_result};
+ghost use Rattle.dd_request.specs.Results.{part_result};
 
 use crate::solving::note_value;
-use crate::table_request::{PARTS, TableRequest};
 use dd_play::{Position, TrickStart};
+use dd_request::{PARTS, SolvedPart, TableRequest};
 use dd_search::{Bounds, Halt, Meter, start_value, start_value_from_guess};
-use std::marker::Model;
-
-/// A part of a table with its result.
-#[derive(Drop)]
-pub struct SolvedPart {
-    request: TableRequest,
-    part: u8,
-    tricks: u8,
-}
-
-impl Model for SolvedPart {
-    ghost use Rattle.std.specs.Prelude.{◌≡◌, ◌<◌, ◌≤◌};
-    ghost use Rattle.dd_solve.specs.Results.{PartResult, tricks_of, contract_of};
-
-    ghost Value = { PartResult };
-
-    ghost view = { λ s. record { hands = s.request; part = s.part; tricks = s.tricks } };
-
-    ghost invariant = { λ s. (s.part < 20) × (s.tricks ≤ 13) ×
-        (s.tricks ≡ tricks_of s.request (contract_of s.part)) };
-}
-
-impl SolvedPart {
-    /// The request whose part it is.
-    pub fn request(&self) -> &TableRequest
-        ensures { result.now ≡ self.now.hands }
-    {
-        &self.request
-    }
-
-    /// The number of the part, 0 to 19: four times the strain's code and the declarer's.
-    pub fn part(&self) -> u8
-        ensures value { result ≡ self.now.part }
-        ensures bound { result < PARTS }
-    {
-        self.part
-    }
-
-    /// The tricks, 0 to 13, of the declarer's side.
-    pub fn tricks(&self) -> u8
-        ensures value { result ≡ self.now.tricks }
-        ensures bound { result ≤ 13 }
-        ensures solved { self.now ≡ part_result self.now.hands self.now.part }
-    {
-        self.tricks
-    }
-
-    /// Is it this part of the request?
-    pub fn is_part_of(&self, request: &TableRequest, part: usize) -> bool
-        ensures test { result ≡ (same_hands request.now self.now.hands && (self.now.part == part)) }
-        ensures is { IsTrue result ↔ (self.now ≡ part_result request.now part) }
-    {
-        *request == self.request && self.part as usize == part
-    }
-
-    /// The same part with the same result. It takes no memory.
-    pub fn copy(&self) -> SolvedPart
-        ensures { result ≡ self.now }
-    {
-        SolvedPart {
-            request: self.request.copy(),
-            part: self.part,
-            tricks: self.tricks,
-        }
-    }
-}
 
 /// Finds the result of a part, 0 to 19, of a table: the tricks of the declarer's side. It takes no memory. An error says why
 /// the search ended without a result; what was noted by then holds.
@@ -115,11 +49,7 @@ pub fn solve_part_from_guess<B: Bounds, M: Meter>(
     ensures answers { IsEndless M.says → IsOk result }
 {
     let tricks = declarers_tricks(&request.opening(part), first_guess, table, meter)?;
-    Ok(SolvedPart {
-        request: request.copy(),
-        part,
-        tricks,
-    })
+    Ok(SolvedPart::of(request.copy(), part, tricks))
 }
 
 // The tricks of the side that does not lead.

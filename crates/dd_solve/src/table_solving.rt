@@ -1,12 +1,11 @@
 //! All parts of a table, one after another.
 ghost use Rattle.std.specs.Prelude.{◌≡◌, ◌<◌, IfNone, IfSome};
 ghost use Rattle.dd_search.specs.Spent.{IsSpent, IsTicked};
-ghost use Rattle.dd_solve.specs.Results.{contract_of, results, strain_results, tricks_of};
+ghost use Rattle.dd_request.specs.Results.{contract_of, results, strain_results, tricks_of};
 
-use crate::solved_table::Results;
 use crate::table_part::solve_part_from_guess;
-use crate::table_request::{PARTS, TableRequest};
 use dd_cards::{Seat, Strain, Suit};
+use dd_request::{PARTS, Results, TableRequest};
 use dd_search::{Bounds, Budget, Endless};
 
 /// Finds the results of a table. The budget is the most positions that the search for one of them visits, and `None` lets

@@ -1,4 +1,4 @@
-//! Requests with a target, and their answers.
+//! The answers to requests with a target.
 ghost use Rattle.std.specs.Prelude.{◌≡◌, ◌<◌, ◌⊎◌, true, IfOk, IsOk, nat_le, take, ◌==◌, if◌then◌else◌};
 ghost use Rattle.dd_cards.specs.Cards.{has_card};
 ghost use Rattle.dd_play.specs.Board.{IsBoard, tricks_left};
@@ -7,66 +7,15 @@ ghost use Rattle.dd_play.specs.Positions.{CanPlay};
 ghost use Rattle.dd_play.specs.Value.{score};
 ghost use Rattle.dd_equal.specs.EqualCards.{classes_of};
 ghost use Rattle.dd_search.specs.Budgets.{EndsAs, IsEndless};
-ghost use Rattle.dd_solve.specs.Targets.{all_reaching, solved_target};
+ghost use Rattle.dd_request.specs.Targets.{all_reaching, solved_target};
 
-use crate::answer::{Answer, MOST_CLASSES, Scored, ScoredList};
-use crate::target_request::TargetRequest;
+use crate::scored_list::ScoredList;
 use arrayvec::ArrayVec;
 use dd_cards::Card;
 use dd_equal::{Class, classes};
 use dd_play::Position;
+use dd_request::{Answer, MOST_CLASSES, Scored, SolvedTarget, TargetRequest};
 use dd_search::{Bounds, Halt, Meter, reaches};
-use std::marker::Model;
-
-/// A request with a target, with its answer.
-#[derive(Drop)]
-pub struct SolvedTarget {
-    request: TargetRequest,
-    answer: Answer,
-}
-
-impl Model for SolvedTarget {
-    ghost use Rattle.std.specs.Prelude.{◌≡◌};
-    ghost use Rattle.dd_play.specs.Positions.{CanPlay};
-    ghost use Rattle.dd_solve.specs.Targets.{SolvedTargetQuestion, reaching};
-
-    ghost Value = { SolvedTargetQuestion };
-
-    ghost view = { λ s. record { asked = s.request; answer = s.answer } };
-
-    ghost invariant = { λ s.
-        (s.answer ≡ reaching s.request.board s.request.target s.request.solutions) ×
-        CanPlay s.request.board };
-}
-
-impl SolvedTarget {
-    /// What was asked.
-    pub fn request(&self) -> &TargetRequest
-        ensures { result.now ≡ self.now.asked }
-    {
-        &self.request
-    }
-
-    /// The classes that reach the target: spades, hearts, diamonds, clubs, and in a suit the higher cards first. Each has the
-    /// target as its score, which here means "at least". It is empty where no card reaches it.
-    pub fn answer(&self) -> &Answer
-        ensures found { result.now ≡ self.now.answer }
-        ensures classes { self.now ≡ solved_target self.now.asked }
-        ensures play { CanPlay self.now.asked.board }
-    {
-        &self.answer
-    }
-
-    /// The same request with the same answer. It takes no memory.
-    pub fn copy(&self) -> SolvedTarget
-        ensures { result ≡ self.now }
-    {
-        SolvedTarget {
-            request: self.request.copy(),
-            answer: self.answer.copy(),
-        }
-    }
-}
 
 /// Finds the answer to a request with a target, by a yes-or-no question for each class, and none after the last one that is
 /// asked for. It takes no memory. An error says why the search ended without an answer; what was noted by then holds. A target
@@ -91,10 +40,7 @@ pub fn solve_target<B: Bounds, M: Meter>(
         table,
         meter,
     )?;
-    Ok(SolvedTarget {
-        request,
-        answer: Answer::of(answer),
-    })
+    Ok(SolvedTarget::of(request, Answer::of(answer)))
 }
 
 // How many of the classes that reach the target are asked for, at most.

@@ -6,6 +6,7 @@ use Rattle.std.proofs.lemmas.Bool.Decides.{nat_tests}
 use Rattle.std.proofs.lemmas.List.Elements.{Contains-append_right}
 use Rattle.dd_lines.specs.Lines.{line_feed, lines, longer_first}
 use Rattle.dd_wire.specs.declared.fault.Fault.TheVariants.{OutOfMemory}
+use Rattle.dd_search.specs.Spent.{IsSpent}
 use Rattle.dd_wire.specs.Explained.{IsExplained}
 use Rattle.dd_wire.specs.FaultWords.{fault_told}
 use Rattle.dd_wire.specs.LineReplies.{AreOneBut, IsReply}
@@ -60,17 +61,17 @@ module _ (said : List ℕ) (Reply : List ℕ → List ℕ → Type 0) (one : (li
       go (inl same) (inr (inl says)) = inr (inl (other-says a s m cut_a says))
       go (inl same) (inr (inr says)) = inr (inr (other-says b t n cut_b says))
 
-module _ (plain_line : (budget : Option ℕ) (line text : List ℕ) → IsReply budget line text → is_one_line text ≡ true)
-    (explained_line : (budget : Option ℕ) (line text : List ℕ) → IsExplained budget line text → is_one_line text ≡ true) where
+module _ (plain_line : (budget : Option ℕ) (line text : List ℕ) → IsReply (IsSpent budget) line text → is_one_line text ≡ true)
+    (explained_line : (budget : Option ℕ) (line text : List ℕ) → IsExplained (IsSpent budget) line text → is_one_line text ≡ true) where
   pub each-line : (explain : Bool) (budget : Option ℕ) (all : List (List ℕ)) (output : List ℕ) → AreTold (IsReplyAs explain budget) all output → AreReplies (IsReplyAs explain budget) all (lines output)
-  each-line false budget = told-lines (IsReply budget) (plain_line budget)
-  each-line true budget = told-lines (IsExplained budget) (explained_line budget)
+  each-line false budget = told-lines (IsReply (IsSpent budget)) (plain_line budget)
+  each-line true budget = told-lines (IsExplained (IsSpent budget)) (explained_line budget)
 
-  module _ (plain : (line a b : List ℕ) → IsReply None line a → IsReply None line b → AreOneBut (fault_text OutOfMemory) a b)
-      (explained : (line a b : List ℕ) → IsExplained None line a → IsExplained None line b → AreOneBut (fault_told OutOfMemory None) a b) where
+  module _ (plain : (line a b : List ℕ) → IsReply (IsSpent None) line a → IsReply (IsSpent None) line b → AreOneBut (fault_text OutOfMemory) a b)
+      (explained : (line a b : List ℕ) → IsExplained (IsSpent None) line a → IsExplained (IsSpent None) line b → AreOneBut (fault_told OutOfMemory None) a b) where
     pub one-output : (explain : Bool) (all : List (List ℕ)) (a b : List ℕ) → AreTold (IsReplyAs explain None) all a → AreTold (IsReplyAs explain None) all b → AreSameBut explain a b
-    one-output false = one-told (fault_text OutOfMemory) (IsReply None) plain (plain_line None)
-    one-output true = one-told (fault_told OutOfMemory None) (IsExplained None) explained (explained_line None)
+    one-output false = one-told (fault_text OutOfMemory) (IsReply (IsSpent None)) plain (plain_line None)
+    one-output true = one-told (fault_told OutOfMemory None) (IsExplained (IsSpent None)) explained (explained_line None)
 
     -- what a run over this input told, to its end
     told : (explain : Bool) (input a : List ℕ) → ToldAll (IsReplyAs explain None) (Some input) (Some []) (Some []) (Some a) → AreTold (IsReplyAs explain None) (lines input) a

@@ -5,6 +5,7 @@ use Rattle.dd_lines.specs.CountedDevices.{bytes_of}
 use Rattle.dd_lines.specs.declared.counted_device.CountedDevice.{CountedDevice}
 use Rattle.dd_lines.specs.Lines.{line_feed, lines}
 use Rattle.dd_wire.specs.declared.fault.Fault.TheVariants.{OutOfMemory}
+use Rattle.dd_search.specs.Spent.{IsSpent}
 use Rattle.dd_wire.specs.Explained.{IsExplained}
 use Rattle.dd_wire.specs.FaultWords.{fault_told}
 use Rattle.dd_wire.specs.LineReplies.{IsReply}
@@ -12,8 +13,8 @@ use Rattle.dd_wire.specs.Replies.{fault_text}
 
 -- the reply to a line: as it always is, or with its id told again and its fault explained
 abbrev pub IsReplyAs : Bool → Option ℕ → List ℕ → List ℕ → Type 0
-IsReplyAs false budget = IsReply budget
-IsReplyAs true budget = IsExplained budget
+IsReplyAs false budget = IsReply (IsSpent budget)
+IsReplyAs true budget = IsExplained (IsSpent budget)
 
 -- ---- replies of any kind
 
@@ -60,25 +61,25 @@ TellsBeginning remaining contents Reply reader_old reader_new writer_old writer_
 
 -- the bytes are the replies of the line tool to these lines, one for each, in order, each ended by a line feed
 abbrev pub AreSolved : Option ℕ → List (List ℕ) → List ℕ → Type 0
-AreSolved budget = AreTold (IsReply budget)
+AreSolved budget = AreTold (IsReply (IsSpent budget))
 
 -- all that came was read, and what was written is one reply line for each of its lines
 abbrev pub ServedAll : Option ℕ → Option (List ℕ) → Option (List ℕ) → Option (List ℕ) → Option (List ℕ) → Type 0
-ServedAll budget = ToldAll (IsReply budget)
+ServedAll budget = ToldAll (IsReply (IsSpent budget))
 
 -- what was written is a beginning of the reply lines to what was read
 abbrev pub ServedBeginning : Option ℕ → Option (List ℕ) → Option (List ℕ) → Option (List ℕ) → Option (List ℕ) → Type 0
-ServedBeginning budget = ToldBeginning (IsReply budget)
+ServedBeginning budget = ToldBeginning (IsReply (IsSpent budget))
 
 -- all that came was read, and each of its lines was answered
 abbrev pub ServesAll : {R W : Type 0} → (R → Option (List ℕ)) → (W → Option (List ℕ)) → Option ℕ
     → CountedDevice R → CountedDevice R → CountedDevice W → CountedDevice W → Type 0
-ServesAll remaining contents budget = TellsAll remaining contents (IsReply budget)
+ServesAll remaining contents budget = TellsAll remaining contents (IsReply (IsSpent budget))
 
 -- what was written is a beginning of the replies to what was read
 abbrev pub ServesBeginning : {R W : Type 0} → (R → Option (List ℕ)) → (W → Option (List ℕ)) → Option ℕ
     → CountedDevice R → CountedDevice R → CountedDevice W → CountedDevice W → Type 0
-ServesBeginning remaining contents budget = TellsBeginning remaining contents (IsReply budget)
+ServesBeginning remaining contents budget = TellsBeginning remaining contents (IsReply (IsSpent budget))
 
 -- ---- the lines of an output, and two outputs for the same lines
 

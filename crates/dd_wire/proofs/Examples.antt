@@ -12,10 +12,10 @@ use Rattle.dd_cards.specs.Hands.{dealt}
 use Rattle.dd_cards.specs.Cards.{card_of}
 use Rattle.dd_play.specs.Board.{Board}
 use Rattle.dd_play.specs.Value.{ns_within}
-use Rattle.dd_solve.specs.declared.asked.Asked.TheVariants.{Solve, Table}
+use Rattle.dd_request.specs.declared.asked.Asked.TheVariants.{Solve, Table}
 use Rattle.dd_wire.specs.declared.fault.Fault.TheVariants.{NoCard}
-use Rattle.dd_solve.specs.ScoredClasses.{ScoredClass, answer, all_scores}
-use Rattle.dd_solve.specs.Results.{results, contracts, tricks_of}
+use Rattle.dd_request.specs.ScoredClasses.{ScoredClass, answer, all_scores}
+use Rattle.dd_request.specs.Results.{results, contracts, tricks_of}
 use Rattle.dd_wire.specs.HealthReplies.{health_text}
 use Rattle.dd_wire.specs.LineReplies.{asked_text}
 use Rattle.dd_wire.specs.Replies.{class_text, fault_text}

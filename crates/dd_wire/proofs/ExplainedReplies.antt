@@ -5,7 +5,7 @@ use Rattle.std.specs.Bool.{MatchBool}
 use Rattle.serde_json.specs.Data.{Members}
 use Rattle.serde_json.specs.Find.{get_member}
 use Rattle.dd_lines.specs.Line.{longest_line}
-use Rattle.dd_solve.specs.declared.asked.Asked.TheVariants.{Solve, Table, Target, Play}
+use Rattle.dd_request.specs.declared.asked.Asked.TheVariants.{Solve, Table, Target, Play}
 use Rattle.dd_wire.specs.declared.fault.Fault.{Fault}
 use Rattle.dd_wire.specs.declared.fault.Fault.TheVariants.{LineTooLong, NotAnObject, WrongField}
 use Rattle.dd_wire.specs.declared.line_asked.LineAsked.{LineAsked}
@@ -44,30 +44,30 @@ some-bare_text _ (Ok asked) = some-answer (Ok asked)
 some-bare_text members (Err fault) = (fault_told fault (field_of members fault), refl)
 
 -- and have a reply
-some-bare : (budget : Option ℕ) (members : Members) → SomeText (IsBareReply budget members)
+some-bare : (gave_up : Type 0) (members : Members) → SomeText (IsBareReply gave_up members)
 unfolding IsBareReply
-some-bare budget members =
+some-bare gave_up members =
     let (meaning, means) = some-bare_meaning members in
     let (text, replies) = some-bare_text members meaning in
     (text, inl (meaning, means, replies))
 
 -- so have members with an id
-some-object : (budget : Option ℕ) (members : Members) → SomeText (IsObjectReply budget members)
+some-object : (gave_up : Type 0) (members : Members) → SomeText (IsObjectReply gave_up members)
 unfolding IsObjectReply
-some-object budget members =
-    text-by-option (get_member (codes "id") members) _ _ (some-bare budget members) (λ value.
+some-object gave_up members =
+    text-by-option (get_member (codes "id") members) _ _ (some-bare gave_up members) (λ value.
     text-by-option (id_text value) _ _ (fault_told WrongField (Some (codes "id")), refl) (λ id.
-    let (reply, is) = some-bare budget (without (codes "id") members) in (with_id id reply, (reply, is, refl))))
+    let (reply, is) = some-bare gave_up (without (codes "id") members) in (with_id id reply, (reply, is, refl))))
 
 -- and lines
-pub some-explained : (budget : Option ℕ) (line : List ℕ) → (text : List ℕ) × IsExplained budget line text
+pub some-explained : (gave_up : Type 0) (line : List ℕ) → (text : List ℕ) × IsExplained gave_up line text
 unfolding IsExplained IsUnreadReply
-some-explained budget line = text-by-test (nat_lt longest_line (length line)) _ _ (fault_told LineTooLong None, refl) (go (object_of line) refl)
+some-explained gave_up line = text-by-test (nat_lt longest_line (length line)) _ _ (fault_told LineTooLong None, refl) (go (object_of line) refl)
   where
     go : (o : Option Members) → object_of line ≡ o
-        → SomeText (λ text. ((members : Members) × (object_of line ≡ Some members) × IsObjectReply budget members text) ⊎ IsUnreadReply line text)
+        → SomeText (λ text. ((members : Members) × (object_of line ≡ Some members) × IsObjectReply gave_up members text) ⊎ IsUnreadReply line text)
     go None is = (explained_text (fault_number NotAnObject) None (words_of_line line), inr (inl (is, refl)))
-    go (Some members) is = let (text, reply) = some-object budget members in (text, inl (members, is, reply))
+    go (Some members) is = let (text, reply) = some-object gave_up members in (text, inl (members, is, reply))
 
 -- ---- a reply to members is an object with a member
 
@@ -87,7 +87,7 @@ reply-opens : (members : Members) (meaning : Result LineAsked Fault) (text : Lis
 reply-opens _ (Ok asked) text is = answer-opens asked text is
 reply-opens _ (Err fault) text is = subst Opens (sym is) refl
 
-pub bare-opens : (budget : Option ℕ) (members : Members) (text : List ℕ) → IsBareReply budget members text → text ≡ codes "{\"" ++ drop 2 text
+pub bare-opens : (gave_up : Type 0) (members : Members) (text : List ℕ) → IsBareReply gave_up members text → text ≡ codes "{\"" ++ drop 2 text
 unfolding IsBareReply
-bare-opens budget members text (inl (meaning, means, is)) = reply-opens members meaning text is
-bare-opens budget _ text (inr (asked, means, searched, some, is)) = subst Opens (sym is) refl
+bare-opens gave_up members text (inl (meaning, means, is)) = reply-opens members meaning text is
+bare-opens gave_up _ text (inr (asked, means, searched, some, is)) = subst Opens (sym is) refl

@@ -11,7 +11,6 @@ use Rattle.serde_json.specs.Find.{get_member}
 use Rattle.serde_json.specs.View.{members_view, view}
 use Rattle.serde_json.specs.declared.value.Value.{Value}
 use Rattle.dd_lines.specs.Line.{longest_line}
-use Rattle.dd_search.specs.Spent.{IsSpent}
 use Rattle.dd_wire.specs.declared.fault.Fault.{Fault}
 use Rattle.dd_wire.specs.declared.fault.Fault.TheVariants.{LineTooLong, WrongField}
 use Rattle.dd_wire.specs.declared.line_asked.LineAsked.{LineAsked}
@@ -36,18 +35,18 @@ pub bare-waits : (members : Members) (meaning : Result LineAsked Fault) → wait
 unfolding MeansBare
 bare-waits _ meaning waits is = rw waits is
 
--- the answer to what they ask, or that the budget was spent, replies to them
-pub bare-answered : (budget : Option ℕ) (members : Members) (asked : LineAsked) (text : List ℕ) → MeansBare members (Ok asked)
-    → IsAnswer asked text ⊎ (IsSearched asked × IsSpent budget × (text ≡ spent_text)) → IsBareReply budget members text
+-- the answer to what they ask, or that it was given up, replies to them
+pub bare-answered : (gave_up : Type 0) (members : Members) (asked : LineAsked) (text : List ℕ) → MeansBare members (Ok asked)
+    → IsAnswer asked text ⊎ (IsSearched asked × gave_up × (text ≡ spent_text)) → IsBareReply gave_up members text
 unfolding IsBareReply
-bare-answered budget _ asked text means (inl is) = inl (Ok asked, means, is)
-bare-answered budget _ asked text means (inr (searched, some, is)) = inr (asked, means, searched, some, is)
+bare-answered gave_up _ asked text means (inl is) = inl (Ok asked, means, is)
+bare-answered gave_up _ asked text means (inr (searched, some, is)) = inr (asked, means, searched, some, is)
 
 -- so does their fault
-pub bare-faulty : (budget : Option ℕ) (members : Members) (fault : Fault) (text : List ℕ) → MeansBare members (Err fault) → text ≡ fault_told fault (field_of members fault)
-    → IsBareReply budget members text
+pub bare-faulty : (gave_up : Type 0) (members : Members) (fault : Fault) (text : List ℕ) → MeansBare members (Err fault) → text ≡ fault_told fault (field_of members fault)
+    → IsBareReply gave_up members text
 unfolding IsBareReply
-bare-faulty budget _ fault text means is = inl (Err fault, means, is)
+bare-faulty gave_up _ fault text means is = inl (Err fault, means, is)
 
 -- ---- members with one
 
@@ -67,42 +66,42 @@ without-removed key (e ∷ es) =
     go false same = ap (member (string_bytes e.0) (view e.1)) same
 
 -- no id
-pub object-bare : (budget : Option ℕ) (members : Members) (text : List ℕ) → get_member (codes "id") members ≡ None → IsBareReply budget members text → IsObjectReply budget members text
+pub object-bare : (gave_up : Type 0) (members : Members) (text : List ℕ) → get_member (codes "id") members ≡ None → IsBareReply gave_up members text → IsObjectReply gave_up members text
 unfolding IsObjectReply
-object-bare budget _ text none is = rw none is
+object-bare gave_up _ text none is = rw none is
 
 -- one that is none
-pub object-wrong : (budget : Option ℕ) (members : Members) (value : Data) (text : List ℕ) → get_member (codes "id") members ≡ Some value → id_text value ≡ None
-    → text ≡ fault_told WrongField (Some (codes "id")) → IsObjectReply budget members text
+pub object-wrong : (gave_up : Type 0) (members : Members) (value : Data) (text : List ℕ) → get_member (codes "id") members ≡ Some value → id_text value ≡ None
+    → text ≡ fault_told WrongField (Some (codes "id")) → IsObjectReply gave_up members text
 unfolding IsObjectReply
-object-wrong budget _ value text some none is = rw (some, none) is
+object-wrong gave_up _ value text some none is = rw (some, none) is
 
 -- one that is told again
-pub object-named : (budget : Option ℕ) (members : Members) (value : Data) (id reply text : List ℕ) → get_member (codes "id") members ≡ Some value → id_text value ≡ Some id
-    → IsBareReply budget (without (codes "id") members) reply → text ≡ with_id id reply → IsObjectReply budget members text
+pub object-named : (gave_up : Type 0) (members : Members) (value : Data) (id reply text : List ℕ) → get_member (codes "id") members ≡ Some value → id_text value ≡ Some id
+    → IsBareReply gave_up (without (codes "id") members) reply → text ≡ with_id id reply → IsObjectReply gave_up members text
 unfolding IsObjectReply
-object-named budget _ value id reply text some named replies is = rw (some, named) (reply, replies, is)
+object-named gave_up _ value id reply text some named replies is = rw (some, named) (reply, replies, is)
 
 -- ---- lines
 
 -- too long a line
-pub explained-long : (budget : Option ℕ) (line text : List ℕ) → longest_line < length line → text ≡ fault_told LineTooLong None → IsExplained budget line text
+pub explained-long : (gave_up : Type 0) (line text : List ℕ) → longest_line < length line → text ≡ fault_told LineTooLong None → IsExplained gave_up line text
 unfolding IsExplained
-explained-long budget line text long is =
+explained-long gave_up line text long is =
     let over : nat_lt longest_line (length line) ≡ true = lt-ltb longest_line (length line) long in
     rw over is
 
 -- one that is an object
-pub explained-object : (budget : Option ℕ) (line text : List ℕ) (members : Members) → length line ≤ longest_line → object_of line ≡ Some members → IsObjectReply budget members text
-    → IsExplained budget line text
+pub explained-object : (gave_up : Type 0) (line text : List ℕ) (members : Members) → length line ≤ longest_line → object_of line ≡ Some members → IsObjectReply gave_up members text
+    → IsExplained gave_up line text
 unfolding IsExplained
-explained-object budget line text members short is replies =
+explained-object gave_up line text members short is replies =
     let test : nat_lt longest_line (length line) ≡ false = le-ltb longest_line (length line) short in
     rw test (inl (members, is, replies))
 
 -- and one that gave none
-pub explained-unread : (budget : Option ℕ) (line text : List ℕ) → length line ≤ longest_line → IsUnreadReply line text → IsExplained budget line text
+pub explained-unread : (gave_up : Type 0) (line text : List ℕ) → length line ≤ longest_line → IsUnreadReply line text → IsExplained gave_up line text
 unfolding IsExplained
-explained-unread budget line text short replies =
+explained-unread gave_up line text short replies =
     let test : nat_lt longest_line (length line) ≡ false = le-ltb longest_line (length line) short in
     rw test (inr replies)

@@ -4,7 +4,7 @@ use Rattle.std.specs.Prelude.{Some, Result, Ok, Err, nat_lt}
 use Rattle.std.proofs.lemmas.Bool.{le-ltb}
 use Rattle.serde_json.specs.Data.{Members}
 use Rattle.dd_lines.specs.Line.{longest_line}
-use Rattle.dd_solve.specs.Results.{results}
+use Rattle.dd_request.specs.Results.{results}
 use Rattle.dd_score.specs.ParContracts.{par_contracts}
 use Rattle.dd_score.proofs.CallerLemmas.{some-par}
 use Rattle.dd_wire.specs.declared.fault.Fault.{Fault}

@@ -5,7 +5,7 @@ use Rattle.std.specs.Str.{bytes_eq}
 use Rattle.serde_json.specs.Data.{Members}
 use Rattle.serde_json.specs.Find.{get_member}
 use Rattle.dd_pbn.specs.Reading.{◌>>=◌}
-use Rattle.dd_solve.specs.declared.asked.Asked.{Asked}
+use Rattle.dd_request.specs.declared.asked.Asked.{Asked}
 use Rattle.dd_lines.specs.Line.{longest_line}
 use Rattle.dd_wire.specs.declared.fault.Fault.{Fault}
 use Rattle.dd_wire.specs.declared.par_request.ParOfResults.{ParOfResults}

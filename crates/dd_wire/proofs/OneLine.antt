@@ -13,8 +13,8 @@ use Rattle.dd_score.specs.declared.par_contract.Declarers.{Declarers}
 use Rattle.dd_score.specs.declared.par_contract.ParContract.{ParContract}
 use Rattle.dd_cards.specs.Strains.{strain_code}
 use Rattle.dd_cards.specs.Suits.{suit_code}
-use Rattle.dd_solve.specs.declared.asked.Asked.TheVariants.{Solve, Table, Target, Play}
-use Rattle.dd_solve.specs.ScoredClasses.{ScoredClass}
+use Rattle.dd_request.specs.declared.asked.Asked.TheVariants.{Solve, Table, Target, Play}
+use Rattle.dd_request.specs.ScoredClasses.{ScoredClass}
 use Rattle.dd_wire.specs.declared.fault.Fault.{Fault}
 use Rattle.dd_wire.specs.declared.fault.Fault.TheVariants.{LineTooLong, NotAnObject, WrongField, DealText, HandLeftOut, CardTwice, WrongTrump, WrongFirst, WrongPlayed, WrongSolutions, WrongTarget, WrongOrder, WrongVulnerable, WrongResult, UnevenHands, NoCard, NotThirteen, AfterLast, NotInHand, Revoke, OutOfMemory}
 use Rattle.dd_wire.specs.declared.fault_field.Task.{Task}
@@ -323,19 +323,19 @@ of-meaning : (meaning : Result LineAsked Fault) (text : List ℕ) → IsReplyTo 
 of-meaning (Ok asked) text is = of-asked asked text is
 of-meaning (Err fault) text is = same is (of-number (fault_number fault))
 
-pub reply-is-line : (budget : Option ℕ) (line text : List ℕ) → IsReply budget line text → is_one_line text ≡ true
-reply-is-line budget line text (inl (meaning, means, is)) = (of-meaning meaning text is).holds
-reply-is-line budget line text (inr (inl (some, fits, is))) = (same is (of-number (fault_number OutOfMemory))).holds
-reply-is-line budget line text (inr (inr (asked, means, searched, some, is))) = (same is (fixed spent_text refl)).holds
+pub reply-is-line : (gave_up : Type 0) (line text : List ℕ) → IsReply gave_up line text → is_one_line text ≡ true
+reply-is-line gave_up line text (inl (meaning, means, is)) = (of-meaning meaning text is).holds
+reply-is-line gave_up line text (inr (inl (some, fits, is))) = (same is (of-number (fault_number OutOfMemory))).holds
+reply-is-line gave_up line text (inr (inr (asked, means, searched, some, is))) = (same is (fixed spent_text refl)).holds
 
 of-bare-meaning : (members : Members) (meaning : Result LineAsked Fault) (text : List ℕ) → IsBareReplyTo members meaning text → IsLine text
 of-bare-meaning _ (Ok asked) text is = of-asked asked text is
 of-bare-meaning members (Err fault) text is = same is (of-told fault (field_of members fault) (of-field members fault))
 
-of-bare : (budget : Option ℕ) (members : Members) (text : List ℕ) → IsBareReply budget members text → IsLine text
+of-bare : (gave_up : Type 0) (members : Members) (text : List ℕ) → IsBareReply gave_up members text → IsLine text
 unfolding IsBareReply
-of-bare budget members text (inl (meaning, means, is)) = of-bare-meaning members meaning text is
-of-bare budget members text (inr (asked, means, searched, some, is)) = same is (fixed spent_text refl)
+of-bare gave_up members text (inl (meaning, means, is)) = of-bare-meaning members meaning text is
+of-bare gave_up members text (inr (asked, means, searched, some, is)) = same is (fixed spent_text refl)
 
 by-option : {A : Type 0} (o : Option A) (P : Type 0) (Q : A → Type 0) (R : Type 0) → (P → R) → ((x : A) → o ≡ Some x → Q x → R) → MatchOption o P Q → R
 by-option None P Q R none some = none
@@ -345,23 +345,23 @@ by-test : (b : Bool) (P Q R : Type 0) → (P → R) → (Q → R) → MatchBool 
 by-test true P Q R held failed = held
 by-test false P Q R held failed = failed
 
-of-object : (budget : Option ℕ) (members : Members) (text : List ℕ) → IsObjectReply budget members text → IsLine text
+of-object : (gave_up : Type 0) (members : Members) (text : List ℕ) → IsObjectReply gave_up members text → IsLine text
 unfolding IsObjectReply
-of-object budget members text =
-    by-option (get_member (codes "id") members) _ _ (IsLine text) (of-bare budget members text) (λ value has.
+of-object gave_up members text =
+    by-option (get_member (codes "id") members) _ _ (IsLine text) (of-bare gave_up members text) (λ value has.
     by-option (id_text value) _ _ (IsLine text) (λ is. same is (of-told WrongField (Some (codes "id")) (fixed (codes "id") refl))) (λ id told replies.
-    same replies.2 (of-named id replies.0 (of-id value id told) (of-bare budget (without (codes "id") members) replies.0 replies.1))))
+    same replies.2 (of-named id replies.0 (of-id value id told) (of-bare gave_up (without (codes "id") members) replies.0 replies.1))))
 
 of-unread : (line text : List ℕ) → IsUnreadReply line text → IsLine text
 unfolding IsUnreadReply
 of-unread line text (inl (none, is)) = same is (of-explained (fault_number NotAnObject) None (words_of_line line) tt (of-line-words line))
 of-unread line text (inr (some, is)) = same is (of-told OutOfMemory None tt)
 
-of-read : (budget : Option ℕ) (line text : List ℕ) → ((members : Members) × (object_of line ≡ Some members) × IsObjectReply budget members text) ⊎ IsUnreadReply line text → IsLine text
-of-read budget line text (inl (members, reads, replies)) = of-object budget members text replies
-of-read budget line text (inr unread) = of-unread line text unread
+of-read : (gave_up : Type 0) (line text : List ℕ) → ((members : Members) × (object_of line ≡ Some members) × IsObjectReply gave_up members text) ⊎ IsUnreadReply line text → IsLine text
+of-read gave_up line text (inl (members, reads, replies)) = of-object gave_up members text replies
+of-read gave_up line text (inr unread) = of-unread line text unread
 
-pub explained-is-line : (budget : Option ℕ) (line text : List ℕ) → IsExplained budget line text → is_one_line text ≡ true
+pub explained-is-line : (gave_up : Type 0) (line text : List ℕ) → IsExplained gave_up line text → is_one_line text ≡ true
 unfolding IsExplained
-explained-is-line budget line text replies =
-    (by-test (nat_lt longest_line (length line)) _ _ (IsLine text) (λ is. same is (of-told LineTooLong None tt)) (of-read budget line text) replies).holds
+explained-is-line gave_up line text replies =
+    (by-test (nat_lt longest_line (length line)) _ _ (IsLine text) (λ is. same is (of-told LineTooLong None tt)) (of-read gave_up line text) replies).holds

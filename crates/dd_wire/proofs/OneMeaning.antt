@@ -18,8 +18,8 @@ use Rattle.dd_play.specs.Board.{Board, tricks_left}
 use Rattle.dd_pbn.specs.Values.{begins_tag}
 use Rattle.dd_wire.specs.declared.fault.Fault.{Fault}
 use Rattle.serde_json.specs.Data.{Members}
-use Rattle.dd_solve.specs.declared.asked.Asked.{Asked}
-use Rattle.dd_solve.specs.declared.asked.Asked.TheVariants.{Solve, Table, Target}
+use Rattle.dd_request.specs.declared.asked.Asked.{Asked}
+use Rattle.dd_request.specs.declared.asked.Asked.TheVariants.{Solve, Table, Target}
 use Rattle.dd_wire.specs.Requests.{SolveFields, TargetFields, MeansObject, MeansDeal, MeansTable, MeansFields, MeansTargetFields, MeansStart, MeansSolutions, MeansTarget, MeansCards, MeansHands, MeansTargetHands, MeansBoard, IsAskedOf, are_solutions, question, target_question, target_fields, asked_as, table_deal, deal_fault, are_cards, pair_of_card, solve_fields}
 use Rattle.dd_wire.proofs.Meanings.{none-twice-decided, even-decided, hands-decided}
 use Rattle.dd_play.proofs.CallerLemmas.{board-eq}

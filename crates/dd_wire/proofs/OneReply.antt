@@ -1,4 +1,4 @@
--- A line has one reply without a budget, but where memory ran out.
+-- A line has one reply where none is given up, but where memory ran out.
 use Rattle.std.proofs.Common.{◌≡◌, ◌∙◌, ◌⊎◌, ℕ, ℤ, Bool, true, false, inl, inr, sym, ap, subst, List, Option, None, Some}
 use Rattle.std.specs.Prelude.{codes, length, nat_lt, MatchOption, Result, Ok, Err}
 use Rattle.std.specs.Bool.{MatchBool}
@@ -14,7 +14,7 @@ use Rattle.dd_score.specs.declared.order.Order.TheVariants.{Dealer, First}
 use Rattle.dd_score.specs.declared.vulnerable.Vulnerable.{Vulnerable}
 use Rattle.dd_score.specs.ParContracts.{par_contracts}
 use Rattle.dd_score.specs.Values.{HasOneValue, IsBetterOf, IsPar, better}
-use Rattle.dd_solve.specs.Results.{results}
+use Rattle.dd_request.specs.Results.{results}
 use Rattle.dd_wire.specs.declared.fault.Fault.{Fault}
 use Rattle.dd_wire.specs.declared.fault.Fault.TheVariants.{OutOfMemory, WrongField}
 use Rattle.dd_wire.specs.declared.line_asked.LineAsked.{LineAsked}
@@ -69,7 +69,7 @@ module _ (one : HasOneValue) where
   one-reply_to (Err fault) = both-are _
 
   -- ---- a line has one
-  pub one-reply : (line a b : List ℕ) → IsReply None line a → IsReply None line b → AreOneBut (fault_text OutOfMemory) a b
+  pub one-reply : (line a b : List ℕ) → IsReply ⊥ line a → IsReply ⊥ line b → AreOneBut (fault_text OutOfMemory) a b
   one-reply line a b (inl (m, means_m, is_a)) (inl (n, means_n, is_b)) =
       inl (one-reply_to n a b (subst (λ (k : Result LineAsked Fault). IsReplyTo k a) (one-meaning line m n means_m means_n) is_a) is_b)
   one-reply line a b (inr (inl memory)) reply = inr (inl memory.2)
@@ -86,17 +86,17 @@ module _ (one : HasOneValue) where
   unfolding MeansBare
   one-bare_meaning members = one-by-option (wait_at members) _ _ (both _) (λ wait. one-members members)
 
-  one-bare : (members : Members) → OneText (IsBareReply None members)
+  one-bare : (members : Members) → OneText (IsBareReply ⊥ members)
   unfolding IsBareReply
   one-bare members a b (inl (m, means_m, is_a)) (inl (n, means_n, is_b)) =
       one-bare_reply members n a b (subst (λ (k : Result LineAsked Fault). IsBareReplyTo members k a) (one-bare_meaning members m n means_m means_n) is_a) is_b
   one-bare members a b (inr spent) reply = absurd spent.3
   one-bare members a b (inl reply) (inr spent) = absurd spent.3
 
-  one-with_id : (members : Members) (id : List ℕ) → OneText (IsReplyWithId None members id)
+  one-with_id : (members : Members) (id : List ℕ) → OneText (IsReplyWithId ⊥ members id)
   one-with_id members id a b (x, is_x, e) (y, is_y, f) = e ∙ ap (with_id id) (one-bare (without (codes "id") members) x y is_x is_y) ∙ sym f
 
-  one-object : (members : Members) → OneText (IsObjectReply None members)
+  one-object : (members : Members) → OneText (IsObjectReply ⊥ members)
   unfolding IsObjectReply
   one-object members =
       text-by-option (get_member (codes "id") members) _ _ (one-bare members) (λ value.
@@ -104,13 +104,13 @@ module _ (one : HasOneValue) where
 
   -- a line that is not too long
   abbrev IsShortReply : List ℕ → List ℕ → Type 0
-  IsShortReply line text = ((members : Members) × (object_of line ≡ Some members) × IsObjectReply None members text) ⊎ IsUnreadReply line text
+  IsShortReply line text = ((members : Members) × (object_of line ≡ Some members) × IsObjectReply ⊥ members text) ⊎ IsUnreadReply line text
 
   one-short : (line a b : List ℕ) → IsShortReply line a → IsShortReply line b → AreOneBut (fault_told OutOfMemory None) a b
   unfolding IsUnreadReply
   one-short line a b (inl (m, is_m, is_a)) (inl (n, is_n, is_b)) =
       let same : m ≡ n = cc in
-      inl (one-object n a b (subst (λ (k : Members). IsObjectReply None k a) same is_a) is_b)
+      inl (one-object n a b (subst (λ (k : Members). IsObjectReply ⊥ k a) same is_a) is_b)
   one-short line a b (inl (m, is_m, is_a)) (inr (inl (none, is_b))) = absurd cc
   one-short line a b (inr (inl (none, is_a))) (inl (n, is_n, is_b)) = absurd cc
   one-short line a b (inr (inl (none_a, is_a))) (inr (inl (none_b, is_b))) = inl (is_a ∙ sym is_b)
@@ -122,6 +122,6 @@ module _ (one : HasOneValue) where
   by-length true said a b text P one_p is_a is_b = inl (is_a ∙ sym is_b)
   by-length false said a b text P one_p is_a is_b = one_p is_a is_b
 
-  pub one-explained : (line a b : List ℕ) → IsExplained None line a → IsExplained None line b → AreOneBut (fault_told OutOfMemory None) a b
+  pub one-explained : (line a b : List ℕ) → IsExplained ⊥ line a → IsExplained ⊥ line b → AreOneBut (fault_told OutOfMemory None) a b
   unfolding IsExplained
   one-explained line a b is_a is_b = by-length (nat_lt longest_line (length line)) (fault_told OutOfMemory None) a b _ (IsShortReply line) (one-short line a b) is_a is_b

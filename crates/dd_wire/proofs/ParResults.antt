@@ -7,7 +7,7 @@ use Rattle.dd_cards.specs.declared.seat.Seat.TheVariants.{North, East, South, We
 use Rattle.dd_cards.specs.Seats.{next_seat}
 use Rattle.dd_cards.specs.Hands.{FourHands, hand_of}
 use Rattle.dd_score.specs.Tables.{IsTable}
-use Rattle.dd_solve.specs.Results.{AreEven, Contract, contracts, tricks_of, results}
+use Rattle.dd_request.specs.Results.{AreEven, Contract, contracts, tricks_of, results}
 use Rattle.dd_wire.specs.ParReplies.{rows_of}
 
 -- each hand has thirteen cards

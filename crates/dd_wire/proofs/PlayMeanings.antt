@@ -16,13 +16,13 @@ use Rattle.dd_play.specs.Positions as positions
 use Rattle.dd_play.specs.declared.play_fault.PlayFault.{PlayFault}
 use Rattle.dd_play.specs.declared.play_fault.PlayFault.TheVariants.{Played, Twice, Uneven, Empty}
 use Rattle.dd_play.proofs.CallerLemmas.{times_in-once, board-eq}
-use Rattle.dd_solve.specs.declared.card_fault.CardFault.{CardFault}
-use Rattle.dd_solve.specs.declared.card_fault.CardFault.TheVariants as faults
-use Rattle.dd_solve.specs.CardFaults.{IsFirstFault}
-use Rattle.dd_solve.specs.Plays.{Play, IsRegular}
-use Rattle.dd_solve.specs.declared.asked.Asked.TheVariants as asked
+use Rattle.dd_request.specs.declared.card_fault.CardFault.{CardFault}
+use Rattle.dd_request.specs.declared.card_fault.CardFault.TheVariants as faults
+use Rattle.dd_request.specs.CardFaults.{IsFirstFault}
+use Rattle.dd_request.specs.Plays.{Play, IsRegular}
+use Rattle.dd_request.specs.declared.asked.Asked.TheVariants as asked
 use Rattle.serde_json.specs.Data.{Members}
-use Rattle.dd_solve.proofs.CallerLemmas.{regular-decided, regular-faultless, one-first-fault}
+use Rattle.dd_request.proofs.CallerLemmas.{regular-decided, regular-faultless, one-first-fault}
 use Rattle.dd_wire.specs.declared.fault.Fault.{Fault}
 use Rattle.dd_wire.specs.declared.fault.Fault.TheVariants.{WrongTrump, WrongFirst, WrongPlayed, UnevenHands, NoCard, OutOfMemory}
 use Rattle.dd_wire.specs.PlayLines.{PlayFields, MeansAsked, MeansPlay, MeansPlayed, MeansPlayFields, IsPlayOf, are_cards_played, card_fault, play_fields}

@@ -9,10 +9,10 @@ use Rattle.serde_json.specs.Data.{array, number, unsigned, string, object, Membe
 use Rattle.serde_json.specs.Read.{read}
 use Rattle.dd_cards.specs.PlayingCard.{PlayingCard}
 use Rattle.dd_lines.specs.Line.{longest_line}
-use Rattle.dd_solve.specs.Questions.{Question}
-use Rattle.dd_solve.specs.Targets.{TargetQuestion}
-use Rattle.dd_solve.specs.declared.asked.Asked.{Asked}
-use Rattle.dd_solve.specs.declared.asked.Asked.TheVariants.{Solve, Target}
+use Rattle.dd_request.specs.Questions.{Question}
+use Rattle.dd_request.specs.Targets.{TargetQuestion}
+use Rattle.dd_request.specs.declared.asked.Asked.{Asked}
+use Rattle.dd_request.specs.declared.asked.Asked.TheVariants.{Solve, Target}
 use Rattle.dd_wire.specs.declared.fault.Fault.{Fault}
 use Rattle.dd_wire.specs.declared.line_asked.LineAsked.{LineAsked}
 use Rattle.dd_wire.specs.declared.par_reader.FirstCode.{FirstCode}

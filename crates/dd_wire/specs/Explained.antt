@@ -4,7 +4,6 @@ use Rattle.std.specs.Bool.{MatchBool}
 use Rattle.serde_json.specs.Data.{Members}
 use Rattle.serde_json.specs.Find.{get_member}
 use Rattle.dd_lines.specs.Line.{longest_line}
-use Rattle.dd_search.specs.Spent.{IsSpent}
 use Rattle.dd_wire.specs.declared.fault.Fault.{Fault}
 use Rattle.dd_wire.specs.declared.fault.Fault.TheVariants.{LineTooLong, NotAnObject, WrongField, OutOfMemory}
 use Rattle.dd_wire.specs.declared.line_asked.LineAsked.{LineAsked}
@@ -26,20 +25,20 @@ abbrev pub IsBareReplyTo : Members → Result LineAsked Fault → List ℕ → T
 IsBareReplyTo _ (Ok asked) text = IsAnswer asked text
 IsBareReplyTo members (Err fault) text = text ≡ fault_told fault (field_of members fault)
 
--- the reply to members without an id: that of their meaning, or that the budget was spent in a search
-unfoldable pub IsBareReply : Option ℕ → Members → List ℕ → Type 0
-IsBareReply budget members text =
+-- the reply to members without an id: that of their meaning, or that a search for it was given up
+unfoldable pub IsBareReply : Type 0 → Members → List ℕ → Type 0
+IsBareReply gave_up members text =
     ((meaning : Result LineAsked Fault) × MeansBare members meaning × IsBareReplyTo members meaning text)
-    ⊎ ((asked : LineAsked) × MeansBare members (Ok asked) × IsSearched asked × IsSpent budget × (text ≡ spent_text))
+    ⊎ ((asked : LineAsked) × MeansBare members (Ok asked) × IsSearched asked × gave_up × (text ≡ spent_text))
 
 -- the reply to members with this id: that to the others, with the id
-abbrev pub IsReplyWithId : Option ℕ → Members → List ℕ → List ℕ → Type 0
-IsReplyWithId budget members id text = (reply : List ℕ) × IsBareReply budget (without (codes "id") members) reply × (text ≡ with_id id reply)
+abbrev pub IsReplyWithId : Type 0 → Members → List ℕ → List ℕ → Type 0
+IsReplyWithId gave_up members id text = (reply : List ℕ) × IsBareReply gave_up (without (codes "id") members) reply × (text ≡ with_id id reply)
 
 -- the reply to members: they have no id, or one that is none, or one that is told again
-unfoldable pub IsObjectReply : Option ℕ → Members → List ℕ → Type 0
-IsObjectReply budget members text = MatchOption (get_member (codes "id") members) (IsBareReply budget members text) (λ value.
-    MatchOption (id_text value) (text ≡ fault_told WrongField (Some (codes "id"))) (λ id. IsReplyWithId budget members id text))
+unfoldable pub IsObjectReply : Type 0 → Members → List ℕ → Type 0
+IsObjectReply gave_up members text = MatchOption (get_member (codes "id") members) (IsBareReply gave_up members text) (λ value.
+    MatchOption (id_text value) (text ≡ fault_told WrongField (Some (codes "id"))) (λ id. IsReplyWithId gave_up members id text))
 
 -- the reply to a line that gave no object: it is none, or memory ran out while it was read
 unfoldable pub IsUnreadReply : List ℕ → List ℕ → Type 0
@@ -49,7 +48,7 @@ IsUnreadReply line text =
 
 -- The text is the reply to the line: its length is looked at first, then that it is a JSON object, then its members; or memory
 -- ran out while it was read.
-unfoldable pub IsExplained : Option ℕ → List ℕ → List ℕ → Type 0
-IsExplained budget line text =
+unfoldable pub IsExplained : Type 0 → List ℕ → List ℕ → Type 0
+IsExplained gave_up line text =
     MatchBool (nat_lt longest_line (length line)) (text ≡ fault_told LineTooLong None)
-    (((members : Members) × (object_of line ≡ Some members) × IsObjectReply budget members text) ⊎ IsUnreadReply line text)
+    (((members : Members) × (object_of line ≡ Some members) × IsObjectReply gave_up members text) ⊎ IsUnreadReply line text)

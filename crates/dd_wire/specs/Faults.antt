@@ -1,6 +1,6 @@
 -- To be believed: the numbers of the faults of a line.
 use Rattle.std.specs.Prelude.{ℕ}
-use Rattle.dd_solve.specs.declared.fault_numbers.TheConstants.{AFTER_LAST, CARD_TWICE, DEAL_TEXT, HAND_LEFT_OUT, LINE_TOO_LONG, NOT_AN_OBJECT, NOT_IN_HAND, NOT_THIRTEEN, NO_CARD, OUT_OF_MEMORY, REVOKE, UNEVEN_HANDS, WRONG_FIELD, WRONG_FIRST, WRONG_ORDER, WRONG_PLAYED, WRONG_RESULT, WRONG_SOLUTIONS, WRONG_TARGET, WRONG_TRUMP, WRONG_VULNERABLE}
+use Rattle.dd_request.specs.declared.fault_numbers.TheConstants.{AFTER_LAST, CARD_TWICE, DEAL_TEXT, HAND_LEFT_OUT, LINE_TOO_LONG, NOT_AN_OBJECT, NOT_IN_HAND, NOT_THIRTEEN, NO_CARD, OUT_OF_MEMORY, REVOKE, UNEVEN_HANDS, WRONG_FIELD, WRONG_FIRST, WRONG_ORDER, WRONG_PLAYED, WRONG_RESULT, WRONG_SOLUTIONS, WRONG_TARGET, WRONG_TRUMP, WRONG_VULNERABLE}
 use Rattle.dd_wire.specs.declared.fault.Fault.{Fault}
 use Rattle.dd_wire.specs.declared.fault.Fault.TheVariants.{LineTooLong, NotAnObject, WrongField, DealText, HandLeftOut, CardTwice, WrongTrump, WrongFirst, WrongPlayed, WrongSolutions, WrongTarget, WrongOrder, WrongVulnerable, WrongResult, UnevenHands, NoCard, NotThirteen, AfterLast, NotInHand, Revoke, OutOfMemory}
 

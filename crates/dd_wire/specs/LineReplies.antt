@@ -1,13 +1,12 @@
 -- To be believed: the reply of the line tool to a line.
 use Rattle.std.specs.Prelude.{◌≡◌, ℕ, ◌<◌, ◌≤◌, ◌⊎◌, List, length, Option, Result, Ok, Err}
 use Rattle.dd_lines.specs.Line.{longest_line}
-use Rattle.dd_search.specs.Spent.{IsSpent}
-use Rattle.dd_solve.specs.declared.asked.Asked.{Asked}
-use Rattle.dd_solve.specs.declared.asked.Asked.TheVariants.{Solve, Table, Target, Play}
-use Rattle.dd_solve.specs.Plays.{trace}
-use Rattle.dd_solve.specs.Results.{results}
-use Rattle.dd_solve.specs.ScoredClasses.{answer}
-use Rattle.dd_solve.specs.Targets.{reaching}
+use Rattle.dd_request.specs.declared.asked.Asked.{Asked}
+use Rattle.dd_request.specs.declared.asked.Asked.TheVariants.{Solve, Table, Target, Play}
+use Rattle.dd_request.specs.Plays.{trace}
+use Rattle.dd_request.specs.Results.{results}
+use Rattle.dd_request.specs.ScoredClasses.{answer}
+use Rattle.dd_request.specs.Targets.{reaching}
 use Rattle.dd_wire.specs.declared.fault.Fault.{Fault}
 use Rattle.dd_wire.specs.declared.fault.Fault.TheVariants.{OutOfMemory}
 use Rattle.dd_wire.specs.declared.line_asked.LineAsked.{LineAsked}
@@ -35,20 +34,20 @@ abbrev pub IsReplyTo : Result LineAsked Fault → List ℕ → Type 0
 IsReplyTo (Ok asked) text = IsAnswer asked text
 IsReplyTo (Err fault) text = text ≡ fault_text fault
 
--- is the answer found by a search, which has a budget?
+-- is the answer found by a search, which may be given up?
 abbrev pub IsSearched : LineAsked → Type 0
 IsSearched (Cards asked) = Unit {0}
 IsSearched (Par par) = ⊥
 IsSearched (ParOfDeal par) = Unit {0}
 
--- The text is the reply to the line: what its meaning is answered with; that memory ran out while it was read; or, with a
--- budget, that this was spent in a search for the answer, for one of the twenty results
--- of a table, or for one number of a play's trace.
-abbrev pub IsReply : Option ℕ → List ℕ → List ℕ → Type 0
-IsReply budget line text =
+-- The text is the reply to the line: what its meaning is answered with; that memory ran out while it was read; or that a budget was
+-- spent, which holds only where this was so of who gave up a search for the answer, for one of the twenty results of a table, or for one
+-- number of a play's trace.
+abbrev pub IsReply : Type 0 → List ℕ → List ℕ → Type 0
+IsReply gave_up line text =
     ((meaning : Result LineAsked Fault) × Means line meaning × IsReplyTo meaning text)
     ⊎ ((0 < length line) × (length line ≤ longest_line) × (text ≡ fault_text OutOfMemory))
-    ⊎ ((asked : LineAsked) × Means line (Ok asked) × IsSearched asked × IsSpent budget × (text ≡ spent_text))
+    ⊎ ((asked : LineAsked) × Means line (Ok asked) × IsSearched asked × gave_up × (text ≡ spent_text))
 
 -- two texts are one, or one of them is this
 abbrev pub AreOneBut : List ℕ → List ℕ → List ℕ → Type 0

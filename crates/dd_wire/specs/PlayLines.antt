@@ -11,12 +11,12 @@ use Rattle.dd_cards.specs.Strains.{strain_code}
 use Rattle.dd_cards.specs.Hands.{FourHands}
 use Rattle.dd_pbn.specs.Reading.{◌>>=◌}
 use Rattle.dd_play.specs.Board.{IsEven, tricks_left}
-use Rattle.dd_solve.specs.declared.card_fault.CardFault.{CardFault}
-use Rattle.dd_solve.specs.declared.card_fault.CardFault.TheVariants as faults
-use Rattle.dd_solve.specs.CardFaults.{IsFirstFault}
-use Rattle.dd_solve.specs.Plays.{Play, IsRegular}
-use Rattle.dd_solve.specs.declared.asked.Asked.{Asked}
-use Rattle.dd_solve.specs.declared.asked.Asked.TheVariants as asked
+use Rattle.dd_request.specs.declared.card_fault.CardFault.{CardFault}
+use Rattle.dd_request.specs.declared.card_fault.CardFault.TheVariants as faults
+use Rattle.dd_request.specs.CardFaults.{IsFirstFault}
+use Rattle.dd_request.specs.Plays.{Play, IsRegular}
+use Rattle.dd_request.specs.declared.asked.Asked.{Asked}
+use Rattle.dd_request.specs.declared.asked.Asked.TheVariants as asked
 use Rattle.dd_wire.specs.declared.fault.Fault.{Fault}
 use Rattle.dd_wire.specs.declared.fault.Fault.TheVariants.{WrongTrump, WrongFirst, WrongPlayed, UnevenHands, NoCard, NotInHand, Revoke, AfterLast}
 use Rattle.dd_wire.specs.Requests.{MeansDeal, MeansObject, asked_as, are_among, keys_of, text_at, whole_number_at, pairs_of, pair_of_card}

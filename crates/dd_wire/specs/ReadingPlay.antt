@@ -2,7 +2,7 @@
 use Rattle.std.specs.Prelude.{◌≡◌, ℕ, List, map, Option, None, Some, option_map, IsTrue, IsFalse}
 use Rattle.arrayvec.specs.declared.array_vec.ArrayVec.{ArrayVec}
 use Rattle.dd_cards.specs.PlayingCard.{PlayingCard}
-use Rattle.dd_solve.specs.declared.play_request.TheConstants.{MOST_CARDS}
+use Rattle.dd_request.specs.declared.play_request.TheConstants.{MOST_CARDS}
 use Rattle.dd_wire.specs.declared.play_reader.PlayFields as kept
 use Rattle.dd_wire.specs.PlayLines.{PlayFields, are_cards_played}
 use Rattle.dd_wire.specs.Requests.{pair_of_card}

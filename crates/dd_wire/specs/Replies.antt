@@ -4,7 +4,7 @@ use Rattle.std.specs.List.{join_with_byte, list_all, range_with_len, slice_range
 use Rattle.dd_cards.specs.Suits.{suit_code}
 use Rattle.dd_wire.specs.declared.fault.Fault.{Fault}
 use Rattle.dd_wire.specs.Faults.{fault_number}
-use Rattle.dd_solve.specs.ScoredClasses.{ScoredClass}
+use Rattle.dd_request.specs.ScoredClasses.{ScoredClass}
 
 -- {"equals":e,"rank":r,"score":n,"suit":s}
 abbrev pub class_text : ScoredClass → List ℕ

@@ -18,11 +18,11 @@ use Rattle.dd_pbn.specs.Reading.{◌>>=◌}
 use Rattle.dd_pbn.specs.Values.{begins_tag}
 use Rattle.dd_pbn.specs.Deals as deals
 use Rattle.dd_play.specs.Board.{Board, NoneTwice, IsEven, tricks_left}
-use Rattle.dd_solve.specs.Questions.{Question}
-use Rattle.dd_solve.specs.Targets.{TargetQuestion}
-use Rattle.dd_solve.specs.Results.{AreEven}
-use Rattle.dd_solve.specs.declared.asked.Asked.{Asked}
-use Rattle.dd_solve.specs.declared.asked.Asked.TheVariants.{Solve, Table, Target}
+use Rattle.dd_request.specs.Questions.{Question}
+use Rattle.dd_request.specs.Targets.{TargetQuestion}
+use Rattle.dd_request.specs.Results.{AreEven}
+use Rattle.dd_request.specs.declared.asked.Asked.{Asked}
+use Rattle.dd_request.specs.declared.asked.Asked.TheVariants.{Solve, Table, Target}
 use Rattle.dd_wire.specs.declared.wish.TheConstants.{LONGEST_WAIT}
 use Rattle.dd_wire.specs.declared.fault.Fault.{Fault}
 use Rattle.dd_wire.specs.declared.fault.Fault.TheVariants.{WrongField, DealText, HandLeftOut, CardTwice, WrongTrump, WrongFirst, WrongPlayed, WrongSolutions, WrongTarget, UnevenHands, NoCard}

@@ -18,7 +18,7 @@ use Rattle.dd_cards.specs.PlayingCard.{PlayingCard}
 use Rattle.dd_wire.specs.declared.par_reader.FirstCode.{FirstCode}
 use Rattle.dd_wire.specs.declared.par_reader.FirstCode.TheVariants as firsts
 use Rattle.dd_wire.specs.declared.request_reader.SolveFields as kept
-use Rattle.dd_solve.specs.declared.asked.Asked.{Asked}
+use Rattle.dd_request.specs.declared.asked.Asked.{Asked}
 use Rattle.dd_wire.specs.declared.fault.Fault.{Fault}
 use Rattle.dd_wire.specs.declared.par_reader.ParFields as kept_par
 use Rattle.dd_wire.specs.declared.session_asked.SessionAsked.{SessionAsked}

@@ -4,7 +4,7 @@ use Rattle.std.specs.Bool.{MatchBool}
 use Rattle.std.specs.Str.{bytes_eq}
 use Rattle.serde_json.specs.Data.{Members}
 use Rattle.dd_pbn.specs.Reading.{◌>>=◌}
-use Rattle.dd_solve.specs.declared.asked.Asked.{Asked}
+use Rattle.dd_request.specs.declared.asked.Asked.{Asked}
 use Rattle.dd_wire.specs.declared.fault.Fault.{Fault}
 use Rattle.dd_wire.specs.declared.fault.Fault.TheVariants.{LineTooLong, NotAnObject, WrongField}
 use Rattle.dd_wire.specs.declared.want.Want.{Want}

@@ -13,27 +13,22 @@ use crate::id::{LONGEST_PLAIN, id_text, with_id};
 use crate::line_asked::LineAsked;
 use crate::line_reply::{LONGEST_ANSWER, asked_reply};
 use crate::request_reader::{line_asked_by, read_object, wait_at};
+use crate::finder::Finder;
 use dd_lines::{LONGEST_LINE, LONGEST_REPLY, ReplyText};
-use dd_search::Bounds;
 use serde_json::{Map, Value};
 use std::alloc::Global;
 
-/// The reply to a line of any length, without a line feed at its end, as `reply_to_line` has it, but that the line may have
+/// The reply to a line of any length, without a line feed at its end, as `put_reply` puts it, but that the line may have
 /// an id, which the reply tells again, and that a fault has its field and words beside its number.
-pub fn explained_reply<B: Bounds>(
-    alloc: Global,
-    line: &[u8],
-    table: &mut B,
-    budget: Option<u64>,
-) -> ReplyText
-    ensures text { IsExplained budget line.now result.bytes }
+pub fn explained_reply<F: Finder>(alloc: Global, line: &[u8], finder: &mut F) -> ReplyText
+    ensures text { IsExplained (F.gave_up finder.old) line.now result.bytes }
     ensures bound { array_string_len result ≤ LONGEST_REPLY }
 {
     if line.len() > LONGEST_LINE {
         return told(Fault::LineTooLong, None);
     }
     match read_object(alloc, line) {
-        Ok(object) => object_reply(object, table, budget),
+        Ok(object) => object_reply(object, finder),
         Err(fault) => unread_reply(line, fault),
     }
 }
@@ -61,34 +56,26 @@ pub(crate) fn told(fault: Fault, field: Option<&str>) -> ReplyText
 }
 
 // The reply to members, which may have an id.
-fn object_reply<B: Bounds>(
-    mut object: Map<String, Value>,
-    table: &mut B,
-    budget: Option<u64>,
-) -> ReplyText
-    ensures text { IsObjectReply budget (members_view object.entries) result.bytes }
+fn object_reply<F: Finder>(mut object: Map<String, Value>, finder: &mut F) -> ReplyText
+    ensures text { IsObjectReply (F.gave_up finder.old) (members_view object.entries) result.bytes }
     ensures bound { array_string_len result ≤ LONGEST_REPLY }
 {
     match object.remove("id") {
-        None => bare_reply(&object, table, budget),
+        None => bare_reply(&object, finder),
         Some(value) => match id_text(&value) {
             None => told(Fault::WrongField, Some("id")),
-            Some(id) => with_id(&id, &bare_reply(&object, table, budget)),
+            Some(id) => with_id(&id, &bare_reply(&object, finder)),
         },
     }
 }
 
 // The reply to members without an id.
-fn bare_reply<B: Bounds>(
-    object: &Map<String, Value>,
-    table: &mut B,
-    budget: Option<u64>,
-) -> ReplyText
-    ensures text { IsBareReply budget (members_view object.now.entries) result.bytes }
+fn bare_reply<F: Finder>(object: &Map<String, Value>, finder: &mut F) -> ReplyText
+    ensures text { IsBareReply (F.gave_up finder.old) (members_view object.now.entries) result.bytes }
     ensures bound { array_string_len result ≤ LONGEST_ANSWER }
 {
     match bare_asked(object) {
-        Ok(asked) => asked_reply(asked, table, budget),
+        Ok(asked) => asked_reply(asked, finder),
         Err(fault) => told(fault, field_of(object, fault)),
     }
 }

@@ -1,7 +1,7 @@
 ghost use Rattle.std.specs.Prelude.{◌≡◌, ◌≤◌};
 ghost use Rattle.dd_wire.specs.Faults.{fault_number};
 
-use dd_solve::fault_numbers;
+use dd_request::fault_numbers;
 use thiserror::Error;
 
 /// Why a request line has no answer, each with its number in a reply. They stand in the order in which they are looked

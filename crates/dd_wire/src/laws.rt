@@ -4,12 +4,8 @@ ghost use Rattle.dd_cards.specs.declared.strain.Strain.TheVariants.{Trump, Notru
 ghost use Rattle.dd_cards.specs.declared.suit.Suit.TheVariants.{Spades};
 ghost use Rattle.dd_pbn.specs.Examples.{eight_spades, two_suits};
 ghost use Rattle.dd_play.specs.Board.{board_of};
-ghost use Rattle.dd_wire.specs.Explained.{IsExplained};
 ghost use Rattle.dd_wire.specs.ExplainedWants.{MeansExplained, fault_explained, id_of};
-ghost use Rattle.dd_wire.specs.FaultWords.{fault_told};
-ghost use Rattle.dd_wire.specs.LineReplies.{AreOneBut, IsReply};
 ghost use Rattle.dd_wire.specs.Lines.{Means};
-ghost use Rattle.dd_wire.specs.Replies.{fault_text, is_one_line};
 ghost use Rattle.dd_wire.specs.Wants.{MeansWant};
 
 use crate::fault::Fault;
@@ -17,33 +13,14 @@ use crate::line_asked::LineAsked;
 use crate::session_asked::SessionAsked;
 use crate::want::Want;
 use dd_cards::Side;
-use dd_score::{Order, Vulnerable, an_auction_has_one_value};
-use dd_solve::Asked;
+use dd_request::Asked;
+use dd_score::{Order, Vulnerable};
 
 /// A line has a meaning, and only one.
 pub fn one_meaning()
     ensures some { (line : List ℕ) → (meaning : Result LineAsked Fault) × Means line meaning }
     ensures only { (line : List ℕ) (a b : Result LineAsked Fault) → Means line a → Means line b →
         a ≡ b }
-{}
-
-/// Two replies to a line without a budget are one text, or one of them says that memory ran out.
-pub fn one_reply()
-    ensures plain { (line a b : List ℕ) → IsReply None line a → IsReply None line b →
-        AreOneBut (fault_text Fault.OutOfMemory) a b }
-    ensures explained { (line a b : List ℕ) → IsExplained None line a → IsExplained None line b →
-        AreOneBut (fault_told Fault.OutOfMemory None) a b }
-{
-    an_auction_has_one_value();
-}
-
-/// A reply is one line, whatever its line is and within any budget: no byte of it is a control character. So the line feed behind
-/// it is the only one.
-pub fn a_reply_is_one_line()
-    ensures plain { (budget : Option ℕ) (line text : List ℕ) → IsReply budget line text →
-        is_one_line text ≡ true }
-    ensures explained { (budget : Option ℕ) (line text : List ℕ) → IsExplained budget line text →
-        is_one_line text ≡ true }
 {}
 
 /// Lines worked by hand.

@@ -6,6 +6,7 @@ mod explained_want;
 mod fault;
 mod fault_field;
 mod fault_words;
+mod finder;
 mod health;
 mod id;
 mod laws;
@@ -32,14 +33,14 @@ pub use explained::explained_reply;
 pub use explained_want::{NamedAsked, read_explained};
 pub use fault::Fault;
 pub use fault_words::{words_of, write_explained};
+pub use finder::Finder;
 pub use health::{Health, write_health};
 pub use id::{IdText, named_reply};
 pub use laws::{
-    a_reply_is_one_line, one_explained_want, one_meaning, one_reply, one_want,
-    worked_explained_wants, worked_lines, worked_wants,
+    one_explained_want, one_meaning, one_want, worked_explained_wants, worked_lines, worked_wants,
 };
 pub use line_asked::LineAsked;
-pub use line_reply::{LONGEST_ANSWER, put_reply_to_line, reply_to_line};
+pub use line_reply::{LONGEST_ANSWER, put_reply};
 pub use par_reply::write_par;
 pub use par_request::{Conditions, ParOfDeal, ParOfResults};
 pub use play_reply::{TRACE_ROOM, push_trace, write_trace};

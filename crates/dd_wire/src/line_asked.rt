@@ -1,5 +1,5 @@
 use crate::par_request::{ParOfDeal, ParOfResults};
-use dd_solve::Asked;
+use dd_request::Asked;
 
 /// What a line of the line tool asks.
 #[derive(Drop)]

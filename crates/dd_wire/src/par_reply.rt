@@ -115,7 +115,11 @@ fn push_seat(text: &mut ReplyText, seat: Seat)
 }
 
 // Puts the text of par of twenty results that were found.
-pub(crate) fn put_table_par(text: &mut ReplyText, found: &dd_solve::Results, conditions: Conditions)
+pub(crate) fn put_table_par(
+    text: &mut ReplyText,
+    found: &dd_request::Results,
+    conditions: Conditions,
+)
     requires { IsTable (rows_of found.now) }
     ensures text { TellsPar (rows_of found.now) conditions text.new.bytes }
     ensures bound { array_string_len text.new ≤ LONGEST_ANSWER }
@@ -124,7 +128,7 @@ pub(crate) fn put_table_par(text: &mut ReplyText, found: &dd_solve::Results, con
 }
 
 // Twenty results as they are scored.
-fn scored(found: &dd_solve::Results) -> Results
+fn scored(found: &dd_request::Results) -> Results
     requires { IsTable (rows_of found.now) }
     ensures { result ≡ rows_of found.now }
 {

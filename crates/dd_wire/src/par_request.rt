@@ -1,10 +1,10 @@
 //! What a line that asks for par asks.
 ghost use Rattle.std.specs.Prelude.{◌≡◌, ◌↔◌, IsSome, IfSome, length};
-ghost use Rattle.dd_solve.specs.Results.{AreEven};
+ghost use Rattle.dd_request.specs.Results.{AreEven};
 
 use dd_cards::Seat;
+use dd_request::TableRequest;
 use dd_score::{Order, Results, Vulnerable};
-use dd_solve::TableRequest;
 use std::marker::Model;
 
 /// The cards of each hand of a deal that has a par.
@@ -33,7 +33,7 @@ pub struct ParOfDeal {
 
 impl Model for ParOfDeal {
     ghost use Rattle.std.specs.Prelude.{◌≡◌, length};
-    ghost use Rattle.dd_solve.specs.Results.{AreEven};
+    ghost use Rattle.dd_request.specs.Results.{AreEven};
     ghost use Rattle.dd_wire.specs.ParLines.{DealPar};
 
     ghost Value = { DealPar };

@@ -18,7 +18,7 @@ use crate::request_reader::{
 use arrayvec::ArrayVec;
 use dd_cards::{Card, Hands, Seat, Strain};
 use dd_play::Position;
-use dd_solve::{CardFault, MOST_CARDS, PlayRequest};
+use dd_request::{CardFault, MOST_CARDS, PlayRequest};
 use serde_json::{Map, Value};
 
 // ---- The fields, as JSON has them.

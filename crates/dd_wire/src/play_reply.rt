@@ -6,7 +6,7 @@ ghost use Rattle.dd_wire.specs.PlayReplies.{trace_member, trace_text};
 use crate::line_reply::LONGEST_ANSWER;
 use crate::reply::push_number;
 use dd_lines::{LONGEST_REPLY, ReplyText};
-use dd_solve::Trace;
+use dd_request::Trace;
 
 /// The most bytes that `push_trace` appends.
 pub const TRACE_ROOM: usize = 329;

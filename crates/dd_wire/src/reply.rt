@@ -6,7 +6,7 @@ ghost use Rattle.dd_wire.specs.Replies.{class_text, cards_member, answer_text, l
 use crate::fault::Fault;
 use crate::line_reply::LONGEST_ANSWER;
 use dd_lines::{LONGEST_REPLY, ReplyText};
-use dd_solve::{Answer, Results, Scored};
+use dd_request::{Answer, Results, Scored};
 use itoa::Buffer;
 
 // The strains, and the seats that may declare.

@@ -10,7 +10,7 @@ ghost use Rattle.dd_cards.specs.Strains.{strain_code};
 ghost use Rattle.dd_cards.specs.Hands.{AreHands, FourHands};
 ghost use Rattle.dd_pbn.specs.declared.fault.PbnFault.{PbnFault};
 ghost use Rattle.dd_play.specs.Board.{board_of};
-ghost use Rattle.dd_solve.specs.Questions.{Question};
+ghost use Rattle.dd_request.specs.Questions.{Question};
 ghost use Rattle.dd_wire.specs.Lines.{Means, MeansMembers};
 ghost use Rattle.dd_wire.specs.PlayLines.{MeansAsked};
 ghost use Rattle.dd_wire.specs.Requests.{MeansObject, MeansDeal, MeansTable, MeansFields, MeansHands, MeansBoard, MeansSolve, MeansPosition, question, known_fields, SpellsDeal, SpellsNone, asked_as, deal_fault, pair_of_card, object_of, solve_keys, table_keys, are_among, keys_of, solve_fields, table_deal, text_at, wait_at, whole_number_at, pairs_at, pairs_of};
@@ -29,7 +29,7 @@ use dd_cards::{Card, Hands, Rank, Seat, Strain, Suit};
 use dd_lines::LONGEST_LINE;
 use dd_pbn::{PbnFault, begins_tag, read_deal, read_tag};
 use dd_play::{PlayFault, Position};
-use dd_solve::{Asked, Request, TableRequest};
+use dd_request::{Asked, Request, TableRequest};
 use serde_json::{Error, Map, Value};
 use std::alloc::Global;
 

@@ -4,7 +4,7 @@ ghost use Rattle.std.specs.List.{list_any};
 ghost use Rattle.std.specs.Str.{bytes_eq};
 ghost use Rattle.serde_json.specs.View.{members_view};
 ghost use Rattle.dd_play.specs.Board.{board_of};
-ghost use Rattle.dd_solve.specs.Targets.{TargetQuestion};
+ghost use Rattle.dd_request.specs.Targets.{TargetQuestion};
 ghost use Rattle.dd_wire.specs.Requests.{MeansTargetFields, MeansTargetHands, MeansBoard, asked_as, target_keys, are_among, keys_of, target_fields};
 ghost use Rattle.dd_wire.specs.Reading.{ArePlayed, ReadsTarget, played_in, target_fields_of};
 
@@ -14,7 +14,7 @@ use crate::request_reader::{
 };
 use dd_cards::{Card, Hands, Seat, Strain};
 use dd_play::Position;
-use dd_solve::{Asked, GREATEST_TARGET, TargetRequest};
+use dd_request::{Asked, GREATEST_TARGET, TargetRequest};
 use serde_json::{Map, Value};
 
 // The fields of a request to solve, with a target.

@@ -1,7 +1,7 @@
 //! What lines of the usual forms ask.
 ghost use Rattle.std.specs.Prelude.{◌≡◌, ◌<◌, ◌≤◌, ℕ, List, Result, length, map, true, Some, None, IfSome, IsSome};
 ghost use Rattle.dd_lines.specs.Line.{longest_line};
-ghost use Rattle.dd_solve.specs.Questions.{Question};
+ghost use Rattle.dd_request.specs.Questions.{Question};
 ghost use Rattle.dd_wire.specs.Lines.{Means, MeansMembers};
 ghost use Rattle.dd_wire.specs.Reading.{ArePlayed, fields_of as solve_of, played_in};
 ghost use Rattle.dd_wire.specs.Requests.{MeansFields, are_cards, asked_as, pair_of_card, wait_at};
@@ -15,7 +15,7 @@ use crate::request_reader::{SolveFields, request_of};
 use crate::target_reader::{TargetFields, target_asked};
 use crate::usual_reader::{Fields, Row, Rows, Task, absent, usual_fields};
 use crate::wish::LONGEST_WAIT;
-use dd_solve::Asked;
+use dd_request::Asked;
 use std::str::from_utf8;
 
 /// What a line of a usual form asks, or its first fault; None where it is of another form.

@@ -14,7 +14,7 @@ use crate::usual_asked::{fields_of_par, position_asked, wait_of};
 use crate::usual_reader::{Fields, Task, absent, usual_fields};
 use crate::want::Want;
 use crate::wish::Wish;
-use dd_solve::Asked;
+use dd_request::Asked;
 use std::str::from_utf8;
 
 /// What a line of a usual form asks in a session, with leave to stop and without, or its first fault; None where it is of another

@@ -1,6 +1,6 @@
 ghost use Rattle.std.specs.Prelude.{◌≡◌};
 
-use dd_solve::Asked;
+use dd_request::Asked;
 
 /// What a line of a session wants of the job book. Its caller is the session's own, and jobs are numbers.
 #[derive(Drop)]

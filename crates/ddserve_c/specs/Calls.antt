@@ -13,7 +13,7 @@ IsOneLine bytes = All (λ byte. byte ≢ line_feed) bytes
 -- length.
 pub record Replied (line old new : List ℕ) (result : ℤ) : Type 0 where
   pub text : List ℕ
-  pub reply : IsReply None line text
+  pub reply : IsReply ⊥ line text
   pub count : result ≡ pos (length text)
   pub room : length text < length old
   pub buffer : new ≡ text ++ 0 ∷ drop (length text + 1) old
@@ -21,7 +21,7 @@ pub record Replied (line old new : List ℕ) (result : ℤ) : Type 0 where
 -- the reply to the line and its NUL have more bytes than the buffer, and no more than the longest reply has
 pub record HasNoRoom (line old : List ℕ) (result : ℤ) : Type 0 where
   pub text : List ℕ
-  pub reply : IsReply None line text
+  pub reply : IsReply ⊥ line text
   pub short : length old ≤ length text
   pub bound : length text ≤ LONGEST_REPLY
   pub told : result ≡ NO_ROOM

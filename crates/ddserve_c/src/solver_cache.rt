@@ -6,7 +6,7 @@ ghost use Rattle.dd_wire.specs.LineReplies.{IsReply};
 use dd_cache::Cache;
 use dd_lines::{LONGEST_REPLY, ReplyText};
 use dd_search::NoTable;
-use dd_wire::reply_to_line;
+use dd_tool::reply_to_line;
 use std::alloc::{AllocError, Global};
 
 /// What was learned from the lines before. No reply depends on it.
@@ -24,7 +24,7 @@ impl SolverCache {
 
     /// The reply to a line without a line feed.
     pub(crate) fn reply_to(&mut self, alloc: Global, line: &[u8]) -> ReplyText
-        ensures text { IsReply None line.now result.bytes }
+        ensures text { IsReply ⊥ line.now result.bytes }
         ensures bound { array_string_len result ≤ LONGEST_REPLY }
     {
         reply_to_line(alloc, line, &mut self.cache, None)

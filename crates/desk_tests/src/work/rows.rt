@@ -5,8 +5,9 @@ use crate::work::lines::{
 };
 use crate::work::worked::{Script, follow};
 use dd_book::Limits;
+use dd_request::Asked;
 use dd_search::{Budget, NoTable};
-use dd_solve::{Asked, solve};
+use dd_solve::solve;
 use dd_wire::{LineAsked, read_request, write_answer};
 use request_tests::searched::EIGHT_CARDS;
 use std::alloc::{AllocError, Global};

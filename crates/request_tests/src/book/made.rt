@@ -3,11 +3,12 @@ use arrayvec::ArrayVec;
 use dd_book::{Call, JobState, Outcome, Reply};
 use dd_cards::{Card, Hands, Rank, Seat, Strain, Suit};
 use dd_play::Position;
-use dd_search::{Endless, NoTable};
-use dd_solve::{
+use dd_request::{
     Asked, PlayPart, PlayRequest, Request, Solved, SolvedPart, SolvedTarget, TableRequest,
-    TargetRequest, solve, solve_part, solve_play_part, solve_target,
+    TargetRequest,
 };
+use dd_search::{Endless, NoTable};
+use dd_solve::{solve, solve_part, solve_play_part, solve_target};
 use std::alloc::{AllocError, Global};
 
 /// What is asked.

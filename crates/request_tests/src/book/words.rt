@@ -6,11 +6,9 @@ use arrayvec::ArrayVec;
 use dd_book::{Call, JobState, Outcome, Reply};
 use dd_cards::{Card, Hands, Rank, Seat, Strain, Suit};
 use dd_play::Position;
+use dd_request::{Asked, PlayRequest, Request, TableRequest, TargetRequest, Trace};
 use dd_search::{Endless, NoTable};
-use dd_solve::{
-    Asked, PlayRequest, Request, TableRequest, TargetRequest, Trace, solve, solve_part,
-    solve_play_part, solve_target,
-};
+use dd_solve::{solve, solve_part, solve_play_part, solve_target};
 use std::alloc::{AllocError, Global};
 
 // A suit each: North's spades, East's hearts, South's diamonds, West's clubs.

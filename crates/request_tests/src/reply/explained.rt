@@ -1,7 +1,7 @@
 //! Replies that tell ids again and say why a line has a fault.
 use crate::rows::{after_bar, before_bar};
 use dd_search::NoTable;
-use dd_wire::explained_reply;
+use dd_tool::explained_reply;
 use std::alloc::Global;
 
 /// Each row is a line, a bar and its reply.

@@ -1,6 +1,6 @@
 use crate::rows::{after_bar, before_bar};
 use dd_cards::{Card, Rank, Seat, Suit};
-use dd_solve::{Asked, Request};
+use dd_request::{Asked, Request};
 use dd_wire::{LineAsked, read_request};
 use std::alloc::{AllocError, Global};
 use std::test::Fail;

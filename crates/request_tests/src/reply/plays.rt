@@ -6,8 +6,9 @@ use arrayvec::ArrayVec;
 use dd_cards::{Card, Rank, Seat, Side, Strain, Suit};
 use dd_pbn::read_deal;
 use dd_play::Position;
+use dd_request::{CardFault, PlayRequest};
 use dd_search::{Budget, Endless, Halt, NoTable};
-use dd_solve::{CardFault, PlayRequest, solve_play, solve_play_part};
+use dd_solve::{solve_play, solve_play_part};
 
 /// Each row is a line, a bar and its reply without a budget.
 const REPLIES: &[u8] =

@@ -1,7 +1,7 @@
 //! Positions of one to five cards a hand, 0 to 3 of them on the trick, with the answers of DDS 2.9, which plain minimax gives
 //! too.
 use dd_search::NoTable;
-use dd_wire::reply_to_line;
+use dd_tool::reply_to_line;
 
 /// The request lines.
 const LINES: &[u8] =

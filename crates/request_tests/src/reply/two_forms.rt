@@ -3,7 +3,7 @@
 use super::{par, worked};
 use crate::rows::{after_bar, before_bar, spaced};
 use dd_search::NoTable;
-use dd_wire::reply_to_line;
+use dd_tool::reply_to_line;
 use std::alloc::{AllocError, Global};
 use std::test::Fail;
 

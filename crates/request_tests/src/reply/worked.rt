@@ -1,7 +1,7 @@
 //! Requests whose answers can be counted by hand.
 use crate::rows::{after_bar, before_bar};
 use dd_search::NoTable;
-use dd_wire::reply_to_line;
+use dd_tool::reply_to_line;
 use std::alloc::Global;
 
 /// Each row is a line, a bar and its reply without a budget.

@@ -4,9 +4,10 @@ use dd_cards::{Card, Rank, Seat, Suit};
 use dd_pbn::read_deal;
 use dd_play::{Interval, TrickStart};
 use dd_rank::OwnerStrings;
+use dd_request::TableRequest;
 use dd_search::{Bounds, Endless, NoTable, start_value};
 use dd_shard::Shard;
-use dd_solve::{TableRequest, solve_table};
+use dd_solve::solve_table;
 use dd_table::SharedTable;
 use std::alloc::AllocError;
 

@@ -2,8 +2,9 @@
 use dd_cards::{Seat, Strain};
 use dd_pbn::read_deal;
 use dd_play::{Position, TrickStart};
+use dd_request::Request;
 use dd_search::{Bounds, Endless};
-use dd_solve::{Request, solve};
+use dd_solve::solve;
 use dd_wire::write_answer;
 use std::process::Abort;
 

@@ -3,7 +3,7 @@ use dd_book::Limits;
 use dd_command::MOST_WORKERS;
 use dd_limits::{MOST_EVENTS, MOST_JOBS, MOST_OPEN_JOBS, MOST_PASSES, MOST_SHAPES, MOST_SHARDS};
 use dd_lines::{LONGEST_LINE, LONGEST_REPLY};
-use dd_solve::{PARTS, RESULTS, fault_numbers};
+use dd_request::{PARTS, RESULTS, fault_numbers};
 
 #[test]
 fn the_limits_are_these_numbers(rt: HostRuntime) {

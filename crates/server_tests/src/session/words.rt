@@ -1,6 +1,6 @@
 //! What follows a line, in words.
+use dd_request::Asked;
 use dd_session::{Manner, Step};
-use dd_solve::Asked;
 use dd_wire::{Want, Wish};
 use std::alloc::{AllocError, Global};
 

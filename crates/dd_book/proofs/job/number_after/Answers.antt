@@ -1,6 +1,6 @@
 use Rattle.std.proofs.Common.{◌≡◌, ap, sym, ◌∙◌, arith, true}
 use Rattle.dd_play.specs.Board.{tricks_left}
-use Rattle.dd_solve.specs.Plays.{declarers}
+use Rattle.dd_request.specs.Plays.{declarers}
 use Rattle.dd_cards.specs.Sides.{same_side}
 use Rattle.dd_play.specs.Same.{same_board}
 use Rattle.dd_book.proofs.Numbers.{number-is, sides-told}

@@ -1,6 +1,6 @@
 use Rattle.std.proofs.Common.{◌+◌, ◌∙◌, ap, sym, length, ℕ}
 use Rattle.std.specs.List.{count_by}
-use Rattle.dd_solve.specs.declared.asked.Asked.{Asked}
+use Rattle.dd_request.specs.declared.asked.Asked.{Asked}
 use Rattle.dd_book.specs.Parts.{is_waiting}
 use Rattle.dd_book.specs.Jobs.{first_parts}
 use Rattle.dd_book.proofs.Counting.{first-known, first-open}

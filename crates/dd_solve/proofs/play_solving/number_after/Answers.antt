@@ -3,8 +3,9 @@ use Rattle.dd_cards.specs.Sides.{side_of, is_side}
 use Rattle.dd_play.specs.Board.{mover}
 use Rattle.dd_play.specs.Play.{legal}
 use Rattle.dd_play.specs.Won.{won}
-use Rattle.dd_solve.specs.Plays.{declarers, tricks_after}
-use Rattle.dd_solve.proofs.CardByCard.{Stands, least-declarers, least-defenders, next-within, number-declarers, number-defenders, number-forced}
+use Rattle.dd_request.specs.Plays.{declarers, tricks_after}
+use Rattle.dd_request.proofs.CallerLemmas.{Stands}
+use Rattle.dd_solve.proofs.Numbers.{least-declarers, least-defenders, next-within, number-declarers, number-defenders, number-forced}
 use Rattle.dd_solve.proofs.play_solving.number_after.Goals as goal
 use Rattle.dd_solve.proofs.play_solving.number_after.Goals.{in-None+in_ok-value-in-None, in-Some+else-len-eq1+in_ok-value-in-Some, then-declarer_plays, else-declarer_plays, then-declarer_plays-2, else-declarer_plays-2}
 use Rattle.dd_search.proofs.CallerLemmas.{value-within}

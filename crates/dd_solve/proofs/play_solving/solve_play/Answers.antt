@@ -1,7 +1,7 @@
 use Rattle.std.proofs.Common.{◌≡◌, ◌+◌, ◌-◌, ap, ◌∙◌, arith, length}
 use Rattle.std.proofs.lemmas.List.FromFn.{length-map-range_with_len}
-use Rattle.dd_solve.specs.Plays.{tricks_after}
-use Rattle.dd_solve.proofs.CardByCard.{trace-whole}
+use Rattle.dd_request.specs.Plays.{tricks_after}
+use Rattle.dd_solve.proofs.Numbers.{trace-whole}
 use Rattle.dd_solve.proofs.play_solving.solve_play.Goals as goal
 
 pub insert-requires : goal.insert-requires

@@ -1,7 +1,7 @@
 use Rattle.std.proofs.Common.{◌≡◌, ◌+◌, ◌-◌, ◌≤◌, length}
 use Rattle.std.specs.Prelude.{map}
 use Rattle.std.specs.List.{range_with_len}
-use Rattle.dd_solve.specs.Plays.{tricks_after}
+use Rattle.dd_request.specs.Plays.{tricks_after}
 use Rattle.dd_solve.proofs.play_solving.solve_play.Given as goal
 
 -- The trace from here on.

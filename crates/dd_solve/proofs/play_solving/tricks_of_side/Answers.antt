@@ -1,5 +1,5 @@
 use Rattle.std.proofs.Common.{sym, ◌∙◌, arith}
-use Rattle.dd_solve.proofs.CardByCard.{mover-takes, other-takes}
+use Rattle.dd_solve.proofs.Numbers.{mover-takes, other-takes}
 use Rattle.dd_solve.proofs.play_solving.tricks_of_side.Goals as goal
 
 pub overflow_sub-result : goal.overflow_sub-result

@@ -1,5 +1,5 @@
 use Rattle.std.proofs.Common.{arith, ◌∙◌}
-use Rattle.dd_solve.proofs.Openings.{leaders-value}
+use Rattle.dd_solve.proofs.Leads.{leaders-value}
 use Rattle.dd_solve.proofs.table_part.declarers_tricks.Goals as goal
 
 pub overflow_sub-result : goal.overflow_sub-result

@@ -1,5 +1,5 @@
 use Rattle.std.proofs.Common.{◌∙◌}
-use Rattle.dd_solve.proofs.Parts.{results-strains}
+use Rattle.dd_request.proofs.CallerLemmas.{results-strains}
 use Rattle.dd_solve.proofs.table_solving.solve_table.Goals as goal
 
 pub returns-clause-results : goal.returns-clause-results

@@ -1,6 +1,6 @@
 use Rattle.std.proofs.Common.{◌≡◌, ◌+◌, ◌*◌, IfSome, subst}
-use Rattle.dd_solve.specs.Results.{Contract, contract_of, tricks_of}
-use Rattle.dd_solve.proofs.Openings.{contract-at}
+use Rattle.dd_request.specs.Results.{Contract, contract_of, tricks_of}
+use Rattle.dd_request.proofs.CallerLemmas.{contract-at}
 use Rattle.dd_solve.proofs.table_solving.tricks_within.Goals as goal
 
 pub returns-clause-tricks : goal.returns-clause-tricks

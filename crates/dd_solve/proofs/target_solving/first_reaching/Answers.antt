@@ -1,7 +1,7 @@
 use Rattle.std.proofs.Common.{◌≡◌, ap, sym, subst, ◌∙◌, arith, List, [], ◌∷◌, ◌++◌, length, take, get_or}
 use Rattle.std.proofs.lemmas.List.{take_all}
 use Rattle.dd_equal.specs.EqualCards.{EqualCards}
-use Rattle.dd_solve.specs.ScoredClasses.{ScoredClass}
+use Rattle.dd_request.specs.ScoredClasses.{ScoredClass}
 use Rattle.dd_search.proofs.CallerLemmas.{class-legal, few-classes}
 use Rattle.dd_solve.proofs.Reaching.{reached, as_target, reached-all, reached-more, reached-past, reached-front}
 use Rattle.dd_solve.proofs.target_solving.first_reaching.Goals as goal

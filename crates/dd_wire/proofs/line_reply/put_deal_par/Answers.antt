@@ -1,6 +1,6 @@
 use Rattle.std.proofs.Common.{◌≡◌, ℕ, List, ◌∙◌, sym, ap, subst}
 use Rattle.dd_score.specs.Tables.{IsTable}
-use Rattle.dd_solve.specs.Results.{results}
+use Rattle.dd_request.specs.Results.{results}
 use Rattle.dd_wire.specs.ParReplies.{rows_of}
 use Rattle.dd_wire.proofs.ParResults.{results-table}
 use Rattle.dd_wire.proofs.line_reply.put_deal_par.Goals as goal

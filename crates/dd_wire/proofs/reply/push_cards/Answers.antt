@@ -1,7 +1,7 @@
 use Rattle.std.proofs.Common.{◌≡◌, ℕ, ◌<◌, ◌++◌, ◌∷◌, [], ◌∙◌, ap, arith, List, length, get_or}
 use Rattle.std.specs.Prelude.{codes}
 use Rattle.arrayvec.specs.ArrayString.{ArrayString}
-use Rattle.dd_solve.specs.ScoredClasses.{ScoredClass}
+use Rattle.dd_request.specs.ScoredClasses.{ScoredClass}
 use Rattle.dd_wire.specs.Replies.{class_text}
 use Rattle.dd_wire.proofs.Texts.{join-first, join-next}
 use Rattle.dd_wire.proofs.reply.push_cards.Goals as goal

@@ -2,7 +2,7 @@ use Rattle.std.specs.Prelude.{Err}
 use Rattle.std.proofs.lemmas.Result.{err_from_is_err_and, IfErr-at_err}
 use Rattle.dd_play.specs.Board.{board_of}
 use Rattle.dd_play.specs.Positions.{IsFirstFault}
-use Rattle.dd_solve.specs.Targets.{TargetQuestion}
+use Rattle.dd_request.specs.Targets.{TargetQuestion}
 use Rattle.dd_wire.specs.Requests.{MeansBoard}
 use Rattle.dd_wire.proofs.Objects.{map_err-err, at-each_err}
 use Rattle.dd_wire.proofs.Starts.{means-fault}

@@ -1,6 +1,6 @@
 use Rattle.std.proofs.Common.{◌∙◌, ap, sym}
-use Rattle.dd_solve.specs.declared.asked.Asked.TheVariants.{Target}
-use Rattle.dd_solve.proofs.CallerLemmas.{same_target-is}
+use Rattle.dd_request.specs.declared.asked.Asked.TheVariants.{Target}
+use Rattle.dd_request.proofs.CallerLemmas.{same_target-is}
 use Rattle.dd_book.proofs.job.Job.finish_target.Goals as goal
 
 pub invariant_of-self : goal.invariant_of-self
