@@ -19,7 +19,7 @@ pub runs-without : (arguments : Words) (is_terminal : Bool) (old : Streams) (inp
     → RunsWithoutServer arguments is_terminal old (streams input output last) ending
 runs-without arguments is_terminal old input output errors last (Ok ends) ending runs (same, silent) =
     inl (subst (λ e. RunsOnStreams arguments is_terminal old (streams input output e) (Ok ending)) (sym silent)
-        (subst (λ e. RunsOnStreams arguments is_terminal old (streams input output errors) (Ok e)) (sym same) runs))
+    (subst (λ e. RunsOnStreams arguments is_terminal old (streams input output errors) (Ok e)) (sym same) runs))
 runs-without arguments is_terminal old input output errors last (Err options) ending (asks, in_range, still) (bad, said) =
     inr (record {
       options = options;
@@ -27,5 +27,5 @@ runs-without arguments is_terminal old input output errors last (Err options) en
       ends = bad;
       input = ap (λ (s : Streams). s.input) still;
       output = ap (λ (s : Streams). s.output) still;
-      said = subst (λ e. Writes no_server_line e last) (ap (λ (s : Streams). s.errors) still) said
+      said = subst (λ e. Writes no_server_line e last) (ap (λ (s : Streams). s.errors) still) said;
     })

@@ -6,13 +6,13 @@ ghost use Rattle.dd_wire.specs.ParReplies.{TellsPar, rows_of};
 ghost use Rattle.dd_wire.specs.Replies.{spent_text};
 ghost use Rattle.dd_request.specs.Results.{results};
 
+use crate::finder::Finder;
 use crate::line_asked::LineAsked;
 use crate::par_reply::{put_par, put_table_par};
 use crate::par_request::ParOfDeal;
 use crate::play_reply::put_trace;
 use crate::reply::{put_answer, put_fault, put_spent, put_table};
 use crate::request_reader::read_request;
-use crate::finder::Finder;
 use dd_lines::{LONGEST_REPLY, ReplyText};
 use dd_request::{Asked, PlayRequest, Request, TableRequest, TargetRequest};
 use std::alloc::Global;
