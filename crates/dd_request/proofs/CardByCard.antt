@@ -1,22 +1,17 @@
 -- the numbers of a trace, card by card
-use Rattle.std.proofs.Common.{◌≡◌, ℕ, ◌+◌, ◌-◌, ◌<◌, ◌≤◌, Bool, true, false, refl, sym, ap, ◌∙◌, subst, arith, List, [], ◌∷◌, ◌++◌, length, take, drop, get_or, Option, Some, None}
-use Rattle.std.specs.Prelude.{◌&&◌, ◌||◌, map, if◌then◌else◌}
-use Rattle.std.specs.List.{range_with_len}
-use Rattle.std.proofs.lemmas.List.{take_more, drop_more, take-append-drop}
+use Rattle.std.proofs.Common.{◌≡◌, ℕ, ◌+◌, ◌≤◌, Bool, true, false, refl, sym, ap, ◌∙◌, subst, arith, List, [], ◌∷◌, ◌++◌, take, drop, Option, Some, None}
+use Rattle.std.specs.Prelude.{◌&&◌, if◌then◌else◌}
+use Rattle.std.proofs.lemmas.List.{take-append-drop}
 use Rattle.dd_cards.specs.declared.seat.Seat.{Seat}
 use Rattle.dd_cards.specs.PlayingCard.{PlayingCard}
-use Rattle.dd_cards.specs.Cards.{card_of, has_card, same_card}
-use Rattle.dd_cards.specs.declared.suit.Suit.TheVariants.{Spades}
-use Rattle.dd_cards.specs.Sides.{side_of, other_side, is_side, same_side}
+use Rattle.dd_cards.specs.Sides.{is_side}
 use Rattle.dd_cards.specs.declared.side.Side.{Side}
-use Rattle.dd_cards.proofs.CallerLemmas.{is-same, is-other, same-self, same-other, same_card-eq}
-use Rattle.dd_play.specs.Board.{Board, IsBoard, mover, tricks_left}
+use Rattle.dd_play.specs.Board.{Board, IsBoard, tricks_left}
 use Rattle.dd_play.specs.Tricks.{winner_of}
-use Rattle.dd_play.specs.Play.{completes, legal, trick_with, after}
-use Rattle.dd_play.specs.Simulations.{IsLegal}
+use Rattle.dd_play.specs.Play.{completes, trick_with, after}
 use Rattle.dd_play.specs.Won.{won, trick_for}
-use Rattle.dd_play.proofs.CallerLemmas.{all, can, least, left-13, legal-leads, one-trick, won_with}
-use Rattle.dd_request.specs.Plays.{Play, IsRegular, declarers, position_after, tricks_won, tricks_with, tricks_after, trace}
+use Rattle.dd_play.proofs.CallerLemmas.{all, left-13, legal-leads, one-trick}
+use Rattle.dd_request.specs.Plays.{Play, IsRegular, declarers, position_after, tricks_won, tricks_after}
 use Rattle.dd_request.specs.SideTricks.{side_trick}
 
 -- ---- some cards, and then some more

@@ -9,12 +9,9 @@ use Rattle.dd_cards.specs.declared.suit.Suit.TheVariants.{Spades, Hearts, Diamon
 use Rattle.dd_cards.specs.Hands.{FourHands, AreHands, hand_of}
 use Rattle.dd_cards.specs.Seats.{seat_code, seat_after}
 use Rattle.dd_cards.specs.Strains.{strain_code}
-use Rattle.dd_cards.specs.Sides.{side_of}
-use Rattle.dd_play.proofs.CallerLemmas.{times_in-once, all}
-use Rattle.dd_play.specs.Board.{Board, board_of, IsBoard, tricks_left, mover}
+use Rattle.dd_play.proofs.CallerLemmas.{times_in-once}
+use Rattle.dd_play.specs.Board.{board_of}
 use Rattle.dd_play.specs.Positions.{CanPlay}
-use Rattle.dd_play.specs.Value.{leaders_tricks}
-use Rattle.dd_play.specs.Won.{won}
 use Rattle.dd_request.specs.Results.{AreEven, contract_of, contracts}
 
 -- each contract stands at the place of its codes

@@ -1,4 +1,4 @@
-use Rattle.std.proofs.Common.{arith, ◌∙◌}
+use Rattle.std.proofs.Common.{arith}
 use Rattle.dd_solve.proofs.Leads.{leaders-value}
 use Rattle.dd_solve.proofs.table_part.declarers_tricks.Goals as goal
 
