@@ -1,5 +1,5 @@
 -- What an explained reply is made of.
-use Rattle.std.proofs.Common.{◌≡◌, ◌∙◌, ℕ, ◌<◌, ◌≤◌, ◌⊎◌, Bool, true, false, cond, inl, inr, refl, ap, subst, List, [], ◌∷◌, length, Option, None, Some, String, Global, bytes_eq, nat_cmp, string_bytes}
+use Rattle.std.proofs.Common.{◌≡◌, ◌∙◌, ℕ, ◌<◌, ◌≤◌, ◌⊎◌, Bool, true, false, cond, inl, inr, refl, ap, List, [], ◌∷◌, length, None, Some, String, Global, bytes_eq, nat_cmp, string_bytes}
 use Rattle.std.specs.Prelude.{codes, nat_lt, Result, Ok, Err}
 use Rattle.std.specs.BTreeMap.{is_at}
 use Rattle.std.specs.Cmp.Lexicographic.{slice_cmp}

@@ -1,5 +1,5 @@
 -- What a line of the line tool means: something, and one thing; and each meaning has a reply.
-use Rattle.std.proofs.Common.{◌≡◌, ℕ, ◌≤◌, Bool, false, refl, sym, ap, ◌∙◌, List, length}
+use Rattle.std.proofs.Common.{◌≡◌, ℕ, ◌≤◌, false, refl, List, length}
 use Rattle.std.specs.Prelude.{Some, Result, Ok, Err, nat_lt}
 use Rattle.std.proofs.lemmas.Bool.{le-ltb}
 use Rattle.serde_json.specs.Data.{Members}

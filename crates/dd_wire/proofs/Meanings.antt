@@ -32,8 +32,7 @@ use Rattle.dd_wire.specs.declared.fault.Fault.{Fault}
 use Rattle.dd_wire.specs.declared.fault.Fault.TheVariants.{WrongField, CardTwice, WrongTrump, WrongFirst, WrongPlayed, WrongSolutions, WrongTarget, UnevenHands, NoCard, OutOfMemory}
 use Rattle.dd_request.specs.Questions.{Question}
 use Rattle.dd_request.specs.Targets.{TargetQuestion}
-use Rattle.dd_wire.specs.Requests.{SolveFields, TargetFields, MeansObject, MeansDeal, MeansTable, MeansFields, MeansTargetFields, MeansStart, MeansSolutions, MeansTarget, MeansCards, MeansHands, MeansTargetHands, MeansBoard, IsAskedOf, are_solutions, question, target_question, target_fields, SpellsDeal, SpellsNone, asked_as, deal_fault, are_cards, pair_of_card, solve_fields, table_deal}
-use Rattle.dd_request.specs.declared.asked.Asked.{Asked}
+use Rattle.dd_wire.specs.Requests.{SolveFields, TargetFields, MeansObject, MeansDeal, MeansTable, MeansFields, MeansTargetFields, MeansStart, MeansSolutions, MeansTarget, MeansCards, MeansHands, MeansTargetHands, MeansBoard, are_solutions, question, target_question, target_fields, SpellsDeal, SpellsNone, asked_as, deal_fault, are_cards, pair_of_card, solve_fields, table_deal}
 use Rattle.dd_request.specs.declared.asked.Asked.TheVariants.{Solve, Table, Target}
 use Rattle.dd_request.specs.Results.{AreEven}
 use Rattle.dd_wire.proofs.Pairs.{is_card}

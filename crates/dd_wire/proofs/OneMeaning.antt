@@ -1,6 +1,6 @@
 -- No members of an object have two meanings.
 use Rattle.std.proofs.Common.{◌≡◌, ℕ, ◌<◌, inl, inr, Bool, true, false, refl, sym, ap, ◌∙◌, subst, arith, List, [], ◌∷◌, Option, None, Some}
-use Rattle.std.specs.Prelude.{◌&&◌, Result, Ok, Err, MatchOption, map, length, nat_lt, nat_le}
+use Rattle.std.specs.Prelude.{Result, Ok, Err, MatchOption, map, length, nat_lt}
 use Rattle.std.specs.Bool.{MatchBool}
 use Rattle.std.proofs.lemmas.Bool.Decides.{eqb_tells}
 use Rattle.dd_cards.specs.declared.suit.Suit.{Suit}
@@ -18,7 +18,6 @@ use Rattle.dd_play.specs.Board.{Board, tricks_left}
 use Rattle.dd_pbn.specs.Values.{begins_tag}
 use Rattle.dd_wire.specs.declared.fault.Fault.{Fault}
 use Rattle.serde_json.specs.Data.{Members}
-use Rattle.dd_request.specs.declared.asked.Asked.{Asked}
 use Rattle.dd_request.specs.declared.asked.Asked.TheVariants.{Solve, Table, Target}
 use Rattle.dd_wire.specs.Requests.{SolveFields, TargetFields, MeansObject, MeansDeal, MeansTable, MeansFields, MeansTargetFields, MeansStart, MeansSolutions, MeansTarget, MeansCards, MeansHands, MeansTargetHands, MeansBoard, IsAskedOf, are_solutions, question, target_question, target_fields, asked_as, table_deal, deal_fault, are_cards, pair_of_card, solve_fields}
 use Rattle.dd_wire.proofs.Meanings.{none-twice-decided, even-decided, hands-decided}

@@ -16,7 +16,7 @@ use Rattle.dd_score.specs.ParContracts.{par_contracts}
 use Rattle.dd_score.specs.Values.{HasOneValue, IsBetterOf, IsPar, better}
 use Rattle.dd_request.specs.Results.{results}
 use Rattle.dd_wire.specs.declared.fault.Fault.{Fault}
-use Rattle.dd_wire.specs.declared.fault.Fault.TheVariants.{OutOfMemory, WrongField}
+use Rattle.dd_wire.specs.declared.fault.Fault.TheVariants.{OutOfMemory}
 use Rattle.dd_wire.specs.declared.line_asked.LineAsked.{LineAsked}
 use Rattle.dd_wire.specs.declared.line_asked.LineAsked.TheVariants.{Cards, Par, ParOfDeal}
 use Rattle.dd_wire.specs.declared.par_request.Conditions.{Conditions}

@@ -7,7 +7,6 @@ use Rattle.dd_score.specs.declared.order.Order.{Order}
 use Rattle.dd_score.specs.declared.vulnerable.Vulnerable.{Vulnerable}
 use Rattle.dd_wire.specs.declared.fault.Fault.{Fault}
 use Rattle.dd_wire.specs.declared.fault.Fault.TheVariants.{WrongOrder, WrongVulnerable, WrongResult, NotThirteen, OutOfMemory}
-use Rattle.dd_wire.specs.declared.line_asked.LineAsked.{LineAsked}
 use Rattle.dd_wire.specs.declared.line_asked.LineAsked.TheVariants.{Par, ParOfDeal}
 use Rattle.dd_wire.specs.declared.par_reader.FirstCode.{FirstCode}
 use Rattle.dd_wire.specs.declared.par_request.Conditions.{Conditions}

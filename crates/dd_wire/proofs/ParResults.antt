@@ -1,5 +1,5 @@
 -- The results of a deal as they are scored.
-use Rattle.std.proofs.Common.{◌≡◌, ℕ, ◌≤◌, arith, length, true}
+use Rattle.std.proofs.Common.{◌≡◌, ◌≤◌, arith, length, true}
 use Rattle.std.specs.Prelude.{nat_le}
 use Rattle.std.proofs.lemmas.Bool.{le-leb}
 use Rattle.dd_cards.specs.declared.seat.Seat.{Seat}

@@ -1,5 +1,5 @@
 -- What the fields of a request for a play ask: something, and one thing.
-use Rattle.std.proofs.Common.{◌≡◌, ℕ, ◌<◌, ◌≤◌, inl, inr, true, false, refl, sym, ap, ◌∙◌, subst, arith, List, [], length}
+use Rattle.std.proofs.Common.{◌≡◌, ◌<◌, ◌≤◌, inl, inr, true, false, refl, sym, ap, ◌∙◌, subst, arith, List, [], length}
 use Rattle.std.specs.Prelude.{Result, Ok, Err, map, nat_lt, nat_le}
 use Rattle.std.specs.List.{list_all}
 use Rattle.std.proofs.lemmas.Bool.{le-ltb, ltb-false}
@@ -27,7 +27,7 @@ use Rattle.dd_wire.specs.declared.fault.Fault.{Fault}
 use Rattle.dd_wire.specs.declared.fault.Fault.TheVariants.{WrongTrump, WrongFirst, WrongPlayed, UnevenHands, NoCard, OutOfMemory}
 use Rattle.dd_wire.specs.PlayLines.{PlayFields, MeansAsked, MeansPlay, MeansPlayed, MeansPlayFields, IsPlayOf, are_cards_played, card_fault, play_fields}
 use Rattle.dd_wire.specs.Reading.{play_fault}
-use Rattle.dd_wire.specs.Requests.{MeansObject, pair_of_card}
+use Rattle.dd_wire.specs.Requests.{pair_of_card}
 use Rattle.dd_wire.proofs.Pairs.{is_card}
 use Rattle.dd_wire.proofs.Meanings.{SomeMeaning, by-test, by-bool, by-fields, by-option, cards-of, deal-memory, even-decided, object-memory, seat-of, some-deal, some-object, some-way, strain-of, way-memory}
 use Rattle.dd_wire.proofs.OneMeaning.{AtMostOne, both, one-by-option, one-by-test, one-deal, one-object, one-trick, one-way}

@@ -1,5 +1,5 @@
 -- What the cards of a position decide.
-use Rattle.std.proofs.Common.{◌≡◌, ℕ, ◌<◌, ◌≤◌, refl, arith, length}
+use Rattle.std.proofs.Common.{◌≡◌, ◌<◌, ◌≤◌, refl, arith, length}
 use Rattle.std.specs.Prelude.{Ok, Err}
 use Rattle.dd_play.specs.Board.{Board, NoneTwice, IsEven, tricks_left}
 use Rattle.dd_play.specs.Positions.{IsFirstFault}

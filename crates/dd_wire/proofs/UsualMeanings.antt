@@ -1,42 +1,29 @@
 -- What lines of the usual forms mean.
 use denote.Bor.{Bor}
-use Rattle.std.proofs.Common.{◌≡◌, ℕ, ◌≤◌, Bool, true, false, List, [], ◌∷◌, refl, subst, length, map, Option, Some, None}
+use Rattle.std.proofs.Common.{◌≡◌, ℕ, ◌≤◌, Bool, true, List, [], ◌∷◌, refl, subst, length, map, Option, Some, None}
 use Rattle.std.proofs.lemmas.Bool.{false≢true}
-use Rattle.std.specs.Prelude.{codes, Result, Ok, IsSome}
+use Rattle.std.specs.Prelude.{codes, Result, IsSome}
 use Rattle.std.specs.Str.{IsUtf8}
 use Rattle.arrayvec.specs.declared.array_vec.ArrayVec.{ArrayVec}
-use Rattle.serde_json.specs.Data.{array, number, unsigned, string, object, Members, no_members, member}
+use Rattle.serde_json.specs.Data.{number, unsigned, string, object, Members, no_members, member}
 use Rattle.serde_json.specs.Read.{read}
 use Rattle.dd_cards.specs.PlayingCard.{PlayingCard}
 use Rattle.dd_lines.specs.Line.{longest_line}
-use Rattle.dd_request.specs.Questions.{Question}
-use Rattle.dd_request.specs.Targets.{TargetQuestion}
-use Rattle.dd_request.specs.declared.asked.Asked.{Asked}
-use Rattle.dd_request.specs.declared.asked.Asked.TheVariants.{Solve, Target}
 use Rattle.dd_wire.specs.declared.fault.Fault.{Fault}
 use Rattle.dd_wire.specs.declared.line_asked.LineAsked.{LineAsked}
-use Rattle.dd_wire.specs.declared.par_reader.FirstCode.{FirstCode}
-use Rattle.dd_wire.specs.declared.par_reader.FirstCode.TheVariants as firsts
-use Rattle.dd_wire.specs.declared.par_reader.Given.TheVariants.{Results}
-use Rattle.dd_wire.specs.declared.par_reader.ParFields as kept_par
 use Rattle.dd_wire.specs.declared.request_reader.SolveFields.{SolveFields}
 use Rattle.dd_wire.specs.declared.request_reader.TheConstants.{MOST_PLAYED}
 use Rattle.dd_wire.specs.declared.session_asked.SessionAsked.{SessionAsked}
-use Rattle.dd_wire.specs.declared.session_asked.SessionAsked.TheVariants.{Par}
-use Rattle.dd_wire.specs.declared.want.Want.TheVariants.{Fetch}
 use Rattle.dd_wire.specs.declared.usual_reader.Fields.{Fields}
-use Rattle.dd_wire.specs.declared.usual_reader.Rows.{Rows}
 use Rattle.dd_wire.specs.declared.on_trick.OnTrick.{OnTrick}
 use Rattle.dd_wire.specs.declared.usual_reader.Task.TheVariants as tasks
 use Rattle.dd_wire.specs.Lines.{Means, MeansMembers}
-use Rattle.dd_wire.specs.ParLines.{par_fields, table_par_of}
+use Rattle.dd_wire.specs.ParLines.{par_fields}
 use Rattle.dd_wire.specs.PlayLines.{play_fields}
-use Rattle.dd_wire.specs.Reading.{ArePlayed, fields_of, played_in}
-use Rattle.dd_wire.specs.ReadingPar as par
-use Rattle.dd_wire.specs.ReadingPar.{given_of}
-use Rattle.dd_wire.specs.Requests.{MeansFields, MeansTargetFields, are_cards, asked_as, pair_of_card, pairs_of, table_deal, wait_at}
-use Rattle.dd_wire.specs.UsualLines.{AsksCards, AsksFetch, AsksPar, IsSolve, IsUncalled, IsWanted, ReadsPosition, cards_or_none, first_of, items_of_pairs, items_of_rows, members_of, number_in, rows_list, slotted, trick_in, wait_of}
-use Rattle.dd_wire.specs.Wants.{MeansWant, called, submitted}
+use Rattle.dd_wire.specs.Reading.{fields_of}
+use Rattle.dd_wire.specs.Requests.{are_cards, pair_of_card, pairs_of, table_deal, wait_at}
+use Rattle.dd_wire.specs.UsualLines.{IsSolve, IsUncalled, IsWanted, ReadsPosition, cards_or_none, items_of_pairs, members_of, number_in, slotted, trick_in, wait_of}
+use Rattle.dd_wire.specs.Wants.{MeansWant}
 use Rattle.dd_wire.proofs.LineMeanings.{means-members}
 use Rattle.dd_wire.proofs.Objects.{object_of-read}
 use Rattle.dd_wire.proofs.WantMeanings.{means-wanted}

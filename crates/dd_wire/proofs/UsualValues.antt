@@ -1,10 +1,10 @@
 -- Values of a usual form, as the tokens of their text.
 use Rattle.std.proofs.Common.{◌≡◌, ℕ, zero, suc, ◌+◌, ◌-◌, ◌/◌, ◌%◌, ◌^◌, ◌<◌, ◌≤◌, Bool, true, false, cond, ◌&&◌, ◌||◌, ◌==◌, List, [], ◌∷◌, ◌++◌, length, Option, Some, None, option_map, option_and_then, inl, inr, refl, sym, ap, ap₂, ◌∙◌, subst, arith, ◌*◌, append_assoc, decimal}
-use Rattle.std.proofs.lemmas.Bool.{true≢false, false≢true, and_parts, or_parts, not-true, eqb-true}
+use Rattle.std.proofs.lemmas.Bool.{false≢true, and_parts, or_parts, not-true, eqb-true}
 use Rattle.std.proofs.lemmas.Bool.Decides.{eqb_tells}
 use Rattle.std.proofs.lemmas.Fmt.{decimal_digit, decimal_step}
 use Rattle.std.specs.List.{list_all}
-use Rattle.std.specs.Prelude.{◌⊎◌, nat_lt, slice_get, IfSome, is_some}
+use Rattle.std.specs.Prelude.{◌⊎◌, nat_lt, slice_get, IfSome}
 use Rattle.json.specs.Token.{Token}
 use Rattle.json.specs.Text.{content, plain, prepend}
 use Rattle.json.specs.Word.{is_operator, is_space, ends_word, after_number}

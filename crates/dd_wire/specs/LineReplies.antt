@@ -1,5 +1,5 @@
 -- To be believed: the reply of the line tool to a line.
-use Rattle.std.specs.Prelude.{◌≡◌, ℕ, ◌<◌, ◌≤◌, ◌⊎◌, List, length, Option, Result, Ok, Err}
+use Rattle.std.specs.Prelude.{◌≡◌, ℕ, ◌<◌, ◌≤◌, ◌⊎◌, List, length, Result, Ok, Err}
 use Rattle.dd_lines.specs.Line.{longest_line}
 use Rattle.dd_request.specs.declared.asked.Asked.{Asked}
 use Rattle.dd_request.specs.declared.asked.Asked.TheVariants.{Solve, Table, Target, Play}

@@ -1,5 +1,4 @@
 -- Reading a line that asks for par, step by step.
-use Rattle.std.specs.Prelude.{ℕ, List}
 use Rattle.dd_wire.specs.declared.par_reader.Given as kept
 use Rattle.dd_wire.specs.declared.par_reader.Given.TheVariants as kinds
 use Rattle.dd_wire.specs.declared.par_reader.ParFields as kept_fields
