@@ -147,7 +147,7 @@ fn a_worker_that_is_stopped_gives_its_job_back(rt: HostRuntime) -> Result<(), Al
     follow(&rt, alloc, &stopped)
 }
 
-// How many positions the search for the line comes to, over no table, where these are more than 1,000 and no more than 20,000,
+// How many positions the search for the line takes, over no table, where these are more than 1,000 and no more than 20,000,
 // and its answer.
 fn needed(alloc: Global, line: &str) -> Option<(u64, String)> {
     let Ok(LineAsked::Cards(Asked::Solve(request))) = read_request(alloc, line.as_bytes()) else {
