@@ -3,9 +3,8 @@ ghost use Rattle.std.specs.Prelude.{◌≡◌};
 ghost use Rattle.dd_rank.specs.Strings.{shape_of, strings_of};
 ghost use Rattle.dd_relative.specs.Relative.{IsRelative};
 
-use crate::absolute_ranks::AbsoluteRanks;
 use crate::relative_start::RelativeStart;
-use dd_cards::{Hand, Seat};
+use dd_cards::Seat;
 use dd_rank::{OwnerStrings, Shape};
 use std::marker::Model;
 
@@ -14,8 +13,7 @@ use std::marker::Model;
 pub struct ComingStart {
     start: RelativeStart,
     shape: Shape,
-    // the cards of the trick, by the relative ranks before it, and the seat that won it: for the ranks in the deal alone
-    gaps: Hand,
+    // the seat that won the trick: for the seat that leads in the deal alone
     winner: Seat,
 }
 
@@ -33,9 +31,9 @@ impl Model for ComingStart {
 }
 
 impl ComingStart {
-    /// The start after a trick of these cards that this seat won. They serve the ranks in the deal alone.
+    /// The start after a trick that this seat won, seen from its leader as North. The seat serves the order of leads alone.
     #[inline(always)]
-    pub fn new(start: RelativeStart, gaps: Hand, winner: Seat) -> ComingStart
+    pub fn new(start: RelativeStart, winner: Seat) -> ComingStart
         ensures same { result ≡ start }
         ensures relative { IsRelative result }
     {
@@ -43,7 +41,6 @@ impl ComingStart {
         ComingStart {
             start,
             shape,
-            gaps,
             winner,
         }
     }
@@ -73,9 +70,9 @@ impl ComingStart {
         OwnerStrings::of_closed_up(self.start.as_trick_start(), self.shape)
     }
 
-    /// The ranks of its cards in the deal, from those before the trick. They serve the order of leads.
+    /// The seat that leads there in the deal, where this one led there before the trick. It serves the order of leads.
     #[inline(always)]
-    pub fn ranks(&self, above: &AbsoluteRanks) -> AbsoluteRanks {
-        above.after(self.gaps, self.winner)
+    pub fn deal_leader(&self, before: Seat) -> Seat {
+        before.after(self.winner.code())
     }
 }

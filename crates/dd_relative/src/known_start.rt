@@ -6,18 +6,17 @@ ghost use Rattle.dd_play.specs.Board.{cards_at};
 ghost use Rattle.dd_rank.specs.Strings.{strings_of};
 ghost use Rattle.dd_relative.specs.Relative.{IsRelative};
 
-use crate::absolute_ranks::AbsoluteRanks;
 use crate::relative_start::RelativeStart;
-use dd_cards::{Hand, Strain};
+use dd_cards::{Hand, Seat, Strain};
 use dd_rank::OwnerStrings;
 use std::marker::Model;
 
-/// A start that is searched: its owner strings and the ranks of its cards in the deal are known.
+/// A start that is searched: its owner strings are known, and the seat that leads there in the deal.
 #[derive(Drop)]
 pub struct KnownStart {
     start: RelativeStart,
     strings: OwnerStrings,
-    ranks: AbsoluteRanks,
+    deal_leader: Seat,
 }
 
 impl Model for KnownStart {
@@ -34,16 +33,16 @@ impl Model for KnownStart {
 }
 
 impl KnownStart {
-    /// A start with its owner strings.
+    /// A start with its owner strings, to which this seat leads in the deal. The seat serves the order of leads alone.
     #[inline(always)]
-    pub fn new(start: &RelativeStart, strings: &OwnerStrings, ranks: AbsoluteRanks) -> KnownStart
+    pub fn new(start: &RelativeStart, strings: &OwnerStrings, deal_leader: Seat) -> KnownStart
         requires { strings.now ≡ strings_of start.now }
         ensures { result ≡ start.now }
     {
         KnownStart {
             start: start.copy(),
             strings: strings.copy(),
-            ranks,
+            deal_leader,
         }
     }
 
@@ -64,10 +63,10 @@ impl KnownStart {
         &self.strings
     }
 
-    /// The ranks of its cards in the deal. They serve the order of leads.
+    /// The seat that leads in the deal. It serves the order of leads.
     #[inline(always)]
-    pub fn ranks(&self) -> &AbsoluteRanks {
-        &self.ranks
+    pub fn deal_leader(&self) -> Seat {
+        self.deal_leader
     }
 
     // The cards of the hand so many places after the leader's.

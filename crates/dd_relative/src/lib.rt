@@ -1,7 +1,6 @@
 //! Positions by relative ranks: the leader is North, and of each suit the cards left are the highest.
 #![tactic(auto)]
 
-mod absolute_ranks;
 mod coming_start;
 mod gap;
 mod known_start;
@@ -13,7 +12,6 @@ mod runs;
 mod winning_card;
 mod winning_ranks;
 
-pub use absolute_ranks::AbsoluteRanks;
 pub use coming_start::ComingStart;
 pub use known_start::KnownStart;
 pub use laws::{claims_before, covered_starts, one_relative_start};

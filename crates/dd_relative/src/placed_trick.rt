@@ -294,8 +294,7 @@ impl<'a> PlacedTrick<'a> {
             third,
             card,
         );
-        let gaps = four_cards(first, second, third, card);
-        ComingStart::new(next, gaps, winner)
+        ComingStart::new(next, winner)
     }
 
     /// The tricks left when this legal card completes the trick.

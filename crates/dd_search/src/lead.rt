@@ -359,8 +359,8 @@ fn best_of<L: LeadView>(
         tops.cards.usual
     };
     let wins = !opponents && (partner || tops.first == PARTNER);
-    let rank_in_deal = position.rank_in_deal(suit, low);
-    let weight = weighed(rank_in_deal, weight, worth, wins);
+    let relative_rank = position.relative_rank(suit, low);
+    let weight = weighed(relative_rank, weight, worth, wins);
     Move::of(suit, low.code(), weight)
 }
 
@@ -373,9 +373,9 @@ pub(crate) struct Ruffs {
 
 // How good a card of the suit looks.
 #[inline]
-fn weighed(rank_in_deal: u16, weight: u16, worth: LeadWorth, wins: bool) -> u16 {
+fn weighed(relative_rank: u16, weight: u16, worth: LeadWorth, wins: bool) -> u16 {
     let worth = if wins { worth.wins } else { worth.loses };
-    weight.wrapping_add(worth).wrapping_sub(rank_in_deal)
+    weight.wrapping_add(worth).wrapping_sub(relative_rank)
 }
 
 // The code of the best card that hands with these ranks of a suit could play to it, where a ruff is more than any rank.
@@ -386,8 +386,8 @@ fn best_answer(ranks: Holding, ruffs: bool) -> u8
     if ruffs { RUFF } else { code_of_highest(ranks) }
 }
 
-/// The best of these ranks in the deal where what a card is worth is not the same for all of them.
-pub(crate) fn best_by_rank_in_deal(
+/// The best of these cards of a position, one after the other, where what a card is worth is not the same for all of them.
+pub(crate) fn best_by_card(
     position: &Position,
     suit: Suit,
     ranks: Holding,
@@ -421,7 +421,7 @@ pub(crate) fn best_by_rank_in_deal(
             tops.cards.usual
         };
         let wins = code.max(partner) > against;
-        let weight = weighed(code as u16, weight, worth, wins);
+        let weight = weighed(position.relative_rank(suit, rank), weight, worth, wins);
         best = best.or(Move::of(suit, code, weight));
     }
     best
@@ -441,7 +441,7 @@ fn has_equal(own: Holding, others: Holding, rank: Rank) -> bool {
 
 /// The same by relative ranks, of which none is missing: a card has an equal below it where the leader has the next rank. The ranks fall
 /// into four groups in which a card is worth the same: there the lowest looks best, and one of these does.
-pub(crate) fn best_by_relative_rank(
+pub(crate) fn best_by_masks(
     start: &KnownStart,
     suit: Suit,
     ranks: Holding,
@@ -490,7 +490,7 @@ pub(crate) fn best_by_relative_rank(
 fn lowest_of(start: &KnownStart, suit: Suit, ranks: u32, weight: u16) -> Move {
     match Rank::from_code(ranks.trailing_zeros() as u8) {
         Some(rank) => {
-            let weight = weight.wrapping_sub(start.ranks().rank(suit, rank));
+            let weight = weight.wrapping_sub(start.relative_rank(suit, rank));
             Move::of(suit, rank.code(), weight)
         }
         None => Move::default(),

@@ -1,5 +1,5 @@
 //! What the order of leads sees of a start of a trick: by the ranks that the cards have in the deal, or by relative ones.
-use crate::lead::{Move, Ruffs, best_by_rank_in_deal, best_by_relative_rank};
+use crate::lead::{Move, Ruffs, best_by_card, best_by_masks};
 use crate::lead_weights::TopTwo;
 use dd_cards::{Holding, Rank, Strain, Suit};
 use dd_play::Position;
@@ -23,8 +23,9 @@ pub(crate) trait LeadView {
         tops: TopTwo,
     ) -> Move;
 
-    /// The rank of this card in the deal. Leads of two suits are weighed against each other, and so their ranks are.
-    fn rank_in_deal(&self, suit: Suit, rank: Rank) -> u16;
+    /// The rank of this card among the cards left, where the highest of a suit is an ace. Leads of two suits are weighed against each
+    /// other, and so their ranks are.
+    fn relative_rank(&self, suit: Suit, rank: Rank) -> u16;
 }
 
 impl LeadView for Position {
@@ -48,12 +49,13 @@ impl LeadView for Position {
         ruffs: Ruffs,
         tops: TopTwo,
     ) -> Move {
-        best_by_rank_in_deal(self, suit, ranks, weight, ruffs, tops)
+        best_by_card(self, suit, ranks, weight, ruffs, tops)
     }
 
     #[inline(always)]
-    fn rank_in_deal(&self, _suit: Suit, rank: Rank) -> u16 {
-        rank.code() as u16
+    fn relative_rank(&self, suit: Suit, rank: Rank) -> u16 {
+        let higher = self.in_play().holding(suit).above(rank).len();
+        14 - higher as u16
     }
 }
 
@@ -77,11 +79,11 @@ impl LeadView for KnownStart {
         ruffs: Ruffs,
         tops: TopTwo,
     ) -> Move {
-        best_by_relative_rank(self, suit, ranks, weight, ruffs, tops)
+        best_by_masks(self, suit, ranks, weight, ruffs, tops)
     }
 
     #[inline(always)]
-    fn rank_in_deal(&self, suit: Suit, rank: Rank) -> u16 {
-        self.ranks().rank(suit, rank)
+    fn relative_rank(&self, _suit: Suit, rank: Rank) -> u16 {
+        rank.code() as u16
     }
 }

@@ -130,7 +130,7 @@ pub(crate) fn lead_history<B: Bounds>(trick: &PlacedTrick<'_>, turn: Turn, table
     match turn {
         Turn::First => {
             let start = trick.start();
-            let leader = start.ranks().leader();
+            let leader = start.deal_leader();
             table.lead_history_of(trick.at_lead().position(), leader, start.strings())
         }
         Turn::Second | Turn::Third | Turn::Fourth => LeadHistory::default(),
@@ -145,7 +145,7 @@ pub(crate) fn note_lead<B: Bounds>(trick: &PlacedTrick<'_>, turn: Turn, card: Pl
     match turn {
         Turn::First => {
             let start = trick.start();
-            let leader = start.ranks().leader();
+            let leader = start.deal_leader();
             table.note_lead_of(
                 trick.at_lead().position(),
                 leader,

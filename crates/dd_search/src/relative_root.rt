@@ -12,7 +12,7 @@ use crate::table::Bounds;
 use crate::verdict::Verdict;
 use dd_play::TrickStart;
 use dd_rank::{Depths, OwnerStrings, alike_claims, alike_strings, covered_positions};
-use dd_relative::{AbsoluteRanks, KnownStart, PlacedTrick, RelativeStart};
+use dd_relative::{KnownStart, PlacedTrick, RelativeStart};
 
 /// Do North and South take at least `need` of the tricks left, by the leads of a start with these strings? They are tried at the start
 /// that is alike by relative ranks, where the leader is North, and what is told there is turned back.
@@ -42,7 +42,7 @@ pub(crate) fn by_relative_ranks<B: Bounds, M: Meter>(
     let relative = RelativeStart::of(start);
     let there = relative.as_trick_start();
     // Alike starts have the same strings.
-    let known = KnownStart::new(&relative, strings, AbsoluteRanks::of(start));
+    let known = KnownStart::new(&relative, strings, position.first());
     let trick = PlacedTrick::led(&known);
     let found = relative_by_lead(&trick, asked, table, meter)?;
     let depths = Depths::of_cards(there, found.ranks().cards());

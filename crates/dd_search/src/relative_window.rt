@@ -27,17 +27,15 @@ use crate::table::{Bounds, ProbeHint};
 use crate::turn::Turn;
 use crate::zero_window::rest_after;
 use dd_cards::{Hand, Place, Seat, Suit};
-use dd_relative::{
-    AbsoluteRanks, ComingStart, KnownStart, PlacedTrick, WinningRanks, claims_before,
-};
+use dd_relative::{ComingStart, KnownStart, PlacedTrick, WinningRanks, claims_before};
 
 // Does the leader's side take at least `need` of the tricks left? It ticks first; a look or the quick tricks may settle it, and a lead
-// second hand's winners; else play does, and what that taught is noted. The ranks of the start before this one serve the order.
+// second hand's winners; else play does, and what that taught is noted. Who led in the deal before this start serves the order.
 #[cycle(relative_window)]
 fn relative_at_start<B: Bounds, M: Meter>(
     coming: &ComingStart,
     hint: ProbeHint,
-    above: &AbsoluteRanks,
+    leader_before: Seat,
     need: u8,
     table: &mut B,
     meter: &mut M,
@@ -50,7 +48,7 @@ fn relative_at_start<B: Bounds, M: Meter>(
     ensures limit { M.limit meter.new ≡ M.limit meter.old }
 {
     tick(meter)?;
-    answer_at_relative_start(coming, hint, above, need, table, meter)
+    answer_at_relative_start(coming, hint, leader_before, need, table, meter)
 }
 
 // The answer at a start of a trick, which is noted where play gave it.
@@ -59,7 +57,7 @@ fn relative_at_start<B: Bounds, M: Meter>(
 fn answer_at_relative_start<B: Bounds, M: Meter>(
     coming: &ComingStart,
     hint: ProbeHint,
-    above: &AbsoluteRanks,
+    leader_before: Seat,
     need: u8,
     table: &mut B,
     meter: &mut M,
@@ -79,7 +77,8 @@ fn answer_at_relative_start<B: Bounds, M: Meter>(
     if let Some(answer) = quick_ranks(coming, &strings, need) {
         return Ok(answer);
     }
-    let known = KnownStart::new(coming.start(), &strings, coming.ranks(above));
+    let leader = coming.deal_leader(leader_before);
+    let known = KnownStart::new(coming.start(), &strings, leader);
     let trick = PlacedTrick::led(&known);
     let answer = relative_by_lead(&trick, need, table, meter)?;
     note_ranks(coming, &strings, need, &answer, table);
@@ -380,8 +379,8 @@ fn relative_after_trick<B: Bounds, M: Meter>(
     let asked = asked_of(need, left, leads);
     let next = trick.next_start(card, winner);
     let hint = table.probe_ahead(next.shape());
-    let above = trick.start().ranks();
-    let found = relative_at_start(&next, hint, above, asked, table, meter)?;
+    let leader_before = trick.start().deal_leader();
+    let found = relative_at_start(&next, hint, leader_before, asked, table, meter)?;
     let ranks = ranks_here(trick, card, &next, &found.ranks());
     Ok(RankVerdict::new(found.is_yes() == leads, &ranks))
 }

@@ -4,7 +4,7 @@ use dd_cards::{Card, Hand, Place, Rank, Seat, Strain, Suit};
 use dd_pbn::read_deal;
 use dd_play::{Position, TrickStart};
 use dd_relative::{
-    AbsoluteRanks, ComingStart, KnownStart, PlacedTrick, RelativeStart, RelativeTrick, WinningRanks,
+    ComingStart, KnownStart, PlacedTrick, RelativeStart, RelativeTrick, WinningRanks,
 };
 
 // Three cards a hand, East to lead. Left of the spades are A K Q 9 7 4, of the hearts K Q J T 5 2.
@@ -117,11 +117,10 @@ fn placed<'a>(trick: &PlacedTrick<'a>, place: u8, card: Card) -> Option<PlacedTr
     }
 }
 
-// Does the same trick by places lead to the same start, with the same ranks before it?
+// Does the same trick by places lead to the same start, with the same ranks before it, where East leads in the deal and then North?
 fn is_next_by_places() -> Option<bool> {
-    let coming = ComingStart::new(start_of(WORKED, Seat::East)?, Hand::new(), Seat::North);
-    let ranks = AbsoluteRanks::of(coming.start().as_trick_start());
-    let known = KnownStart::new(coming.start(), &coming.strings(), ranks);
+    let coming = ComingStart::new(start_of(WORKED, Seat::East)?, Seat::North);
+    let known = KnownStart::new(coming.start(), &coming.strings(), Seat::East);
     let trick = PlacedTrick::led(&known);
     let trick = placed(&trick, 0, card(Suit::Spades, 9)?)?;
     let trick = placed(&trick, 1, card(Suit::Spades, 10)?)?;
@@ -136,25 +135,9 @@ fn is_next_by_places() -> Option<bool> {
     let before = trick.ranks_before(ace, &later);
     let contested = trick.contested(ace, winner);
     let is_told = before.cards() == spades(&[14, 13, 12, 11])?
-        && contested.cards() == spades(&[14])?;
+        && contested.cards() == spades(&[14])?
+        && next.deal_leader(known.deal_leader()) == Seat::North;
     Some(has_hands(next.start(), NEXT) && winner == Seat::West && is_told)
-}
-
-// The ranks in the deal, before the trick and after it.
-fn are_ranks_of_the_deal() -> Option<bool> {
-    let hands = read_deal(WORKED).ok()?;
-    let position = Position::new(hands, Strain::Notrump, Seat::East, &[]).ok()?;
-    let start = TrickStart::of(&position)?;
-    let before = AbsoluteRanks::of(&start);
-    let after = before.after(spades(&[14, 12, 10, 9])?, Seat::West);
-    let was = before.rank(Suit::Spades, Rank::of(11)) == 9
-        && before.rank(Suit::Hearts, Rank::of(9)) == 2
-        && before.leader() == Seat::East;
-    let is = after.rank(Suit::Spades, Rank::of(14)) == 13
-        && after.rank(Suit::Spades, Rank::of(13)) == 9
-        && after.rank(Suit::Hearts, Rank::of(10)) == 5
-        && after.leader() == Seat::North;
-    Some(was && is)
 }
 
 // North has the king and the queen of spades, which are equal; East the ace and the lowest, South the jack and the ten.
@@ -188,11 +171,6 @@ fn the_winner_leads_to_the_next_trick_and_gaps_are_closed(rt: HostRuntime) {
 #[test]
 fn a_trick_by_places_leads_to_the_same_start(rt: HostRuntime) {
     assert!(rt; is_next_by_places() == Some(true));
-}
-
-#[test]
-fn ranks_in_the_deal_go_on_over_a_trick(rt: HostRuntime) {
-    assert!(rt; are_ranks_of_the_deal() == Some(true));
 }
 
 #[test]

@@ -1,7 +1,6 @@
 use Rattle.std.proofs.Common.{length}
-use Rattle.dd_relative.proofs.absolute_ranks.ranks_of.Given as goal
+use Rattle.dd_search.proofs.lead.best_by_card.Given as goal
 
--- nothing is said of the ranks
 abbrev pub invariant-ranks : goal.invariant-ranks
 invariant-ranks l = Unit {0}
 

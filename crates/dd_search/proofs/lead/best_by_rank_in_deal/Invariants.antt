@@ -1,8 +1,0 @@
-use Rattle.std.proofs.Common.{length}
-use Rattle.dd_search.proofs.lead.best_by_rank_in_deal.Given as goal
-
-abbrev pub invariant-ranks : goal.invariant-ranks
-invariant-ranks l = Unit {0}
-
-abbrev pub decreases-ranks : goal.decreases-ranks
-decreases-ranks l = length l.rest
