@@ -1,5 +1,6 @@
 //! A search by relative ranks beside one by the ranks of the deal: on drawn starts of a trick, with more than three tricks left
-//! and with fewer. And both beside what is on record: tricks and depths were found before there was the first, positions are counted since.
+//! and with fewer. And both beside what is on record: the tricks as they were found before there was the first, and the depths and
+//! positions of today's order of cards.
 use dd_cache::Cache;
 use dd_cards::{Card, Hands, Rank, Seat, Strain, Suit};
 use dd_equal::classes;
@@ -128,13 +129,27 @@ fn mixed(digest: u64, number: u64) -> u64 {
     (digest ^ number).wrapping_mul(0x0000_0100_0000_01B3)
 }
 
-// What three searches find at each of so many starts with so many tricks left, as one number; none where the two forms differ. Each form
-// has a cache, so what the first of the three learned serves the next ones.
-fn digest_of<R: AllocGlobal>(rt: &R, tricks: u64, starts: u64) -> Result<Option<u64>, AllocError> {
+// What searches find: the tricks as one number, and with their depths and ticks as another.
+#[derive(Clone, Copy, Debug, PartialEq, Eq)]
+struct Digest {
+    tricks: u64,
+    all: u64,
+}
+
+// What three searches find at each of so many starts with so many tricks left; none where the two forms differ. Each form has a cache, so
+// what the first of the three learned serves the next ones.
+fn digest_of<R: AllocGlobal>(
+    rt: &R,
+    tricks: u64,
+    starts: u64,
+) -> Result<Option<Digest>, AllocError> {
     let mut relative = Cache::new(rt.alloc(), NoTable)?;
     let mut own = Cache::new(rt.alloc(), OwnStarts)?;
     let mut state = tricks;
-    let mut digest = 0xCBF2_9CE4_8422_2325u64;
+    let mut digest = Digest {
+        tricks: 0,
+        all: 0xCBF2_9CE4_8422_2325,
+    };
     for number in 0..starts {
         let Some(start) = drawn(&mut state, tricks) else {
             return Ok(None);
@@ -147,24 +162,30 @@ fn digest_of<R: AllocGlobal>(rt: &R, tricks: u64, starts: u64) -> Result<Option<
             if searched(kind, &start, &mut own) != Some(found) {
                 return Ok(None);
             }
-            digest = mixed(digest, found.tricks);
-            digest = mixed(digest, found.depths);
-            digest = mixed(digest, found.ticks);
+            digest.tricks = mixed(digest.tricks, found.tricks);
+            digest.all = mixed(digest.all, found.tricks);
+            digest.all = mixed(digest.all, found.depths);
+            digest.all = mixed(digest.all, found.ticks);
         }
     }
     Ok(Some(digest))
 }
 
-// Compares the two forms at so many starts with so many tricks left, and what they find with the number on record.
+// Compares the two forms at so many starts with so many tricks left, and what they find with the numbers on record: those of the tricks
+// alone, and of all.
 fn compare_each<R: AllocGlobal + Abort>(
     rt: &R,
-    rows: &[(u64, u64, u64)],
+    rows: &[(u64, u64, u64, u64)],
 ) -> Result<(), AllocError> {
-    for (tricks, starts, wanted) in rows {
+    for (left, starts, tricks, all) in rows {
+        let wanted = Digest {
+            tricks: *tricks,
+            all: *all,
+        };
         assert_eq!(rt;
-            digest_of(rt, *tricks, *starts)?,
-            Some(*wanted),
-            "{tricks} tricks"
+            digest_of(rt, *left, *starts)?,
+            Some(wanted),
+            "{left} tricks"
         );
     }
     Ok(())
@@ -173,11 +194,16 @@ fn compare_each<R: AllocGlobal + Abort>(
 #[test]
 fn both_forms_find_what_was_found_with_few_tricks(rt: HostRuntime) -> Result<(), AllocError> {
     let rows = [
-        (4, 16, 7_827_678_740_649_999_591),
-        (5, 16, 12_022_159_229_626_017_245),
-        (6, 16, 13_072_118_401_780_127_316),
-        (7, 16, 15_409_799_732_611_398_715),
-        (8, 10, 10_858_325_530_553_755_187),
+        (4, 16, 6_889_541_337_239_923_591, 17_644_511_133_834_505_987),
+        (5, 16, 6_790_084_306_669_215_809, 14_000_309_903_712_408_433),
+        (
+            6,
+            16,
+            11_404_413_725_180_395_211,
+            18_037_743_956_932_049_804,
+        ),
+        (7, 16, 17_721_269_044_104_085_499, 9_850_469_414_352_506_887),
+        (8, 10, 8_792_800_867_620_329_814, 13_508_947_904_803_279_941),
     ];
     compare_each(&rt, &rows)
 }
@@ -189,8 +215,8 @@ fn both_forms_find_what_was_found_with_nine_and_ten_tricks(
     compare_each(
         &rt,
         &[
-            (9, 5, 2_477_891_487_721_165_609),
-            (10, 3, 14_537_285_774_900_719_318),
+            (9, 5, 6_908_044_886_030_983_752, 2_648_104_979_461_023_930),
+            (10, 3, 16_559_380_272_903_085_502, 7_969_631_275_552_428_910),
         ],
     )
 }
@@ -202,15 +228,23 @@ fn both_forms_find_what_was_found_with_eleven_and_twelve_tricks(
     compare_each(
         &rt,
         &[
-            (11, 2, 11_031_073_460_824_286_315),
-            (12, 1, 9_335_266_369_060_694_465),
+            (11, 2, 15_584_656_769_465_727_021, 8_695_440_914_645_409_249),
+            (12, 1, 15_219_020_216_740_738_604, 7_150_002_423_056_997_358),
         ],
     )
 }
 
 #[test]
 fn both_forms_find_what_was_found_in_full_deals(rt: HostRuntime) -> Result<(), AllocError> {
-    compare_each(&rt, &[(13, 1, 13_560_099_159_385_333_833)])
+    compare_each(
+        &rt,
+        &[(
+            13,
+            1,
+            16_976_414_730_713_939_326,
+            10_528_017_577_494_434_819,
+        )],
+    )
 }
 
 // A table of a caller, which may look at the cards and says nothing of starts by relative ranks. It keeps nothing, and mixes into one
