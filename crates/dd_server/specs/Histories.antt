@@ -2,7 +2,7 @@
 use Rattle.std.specs.Prelude.{◌≡◌, ◌≤◌, List, length, true}
 use Rattle.dd_book.specs.Limits.{LimitsOf}
 use Rattle.dd_desk.specs.Answers.{AnswersAreRight}
-use Rattle.dd_desk.specs.Events.{AnswersAreOwn, EventOf, IsLegal}
+use Rattle.dd_desk.specs.Events.{AnswersAreOwn, CallsAreOwn, EventOf, IsLegal}
 use Rattle.dd_desk.specs.Receipts.{PassOf}
 use Rattle.dd_desk.specs.Reserve.{HasReserve}
 use Rattle.dd_desk.specs.Closing.{numbers_of, by_these, AllTheirs}
@@ -10,14 +10,14 @@ use Rattle.dd_server.specs.Callers.{AreCallers}
 use Rattle.dd_server.specs.declared.terms.Terms.{Terms}
 
 -- The journal of a desk of these limits has at most so many events as they allow, with room for what is reserved after it, and is
--- one that one thread could have made; all
--- that callers were told of a job is of what was submitted under its number, and each answer, table and trace is that of exhaustive
--- play for that; there are at most as many passes as the limits allow; the receipts of each of them are the events of its caller, in
+-- one that one thread could have made; each call is by the caller under whose number it stands; all that callers were told of a job is
+-- of what was submitted under its number, and each answer, table and trace is that of exhaustive play for that; there are at most as many passes as the limits allow; the receipts of each of them are the events of its caller, in
 -- order and at their places; and each event's caller is one of them.
 pub record IsHistory (limits : LimitsOf) (journal : List EventOf) (passes : List PassOf) : Type 0 where
   pub within : length journal ≤ limits.events
   pub reserve : HasReserve limits journal
   pub legal : IsLegal limits journal
+  pub own : CallsAreOwn journal
   pub answers : AnswersAreOwn journal
   pub right : AnswersAreRight journal
   pub given : length passes ≤ limits.passes
