@@ -15,8 +15,8 @@ PAGE = "docs/PROOF.md"
 HEADING = "## The definitions, in order of reading"
 IMPORT = re.compile(r"\buse Rattle\.([a-z_]+)\.(specs|proofs)((?:\.[A-Za-z_]\w*)+)")
 FILE = re.compile(r"`([\w./-]+\.antt)`")
-SPENT, SIGHTINGS, DESK = "crates/dd_search/specs/Spent.antt", "crates/dd_desk/specs/Sightings.antt", "crates/dd_desk/proofs"
-TICK = "crates/dd_search/proofs/meter/BudgetMeter/tick/Answers.antt"
+SPENT, SIGHTINGS, DESK = "crates/dd_bounds/specs/Spent.antt", "crates/dd_desk/specs/Sightings.antt", "crates/dd_desk/proofs"
+TICK = "crates/dd_bounds/proofs/meter/BudgetMeter/tick/Answers.antt"
 OPENING = {
     "refused-tick": {SPENT, TICK},
     "granted-tick": {SPENT, TICK},

@@ -18,7 +18,7 @@ trap 'rm -rf "$work"' EXIT
 git -C "$top" archive HEAD crates crates.txt HANDLES | tar -x -C "$work"
 mkdir -p "$work/crates/book/src"
 cp "$here/book.txt" "$work/crates/book/src/main.rt"
-echo 'book: dd_book dd_cards dd_play dd_request dd_solve dd_search' >> "$work/crates.txt"
+echo 'book: dd_book dd_bounds dd_cards dd_play dd_request dd_solve' >> "$work/crates.txt"
 # With no word the program ends at once, with status 1.
 (cd "$work/crates/book" && rt run < /dev/null > "$work/book.log" 2>&1) || true
 if ! grep -q '^logic=proved' "$work/book.log" || [ ! -x "$work/crates/book/out/book" ]; then

@@ -18,7 +18,7 @@ git -C "$top" archive HEAD crates crates.txt HANDLES | tar -x -C "$work"
 mkdir -p "$work/crates/desk/src" "$work/crates/desk/proofs/measured"
 cp "$here/desk.txt" "$work/crates/desk/src/main.rt"
 cp "$here/Invariants.txt" "$work/crates/desk/proofs/measured/Invariants.antt"
-echo 'desk: dd_book dd_cards dd_desk dd_play dd_request dd_solve dd_wire dd_search once_cell' >> "$work/crates.txt"
+echo 'desk: dd_book dd_bounds dd_cards dd_desk dd_play dd_request dd_solve dd_wire once_cell' >> "$work/crates.txt"
 # With no word the program ends at once, with status 1.
 (cd "$work/crates/desk" && rt run < /dev/null > "$work/desk.log" 2>&1) || true
 if ! grep -q '^logic=proved' "$work/desk.log" || [ ! -x "$work/crates/desk/out/desk" ]; then

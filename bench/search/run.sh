@@ -40,8 +40,8 @@ build() {
 
 below='dd_cards dd_play dd_pbn'
 copy "$work/weighed"
-case $parts in *a*) build "$work/weighed" ticks "$below dd_equal dd_search" ;; esac
-case $parts in *b*) build "$work/weighed" table "$below dd_request dd_solve dd_wire dd_search dd_table" ;; esac
+case $parts in *a*) build "$work/weighed" ticks "$below dd_bounds dd_equal dd_search" ;; esac
+case $parts in *b*) build "$work/weighed" table "$below dd_bounds dd_request dd_solve dd_table dd_wire" ;; esac
 rustc -C opt-level=3 -C target-cpu=x86-64-v2 --edition 2021 -o "$work/search" "$top/bench/peer/search.rs"
 
 python3 - "$runs" "$full" "$parts" "$work" "$top/bench/tools/deals.py" <<'PY'

@@ -14,7 +14,7 @@ mkdir -p "$work/crates/workers/src" "$work/crates/workers/proofs/worked"
 cp "$here/workers.txt" "$work/crates/workers/src/main.rt"
 cp "$here/journal.txt" "$work/crates/workers/src/journal.rt"
 cp "$here/Invariants.txt" "$work/crates/workers/proofs/worked/Invariants.antt"
-echo 'workers: dd_book dd_cache dd_desk dd_pbn dd_request dd_wire dd_search dd_table dd_work once_cell' >> "$work/crates.txt"
+echo 'workers: dd_book dd_bounds dd_cache dd_desk dd_pbn dd_request dd_table dd_wire dd_work once_cell' >> "$work/crates.txt"
 # With no word the program ends at once, with status 1.
 (cd "$work/crates/workers" && rt run < /dev/null > "$work/workers.log" 2>&1) || true
 if ! grep -q '^logic=proved' "$work/workers.log" || [ ! -x "$work/crates/workers/out/workers" ]; then

@@ -13,10 +13,10 @@ ghost use Rattle.dd_cache.specs.StoredBounds.{StoredBoundsOf, IsSound};
 use crate::page::Page;
 use crate::settling_lead::{MOST_DEALS, SettlingLead};
 use crate::stored_bounds::StoredBounds;
+use dd_bounds::{Bounds, LeadHistory, ProbeHint};
 use dd_cards::{Seat, Suit};
 use dd_play::{Interval, Position, TrickStart};
 use dd_rank::{Depths, FirstOwners, OwnerStrings, Shape, alike_strings, covered_positions};
-use dd_search::{Bounds, LeadHistory, ProbeHint};
 use std::alloc::{AllocError, Global};
 
 // The pages that there may be, and the places at which they are found: powers of two.

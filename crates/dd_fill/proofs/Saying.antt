@@ -6,7 +6,7 @@ use Rattle.dd_lines.specs.CountedDevices.{bytes_of}
 use Rattle.dd_lines.specs.declared.counted_device.CountedDevice.{CountedDevice}
 use Rattle.dd_lines.specs.declared.engine.LineFault.{LineFault}
 use Rattle.dd_lines.specs.Served.{StopsAtFailedWrite, WroteText}
-use Rattle.dd_search.specs.Spent.{IsSpent}
+use Rattle.dd_bounds.specs.Spent.{IsSpent}
 use Rattle.dd_file.specs.declared.engine.FileFault.{FileFault}
 use Rattle.dd_file.specs.declared.wanted.Wanted.{Wanted}
 use Rattle.dd_file.specs.Notices.{Notice, Hears}

@@ -1,7 +1,7 @@
 //! Who knows the results of deals, and says which games are left.
 ghost use Rattle.std.specs.Prelude.{◌≡◌, IfSome};
 ghost use Rattle.dd_fill.specs.Told.{IsRowTold, IsTold};
-ghost use Rattle.dd_search.specs.Spent.{IsSpent};
+ghost use Rattle.dd_bounds.specs.Spent.{IsSpent};
 
 use crate::deal::Deal;
 use crate::limit::{Limit, LimitName};
@@ -9,11 +9,12 @@ use crate::note::{no_game, note_of};
 use crate::pool::Pool;
 use crate::progress::{say, show_progress};
 use crate::solving::{CLUBS, DIAMONDS, HEARTS, Row, SPADES, results_by_strains, solve_row};
+use dd_bounds::Bounds;
 use dd_cards::{Hands, Strain};
 use dd_file::{Analyst, Reason};
 use dd_lines::CountedDevice;
+use dd_request::Solver;
 use dd_score::Results;
-use dd_search::Bounds;
 use std::io::Write;
 use std::sync::Wait;
 
@@ -21,21 +22,23 @@ use std::sync::Wait;
 /// time within a limit. It says on a device which games are left, and that a file has none.
 // What it has but for the table and the device is behind shared references: else its makers learn nothing of these two.
 #[derive(Drop)]
-pub(crate) struct DealAnalyst<'r, 'p, 't, 'e, W, B, E, N: LimitName> {
+pub(crate) struct DealAnalyst<'r, 'p, 't, 'e, W, S, B, E, N: LimitName> {
     pub(crate) rt: &'r W,
     pub(crate) pool: &'p Option<&'p Pool>,
+    pub(crate) solver: &'r S,
     pub(crate) table: &'t mut B,
     pub(crate) errors: &'e mut CountedDevice<E>,
     pub(crate) shows_progress: bool,
     pub(crate) limit: &'r Limit<N>,
 }
 
-impl<'r, 'p, 't, 'e, W: Wait, B: Bounds, E: Write, N: LimitName> DealAnalyst<
+impl<'r, 'p, 't, 'e, W: Wait, S: Solver, B: Bounds, E: Write, N: LimitName> DealAnalyst<
     'r,
     'p,
     't,
     'e,
     W,
+    S,
     B,
     E,
     N,
@@ -44,11 +47,12 @@ impl<'r, 'p, 't, 'e, W: Wait, B: Bounds, E: Write, N: LimitName> DealAnalyst<
     pub(crate) fn new(
         rt: &'r W,
         pool: &'p Option<&'p Pool>,
+        solver: &'r S,
         table: &'t mut B,
         errors: &'e mut CountedDevice<E>,
         shows_progress: bool,
         limit: &'r Limit<N>,
-    ) -> DealAnalyst<'r, 'p, 't, 'e, W, B, E, N>
+    ) -> DealAnalyst<'r, 'p, 't, 'e, W, S, B, E, N>
         ensures same_table { result.table.ghost_name ≡ table.entry.ghost_name }
         ensures same_reference { result.errors.ghost_name ≡ errors.entry.ghost_name }
         ensures errors { result.errors.now ≡ errors.old }
@@ -57,6 +61,7 @@ impl<'r, 'p, 't, 'e, W: Wait, B: Bounds, E: Write, N: LimitName> DealAnalyst<
         DealAnalyst {
             rt,
             pool,
+            solver,
             table,
             errors,
             shows_progress,
@@ -65,12 +70,12 @@ impl<'r, 'p, 't, 'e, W: Wait, B: Bounds, E: Write, N: LimitName> DealAnalyst<
     }
 }
 
-impl<'r, 'p, 't, 'e, W: Wait, B: Bounds, E: Write, N: LimitName> Analyst
-    for DealAnalyst<'r, 'p, 't, 'e, W, B, E, N> {
+impl<'r, 'p, 't, 'e, W: Wait, S: Solver, B: Bounds, E: Write, N: LimitName> Analyst
+    for DealAnalyst<'r, 'p, 't, 'e, W, S, B, E, N> {
     ghost use Rattle.dd_fill.specs.Ahead.{SayingOf, SaysTold};
     ghost use Rattle.dd_fill.specs.Said.{sink_of};
     ghost use Rattle.dd_fill.specs.Told.{IsTold};
-    ghost use Rattle.dd_search.specs.Spent.{IsSpent};
+    ghost use Rattle.dd_bounds.specs.Spent.{IsSpent};
 
     ghost gives = { IsTold (IsSpent N.positions) };
 
@@ -90,6 +95,7 @@ impl<'r, 'p, 't, 'e, W: Wait, B: Bounds, E: Write, N: LimitName> Analyst
             self.rt,
             *self.pool,
             &Deal::new(deal),
+            self.solver,
             &mut *self.table,
             self.limit.positions,
         )
@@ -122,29 +128,31 @@ impl<'r, 'p, 't, 'e, W: Wait, B: Bounds, E: Write, N: LimitName> Analyst
 }
 
 // The results of a deal. Once those of a strain are given up the others are not asked for.
-fn results_of<W: Wait, B: Bounds>(
+fn results_of<W: Wait, S: Solver, B: Bounds>(
     rt: &W,
     pool: Option<&Pool>,
     deal: &Deal,
+    solver: &S,
     table: &mut B,
     budget: Option<u64>,
 ) -> Option<Results>
     ensures { IsTold (IsSpent budget) deal.now result }
 {
-    let spades = row_of(rt, pool, deal, SPADES, table, budget)?;
-    let hearts = row_of(rt, pool, deal, HEARTS, table, budget)?;
-    let diamonds = row_of(rt, pool, deal, DIAMONDS, table, budget)?;
-    let clubs = row_of(rt, pool, deal, CLUBS, table, budget)?;
-    let notrump = row_of(rt, pool, deal, Strain::Notrump, table, budget)?;
+    let spades = row_of(rt, pool, deal, SPADES, solver, table, budget)?;
+    let hearts = row_of(rt, pool, deal, HEARTS, solver, table, budget)?;
+    let diamonds = row_of(rt, pool, deal, DIAMONDS, solver, table, budget)?;
+    let clubs = row_of(rt, pool, deal, CLUBS, solver, table, budget)?;
+    let notrump = row_of(rt, pool, deal, Strain::Notrump, solver, table, budget)?;
     Some(results_by_strains(deal, [spades, hearts, diamonds, clubs, notrump]))
 }
 
 // The results of a deal in a strain.
-fn row_of<W: Wait, B: Bounds>(
+fn row_of<W: Wait, S: Solver, B: Bounds>(
     rt: &W,
     pool: Option<&Pool>,
     deal: &Deal,
     strain: Strain,
+    solver: &S,
     table: &mut B,
     budget: Option<u64>,
 ) -> Option<Row>
@@ -152,7 +160,7 @@ fn row_of<W: Wait, B: Bounds>(
 {
     match found_ahead(rt, pool, deal, strain, budget) {
         Some(told) => told,
-        None => solve_row(deal, strain, table, budget),
+        None => solve_row(deal, strain, solver, table, budget),
     }
 }
 

@@ -1,12 +1,13 @@
 //! A strain of a deal whose results were searched for.
 ghost use Rattle.std.specs.Prelude.{◌≡◌, IfSome};
 ghost use Rattle.dd_fill.specs.Told.{IsRowTold};
-ghost use Rattle.dd_search.specs.Spent.{IsSpent};
+ghost use Rattle.dd_bounds.specs.Spent.{IsSpent};
 
 use crate::deal::Deal;
 use crate::solving::{Row, solve_row};
+use dd_bounds::Bounds;
 use dd_cards::Strain;
-use dd_search::Bounds;
+use dd_request::Solver;
 use std::marker::Model;
 
 /// A strain of a deal with its results, or with none, where a search spent the budget.
@@ -21,7 +22,7 @@ pub(crate) struct Answered {
 impl Model for Answered {
     ghost use Rattle.dd_fill.specs.Ahead.{AnsweredOf};
     ghost use Rattle.dd_fill.specs.Told.{IsRowTold};
-    ghost use Rattle.dd_search.specs.Spent.{IsSpent};
+    ghost use Rattle.dd_bounds.specs.Spent.{IsSpent};
 
     ghost Value = { AnsweredOf };
 
@@ -32,13 +33,14 @@ impl Model for Answered {
 
 impl Answered {
     /// The strain of the deal with its results.
-    pub(crate) fn new<B: Bounds>(
+    pub(crate) fn new<S: Solver, B: Bounds>(
         deal: Deal,
         strain: Strain,
+        solver: &S,
         table: &mut B,
         budget: Option<u64>,
     ) -> Answered {
-        let row = solve_row(&deal, strain, table, budget);
+        let row = solve_row(&deal, strain, solver, table, budget);
         Answered {
             deal,
             strain,

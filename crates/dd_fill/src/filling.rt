@@ -3,23 +3,24 @@ ghost use Rattle.std.specs.Prelude.{◌≡◌, ◌<◌, length};
 ghost use Rattle.dd_fill.specs.Ahead.{FillsFile, FillsSaying};
 ghost use Rattle.dd_fill.specs.Said.{sink_of};
 ghost use Rattle.dd_fill.specs.Served.{Fills};
-ghost use Rattle.dd_search.specs.Spent.{IsSpent};
+ghost use Rattle.dd_bounds.specs.Spent.{IsSpent};
 
 use crate::analyst::DealAnalyst;
 use crate::limit::{Limit, LimitName};
 use crate::pool::{Pool, search_ahead};
 use crate::progress::clear_progress;
+use dd_bounds::Bounds;
 use dd_file::{FileFault, Wanted, fill_file};
 use dd_lines::CountedDevice;
-use dd_search::Bounds;
+use dd_request::Solver;
 use std::alloc::Global;
 use std::io::{Read, Write};
 use std::marker::Brand;
 use std::sync::Wait;
 use std::thread::{Threads, for_each_mut, join_mut};
 
-/// Passes a file on, with those lines that its games lack of the ones that are wanted. The results of its deals are searched
-/// for over the table. The budget is the most positions that the search for one result visits, and `None` lets each search go
+/// Passes a file on, with those lines that its games lack of the ones that are wanted. The solver is asked for the results of its
+/// deals, over the table. The budget is the most positions that the search for one result visits, and `None` lets each search go
 /// on to its end. For each of the tables in `others` a thread of its own searches ahead over it, and has ended when this returns;
 /// where there are none no thread is made. Of each game that still lacks a tag which is wanted a line on `errors` says why, and
 /// where that is a terminal its last line may show how far it is.
@@ -29,6 +30,7 @@ pub fn fill_deals<
     R: Read,
     O: Write,
     E: Write,
+    S: Solver + Sync,
     B: Bounds,
     H: Bounds + Send,
 >(
@@ -39,6 +41,7 @@ pub fn fill_deals<
     writer: &mut CountedDevice<O>,
     errors: &mut CountedDevice<E>,
     shows_progress: bool,
+    solver: &S,
     table: &mut B,
     others: &mut [H],
     budget: Option<u64>,
@@ -62,6 +65,7 @@ pub fn fill_deals<
             errors,
             shows_progress,
             None,
+            solver,
             table,
             budget,
             buffer,
@@ -75,6 +79,7 @@ pub fn fill_deals<
             writer,
             errors,
             shows_progress,
+            solver,
             table,
             others,
             budget,
@@ -89,6 +94,7 @@ fn fill_with_help<
     R: Read,
     O: Write,
     E: Write,
+    S: Solver + Sync,
     B: Bounds,
     H: Bounds + Send,
 >(
@@ -99,6 +105,7 @@ fn fill_with_help<
     writer: &mut CountedDevice<O>,
     errors: &mut CountedDevice<E>,
     shows_progress: bool,
+    solver: &S,
     table: &mut B,
     others: &mut [H],
     budget: Option<u64>,
@@ -113,7 +120,7 @@ fn fill_with_help<
     let (_, result) = join_mut(
         rt,
         // Where no thread can be had, this comes last, and leaves at once.
-        &mut || help(rt, &pool, others),
+        &mut || help(rt, &pool, solver, others),
         &mut || -> Result<(), FileFault> {
             let result = fill_by(
                 rt,
@@ -124,6 +131,7 @@ fn fill_with_help<
                 errors,
                 shows_progress,
                 Some(&pool),
+                solver,
                 table,
                 budget,
                 buffer,
@@ -136,16 +144,26 @@ fn fill_with_help<
 }
 
 // Searches ahead over each of these tables, in a thread of its own where one can be had.
-fn help<W: Threads + Wait + Sync, H: Bounds + Send>(rt: &W, pool: &Pool, others: &mut [H]) {
+fn help<W: Threads + Wait + Sync, S: Solver + Sync, H: Bounds + Send>(
+    rt: &W,
+    pool: &Pool,
+    solver: &S,
+    others: &mut [H],
+) {
     let count = others.len();
     if count > 0 {
-        for_each_mut(rt, others, count, &|_, other| search_ahead(rt, pool, other));
+        for_each_mut(
+            rt,
+            others,
+            count,
+            &|_, other| search_ahead(rt, pool, solver, other),
+        );
     }
 }
 
 // The same with the help of all that search ahead for the pool, if there is one.
 #[tactic(auto, unfolding(crate::specs::Ahead::FillsFile))]
-fn fill_by<W: Wait, R: Read, O: Write, E: Write, B: Bounds>(
+fn fill_by<W: Wait, R: Read, O: Write, E: Write, S: Solver, B: Bounds>(
     rt: &W,
     alloc: Global,
     wanted: Wanted,
@@ -154,6 +172,7 @@ fn fill_by<W: Wait, R: Read, O: Write, E: Write, B: Bounds>(
     errors: &mut CountedDevice<E>,
     shows_progress: bool,
     pool: Option<&Pool>,
+    solver: &S,
     table: &mut B,
     budget: Option<u64>,
     buffer: &mut [u8],
@@ -163,7 +182,7 @@ fn fill_by<W: Wait, R: Read, O: Write, E: Write, B: Bounds>(
         reader.old reader.new writer.old writer.new
         (sink_of E.contents errors.old) (sink_of E.contents errors.new) result }
 {
-    fill_within::<Brand, W, R, O, E, B>(
+    fill_within::<Brand, W, R, O, E, S, B>(
         rt,
         alloc,
         wanted,
@@ -172,6 +191,7 @@ fn fill_by<W: Wait, R: Read, O: Write, E: Write, B: Bounds>(
         errors,
         shows_progress,
         pool,
+        solver,
         table,
         budget,
         buffer,
@@ -179,7 +199,7 @@ fn fill_by<W: Wait, R: Read, O: Write, E: Write, B: Bounds>(
 }
 
 // The same, each search within a limit that has a name.
-fn fill_within<N: LimitName, W: Wait, R: Read, O: Write, E: Write, B: Bounds>(
+fn fill_within<N: LimitName, W: Wait, R: Read, O: Write, E: Write, S: Solver, B: Bounds>(
     rt: &W,
     alloc: Global,
     wanted: Wanted,
@@ -188,6 +208,7 @@ fn fill_within<N: LimitName, W: Wait, R: Read, O: Write, E: Write, B: Bounds>(
     errors: &mut CountedDevice<E>,
     shows_progress: bool,
     pool: Option<&Pool>,
+    solver: &S,
     table: &mut B,
     budget: Option<u64>,
     buffer: &mut [u8],
@@ -207,6 +228,7 @@ fn fill_within<N: LimitName, W: Wait, R: Read, O: Write, E: Write, B: Bounds>(
         errors,
         shows_progress,
         pool,
+        solver,
         table,
         Limit::<N>::new(budget),
         buffer,
@@ -216,7 +238,7 @@ fn fill_within<N: LimitName, W: Wait, R: Read, O: Write, E: Write, B: Bounds>(
 }
 
 // The same, where the last line of a terminal may be left.
-fn fill_saying<W: Wait, R: Read, O: Write, E: Write, B: Bounds, N: LimitName>(
+fn fill_saying<W: Wait, R: Read, O: Write, E: Write, S: Solver, B: Bounds, N: LimitName>(
     rt: &W,
     alloc: Global,
     wanted: Wanted,
@@ -225,6 +247,7 @@ fn fill_saying<W: Wait, R: Read, O: Write, E: Write, B: Bounds, N: LimitName>(
     errors: &mut CountedDevice<E>,
     shows_progress: bool,
     pool: Option<&Pool>,
+    solver: &S,
     table: &mut B,
     limit: Limit<N>,
     buffer: &mut [u8],
@@ -234,17 +257,29 @@ fn fill_saying<W: Wait, R: Read, O: Write, E: Write, B: Bounds, N: LimitName>(
         reader.old reader.new writer.old writer.new
         (sink_of E.contents errors.old) (sink_of E.contents errors.new) result }
 {
-    let mut analyst = DealAnalyst::new(rt, &pool, table, errors, shows_progress, &limit);
+    let mut analyst = DealAnalyst::new(rt, &pool, solver, table, errors, shows_progress, &limit);
     fill_by_analyst(alloc, wanted, reader, writer, &mut analyst, buffer)
 }
 
 // The same by an analyst, which keeps its references.
-fn fill_by_analyst<'r, 'p, 't, 'e, W: Wait, R: Read, O: Write, E: Write, B: Bounds, N: LimitName>(
+fn fill_by_analyst<
+    'r,
+    'p,
+    't,
+    'e,
+    W: Wait,
+    R: Read,
+    O: Write,
+    E: Write,
+    S: Solver,
+    B: Bounds,
+    N: LimitName,
+>(
     alloc: Global,
     wanted: Wanted,
     reader: &mut CountedDevice<R>,
     writer: &mut CountedDevice<O>,
-    analyst: &mut DealAnalyst<'r, 'p, 't, 'e, W, B, E, N>,
+    analyst: &mut DealAnalyst<'r, 'p, 't, 'e, W, S, B, E, N>,
     buffer: &mut [u8],
 ) -> Result<(), FileFault>
     requires { 0 < length buffer.old }

@@ -2,14 +2,15 @@
 ghost use Rattle.std.specs.Prelude.{IfSome};
 ghost use Rattle.dd_file.specs.Deals.{IsThirteen};
 ghost use Rattle.dd_fill.specs.Told.{IsRowTold};
-ghost use Rattle.dd_search.specs.Spent.{IsSpent};
+ghost use Rattle.dd_bounds.specs.Spent.{IsSpent};
 
 use crate::answered::Answered;
 use crate::deal::Deal;
 use crate::solving::Row;
 use crate::strain_queue::StrainQueue;
+use dd_bounds::Bounds;
 use dd_cards::{Hands, Strain};
-use dd_search::Bounds;
+use dd_request::Solver;
 use std::alloc::Global;
 use std::sync::{Condvar, Mutex, Wait};
 
@@ -97,12 +98,17 @@ impl Pool {
 }
 
 /// Searches for the results of deals ahead, one strain after another, until no more come.
-pub(crate) fn search_ahead<R: Wait, B: Bounds>(rt: &R, pool: &Pool, table: &mut B) {
+pub(crate) fn search_ahead<R: Wait, S: Solver, B: Bounds>(
+    rt: &R,
+    pool: &Pool,
+    solver: &S,
+    table: &mut B,
+) {
     for _ in rt.forever() {
         let Some((number, deal, strain)) = pool.next(rt) else {
             return;
         };
-        let answered = Answered::new(deal, strain, table, pool.budget);
+        let answered = Answered::new(deal, strain, solver, table, pool.budget);
         pool.put(rt, number, answered);
     }
 }

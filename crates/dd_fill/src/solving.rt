@@ -1,13 +1,13 @@
 //! The results of a deal by strains, found over a table.
 ghost use Rattle.std.specs.Prelude.{◌≡◌};
 ghost use Rattle.dd_fill.specs.Told.{table_of, IsRowTold};
-ghost use Rattle.dd_search.specs.Spent.{IsSpent};
+ghost use Rattle.dd_bounds.specs.Spent.{IsSpent};
 
 use crate::deal::Deal;
+use dd_bounds::Bounds;
 use dd_cards::{Strain, Suit};
+use dd_request::Solver;
 use dd_score::Results;
-use dd_search::Bounds;
-use dd_solve::solve_strain;
 
 /// The strains, by their codes.
 pub(crate) const SPADES: Strain = Strain::Trump(Suit::Spades);
@@ -35,13 +35,14 @@ pub(crate) fn results_by_strains(deal: &Deal, rows: [Row; 5]) -> Results
 }
 
 /// The results of a deal in a strain, each within the budget.
-pub(crate) fn solve_row<B: Bounds>(
+pub(crate) fn solve_row<S: Solver, B: Bounds>(
     deal: &Deal,
     strain: Strain,
+    solver: &S,
     table: &mut B,
     budget: Option<u64>,
 ) -> Option<Row>
     ensures { IsRowTold (IsSpent budget) deal.now strain result }
 {
-    solve_strain(&deal.request(), strain, table, budget)
+    solver.solve_strain(&deal.request(), strain, table, budget)
 }

@@ -8,6 +8,7 @@ use crate::serving::serve;
 use dd_command::ArgumentsFault;
 use dd_lines::CountedDevice;
 use dd_server::{KeepsRuns, ServeArgs, TellsRuns};
+use dd_solve::DoubleDummy;
 use dd_streams::{Ending, ServeOptions, run_streams};
 use std::alloc::Global;
 use std::io::{Read, Write};
@@ -46,7 +47,16 @@ pub fn run_program<
         (streams (state_of R.remaining reader.new) (state_of O.contents output.new)
         (state_of E.contents errors.new)) result }
 {
-    match run_streams(rt, alloc, arguments, reader, output, errors, is_terminal) {
+    match run_streams(
+        rt,
+        alloc,
+        &DoubleDummy,
+        arguments,
+        reader,
+        output,
+        errors,
+        is_terminal,
+    ) {
         Ok(ending) => ending,
         Err(
             ServeOptions {

@@ -10,7 +10,7 @@ use Rattle.dd_play.specs.Play.{completes, trick_with, after}
 use Rattle.dd_play.specs.Reach.{reach}
 use Rattle.dd_play.specs.Simulations.{IsLegal}
 use Rattle.dd_search.specs.ClaimsBy.{IsAnswerBy, IsAnswerAfter, AnswerBy}
-use Rattle.dd_search.specs.declared.meter.Halt.{Halt}
+use Rattle.dd_bounds.specs.declared.meter.Halt.{Halt}
 use Rattle.dd_search.proofs.Relied.{leads}
 use Rattle.dd_search.proofs.Scores.{needed-after}
 use Rattle.dd_search.proofs.Turns.{Asked, goes-on}

@@ -1,4 +1,2 @@
 pub mod ClaimsBy
-pub mod Budgets
 pub mod Turns
-pub mod Spent

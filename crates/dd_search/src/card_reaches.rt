@@ -3,11 +3,10 @@ ghost use Rattle.std.specs.Prelude.{◌≡◌, true, IfOk, IsOk, nat_le};
 ghost use Rattle.dd_cards.specs.Cards.{has_card};
 ghost use Rattle.dd_play.specs.Play.{legal};
 ghost use Rattle.dd_play.specs.Value.{score};
-ghost use Rattle.dd_search.specs.Budgets.{EndsAs, IsEndless};
+ghost use Rattle.dd_bounds.specs.Budgets.{EndsAs, IsEndless};
 
-use crate::meter::{Halt, Meter};
-use crate::table::Bounds;
 use crate::zero_window::{answer_by_counting, trick_of, zero_window};
+use dd_bounds::{Bounds, Halt, Meter};
 use dd_cards::Card;
 use dd_play::Position;
 

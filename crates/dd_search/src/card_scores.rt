@@ -3,15 +3,14 @@ ghost use Rattle.std.specs.Prelude.{◌≡◌, ◌≤◌, true, IfOk, OnOk, IsOk
 ghost use Rattle.dd_cards.specs.Cards.{has_card};
 ghost use Rattle.dd_play.specs.Play.{legal};
 ghost use Rattle.dd_play.specs.Value.{score};
-ghost use Rattle.dd_search.specs.Budgets.{EndsAs, IsEndless};
+ghost use Rattle.dd_bounds.specs.Budgets.{EndsAs, IsEndless};
 
 use crate::card_reaches::reaches;
 use crate::guess::guess;
-use crate::meter::{Halt, Meter};
 use crate::order::Order;
 use crate::position_value::north_souths_tricks;
-use crate::table::Bounds;
 use crate::zero_window::trick_of;
+use dd_bounds::{Bounds, Halt, Meter};
 use dd_cards::Card;
 use dd_play::Position;
 

@@ -1,9 +1,10 @@
 //! A halt of the search as a word.
 ghost use Rattle.std.specs.Prelude.{◌≡◌, OnOk};
-ghost use Rattle.dd_search.specs.Budgets.{EndsAs};
+ghost use Rattle.dd_bounds.specs.Budgets.{EndsAs};
 
-use crate::meter::{Halt, Meter, go_on};
+use crate::ticking::go_on;
 use crate::verdict::Verdict;
+use dd_bounds::{Halt, Meter};
 use std::marker::Model;
 
 /// Why a search ended without an answer.
@@ -16,8 +17,8 @@ pub(crate) struct HaltWord {
 
 impl Model for HaltWord {
     ghost use Rattle.std.specs.Prelude.{nat_eq, if◌then◌else◌};
-    ghost use Rattle.dd_search.specs.declared.meter.Halt.{Halt};
-    ghost use Rattle.dd_search.specs.declared.meter.Halt.TheVariants.{Spent, Stopped};
+    ghost use Rattle.dd_bounds.specs.declared.meter.Halt.{Halt};
+    ghost use Rattle.dd_bounds.specs.declared.meter.Halt.TheVariants.{Spent, Stopped};
 
     ghost Value = { Halt };
 

@@ -3,11 +3,10 @@ ghost use Rattle.std.specs.Prelude.{◌≡◌, ◌≤◌, IfOk, IsOk, nat_le};
 ghost use Rattle.dd_cards.specs.Sides.{side_of};
 ghost use Rattle.dd_play.specs.Board.{mover};
 ghost use Rattle.dd_play.specs.Won.{won};
-ghost use Rattle.dd_search.specs.Budgets.{EndsAs, IsEndless};
+ghost use Rattle.dd_bounds.specs.Budgets.{EndsAs, IsEndless};
 
-use crate::meter::{Halt, Meter};
-use crate::table::Bounds;
 use crate::zero_window::{answer_by_counting, zero_window};
+use dd_bounds::{Bounds, Halt, Meter};
 use dd_play::Position;
 
 /// The tricks, 0 to 13, that the mover's side takes from here on, the current trick included, when both sides play as

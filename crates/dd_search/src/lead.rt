@@ -8,7 +8,7 @@ use crate::lead_weights::{
     AT_NOTRUMP, LEADER, LeadWeights, LeadWorth, NUMBERS, PARTNER, TOP_TWO, TopTwo, WITH_TRUMPS,
 };
 use crate::suit_lanes::{LOWEST, LOWEST_FOUR, at, has_lowest, nonzero, place, several};
-use crate::table::LeadHistory;
+use dd_bounds::LeadHistory;
 use dd_cards::{Hand, Holding, Place, Rank, Strain, Suit};
 use dd_play::Position;
 use dd_rank::{OwnerStrings, TwoHighest};

@@ -10,8 +10,8 @@ use crate::placed_discard::discarding;
 use crate::placed_follow::PlacedFollowing;
 use crate::second_hands::SecondHands;
 use crate::suit_lanes::LOWEST_FOUR;
-use crate::table::{Bounds, LeadHistory};
 use crate::turn::Turn;
+use dd_bounds::{Bounds, LeadHistory};
 use dd_cards::{Hand, Place, Suit};
 use dd_relative::PlacedTrick;
 

@@ -4,15 +4,15 @@ ghost use Rattle.dd_cards.specs.Sides.{side_of};
 ghost use Rattle.dd_play.specs.Board.{mover, tricks_left};
 ghost use Rattle.dd_play.specs.Reach.{reach, TakesBy};
 ghost use Rattle.dd_play.specs.Won.{won};
-ghost use Rattle.dd_search.specs.Budgets.{EndsAs, IsEndless};
+ghost use Rattle.dd_bounds.specs.Budgets.{EndsAs, IsEndless};
 
 use crate::claim::Claim;
 use crate::cutoffs::window;
 use crate::guess::guess;
-use crate::meter::{Halt, Meter, go_on};
 use crate::order::Order;
-use crate::table::Bounds;
+use crate::ticking::go_on;
 use crate::zero_window::zero_window_in_order;
+use dd_bounds::{Bounds, Halt, Meter};
 use dd_cards::Side;
 use dd_play::Position;
 

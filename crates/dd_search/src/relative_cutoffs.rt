@@ -16,8 +16,8 @@ use crate::quick_count::QuickView;
 use crate::quick_limit::{has_trumps, others_may_have};
 use crate::rank_verdict::RankVerdict;
 use crate::second_hands::SecondHands;
-use crate::table::{Bounds, ProbeHint};
 use crate::turn::Turn;
+use dd_bounds::{Bounds, ProbeHint};
 use dd_cards::{Hand, Place, Seat, Strain, Suit};
 use dd_play::Interval;
 use dd_quick::{

@@ -2,14 +2,13 @@
 ghost use Rattle.std.specs.Prelude.{◌≡◌, ◌≤◌, IfOk, OnOk};
 ghost use Rattle.dd_play.specs.Board.{tricks_left};
 ghost use Rattle.dd_rank.specs.Strings.{strings_of};
-ghost use Rattle.dd_search.specs.Budgets.{EndsAs};
+ghost use Rattle.dd_bounds.specs.Budgets.{EndsAs};
 ghost use Rattle.dd_search.specs.ClaimsBy.{IsAnswer, IsAnswerBy};
 
 use crate::halt_word::HaltWord;
-use crate::meter::Meter;
 use crate::relative_window::relative_by_lead;
-use crate::table::Bounds;
 use crate::verdict::Verdict;
+use dd_bounds::{Bounds, Meter};
 use dd_play::TrickStart;
 use dd_rank::{Depths, OwnerStrings, alike_claims, alike_strings, covered_positions};
 use dd_relative::{KnownStart, PlacedTrick, RelativeStart};

@@ -6,15 +6,14 @@ ghost use Rattle.dd_play.specs.Covers.{count_of};
 ghost use Rattle.dd_play.specs.Value.{leaders_tricks, score};
 ghost use Rattle.dd_equal.specs.EqualCards.{classes_of, tops};
 ghost use Rattle.dd_rank.specs.Depths.{all_cards, depth_in, Covers};
-ghost use Rattle.dd_search.specs.Budgets.{EndsAs, HasTicked, IsEndless};
+ghost use Rattle.dd_bounds.specs.Budgets.{EndsAs, HasTicked, IsEndless};
 
 use crate::card_scores::score_up_to;
 use crate::guess::guess;
-use crate::meter::{Halt, Meter};
 use crate::order::Order;
 use crate::position_value::north_souths_tricks;
-use crate::table::Bounds;
 use arrayvec::ArrayVec;
+use dd_bounds::{Bounds, Halt, Meter};
 use dd_cards::Card;
 use dd_equal::Class;
 use dd_play::TrickStart;

@@ -1,17 +1,18 @@
 //! The numbers of a play's trace, from the last one back.
 ghost use Rattle.std.specs.Prelude.{◌≡◌, ◌+◌, ◌<◌, ◌≤◌, IfOk, IfNone, IfSome, IsOk, None, OnOk, length};
-ghost use Rattle.dd_search.specs.Budgets.{EndsAs, IsEndless};
-ghost use Rattle.dd_search.specs.Spent.{IsSpent, IsTicked};
+ghost use Rattle.dd_bounds.specs.Budgets.{EndsAs, IsEndless};
+ghost use Rattle.dd_bounds.specs.Spent.{IsSpent, IsTicked};
 ghost use Rattle.dd_cards.specs.Sides.{is_side, side_of};
 ghost use Rattle.dd_play.specs.Board.{IsBoard, mover, tricks_left};
 ghost use Rattle.dd_play.specs.Won.{won};
 ghost use Rattle.dd_request.specs.Plays.{play_trace, position_tricks, tricks_after};
 
 use arrayvec::ArrayVec;
+use dd_bounds::{Bounds, Budget, Endless, Halt, Meter};
 use dd_cards::Side;
 use dd_play::Position;
 use dd_request::{PlayPart, PlayRequest, SolvedPlay, Trace};
-use dd_search::{Bounds, Budget, Endless, Halt, Meter, value, value_at_least};
+use dd_search::{value, value_at_least};
 
 /// Finds the trace of a play. It goes from the last card back, so that each search finds what the one before it learned. The
 /// budget is the most positions that the search for one number visits, and `None` lets each search go on to its end. `None`

@@ -5,13 +5,14 @@ ghost use Rattle.dd_cards.specs.Sides.{side_of};
 ghost use Rattle.dd_play.specs.Board.{tricks_left, mover};
 ghost use Rattle.dd_play.specs.Value.{leaders_tricks};
 ghost use Rattle.dd_play.specs.Won.{won};
-ghost use Rattle.dd_search.specs.Budgets.{EndsAs, IsEndless};
+ghost use Rattle.dd_bounds.specs.Budgets.{EndsAs, IsEndless};
 ghost use Rattle.dd_request.specs.Results.{part_result};
 
 use crate::solving::note_value;
+use dd_bounds::{Bounds, Halt, Meter};
 use dd_play::{Position, TrickStart};
 use dd_request::{PARTS, SolvedPart, TableRequest};
-use dd_search::{Bounds, Halt, Meter, start_value, start_value_from_guess};
+use dd_search::{start_value, start_value_from_guess};
 
 /// Finds the result of a part, 0 to 19, of a table: the tricks of the declarer's side. It takes no memory. An error says why
 /// the search ended without a result; what was noted by then holds.

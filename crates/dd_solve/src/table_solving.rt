@@ -1,12 +1,12 @@
 //! All parts of a table, one after another.
 ghost use Rattle.std.specs.Prelude.{◌≡◌, ◌<◌, IfNone, IfSome};
-ghost use Rattle.dd_search.specs.Spent.{IsSpent, IsTicked};
+ghost use Rattle.dd_bounds.specs.Spent.{IsSpent, IsTicked};
 ghost use Rattle.dd_request.specs.Results.{contract_of, results, strain_results, tricks_of};
 
 use crate::table_part::solve_part_from_guess;
+use dd_bounds::{Bounds, Budget, Endless};
 use dd_cards::{Seat, Strain, Suit};
 use dd_request::{PARTS, Results, TableRequest};
-use dd_search::{Bounds, Budget, Endless};
 
 /// Finds the results of a table. The budget is the most positions that the search for one of them visits, and `None` lets
 /// each search go on to its end. `None` where a search spent its budget.

@@ -6,16 +6,17 @@ ghost use Rattle.dd_play.specs.Play.{legal};
 ghost use Rattle.dd_play.specs.Positions.{CanPlay};
 ghost use Rattle.dd_play.specs.Value.{score};
 ghost use Rattle.dd_equal.specs.EqualCards.{classes_of};
-ghost use Rattle.dd_search.specs.Budgets.{EndsAs, IsEndless};
+ghost use Rattle.dd_bounds.specs.Budgets.{EndsAs, IsEndless};
 ghost use Rattle.dd_request.specs.Targets.{all_reaching, solved_target};
 
 use crate::scored_list::ScoredList;
 use arrayvec::ArrayVec;
+use dd_bounds::{Bounds, Halt, Meter};
 use dd_cards::Card;
 use dd_equal::{Class, classes};
 use dd_play::Position;
 use dd_request::{Answer, MOST_CLASSES, Scored, SolvedTarget, TargetRequest};
-use dd_search::{Bounds, Halt, Meter, reaches};
+use dd_search::reaches;
 
 /// Finds the answer to a request with a target, by a yes-or-no question for each class, and none after the last one that is
 /// asked for. It takes no memory. An error says why the search ended without an answer; what was noted by then holds. A target

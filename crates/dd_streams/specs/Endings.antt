@@ -25,7 +25,7 @@ use Rattle.dd_file.specs.declared.engine.FileFault.TheVariants as file
 use Rattle.dd_file.specs.declared.wanted.Wanted.{Wanted}
 use Rattle.dd_fill.specs.Said.{Sink}
 use Rattle.dd_fill.specs.Served.{FilledInPart, FilledSaying}
-use Rattle.dd_search.specs.Spent.{IsSpent}
+use Rattle.dd_bounds.specs.Spent.{IsSpent}
 
 -- the program's status after this ending
 abbrev pub status_of : Ending → ℕ

@@ -5,9 +5,10 @@ ghost use Rattle.dd_streams.specs.Endings.{state_of, streams, SolvesUntil};
 ghost use Rattle.dd_tool.specs.Served.{IsReplyAs};
 
 use crate::ending::{Ending, fail};
+use dd_bounds::Bounds;
 use dd_cache::Cache;
 use dd_lines::{CountedDevice, LineFault};
-use dd_search::Bounds;
+use dd_request::Solver;
 use dd_table::{SharedTable, View};
 use dd_tool::tell_lines_on;
 use std::alloc::{AllocError, Global};
@@ -23,9 +24,10 @@ pub(crate) const SHARDS: u32 = 16;
 
 /// Answers the lines of the input, each within the budget, explained or not, by so many threads beside this one, which reads,
 /// writes and mostly waits, over a table that they share, each behind a cache of its own.
-pub(crate) fn solve_ahead<W: Threads + Wait + Sync, R: Read, O: Write, E: Write>(
+pub(crate) fn solve_ahead<W: Threads + Wait + Sync, S: Solver + Sync, R: Read, O: Write, E: Write>(
     rt: &W,
     alloc: Global,
+    solver: &S,
     workers: u32,
     budget: Option<u64>,
     explain: bool,
@@ -53,6 +55,7 @@ pub(crate) fn solve_ahead<W: Threads + Wait + Sync, R: Read, O: Write, E: Write>
     solve_on(
         rt,
         alloc,
+        solver,
         budget,
         explain,
         reader,
@@ -79,9 +82,18 @@ pub(crate) fn caches<'a, W: Wait>(
 
 /// Answers the lines of the input over a table, each within the budget, explained or not, with a thread for each of the
 /// others.
-fn solve_on<W: Threads + Wait + Sync, B: Bounds, H: Bounds + Send, R: Read, O: Write, E: Write>(
+fn solve_on<
+    W: Threads + Wait + Sync,
+    S: Solver + Sync,
+    B: Bounds,
+    H: Bounds + Send,
+    R: Read,
+    O: Write,
+    E: Write,
+>(
     rt: &W,
     alloc: Global,
+    solver: &S,
     budget: Option<u64>,
     explain: bool,
     reader: &mut CountedDevice<R>,
@@ -102,6 +114,7 @@ fn solve_on<W: Threads + Wait + Sync, B: Bounds, H: Bounds + Send, R: Read, O: W
         alloc,
         reader,
         output,
+        solver,
         table,
         others,
         budget,

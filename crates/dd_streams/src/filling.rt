@@ -1,18 +1,19 @@
 //! The filling of files.
 ghost use Rattle.std.specs.Prelude.{◌≡◌, ◌≤◌, IfErr, OnOk};
-ghost use Rattle.dd_search.specs.Spent.{IsSpent};
+ghost use Rattle.dd_bounds.specs.Spent.{IsSpent};
 ghost use Rattle.dd_command.specs.CommandLine.{IsTableSize};
 ghost use Rattle.dd_streams.specs.Endings.{ending_of, line_of, state_of, streams, tags_line, EndsFilling, FillsUntil, Writes};
 
 use crate::ahead::{SHARDS, caches};
 use crate::ending::{Ending, fail};
 use crate::tags::wanted_by;
+use dd_bounds::Bounds;
 use dd_cache::Cache;
 use dd_file::{FileFault, Wanted};
 use dd_fill::fill_deals;
 use dd_limits::MOST_SHARDS;
 use dd_lines::{CountedDevice, write_whole};
-use dd_search::Bounds;
+use dd_request::Solver;
 use dd_table::SharedTable;
 use std::alloc::Global;
 use std::io::{Read, Write};
@@ -42,9 +43,10 @@ pub(crate) struct FillArgs {
 /// Passes the input on to the output with the lines that its games lack, of those that are named. The results of its deals are
 /// searched for within the budget, over a view of a table of one shard, behind a cache. With more workers as many threads beside
 /// this one search ahead, over a table that they share, each behind a cache of its own.
-pub(crate) fn fill<W: Threads + Wait + Sync, R: Read, O: Write, E: Write>(
+pub(crate) fn fill<W: Threads + Wait + Sync, S: Solver + Sync, R: Read, O: Write, E: Write>(
     rt: &W,
     alloc: Global,
+    solver: &S,
     tags: &str,
     args: FillArgs,
     reader: &mut CountedDevice<R>,
@@ -59,7 +61,7 @@ pub(crate) fn fill<W: Threads + Wait + Sync, R: Read, O: Write, E: Write>(
         (state_of E.contents errors.new)) result }
 {
     match wanted_by(tags.as_bytes()) {
-        Some(wanted) => fill_wanted(rt, alloc, wanted, args, reader, output, errors),
+        Some(wanted) => fill_wanted(rt, alloc, solver, wanted, args, reader, output, errors),
         None => refuse_tags(errors),
     }
 }
@@ -75,9 +77,10 @@ fn refuse_tags<E: Write>(errors: &mut CountedDevice<E>) -> Ending
 }
 
 /// The same with these tags.
-fn fill_wanted<W: Threads + Wait + Sync, R: Read, O: Write, E: Write>(
+fn fill_wanted<W: Threads + Wait + Sync, S: Solver + Sync, R: Read, O: Write, E: Write>(
     rt: &W,
     alloc: Global,
+    solver: &S,
     wanted: Wanted,
     args: FillArgs,
     reader: &mut CountedDevice<R>,
@@ -104,6 +107,7 @@ fn fill_wanted<W: Threads + Wait + Sync, R: Read, O: Write, E: Write>(
     fill_over(
         rt,
         alloc,
+        solver,
         wanted,
         args,
         reader,
@@ -125,9 +129,18 @@ fn shards_and_threads(workers: u32) -> (u32, u32)
 }
 
 /// The same over a table, with a thread for each of the others.
-fn fill_over<W: Threads + Wait + Sync, B: Bounds, H: Bounds + Send, R: Read, O: Write, E: Write>(
+fn fill_over<
+    W: Threads + Wait + Sync,
+    S: Solver + Sync,
+    B: Bounds,
+    H: Bounds + Send,
+    R: Read,
+    O: Write,
+    E: Write,
+>(
     rt: &W,
     alloc: Global,
+    solver: &S,
     wanted: Wanted,
     args: FillArgs,
     reader: &mut CountedDevice<R>,
@@ -151,6 +164,7 @@ fn fill_over<W: Threads + Wait + Sync, B: Bounds, H: Bounds + Send, R: Read, O: 
         output,
         errors,
         args.shows_progress,
+        solver,
         table,
         others,
         args.budget,

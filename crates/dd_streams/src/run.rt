@@ -11,10 +11,11 @@ use crate::filling::{FillArgs, fill};
 use crate::options::ServeOptions;
 use clap::Error;
 use clap::error::ErrorKind;
+use dd_bounds::Bounds;
 use dd_cache::Cache;
 use dd_command::{Args, ArgumentsFault, not_text, read_args};
 use dd_lines::{CountedDevice, LineFault, write_whole};
-use dd_search::Bounds;
+use dd_request::Solver;
 use dd_table::SharedTable;
 use dd_tool::tell_lines;
 use std::alloc::{AllocError, Global};
@@ -36,13 +37,14 @@ const FILE_OF_PBN: &str =
 const FILE_OF_LINES: &str =
     "ddserve: files are read from the standard input, as in: ddserve solve < FILE\n";
 
-/// Does what the arguments ask for on the three standard streams: answers the lines of the input on the output, passes a file on with
+/// Does what the arguments ask for on the three standard streams, with the solver's answers: answers the lines of the input on the output, passes a file on with
 /// its lines, shows help or the version on the output, or says on the standard error what is wrong with the arguments. Where the
 /// standard error is a terminal it shows how far a file has been passed on. The error is what the arguments ask a server for: nothing
 /// was read or written then.
-pub fn run_streams<W: Threads + Wait + Sync, R: Read, O: Write, E: Write>(
+pub fn run_streams<W: Threads + Wait + Sync, S: Solver + Sync, R: Read, O: Write, E: Write>(
     rt: &W,
     alloc: Global,
+    solver: &S,
     arguments: Result<Vec<String>, ArgumentsFault>,
     reader: &mut CountedDevice<R>,
     output: &mut CountedDevice<O>,
@@ -63,7 +65,9 @@ pub fn run_streams<W: Threads + Wait + Sync, R: Read, O: Write, E: Write>(
                 workers: 1,
                 explain,
             },
-        ) => Ok(solve(rt, alloc, budget, explain, entries, reader, output, errors)),
+        ) => Ok(solve(
+            rt, alloc, solver, budget, explain, entries, reader, output, errors,
+        )),
         Ok(
             Args::Solve {
                 budget,
@@ -72,7 +76,7 @@ pub fn run_streams<W: Threads + Wait + Sync, R: Read, O: Write, E: Write>(
                 explain,
             },
         ) => Ok(solve_ahead(
-            rt, alloc, workers, budget, explain, entries, reader, output, errors,
+            rt, alloc, solver, workers, budget, explain, entries, reader, output, errors,
         )),
         Ok(
             Args::Serve {
@@ -116,7 +120,16 @@ pub fn run_streams<W: Threads + Wait + Sync, R: Read, O: Write, E: Write>(
                 workers,
                 shows_progress: is_terminal,
             };
-            Ok(fill(rt, alloc, tags.as_str(), args, reader, output, errors))
+            Ok(fill(
+                rt,
+                alloc,
+                solver,
+                tags.as_str(),
+                args,
+                reader,
+                output,
+                errors,
+            ))
         }
         Err(error) => match error.kind() {
             ErrorKind::OutOfMemory => Ok(fail(errors, Ending::OutOfMemory)),
@@ -127,9 +140,10 @@ pub fn run_streams<W: Threads + Wait + Sync, R: Read, O: Write, E: Write>(
 
 /// Does the same where there is no server. Where the arguments ask for one it says on the standard error that this program has none,
 /// and ends as at a bad line.
-pub fn run_without_server<W: Threads + Wait + Sync, R: Read, O: Write, E: Write>(
+pub fn run_without_server<W: Threads + Wait + Sync, S: Solver + Sync, R: Read, O: Write, E: Write>(
     rt: &W,
     alloc: Global,
+    solver: &S,
     arguments: Result<Vec<String>, ArgumentsFault>,
     reader: &mut CountedDevice<R>,
     output: &mut CountedDevice<O>,
@@ -142,7 +156,16 @@ pub fn run_without_server<W: Threads + Wait + Sync, R: Read, O: Write, E: Write>
         (streams (state_of R.remaining reader.new) (state_of O.contents output.new)
         (state_of E.contents errors.new)) result }
 {
-    let run = run_streams(rt, alloc, arguments, reader, output, errors, is_terminal);
+    let run = run_streams(
+        rt,
+        alloc,
+        solver,
+        arguments,
+        reader,
+        output,
+        errors,
+        is_terminal,
+    );
     end_without_server(run, errors)
 }
 
@@ -174,9 +197,10 @@ fn args_of(alloc: Global, arguments: Result<Vec<String>, ArgumentsFault>) -> Res
 
 /// Answers the lines of the input, each within the budget, explained or not, over a view of a table of one shard, behind a
 /// cache.
-fn solve<W: Wait, R: Read, O: Write, E: Write>(
+fn solve<W: Wait, S: Solver, R: Read, O: Write, E: Write>(
     rt: &W,
     alloc: Global,
+    solver: &S,
     budget: Option<u64>,
     explain: bool,
     entries: u32,
@@ -197,12 +221,15 @@ fn solve<W: Wait, R: Read, O: Write, E: Write>(
     let Ok(mut cache) = Cache::new(alloc, table.view(rt)) else {
         return fail(errors, Ending::OutOfMemory);
     };
-    solve_over(alloc, budget, explain, reader, output, errors, &mut cache)
+    solve_over(
+        alloc, solver, budget, explain, reader, output, errors, &mut cache,
+    )
 }
 
 /// Answers the lines of the input over a table, each within the budget, explained or not.
-fn solve_over<B: Bounds, R: Read, O: Write, E: Write>(
+fn solve_over<S: Solver, B: Bounds, R: Read, O: Write, E: Write>(
     alloc: Global,
+    solver: &S,
     budget: Option<u64>,
     explain: bool,
     reader: &mut CountedDevice<R>,
@@ -217,7 +244,16 @@ fn solve_over<B: Bounds, R: Read, O: Write, E: Write>(
         (state_of E.contents errors.new)) result }
 {
     let mut buffer = [0; PIECE];
-    match tell_lines(alloc, reader, output, table, budget, explain, &mut buffer) {
+    match tell_lines(
+        alloc,
+        reader,
+        output,
+        solver,
+        table,
+        budget,
+        explain,
+        &mut buffer,
+    ) {
         Ok(()) => Ending::Answered,
         Err(LineFault::Read) => fail(errors, Ending::ReadFailed),
         Err(LineFault::Write) => fail(errors, Ending::WriteFailed),

@@ -10,9 +10,9 @@ ghost use Rattle.dd_rank.specs.Strings.{strings_of};
 
 use crate::front::slot_by;
 use crate::shared_table::SharedTable;
+use dd_bounds::Bounds;
 use dd_play::{Interval, TrickStart};
 use dd_rank::{Depths, OwnerStrings, covered_positions};
-use dd_search::Bounds;
 use std::sync::Wait;
 
 /// A table that threads share, as the search of one of them sees it.

@@ -1,2 +1,3 @@
 pub mod OneOutput
 pub mod Solving
+mod Blamed

@@ -6,7 +6,7 @@ use Rattle.std.proofs.lemmas.Bool.Decides.{nat_tests}
 use Rattle.std.proofs.lemmas.List.Elements.{Contains-append_right}
 use Rattle.dd_lines.specs.Lines.{line_feed, lines, longer_first}
 use Rattle.dd_wire.specs.declared.fault.Fault.TheVariants.{OutOfMemory}
-use Rattle.dd_search.specs.Spent.{IsSpent}
+use Rattle.dd_bounds.specs.Spent.{IsSpent}
 use Rattle.dd_wire.specs.Explained.{IsExplained}
 use Rattle.dd_wire.specs.FaultWords.{fault_told}
 use Rattle.dd_wire.specs.LineReplies.{AreOneBut, IsReply}

@@ -5,7 +5,7 @@ use Rattle.dd_lines.specs.CountedDevices.{bytes_of}
 use Rattle.dd_lines.specs.declared.counted_device.CountedDevice.{CountedDevice}
 use Rattle.dd_lines.specs.Lines.{line_feed, lines}
 use Rattle.dd_wire.specs.declared.fault.Fault.TheVariants.{OutOfMemory}
-use Rattle.dd_search.specs.Spent.{IsSpent}
+use Rattle.dd_bounds.specs.Spent.{IsSpent}
 use Rattle.dd_wire.specs.Explained.{IsExplained}
 use Rattle.dd_wire.specs.FaultWords.{fault_told}
 use Rattle.dd_wire.specs.LineReplies.{IsReply}

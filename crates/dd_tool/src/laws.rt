@@ -1,6 +1,6 @@
 ghost use Rattle.std.specs.Prelude.{◌≡◌, ℕ, Bool, true, List, [], None, Option, Some};
 ghost use Rattle.dd_lines.specs.Lines.{lines};
-ghost use Rattle.dd_search.specs.Spent.{IsSpent};
+ghost use Rattle.dd_bounds.specs.Spent.{IsSpent};
 ghost use Rattle.dd_tool.specs.Served.{AreReplies, AreSameBut, AreTold, IsReplyAs, ToldAll};
 ghost use Rattle.dd_wire.specs.Explained.{IsExplained};
 ghost use Rattle.dd_wire.specs.FaultWords.{fault_told};

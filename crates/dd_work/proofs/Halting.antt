@@ -1,12 +1,12 @@
 -- A search ends within its budget, or is stopped: what its meter may have said, as its budget has it.
 use Rattle.std.proofs.Common.{rules, ◌≡◌, ◌⊎◌, ℕ, inl, inr, ap, sym, subst, refl, Option, None, Some}
 use Rattle.std.specs.Prelude.{IfErr, Result, Ok, Err}
-use Rattle.dd_search.specs.Budgets.{CountedTicks, EndsAs, last_tick}
-use Rattle.dd_search.specs.Spent.{IsSpent, WasSpent}
-use Rattle.dd_search.specs.declared.meter.Halt.{Halt}
-use Rattle.dd_search.specs.declared.meter.Halt.TheVariants.{Spent, Stopped}
-use Rattle.dd_search.specs.declared.meter.Tick.{Tick}
-use Rattle.dd_search.specs.declared.meter.Tick.TheVariants as tick
+use Rattle.dd_bounds.specs.Budgets.{CountedTicks, EndsAs, last_tick}
+use Rattle.dd_bounds.specs.Spent.{IsSpent, WasSpent}
+use Rattle.dd_bounds.specs.declared.meter.Halt.{Halt}
+use Rattle.dd_bounds.specs.declared.meter.Halt.TheVariants.{Spent, Stopped}
+use Rattle.dd_bounds.specs.declared.meter.Tick.{Tick}
+use Rattle.dd_bounds.specs.declared.meter.Tick.TheVariants as tick
 use Rattle.dd_work.specs.Halts.{MayHalt}
 
 -- a meter round a budget may say this

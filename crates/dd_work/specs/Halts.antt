@@ -1,8 +1,8 @@
 -- How a search within a budget may end without an answer.
 use Rattle.std.specs.Prelude.{ℕ, Option}
-use Rattle.dd_search.specs.Spent.{IsSpent}
-use Rattle.dd_search.specs.declared.meter.Halt.{Halt}
-use Rattle.dd_search.specs.declared.meter.Halt.TheVariants.{Spent, Stopped}
+use Rattle.dd_bounds.specs.Spent.{IsSpent}
+use Rattle.dd_bounds.specs.declared.meter.Halt.{Halt}
+use Rattle.dd_bounds.specs.declared.meter.Halt.TheVariants.{Spent, Stopped}
 
 -- spent where the budget was; or stopped
 abbrev pub MayHalt : Option ℕ → Halt → Type 0

@@ -5,9 +5,9 @@ use crate::last_part::LastPart;
 use crate::outcome::{Searched, search_part};
 use crate::stop::HeldPart;
 use dd_book::Outcome;
+use dd_bounds::Bounds;
 use dd_desk::Naming;
 use dd_request::TableRequest;
-use dd_search::Bounds;
 use std::sync::Wait;
 
 /// Below this budget, in positions, nothing is searched ahead: a search ahead that spends it is made a second time, when its

@@ -7,6 +7,7 @@ use dd_cache::Cache;
 use dd_file::Wanted;
 use dd_fill::fill_deals;
 use dd_lines::CountedDevice;
+use dd_solve::DoubleDummy;
 use dd_table::{SharedTable, View};
 use dd_tool::tell_lines;
 use std::alloc::{AllocError, Global};
@@ -66,6 +67,7 @@ fn answered<W: Wait>(rt: &W, alloc: Global, lines: Result<Vec<u8>, AllocError>) 
         alloc,
         &mut reader,
         &mut writer,
+        &DoubleDummy,
         &mut cache,
         None,
         false,
@@ -101,6 +103,7 @@ fn filled<W: Threads + Wait + Sync>(
         &mut writer,
         &mut errors,
         false,
+        &DoubleDummy,
         &mut cache,
         others.as_mut_slice(),
         None,

@@ -3,9 +3,10 @@ ghost use Rattle.std.specs.Prelude.{◌≡◌, ◌≤◌};
 ghost use Rattle.arrayvec.specs.ArrayString.{array_string_len};
 ghost use Rattle.dd_wire.specs.LineReplies.{IsReply};
 
+use dd_bounds::NoTable;
 use dd_cache::Cache;
 use dd_lines::{LONGEST_REPLY, ReplyText};
-use dd_search::NoTable;
+use dd_solve::DoubleDummy;
 use dd_tool::reply_to_line;
 use std::alloc::{AllocError, Global};
 
@@ -27,6 +28,6 @@ impl SolverCache {
         ensures text { IsReply ⊥ line.now result.bytes }
         ensures bound { array_string_len result ≤ LONGEST_REPLY }
     {
-        reply_to_line(alloc, line, &mut self.cache, None)
+        reply_to_line(alloc, line, &DoubleDummy, &mut self.cache, None)
     }
 }

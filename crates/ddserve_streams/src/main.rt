@@ -7,6 +7,7 @@
 
 use dd_command::given_arguments;
 use dd_lines::CountedDevice;
+use dd_solve::DoubleDummy;
 use dd_streams::run_without_server;
 use std::io;
 use std::io::IsTerminal;
@@ -21,6 +22,7 @@ fn main(rt: HostRuntime) -> ExitCode {
     run_without_server(
         &rt,
         rt.alloc(),
+        &DoubleDummy,
         arguments,
         &mut input,
         &mut output,

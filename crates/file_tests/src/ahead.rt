@@ -1,11 +1,12 @@
 //! Files whose deals several threads search.
 use super::deals::{ADDED, SUITS};
 use super::devices::{Pieces, Taker};
+use dd_bounds::NoTable;
 use dd_cache::Cache;
 use dd_file::{FileFault, Wanted};
 use dd_fill::fill_deals;
 use dd_lines::CountedDevice;
-use dd_search::NoTable;
+use dd_solve::DoubleDummy;
 use std::alloc::{AllocError, Global};
 use std::sync::Wait;
 use std::test::Fail;
@@ -114,6 +115,7 @@ fn fill_on<W: Threads + Wait + Sync>(
         &mut writer,
         &mut errors,
         false,
+        &DoubleDummy,
         &mut cache,
         others.as_mut_slice(),
         budget,

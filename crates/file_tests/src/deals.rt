@@ -1,11 +1,12 @@
 //! Files whose deals are searched, and what is said of those that are left.
 use super::devices::{Pieces, Taker};
 use super::files::{ONE_LINE, begins_with};
+use dd_bounds::NoTable;
 use dd_cache::Cache;
 use dd_file::Wanted;
 use dd_fill::fill_deals;
 use dd_lines::CountedDevice;
-use dd_search::NoTable;
+use dd_solve::DoubleDummy;
 use std::alloc::Global;
 use std::sync::Wait;
 use std::thread::Threads;
@@ -49,6 +50,7 @@ fn fill<W: Threads + Wait + Sync>(
         &mut writer,
         &mut errors,
         false,
+        &DoubleDummy,
         &mut cache,
         &mut others,
         budget,

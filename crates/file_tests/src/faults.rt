@@ -1,10 +1,11 @@
 //! What is written of a file and said of its games where a device fails.
 use super::devices::{Broken, Pieces, Taker};
+use dd_bounds::NoTable;
 use dd_cache::Cache;
 use dd_file::{FileFault, Wanted};
 use dd_fill::fill_deals;
 use dd_lines::CountedDevice;
-use dd_search::NoTable;
+use dd_solve::DoubleDummy;
 use std::alloc::{AllocError, Global};
 use std::io::Read;
 use std::sync::Wait;
@@ -82,6 +83,7 @@ fn fill<W: Threads + Wait + Sync, R: Read + Drop>(
         &mut writer,
         &mut errors,
         false,
+        &DoubleDummy,
         &mut cache,
         &mut others,
         None,

@@ -1,10 +1,11 @@
 use crate::rows::{is_bar, is_line_feed, number, word};
+use dd_bounds::{Bounds, Endless, NoTable, ProbeHint};
 use dd_cache::Cache;
 use dd_cards::{Seat, Strain, Suit};
 use dd_pbn::read_deal;
 use dd_play::{Interval, Position, TrickStart};
 use dd_rank::{OwnerStrings, Shape};
-use dd_search::{Bounds, Endless, NoTable, ProbeHint, start_value};
+use dd_search::start_value;
 use std::alloc::AllocError;
 use std::process::Abort;
 

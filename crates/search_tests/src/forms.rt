@@ -1,14 +1,13 @@
 //! A search by relative ranks beside one by the ranks of the deal: on drawn starts of a trick, with more than three tricks left
 //! and with fewer. And both beside what is on record: the tricks as they were found before there was the first, and the depths and
 //! positions of today's order of cards.
+use dd_bounds::{Bounds, Budget, LeadHistory, NoTable};
 use dd_cache::Cache;
 use dd_cards::{Card, Hands, Rank, Seat, Strain, Suit};
 use dd_equal::classes;
 use dd_play::{Interval, Position, TrickStart};
 use dd_rank::{Depths, OwnerStrings};
-use dd_search::{
-    Bounds, Budget, LeadHistory, NoTable, start_scores, start_value, start_value_for_first,
-};
+use dd_search::{start_scores, start_value, start_value_for_first};
 use std::alloc::AllocError;
 use std::process::Abort;
 

@@ -6,14 +6,12 @@ ghost use Rattle.dd_cards.specs.Cards.{has_card};
 ghost use Rattle.dd_play.specs.Play.{legal};
 
 use arrayvec::ArrayVec;
+use dd_bounds::{Bounds, Budget, Endless, Halt, Meter, NoTable};
 use dd_cards::{Card, Hands, Rank, Seat, Strain, Suit};
 use dd_equal::classes;
 use dd_play::{Position, TrickStart};
 use dd_rank::Depths;
-use dd_search::{
-    Bounds, Budget, Endless, Halt, Meter, NoTable, reaches, score, start_scores, start_value,
-    start_value_for_first, value,
-};
+use dd_search::{reaches, score, start_scores, start_value, start_value_for_first, value};
 
 // Where nothing bounds the search it has a score.
 fn endless_score(position: &Position, card: Card) -> Result<u8, Halt>

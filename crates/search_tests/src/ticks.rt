@@ -1,12 +1,13 @@
 //! How many positions a search visits. A budget counts them, so a search that visits others gives other answers within it.
 
 use crate::rows::{is_bar, is_line_feed, number, word};
+use dd_bounds::{Bounds, Budget, NoTable};
 use dd_cache::Cache;
 use dd_cards::{Seat, Strain};
 use dd_equal::classes;
 use dd_pbn::read_deal;
 use dd_play::{Position, TrickStart};
-use dd_search::{Bounds, Budget, NoTable, start_scores, start_value_for_first, value};
+use dd_search::{start_scores, start_value_for_first, value};
 use std::alloc::AllocError;
 use std::process::Abort;
 

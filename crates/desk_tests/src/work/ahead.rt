@@ -4,9 +4,9 @@ ghost use Rattle.once_cell.specs.Once.{cell_name};
 
 use crate::work::worked::{ask, enrol};
 use dd_book::Limits;
+use dd_bounds::Budget;
 use dd_desk::{Desk, Naming, Row};
 use dd_request::{Asked, PARTS, TableRequest};
-use dd_search::Budget;
 use dd_solve::solve_part;
 use dd_table::SharedTable;
 use dd_wire::{LineAsked, read_request};

@@ -4,9 +4,9 @@ ghost use Rattle.once_cell.specs.Once.{cell_name};
 
 use crate::work::worked::{ask, enrol};
 use dd_book::Limits;
+use dd_bounds::{Budget, NoTable};
 use dd_desk::{Desk, Naming, Row};
 use dd_request::{Asked, PARTS, PlayRequest, Request, TableRequest, TargetRequest};
-use dd_search::{Budget, NoTable};
 use dd_solve::{solve, solve_part, solve_play_part, solve_target};
 use dd_wire::{LineAsked, read_request};
 use dd_work::{NoGate, worker};

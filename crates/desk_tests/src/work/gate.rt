@@ -8,11 +8,11 @@ use crate::work::lines::{
 };
 use crate::work::worked::{ask, enrol};
 use dd_book::Limits;
+use dd_bounds::{Bounds, NoTable};
 use dd_cards::Strain;
 use dd_desk::{Desk, Naming, Pass, Row};
 use dd_play::{Interval, TrickStart};
 use dd_rank::Depths;
-use dd_search::{Bounds, NoTable};
 use dd_table::SharedTable;
 use dd_work::{Gate, NoGate, worker};
 use std::alloc::{AllocError, Global};

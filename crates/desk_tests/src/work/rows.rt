@@ -5,8 +5,8 @@ use crate::work::lines::{
 };
 use crate::work::worked::{Script, follow};
 use dd_book::Limits;
+use dd_bounds::{Budget, NoTable};
 use dd_request::Asked;
-use dd_search::{Budget, NoTable};
 use dd_solve::solve;
 use dd_wire::{LineAsked, read_request, write_answer};
 use request_tests::searched::EIGHT_CARDS;

@@ -1,13 +1,13 @@
 //! Requests with a card or two in each hand, their answers, and replies as plain values.
 use arrayvec::ArrayVec;
 use dd_book::{Call, JobState, Outcome, Reply};
+use dd_bounds::{Endless, NoTable};
 use dd_cards::{Card, Hands, Rank, Seat, Strain, Suit};
 use dd_play::Position;
 use dd_request::{
     Asked, PlayPart, PlayRequest, Request, Solved, SolvedPart, SolvedTarget, TableRequest,
     TargetRequest,
 };
-use dd_search::{Endless, NoTable};
 use dd_solve::{solve, solve_part, solve_play_part, solve_target};
 use std::alloc::{AllocError, Global};
 

@@ -4,10 +4,10 @@ ghost use Rattle.std.specs.Prelude.{◌<◌};
 use crate::book::made::hands;
 use arrayvec::ArrayVec;
 use dd_book::{Call, JobState, Outcome, Reply};
+use dd_bounds::{Endless, NoTable};
 use dd_cards::{Card, Hands, Rank, Seat, Strain, Suit};
 use dd_play::Position;
 use dd_request::{Asked, PlayRequest, Request, TableRequest, TargetRequest, Trace};
-use dd_search::{Endless, NoTable};
 use dd_solve::{solve, solve_part, solve_play_part, solve_target};
 use std::alloc::{AllocError, Global};
 

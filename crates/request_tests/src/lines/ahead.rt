@@ -5,8 +5,9 @@ use super::runs::{Outcome, run};
 use super::served::good;
 use crate::book::drawn::draw;
 use crate::devices::{Pieces, Taker};
+use dd_bounds::{Bounds, NoTable};
 use dd_lines::CountedDevice;
-use dd_search::{Bounds, NoTable};
+use dd_solve::DoubleDummy;
 use dd_tool::{Pool, solve_lines_on};
 use std::alloc::{AllocError, Global};
 use std::io::Write;
@@ -146,6 +147,7 @@ fn told_by<W: Threads + Wait + Sync, O: Write + Drop, H: Bounds + Send>(
         alloc,
         &mut reader,
         &mut writer,
+        &DoubleDummy,
         &mut NoTable,
         others,
         None,

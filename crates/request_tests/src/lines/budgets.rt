@@ -4,9 +4,10 @@ use crate::devices::Pieces;
 use crate::searched::{
     EIGHT_CARDS, EIGHT_CARDS_PLAY, EIGHT_CARDS_TABLE, EIGHT_CARDS_TARGET, NINE_CARDS,
 };
+use dd_bounds::{Budget, NoTable};
 use dd_cards::Seat;
 use dd_request::{Asked, PARTS, TableRequest};
-use dd_search::{Budget, NoTable, value, value_from_guess};
+use dd_search::{value, value_from_guess};
 use dd_solve::{solve, solve_target};
 use dd_wire::{LineAsked, read_request};
 use std::alloc::Global;

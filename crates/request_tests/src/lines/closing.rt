@@ -3,7 +3,7 @@ use super::ahead::drawn;
 use super::pools::{help, told_over};
 use super::runs::run;
 use crate::devices::{Pieces, Taker};
-use dd_search::NoTable;
+use dd_bounds::NoTable;
 use dd_tool::Pool;
 use std::alloc::{AllocError, Global};
 use std::process::Abort;

@@ -1,9 +1,9 @@
 //! Threads that are held in a search, and the signs by which they are let go.
 use crate::devices::Taker;
+use dd_bounds::Bounds;
 use dd_cards::{Strain, Suit};
 use dd_play::{Interval, TrickStart};
 use dd_rank::Depths;
-use dd_search::Bounds;
 use std::io::Write;
 use std::sync::atomic::{AtomicBool, AtomicU64, Ordering};
 use std::time::{Clock, Duration};

@@ -1,7 +1,8 @@
 //! Lines with ids, each told with its own reply.
 use crate::devices::{Pieces, Taker};
+use dd_bounds::NoTable;
 use dd_lines::CountedDevice;
-use dd_search::NoTable;
+use dd_solve::DoubleDummy;
 use dd_tool::tell_lines;
 
 /// Lines with ids of which two are the same, without one, and with a fault.
@@ -38,6 +39,7 @@ fn each_id_is_told_with_the_reply_to_its_line(rt: HostRuntime) {
             rt.alloc(),
             &mut reader,
             &mut writer,
+            &DoubleDummy,
             &mut NoTable,
             None,
             explain,

@@ -4,8 +4,9 @@ use super::ahead::{drawn, searched};
 use super::held::{CountsLooks, HoldsSearch, Sign, Signs, TakesTurns, Turn, held};
 use super::runs::run;
 use crate::devices::{Pieces, Taker};
+use dd_bounds::{Bounds, NoTable};
 use dd_lines::CountedDevice;
-use dd_search::{Bounds, NoTable};
+use dd_solve::DoubleDummy;
 use dd_tool::{Pool, answer_ahead, solve_lines_ahead};
 use std::alloc::{AllocError, Global};
 use std::io::Write;
@@ -99,6 +100,7 @@ pub fn told_over<W: Wait, B: Bounds, O: Write + Drop>(
         &mut reader,
         &mut writer,
         pool,
+        &DoubleDummy,
         table,
         None,
         &mut buffer,
@@ -110,7 +112,12 @@ pub fn told_over<W: Wait, B: Bounds, O: Write + Drop>(
 pub fn help<W: Threads + Wait + Sync, H: Bounds + Send>(rt: &W, pool: &Pool, tables: &mut [H]) {
     let count = tables.len();
     if count > 0 {
-        for_each_mut(rt, tables, count, &|_, table| answer_ahead(rt, pool, table));
+        for_each_mut(
+            rt,
+            tables,
+            count,
+            &|_, table| { answer_ahead(rt, pool, &DoubleDummy, table) },
+        );
     }
 }
 

@@ -1,7 +1,8 @@
 //! A run over devices of memory.
 use crate::devices::{Pieces, Taker};
+use dd_bounds::NoTable;
 use dd_lines::{CountedDevice, LineFault};
-use dd_search::NoTable;
+use dd_solve::DoubleDummy;
 use dd_tool::solve_lines;
 use std::alloc::Global;
 
@@ -39,6 +40,7 @@ pub fn run_within(
         alloc,
         &mut reader,
         &mut writer,
+        &DoubleDummy,
         &mut NoTable,
         budget,
         &mut buffer,

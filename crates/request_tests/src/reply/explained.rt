@@ -1,6 +1,7 @@
 //! Replies that tell ids again and say why a line has a fault.
 use crate::rows::{after_bar, before_bar};
-use dd_search::NoTable;
+use dd_bounds::NoTable;
+use dd_solve::DoubleDummy;
 use dd_tool::explained_reply;
 use std::alloc::Global;
 
@@ -64,7 +65,7 @@ const REPLIES: &[u8] =
 /// The first row whose line has another reply, or nothing.
 fn first_with_another_reply(alloc: Global, table: &'static [u8]) -> Option<&'static [u8]> {
     for row in table.split(|byte| *byte == b'\n') {
-        let reply = explained_reply(alloc, before_bar(row), &mut NoTable, None);
+        let reply = explained_reply(alloc, before_bar(row), &DoubleDummy, &mut NoTable, None);
         if reply.as_str().as_bytes() != after_bar(row) {
             return Some(row);
         }
@@ -81,11 +82,18 @@ fn worked_requests_have_their_explained_replies(rt: HostRuntime) {
 #[test]
 fn a_mark_and_a_long_line_are_told(rt: HostRuntime) {
     let alloc = rt.alloc();
-    let marked = explained_reply(alloc, b"\xEF\xBB\xBF{\"do\":\"table\"}", &mut NoTable, None);
-    let long = explained_reply(alloc, &[b' '; 4_097], &mut NoTable, None);
+    let marked = explained_reply(
+        alloc,
+        b"\xEF\xBB\xBF{\"do\":\"table\"}",
+        &DoubleDummy,
+        &mut NoTable,
+        None,
+    );
+    let long = explained_reply(alloc, &[b' '; 4_097], &DoubleDummy, &mut NoTable, None);
     let spent = explained_reply(
         alloc,
         br#"{"id":3,"do":"table","deal":"N:A... K... Q... J..."}"#,
+        &DoubleDummy,
         &mut NoTable,
         Some(0),
     );

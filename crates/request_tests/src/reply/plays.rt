@@ -3,11 +3,11 @@ ghost use Rattle.std.specs.Prelude.{◌≤◌};
 
 use super::worked::first_with_another_reply;
 use arrayvec::ArrayVec;
+use dd_bounds::{Budget, Endless, Halt, NoTable};
 use dd_cards::{Card, Rank, Seat, Side, Strain, Suit};
 use dd_pbn::read_deal;
 use dd_play::Position;
 use dd_request::{CardFault, PlayRequest};
-use dd_search::{Budget, Endless, Halt, NoTable};
 use dd_solve::{solve_play, solve_play_part};
 
 /// Each row is a line, a bar and its reply without a budget.

@@ -1,6 +1,7 @@
 //! Positions of one to five cards a hand, 0 to 3 of them on the trick, with the answers of DDS 2.9, which plain minimax gives
 //! too.
-use dd_search::NoTable;
+use dd_bounds::NoTable;
+use dd_solve::DoubleDummy;
 use dd_tool::reply_to_line;
 
 /// The request lines.
@@ -412,7 +413,7 @@ const REPLIES: &[u8] = br#"{"cards":[{"equals":0,"rank":13,"score":0,"suit":3}]}
 fn recorded_deals_have_the_answers_of_dds(rt: HostRuntime) {
     let mut replies = REPLIES.split(|byte| *byte == b'\n');
     for line in LINES.split(|byte| *byte == b'\n') {
-        let reply = reply_to_line(rt.alloc(), line, &mut NoTable, None);
+        let reply = reply_to_line(rt.alloc(), line, &DoubleDummy, &mut NoTable, None);
         assert_eq!(rt;
             Some(reply.as_str().as_bytes()),
             replies.next(),

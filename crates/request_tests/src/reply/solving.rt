@@ -1,12 +1,12 @@
 ghost use Rattle.std.specs.Prelude.{◌≤◌};
 
 use arrayvec::ArrayVec;
+use dd_bounds::{Bounds, Budget, Endless, Halt, NoTable};
 use dd_cards::{Card, Rank, Seat, Strain, Suit};
 use dd_pbn::read_deal;
 use dd_play::{Interval, Position, TrickStart};
 use dd_rank::Depths;
 use dd_request::{Answer, Request, TargetRequest};
-use dd_search::{Bounds, Budget, Endless, Halt, NoTable};
 use dd_solve::{solve, solve_target};
 
 // Counts the looks and the notes, and keeps the last interval.

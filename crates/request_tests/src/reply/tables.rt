@@ -2,10 +2,10 @@
 ghost use Rattle.std.specs.Prelude.{◌≤◌};
 
 use super::worked::first_with_another_reply;
+use dd_bounds::{Budget, Endless, Halt, NoTable};
 use dd_pbn::read_deal;
 use dd_play::PlayFault;
 use dd_request::{SolvedPart, SolvedTable, TableRequest};
-use dd_search::{Budget, Endless, Halt, NoTable};
 use dd_solve::solve_part;
 use std::alloc::Global;
 use std::test::Fail;

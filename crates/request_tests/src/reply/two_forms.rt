@@ -2,7 +2,8 @@
 //! before its last brace, and is then read as JSON.
 use super::{par, worked};
 use crate::rows::{after_bar, before_bar, spaced};
-use dd_search::NoTable;
+use dd_bounds::NoTable;
+use dd_solve::DoubleDummy;
 use dd_tool::reply_to_line;
 use std::alloc::{AllocError, Global};
 use std::test::Fail;
@@ -207,7 +208,7 @@ const BYTES: &[u8] =
 
 // Has a line this reply?
 fn has_reply(alloc: Global, line: &[u8], reply: &[u8]) -> bool {
-    reply_to_line(alloc, line, &mut NoTable, None)
+    reply_to_line(alloc, line, &DoubleDummy, &mut NoTable, None)
         .as_str()
         .as_bytes()
         == reply

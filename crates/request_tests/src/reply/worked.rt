@@ -1,6 +1,7 @@
 //! Requests whose answers can be counted by hand.
 use crate::rows::{after_bar, before_bar};
-use dd_search::NoTable;
+use dd_bounds::NoTable;
+use dd_solve::DoubleDummy;
 use dd_tool::reply_to_line;
 use std::alloc::Global;
 
@@ -83,7 +84,7 @@ pub(super) fn first_with_another_reply(
     budget: Option<u64>,
 ) -> Option<&'static [u8]> {
     for row in table.split(|byte| *byte == b'\n') {
-        let reply = reply_to_line(alloc, before_bar(row), &mut NoTable, budget);
+        let reply = reply_to_line(alloc, before_bar(row), &DoubleDummy, &mut NoTable, budget);
         if reply.as_str().as_bytes() != after_bar(row) {
             return Some(row);
         }

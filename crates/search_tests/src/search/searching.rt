@@ -15,12 +15,11 @@ ghost use Rattle.dd_rank.specs.Depths.{all_cards, depth_in, Covers};
 use super::{Holdings, TENACE, TENACE_AN_ACE, card_of, position_of, start_of};
 use crate::rows::{is_line_feed, number, word};
 use arrayvec::ArrayVec;
+use dd_bounds::{Bounds, Budget, Endless, Halt, Meter, NoTable};
 use dd_cards::Seat;
 use dd_play::{Interval, Position, TrickStart};
 use dd_rank::Depths;
-use dd_search::{
-    Bounds, Budget, Endless, Halt, Meter, NoTable, reaches, start_value, value, value_at_least,
-};
+use dd_search::{reaches, start_value, value, value_at_least};
 use std::process::Abort;
 
 // Writes down what it is asked and told: a look as `L` and the tricks left, a note as `N`, the tricks left and the bounds. It

@@ -2,9 +2,10 @@
 ghost use Rattle.dd_table.specs.Front.{IsNoteOf};
 
 use crate::table::positions::{ALIKE, BEHIND, CAUGHT, LOWER, TURNED, start};
+use dd_bounds::{Endless, NoTable};
 use dd_cards::Seat;
 use dd_play::TrickStart;
-use dd_search::{Endless, NoTable, start_value};
+use dd_search::start_value;
 use dd_table::{FrontNote, SharedTable, front_slot};
 use std::alloc::AllocError;
 

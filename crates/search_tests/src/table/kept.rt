@@ -1,11 +1,12 @@
 use crate::table::positions::{BEHIND, CAUGHT, CAUGHT_ANSWER, LOWER, answers, start};
+use dd_bounds::{Bounds, Endless, NoTable};
 use dd_cache::Cache;
 use dd_cards::{Card, Rank, Seat, Suit};
 use dd_pbn::read_deal;
 use dd_play::{Interval, TrickStart};
 use dd_rank::OwnerStrings;
 use dd_request::TableRequest;
-use dd_search::{Bounds, Endless, NoTable, start_value};
+use dd_search::start_value;
 use dd_shard::Shard;
 use dd_solve::solve_table;
 use dd_table::SharedTable;

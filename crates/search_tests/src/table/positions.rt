@@ -1,9 +1,9 @@
 //! The positions that the tests ask of, and what solving them answers.
+use dd_bounds::{Bounds, Endless};
 use dd_cards::{Seat, Strain};
 use dd_pbn::read_deal;
 use dd_play::{Position, TrickStart};
 use dd_request::Request;
-use dd_search::{Bounds, Endless};
 use dd_solve::solve;
 use dd_wire::write_answer;
 use std::process::Abort;

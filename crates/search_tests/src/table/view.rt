@@ -2,10 +2,11 @@
 use crate::table::positions::{
     ACE, ALIKE, BEHIND, CAUGHT, CAUGHT_ANSWER, LOWER, TURNED, answers, bounds_told, start,
 };
+use dd_bounds::{Bounds, Endless, NoTable};
 use dd_cards::{Seat, Suit};
 use dd_play::{Interval, TrickStart};
 use dd_rank::OwnerStrings;
-use dd_search::{Bounds, Endless, NoTable, start_value};
+use dd_search::start_value;
 use dd_table::SharedTable;
 use std::alloc::AllocError;
 use std::process::Abort;

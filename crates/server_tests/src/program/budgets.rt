@@ -2,9 +2,9 @@
 use crate::program::asking::{converse, run_at};
 use crate::program::devices::{SOUND, run_line};
 use crate::server::client::Way;
+use dd_bounds::Budget;
 use dd_cache::Cache;
 use dd_request::Asked;
-use dd_search::Budget;
 use dd_solve::solve;
 use dd_table::SharedTable;
 use dd_wire::{LineAsked, read_request};

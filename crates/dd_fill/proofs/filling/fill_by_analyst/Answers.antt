@@ -1,4 +1,4 @@
-use Rattle.dd_search.specs.Spent.{IsSpent}
+use Rattle.dd_bounds.specs.Spent.{IsSpent}
 use Rattle.dd_fill.proofs.Saying.{ends-stays, ends-told}
 use Rattle.dd_fill.proofs.filling.fill_by_analyst.Goals as goal
 

@@ -1,4 +1,4 @@
-use Rattle.dd_search.specs.Spent.{IsSpent}
+use Rattle.dd_bounds.specs.Spent.{IsSpent}
 use Rattle.dd_streams.specs.Endings.{state_of}
 use Rattle.dd_streams.proofs.FilledUntil.{ends-filling}
 use Rattle.dd_streams.proofs.filling.fill_over.Goals as goal

@@ -1,4 +1,4 @@
-use Rattle.dd_search.specs.Spent.{IsSpent}
+use Rattle.dd_bounds.specs.Spent.{IsSpent}
 use Rattle.dd_wire.proofs.CallerLemmas.{explained-is-line, reply-is-line}
 use Rattle.dd_tool.proofs.laws.a_reply_is_one_line.Goals as goal
 

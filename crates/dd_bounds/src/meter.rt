@@ -1,7 +1,6 @@
 //! How long a search may go on.
-ghost use Rattle.std.specs.Prelude.{◌≡◌, ◌+◌, ◌<◌, ◌≤◌, ◌↔◌, ℕ, Option, None, Some, OnOk};
-ghost use Rattle.dd_search.specs.Budgets.{EndsAs};
-ghost use Rattle.dd_search.specs.Spent.{WasSpent, WasTicked};
+ghost use Rattle.std.specs.Prelude.{◌≡◌, ◌+◌, ◌<◌, ◌≤◌, ◌↔◌, ℕ, Option, None, Some};
+ghost use Rattle.dd_bounds.specs.Spent.{WasSpent, WasTicked};
 
 use std::marker::Model;
 
@@ -28,7 +27,7 @@ pub enum Halt {
 /// Asked once at each position that a search visits, before anything else is done there.
 pub trait Meter {
     ghost use Rattle.std.specs.Prelude.{ℕ, Option};
-    ghost use Rattle.dd_search.specs.declared.meter.Tick.{Tick};
+    ghost use Rattle.dd_bounds.specs.declared.meter.Tick.{Tick};
 
     /// how many ticks may go in all, where that is limited: it never changes
     ghost limit: { Self → Option ℕ };
@@ -47,27 +46,13 @@ pub trait Meter {
     ghost later: { (a b c : Self) → ticked a b → ticked b c → ticked a c };
 }
 
-// One tick, which is an error where the search may not go on.
-#[inline]
-pub(crate) fn go_on<M: Meter>(meter: &mut M) -> Result<(), Halt>
-    ensures ticked { OnOk result (M.ticked meter.old meter.new) }
-    ensures ends { EndsAs (M.says meter.new) result }
-    ensures limit { M.limit meter.new ≡ M.limit meter.old }
-{
-    match meter.tick() {
-        Tick::Go => Ok(()),
-        Tick::Spent => Err(Halt::Spent),
-        Tick::Stop => Err(Halt::Stopped),
-    }
-}
-
 /// Lets every search go on to its end.
 #[derive(Clone, Copy, Debug, Drop)]
 pub struct Endless;
 
 impl Meter for Endless {
     ghost use Rattle.std.specs.Prelude.{None};
-    ghost use Rattle.dd_search.specs.declared.meter.Tick.{Tick};
+    ghost use Rattle.dd_bounds.specs.declared.meter.Tick.{Tick};
 
     ghost limit = { λ m. None };
 
@@ -91,7 +76,7 @@ pub struct Budget {
 
 impl Model for Budget {
     ghost use Rattle.std.specs.Prelude.{◌≤◌};
-    ghost use Rattle.dd_search.specs.Budgets.{CountedTicks};
+    ghost use Rattle.dd_bounds.specs.Budgets.{CountedTicks};
 
     ghost Value = { CountedTicks };
 
@@ -125,9 +110,9 @@ impl Budget {
 
 impl Meter for Budget {
     ghost use Rattle.std.specs.Prelude.{Some};
-    ghost use Rattle.dd_search.specs.declared.meter.Tick.{Tick};
-    ghost use Rattle.dd_search.specs.Budgets.{later-budget};
-    ghost use Rattle.dd_search.specs.Spent.{WasSpent, WasTicked};
+    ghost use Rattle.dd_bounds.specs.declared.meter.Tick.{Tick};
+    ghost use Rattle.dd_bounds.specs.Budgets.{later-budget};
+    ghost use Rattle.dd_bounds.specs.Spent.{WasSpent, WasTicked};
 
     ghost limit = { λ b. Some b.limit };
 

@@ -1,11 +1,11 @@
 -- How long a search goes on: what ends it without an answer, and a limited number of ticks.
 use Rattle.std.specs.Prelude.{◌≡◌, ℕ, ◌<◌, Option, Result, IfErr}
 use Rattle.std.proofs.Common.{◌∙◌, arith}
-use Rattle.dd_search.specs.Spent.{WasTicked}
-use Rattle.dd_search.specs.declared.meter.Tick.{Tick}
-use Rattle.dd_search.specs.declared.meter.Tick.TheVariants.{Go, Stop, Spent as SpentTick}
-use Rattle.dd_search.specs.declared.meter.Halt.{Halt}
-use Rattle.dd_search.specs.declared.meter.Halt.TheVariants.{Spent, Stopped}
+use Rattle.dd_bounds.specs.Spent.{WasTicked}
+use Rattle.dd_bounds.specs.declared.meter.Tick.{Tick}
+use Rattle.dd_bounds.specs.declared.meter.Tick.TheVariants.{Go, Stop, Spent as SpentTick}
+use Rattle.dd_bounds.specs.declared.meter.Halt.{Halt}
+use Rattle.dd_bounds.specs.declared.meter.Halt.TheVariants.{Spent, Stopped}
 
 -- what a meter said last where a search ended without an answer
 abbrev pub last_tick : Halt → Tick

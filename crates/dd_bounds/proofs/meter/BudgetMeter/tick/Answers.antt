@@ -1,7 +1,7 @@
 use Rattle.std.proofs.Common.{rules, ◌≡◌, ◌∙◌, ap, sym, arith}
-use Rattle.dd_search.specs.Budgets.{CountedTicks}
-use Rattle.dd_search.specs.Spent.{granted-tick, refused-tick}
-use Rattle.dd_search.proofs.meter.BudgetMeter.tick.Goals as goal
+use Rattle.dd_bounds.specs.Budgets.{CountedTicks}
+use Rattle.dd_bounds.specs.Spent.{granted-tick, refused-tick}
+use Rattle.dd_bounds.proofs.meter.BudgetMeter.tick.Goals as goal
 
 -- All ticks have gone, and one more was asked for.
 pub returns-clause-says : goal.returns-clause-says
