@@ -58,7 +58,7 @@ pub struct Cache<B> {
 }
 
 // What tells deals apart: the strain and two hands of it.
-#[derive(Clone, Copy, Debug)]
+#[derive(Clone, Copy)]
 struct Deal {
     strain: u8,
     north: u64,

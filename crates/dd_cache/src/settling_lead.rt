@@ -7,7 +7,7 @@ pub(crate) const MOST_DEALS: u8 = 63;
 
 /// The suit of a lead that settled a start of a trick, with the number of its deal; or none. It serves the order of leads alone.
 // The suit's code in the two lowest bits, the number of the deal above them; no deal has the number 0.
-#[derive(Clone, Copy, Debug)]
+#[derive(Clone, Copy)]
 pub(crate) struct SettlingLead {
     bits: u8,
 }

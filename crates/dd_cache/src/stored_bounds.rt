@@ -8,7 +8,7 @@ use dd_rank::{FirstOwners, OwnerStrings};
 use std::marker::Model;
 
 /// Bounds of the value of each position of a shape whose highest cards have these owners.
-#[derive(Debug, Drop)]
+#[derive(Drop)]
 pub(crate) struct StoredBounds {
     pub(crate) firsts: FirstOwners,
     pub(crate) interval: Interval,

@@ -31,26 +31,6 @@ is-only d c has = go (same_card c d) refl has
     go true e h = sym (same_card-eq c d e)
     go false e h = absurd (let no : false ≡ true = rw e at h in cc)
 
--- ---- a choice is one of the cards
-
--- what holds of what there is, in other words
-pub if-some : {X : Type 0} (P Q : X → Type 0) → ((x : X) → P x → Q x) → (o : Option X) → IfSome o P → IfSome o Q
-if-some P Q f None h = tt
-if-some P Q f (Some x) h = f x h
-
--- a rank of the part is one of the ranks
-pub rank-among : (ranks others part : List ℕ) (r : ℕ) → part ≡ filter (has_rank others) ranks → has_rank part r ≡ true → has_rank ranks r ≡ true
-rank-among ranks others part r is has = any-filter _ (has_rank others) ranks (ap (λ xs. has_rank xs r) (sym is) ∙ has)
-
--- the first of the ranks is one of them
-pub first-among : (ranks : List ℕ) (o : Option ℕ) → o ≡ slice_get ranks 0 → IfSome o (λ r. has_rank ranks r ≡ true)
-first-among ranks None is = tt
-first-among ranks (Some r) is = first-there ranks r is
-
--- a rank of the suit is that of a card
-pub rank-card : (s : Suit) (ranks : List ℕ) (cards : List PlayingCard) (r : ℕ) → map (card_of s) ranks ≡ filter (is_of s) cards → has_rank ranks r ≡ true → has_card cards (card_of s r) ≡ true
-rank-card s ranks cards r are has = sym (has_rank-holding s ranks cards r are) ∙ has
-
 -- ---- fewer cards are left
 
 -- a card that does not pass makes the list shorter

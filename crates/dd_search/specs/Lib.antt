@@ -1,2 +1,1 @@
 pub mod ClaimsBy
-pub mod Turns

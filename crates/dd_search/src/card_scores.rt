@@ -6,12 +6,11 @@ ghost use Rattle.dd_play.specs.Value.{score};
 ghost use Rattle.dd_bounds.specs.Budgets.{EndsAs, IsEndless};
 
 use crate::card_reaches::reaches;
-use crate::guess::guess;
-use crate::order::Order;
 use crate::position_value::north_souths_tricks;
 use crate::zero_window::trick_of;
 use dd_bounds::{Bounds, Halt, Meter};
 use dd_cards::Card;
+use dd_order::{Order, guess};
 use dd_play::Position;
 
 /// The tricks, 0 to 13, that the mover's side takes from here on, the current trick included, when it plays this legal

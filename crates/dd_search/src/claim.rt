@@ -6,7 +6,7 @@ use std::marker::Model;
 
 /// So many tricks, 0 to 13, and the cards that it rests on that a side takes them: it takes as many where the cards below
 /// these are others.
-#[derive(Clone, Copy, Debug)]
+#[derive(Clone, Copy)]
 pub(crate) struct Claim {
     pub(crate) tricks: u8,
     pub(crate) cards: Hand,

@@ -14,15 +14,15 @@ ghost use Rattle.dd_quick.specs.SecondHand.{Opposes};
 ghost use Rattle.dd_rank.specs.Depths.{all_cards, depth_in, Covers};
 ghost use Rattle.dd_rank.specs.Strings.{strings_of};
 ghost use Rattle.dd_search.specs.ClaimsBy.{IsAnswerAfter, IsAnswerBy, IsWindow, north_souths};
-ghost use Rattle.dd_search.specs.Turns.{cards_before};
+ghost use Rattle.dd_order.specs.Turns.{cards_before};
 
 use crate::claim::Claim;
 use crate::quick_limit::{may_have_quick_tricks, others_may_have};
 use crate::second_hands::SecondHands;
-use crate::turn::Turn;
 use crate::verdict::Verdict;
 use dd_bounds::{Bounds, ProbeHint};
 use dd_cards::{Card, Seat};
+use dd_order::Turn;
 use dd_play::{Interval, Position, TrickStart};
 use dd_quick::{against_leader, bounds as quick_bounds, for_leader, for_second_hand};
 use dd_rank::{Depths, OwnerStrings};

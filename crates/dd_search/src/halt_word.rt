@@ -10,7 +10,7 @@ use std::marker::Model;
 /// Why a search ended without an answer.
 // One word, as an answer is: so either comes back in registers. A halt's byte would stand elsewhere than an answer's word, and
 // both would go by memory.
-#[derive(Debug, Drop)]
+#[derive(Drop)]
 pub(crate) struct HaltWord {
     bits: u64,
 }

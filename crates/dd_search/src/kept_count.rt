@@ -2,7 +2,7 @@
 //! in. It is counted by masks and lengths, as in `quick_count.rt`, and no answer rests on it: `dd_quick` makes sure of what is claimed.
 
 use crate::quick_count::{LengthsOfSuit, lane_of, run_of};
-use crate::suit_lanes::{LOWEST, LOWEST_FOUR, nonzero, sum, where_set};
+use dd_order::suit_lanes::{LOWEST, LOWEST_FOUR, nonzero, sum, where_set};
 use dd_relative::RelativeStart;
 
 // The bit of each suit's ace.

@@ -8,12 +8,11 @@ ghost use Rattle.dd_bounds.specs.Budgets.{EndsAs, IsEndless};
 
 use crate::claim::Claim;
 use crate::cutoffs::window;
-use crate::guess::guess;
-use crate::order::Order;
 use crate::ticking::go_on;
 use crate::zero_window::zero_window_in_order;
 use dd_bounds::{Bounds, Halt, Meter};
 use dd_cards::Side;
+use dd_order::{Order, guess};
 use dd_play::Position;
 
 /// The tricks, 0 to 13, that the mover's side takes from here on, the current trick included, when both sides play as

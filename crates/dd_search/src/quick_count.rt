@@ -1,8 +1,8 @@
 //! Quick tricks of a hand by relative ranks, counted by masks and by the lengths of all hands' suits. No answer rests on a count: `dd_quick`
 //! makes sure of what is claimed. A suit that the hand's side doesn't head costs nothing.
 
-use crate::suit_lanes::{LOWEST, LOWEST_FOUR, at, place, sum, where_set};
 use dd_cards::{Hand, Seat, Strain, Suit};
+use dd_order::suit_lanes::{LOWEST, LOWEST_FOUR, at, place, sum, where_set};
 use dd_quick::Shares;
 use dd_relative::RelativeStart;
 
@@ -18,7 +18,7 @@ const UPPER_THREE: u64 = 0xFFF0_FFF0_FFF0_FFF0;
 const LOWER_THREE: u64 = 0x0FFF_0FFF_0FFF_0FFF;
 
 /// What a hand that has the lead, or is to have it, sees of its side and of the lengths.
-#[derive(Clone, Copy, Debug)]
+#[derive(Clone, Copy)]
 pub(crate) struct QuickView {
     own: u64,
     partner: u64,
@@ -38,7 +38,7 @@ pub(crate) struct QuickView {
 }
 
 /// What a hand cashes in the side suits.
-#[derive(Clone, Copy, Debug)]
+#[derive(Clone, Copy)]
 pub(crate) struct CashCount {
     // sixteen bits a suit: the tricks in the lowest four, and above them the number of cards on which they rest
     suits: u64,
@@ -260,7 +260,7 @@ fn partners_suits(
 }
 
 /// The lengths of a suit.
-#[derive(Clone, Copy, Debug)]
+#[derive(Clone, Copy)]
 pub(crate) struct LengthsOfSuit {
     pub(crate) own: u32,
     pub(crate) left: u32,

@@ -2,8 +2,8 @@
 //! costs less than half of counting them, and where it may not, nothing is counted. No answer rests on it: where it told of too few, more
 //! cards would be tried.
 
-use crate::suit_lanes::{LOWEST, LOWEST_FOUR, at, nonzero, place, several, sum, where_set};
 use dd_cards::{Strain, Suit};
+use dd_order::suit_lanes::{LOWEST, LOWEST_FOUR, at, nonzero, place, several, sum, where_set};
 use dd_rank::{Shape, TwoHighest};
 
 // The lengths of two hands that are partners, and the lowest bit of each.
@@ -12,7 +12,7 @@ const BOTH: u64 = 0x0F0F_0F0F_0F0F_0F0F;
 const LOWEST_OF_BOTH: u64 = 0x0101_0101_0101_0101;
 
 // What a hand that has the lead, or is to have it, sees of the suits.
-#[derive(Clone, Copy, Debug)]
+#[derive(Clone, Copy)]
 struct SuitsSeen {
     // how many cards the hand has of each, and its partner
     own: u64,

@@ -9,7 +9,7 @@ use std::marker::Model;
 /// are others.
 // One word, so that it is returned in registers beside a halt: the cards' mask, and in the lowest bit, which no card has,
 // whether they do.
-#[derive(Debug, Drop)]
+#[derive(Drop)]
 pub(crate) struct RankVerdict {
     bits: u64,
 }

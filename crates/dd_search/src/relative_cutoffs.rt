@@ -9,16 +9,16 @@ ghost use Rattle.dd_play.specs.Reach.{reach, TakesBy};
 ghost use Rattle.dd_quick.specs.SecondHand.{Opposes};
 ghost use Rattle.dd_rank.specs.Strings.{strings_of};
 ghost use Rattle.dd_search.specs.ClaimsBy.{IsAnswerAfter, IsAnswerBy};
-ghost use Rattle.dd_search.specs.Turns.{cards_before};
+ghost use Rattle.dd_order.specs.Turns.{cards_before};
 
 use crate::kept_count::others_keep;
 use crate::quick_count::QuickView;
 use crate::quick_limit::{has_trumps, others_may_have};
 use crate::rank_verdict::RankVerdict;
 use crate::second_hands::SecondHands;
-use crate::turn::Turn;
 use dd_bounds::{Bounds, ProbeHint};
 use dd_cards::{Hand, Place, Seat, Strain, Suit};
+use dd_order::Turn;
 use dd_play::Interval;
 use dd_quick::{
     against_leader, for_leader_across, for_leader_by, for_second_hand, for_second_hand_across,

@@ -12,20 +12,18 @@ ghost use Rattle.dd_rank.specs.Alike.{AreAlike};
 ghost use Rattle.dd_relative.specs.Relative.{IsRelative};
 ghost use Rattle.dd_bounds.specs.Budgets.{EndsAs};
 ghost use Rattle.dd_search.specs.ClaimsBy.{IsAnswerBy, IsAnswerAfter};
-ghost use Rattle.dd_search.specs.Turns.{cards_before};
-ghost use Rattle.dd_search.specs.declared.turn.Turn.{Turn};
+ghost use Rattle.dd_order.specs.Turns.{cards_before};
+ghost use Rattle.dd_order.specs.declared.turn.Turn.{Turn};
 
 use crate::halt_word::{HaltWord, tick};
-use crate::lead::Leading;
-use crate::placed_order::{Phase, PlacedPicker, follows, go_on, lead_history, note_lead, seconds};
 use crate::placed_untried::still_untried;
 use crate::rank_verdict::RankVerdict;
 use crate::relative_cutoffs::{note_ranks, quick_ranks, second_hands_ranks, told_ranks};
-use crate::second_hands::SecondHands;
-use crate::turn::Turn;
+use crate::second_hands::{SecondHands, seconds};
 use crate::zero_window::rest_after;
 use dd_bounds::{Bounds, Meter, ProbeHint};
 use dd_cards::{Hand, Place, Seat, Suit};
+use dd_order::{Leading, Phase, PlacedPicker, Turn, follows, go_on, lead_history, note_lead};
 use dd_relative::{ComingStart, KnownStart, PlacedTrick, WinningRanks, claims_before};
 
 // Does the leader's side take at least `need` of the tricks left? It ticks first; a look or the quick tricks may settle it, and a lead

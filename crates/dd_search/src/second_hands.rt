@@ -4,10 +4,12 @@ ghost use Rattle.std.specs.Prelude.{IfSome};
 ghost use Rattle.dd_quick.specs.SecondHand.{Opposes};
 
 use crate::quick_limit::may_have_quick_tricks;
-use crate::suit_lanes::LOWEST;
 use dd_cards::{Card, Hand, Place, Seat, Strain, Suit};
+use dd_order::Turn;
+use dd_order::suit_lanes::LOWEST;
 use dd_play::Position;
 use dd_rank::{OwnerStrings, TwoHighest};
+use dd_relative::PlacedTrick;
 
 // In what is told of a suit by its two highest cards: the highest card is an opponent's, and it is one of the last two hands'.
 const OPPONENTS: u8 = 2;
@@ -15,7 +17,7 @@ const OPPONENTS: u8 = 2;
 const LAST_TWO: u8 = 8;
 
 /// Whom it serves to ask at a start of a trick. Any answer is right: no contract rests on who was asked.
-#[derive(Debug, Drop)]
+#[derive(Drop)]
 pub(crate) struct SecondHands {
     // none where no card is led
     tops: Option<TwoHighest>,
@@ -120,6 +122,15 @@ impl SecondHands {
         } else {
             self.right_fails = true;
         }
+    }
+}
+
+/// Whom to ask before one of these cards is led, and nobody where another hand plays.
+#[inline]
+pub(crate) fn seconds(trick: &PlacedTrick<'_>, turn: Turn, tops: Hand) -> SecondHands {
+    match turn {
+        Turn::First => SecondHands::of_headed(Some(trick.start().strings()), tops),
+        Turn::Second | Turn::Third | Turn::Fourth => SecondHands::of_headed(None, tops),
     }
 }
 

@@ -9,13 +9,12 @@ ghost use Rattle.dd_rank.specs.Depths.{all_cards, depth_in, Covers};
 ghost use Rattle.dd_bounds.specs.Budgets.{EndsAs, HasTicked, IsEndless};
 
 use crate::card_scores::score_up_to;
-use crate::guess::guess;
-use crate::order::Order;
 use crate::position_value::north_souths_tricks;
 use arrayvec::ArrayVec;
 use dd_bounds::{Bounds, Halt, Meter};
 use dd_cards::Card;
 use dd_equal::Class;
+use dd_order::{Order, guess};
 use dd_play::TrickStart;
 use dd_rank::Depths;
 

@@ -8,7 +8,7 @@ use std::marker::Model;
 /// these are others.
 // One word, so that it is returned in registers beside a halt: the cards' mask, and in the lowest bit, which no card has,
 // whether they do.
-#[derive(Debug, Drop)]
+#[derive(Drop)]
 pub(crate) struct Verdict {
     bits: u64,
 }

@@ -9,22 +9,20 @@ ghost use Rattle.dd_play.specs.Won.{trick_for};
 ghost use Rattle.dd_rank.specs.Strings.{strings_of};
 ghost use Rattle.dd_bounds.specs.Budgets.{EndsAs};
 ghost use Rattle.dd_search.specs.ClaimsBy.{IsAnswer, IsAnswerBy, IsAnswerAfter};
-ghost use Rattle.dd_search.specs.Turns.{cards_before};
-ghost use Rattle.dd_search.specs.declared.turn.Turn.{Turn};
+ghost use Rattle.dd_order.specs.Turns.{cards_before};
+ghost use Rattle.dd_order.specs.declared.turn.Turn.{Turn};
 
 use crate::cutoffs::{note_answer, quick_answer, second_hands_answer, told_answer};
 use crate::halt_word::{HaltWord, answer_or_halt, tick};
-use crate::lead::Leading;
-use crate::order::{MovePicker, Order};
 use crate::relative_root::by_relative_ranks;
 use crate::second_hands::SecondHands;
 use crate::ticking::go_on;
-use crate::turn::Turn;
 use crate::verdict::Verdict;
 use crate::winning_ranks::{contested, settled_by, still_untried};
 use dd_bounds::{Bounds, Halt, LeadHistory, Meter};
 use dd_cards::{Card, Hand, Seat};
 use dd_equal::{tops_at, whole_at};
+use dd_order::{Leading, MovePicker, Order, Turn, weigh_next};
 use dd_play::{Position, TrickStart};
 use dd_rank::{OwnerStrings, Shape};
 
@@ -360,7 +358,7 @@ fn answer_by_choices<B: Bounds, M: Meter>(
         let winning_ranks = found.cards();
         cards = cards.union(winning_ranks);
         untried = still_untried(untried, card, winning_ranks);
-        leading.go_on(position, strings, card.suit, untried);
+        weigh_next(&mut leading, position, strings, card.suit, untried);
     }
     Ok(Verdict::new(!north_south, whole_at(position, turn.cards_before(), cards)))
 }

@@ -24,7 +24,7 @@ const METHODS: [&[u8]; 9] = [
 const HANDSHAKE: u8 = 22;
 
 /// How far a stream of lines is.
-#[derive(Clone, Copy, Debug, PartialEq, Eq)]
+#[derive(Clone, Copy, PartialEq, Eq)]
 enum Stage {
     /// Nothing was read.
     New,

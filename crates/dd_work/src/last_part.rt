@@ -4,7 +4,7 @@ use dd_cards::Seat;
 
 /// The result of the part of a table that a worker solved last. North and South take about as many tricks whoever of a strain
 /// declares, so it is where the next search of the strain begins. It bears on the time alone.
-#[derive(Clone, Copy, Debug)]
+#[derive(Clone, Copy)]
 pub(crate) struct LastPart {
     job: u64,
     strain: u8,

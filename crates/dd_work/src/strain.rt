@@ -15,7 +15,7 @@ use std::sync::Wait;
 const LEAST_BUDGET_AHEAD: u64 = 1_000_000;
 
 /// What a worker remembers of the tables that it works on. It bears on the time alone.
-#[derive(Clone, Copy, Debug)]
+#[derive(Clone, Copy)]
 pub(crate) struct Remembered {
     last: Option<LastPart>,
     // Since the last strain began a part behind its strain's first was not known: the table may keep too little.

@@ -11,7 +11,7 @@ use Rattle.dd_play.specs.Reach.{reach}
 use Rattle.dd_play.specs.Simulations.{IsLegal}
 use Rattle.dd_play.proofs.CallerLemmas.{cards_left-after, reach-in}
 use Rattle.dd_search.specs.ClaimsBy.{IsAnswerBy, IsAnswerAfter, AnswerBy}
-use Rattle.dd_search.specs.Turns.{cards_before}
+use Rattle.dd_order.specs.Turns.{cards_before}
 use Rattle.dd_search.proofs.Carried.{answer-turned}
 use Rattle.dd_search.proofs.Opens.{found-open, stays-open}
 use Rattle.dd_search.proofs.Scores.{needed-after}

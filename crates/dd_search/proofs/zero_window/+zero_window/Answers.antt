@@ -12,7 +12,7 @@ use Rattle.dd_search.proofs.Relied.{answer-here, one-more, answered-against, ans
 use Rattle.dd_search.proofs.Orders.{top-legal, is-only, only-legal}
 use Rattle.dd_search.proofs.Scores.{needed-after}
 use Rattle.dd_search.proofs.Turns.{goes-on, closes}
-use Rattle.dd_search.specs.Turns.{cards_before}
+use Rattle.dd_order.specs.Turns.{cards_before}
 use Rattle.dd_search.proofs.zero_window.+zero_window.Goals as goal
 use Rattle.dd_search.proofs.zero_window.+zero_window.Goals.{answer_after-After-is_yes, answer_after-in-First+in_ok-later-in-First, answer_after-in-Second+in_ok-later-in-Second, answer_after-in-Third+in_ok-later-in-Third, answer_after-in-Fourth+in_ok-later-in-Fourth, answer_by_choices-In-Some}
 

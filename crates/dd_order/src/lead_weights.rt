@@ -2,14 +2,14 @@
 //! visited fewer positions. No answer rests on them.
 
 /// What a card is worth whose trick the leader's side wins when each hand plays well, and one whose trick it loses.
-#[derive(Clone, Copy, Debug)]
+#[derive(Clone, Copy)]
 pub(crate) struct LeadWorth {
     pub(crate) wins: u16,
     pub(crate) loses: u16,
 }
 
 /// What the cards of a suit are worth.
-#[derive(Clone, Copy, Debug)]
+#[derive(Clone, Copy)]
 pub(crate) struct CardWorths {
     // whether they are worth the same, so that the lowest of them looks best
     pub(crate) alike: bool,
@@ -19,7 +19,7 @@ pub(crate) struct CardWorths {
 }
 
 /// What is known of a suit by whose its two highest cards are.
-#[derive(Clone, Copy, Debug)]
+#[derive(Clone, Copy)]
 pub(crate) struct TopTwo {
     // who has the highest card: how many places after the leader its hand is
     pub(crate) first: u8,
@@ -29,7 +29,7 @@ pub(crate) struct TopTwo {
 }
 
 /// What speaks for a suit and its cards.
-#[derive(Clone, Copy, Debug)]
+#[derive(Clone, Copy)]
 pub(crate) struct LeadWeights {
     // what the cards of a suit weigh more that settled the last start of a trick of the same shape, of the same outline, or of the
     // same leader with as many tricks left

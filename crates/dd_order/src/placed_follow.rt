@@ -9,7 +9,7 @@ use dd_cards::{Hand, Place, Strain};
 use dd_relative::PlacedTrick;
 
 /// The groups of the cards that a hand has of the suit led. What is in none comes last.
-#[derive(Clone, Copy, Debug)]
+#[derive(Clone, Copy)]
 pub(crate) struct PlacedFollowing {
     first: u64,
     second: u64,

@@ -1,5 +1,5 @@
 use Rattle.std.proofs.Common.{◌≤◌, ◌*◌}
-use Rattle.dd_search.proofs.guess.points_of.Given as goal
+use Rattle.dd_order.proofs.first_guess.points_of.Given as goal
 
 -- each card so far counted no more than 4
 abbrev pub invariant-loop-lower : goal.invariant-loop-lower

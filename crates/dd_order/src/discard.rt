@@ -11,7 +11,7 @@ use crate::turn::Turn;
 use dd_cards::Hand;
 
 /// What the cards of a hand are worth that has none of the suit led.
-#[derive(Clone, Copy, Debug)]
+#[derive(Clone, Copy)]
 pub(crate) struct Discarding {
     // the bits of the trump suit, where it can ruff; of trumps those that beat what lies on the trick, and those that the next hand can't
     // ruff higher: other suits' bits are no matter
@@ -24,7 +24,7 @@ pub(crate) struct Discarding {
 }
 
 /// What a card is worth, by hand.
-#[derive(Clone, Copy, Debug)]
+#[derive(Clone, Copy)]
 pub(crate) struct DiscardWorth {
     discard: u8,
     // a trump that wins, and that the next hand can't beat

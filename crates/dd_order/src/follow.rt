@@ -10,7 +10,7 @@ use crate::turn::Turn;
 use dd_cards::{Card, Hand, Holding, Rank, Suit};
 
 /// The groups of the cards that a hand has of the suit led. What is in none comes last.
-#[derive(Clone, Copy, Debug)]
+#[derive(Clone, Copy)]
 pub(crate) struct Following {
     led: Suit,
     first: Holding,

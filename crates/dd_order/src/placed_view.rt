@@ -1,13 +1,13 @@
 //! What a hand sees that plays to a trick by relative ranks after the lead.
 ghost use Rattle.std.specs.Prelude.{◌≡◌, length};
-ghost use Rattle.dd_search.specs.Turns.{cards_before};
+ghost use Rattle.dd_order.specs.Turns.{cards_before};
 
 use crate::turn::Turn;
 use dd_cards::{Hand, Place, Strain};
 use dd_relative::PlacedTrick;
 
 /// The best card on the trick, and whether it is partner's.
-#[derive(Clone, Copy, Debug)]
+#[derive(Clone, Copy)]
 pub(crate) struct BestCard {
     pub(crate) place: Place,
     pub(crate) partners: bool,

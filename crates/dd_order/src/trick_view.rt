@@ -1,7 +1,7 @@
 //! What a hand sees that plays to a trick after the lead: the best card so far, and the hands that play later.
 
 ghost use Rattle.std.specs.Prelude.{◌≡◌, ◌≤◌, length};
-ghost use Rattle.dd_search.specs.Turns.{cards_before};
+ghost use Rattle.dd_order.specs.Turns.{cards_before};
 
 use crate::holdings::code_of_highest;
 use crate::turn::Turn;
@@ -9,7 +9,7 @@ use dd_cards::{Card, Holding, Rank, Seat, Strain, Suit};
 use dd_play::Position;
 
 /// What the mover sees.
-#[derive(Clone, Copy, Debug)]
+#[derive(Clone, Copy)]
 pub(crate) struct TrickView {
     pub(crate) turn: Turn,
     pub(crate) led: Suit,
@@ -28,7 +28,7 @@ pub(crate) struct TrickView {
 }
 
 /// What a hand has that plays later: its cards of the suit led, and the rank of its highest trump where it can ruff, else 0.
-#[derive(Clone, Copy, Debug)]
+#[derive(Clone, Copy)]
 pub(crate) struct Later {
     pub(crate) suit: Holding,
     pub(crate) trump: u8,

@@ -6,14 +6,14 @@ use dd_cards::{Holding, Strain, Suit};
 use dd_play::Position;
 
 // The points of the leader's side and of the other.
-#[derive(Clone, Copy, Debug)]
+#[derive(Clone, Copy)]
 struct Points {
     ours: u32,
     theirs: u32,
 }
 
 // What a guess counts, in thousandths of a trick of a full deal.
-#[derive(Clone, Copy, Debug)]
+#[derive(Clone, Copy)]
 struct Worths {
     // to be on lead
     lead: u32,
@@ -38,7 +38,7 @@ const TRUMPS: Worths = Worths {
 
 /// A guess of the tricks, 0 to those left, that North and South take from here on: half of them, and more or less by who
 /// leads and by each side's share of the points and the trumps.
-pub(crate) fn guess(position: &Position) -> u8 {
+pub fn guess(position: &Position) -> u8 {
     let tricks = leaders_guess(position);
     if position.first().is_north_south() {
         tricks

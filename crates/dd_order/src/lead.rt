@@ -17,7 +17,7 @@ use dd_relative::KnownStart;
 /// A card to try, and how good it looks.
 // One number, 0 where there is no card: the weight over the eight bits of the card's place, of which the rank's are turned. So of cards that
 // look as good the greater number is that of the first suit, and in it the lowest card's.
-#[derive(Clone, Copy, Debug, Default)]
+#[derive(Clone, Copy, Default)]
 pub(crate) struct Move {
     number: u32,
 }
@@ -55,8 +55,8 @@ impl Move {
 
 /// Of each suit the lead that looks best of those still to be tried, and none where there is none. Most searches need no
 /// other: so the next of a suit is weighed where that failed.
-#[derive(Debug, Drop)]
-pub(crate) struct Leading {
+#[derive(Drop)]
+pub struct Leading {
     start: StartView,
     spades: Move,
     hearts: Move,
@@ -73,7 +73,7 @@ const RUFF: u8 = 15;
 impl Leading {
     /// No cards.
     #[inline]
-    pub(crate) fn new() -> Leading {
+    pub fn new() -> Leading {
         Leading {
             start: StartView::nothing(),
             spades: Move::default(),
@@ -173,7 +173,7 @@ impl Leading {
 
     /// The best lead that was not tried yet.
     #[inline]
-    pub(crate) fn best(&self, untried: Hand) -> Option<Place>
+    pub fn best(&self, untried: Hand) -> Option<Place>
         ensures { IfSome result (λ card. has_card untried card ≡ true) }
     {
         let best = self.spades.or(self.hearts).or(self.diamonds.or(self.clubs));
@@ -182,7 +182,7 @@ impl Leading {
 }
 
 // What is seen of a start of a trick. Where a word speaks of all suits it has sixteen bits for each, the spades' on top.
-#[derive(Clone, Copy, Debug)]
+#[derive(Clone, Copy)]
 struct StartView {
     // how many cards of each suit the hands have, four bits each, the leader's the lowest
     lengths: u64,
@@ -196,7 +196,7 @@ struct StartView {
 }
 
 // Who holds the two highest cards of each suit, at this strain.
-#[derive(Clone, Copy, Debug)]
+#[derive(Clone, Copy)]
 struct TopsAt {
     strain: Strain,
     tops: TwoHighest,
@@ -365,7 +365,7 @@ fn best_of<L: LeadView>(
 }
 
 /// Who could ruff a suit at once.
-#[derive(Clone, Copy, Debug)]
+#[derive(Clone, Copy)]
 pub(crate) struct Ruffs {
     opponents: bool,
     partner: bool,

@@ -1,5 +1,5 @@
 use Rattle.std.proofs.Common.{length}
-use Rattle.dd_search.proofs.lead.best_by_card.Given as goal
+use Rattle.dd_order.proofs.lead.best_by_card.Given as goal
 
 abbrev pub invariant-ranks : goal.invariant-ranks
 invariant-ranks l = Unit {0}

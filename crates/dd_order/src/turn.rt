@@ -1,12 +1,12 @@
 //! Whose turn it is in a trick.
 ghost use Rattle.std.specs.Prelude.{◌≡◌, length};
-ghost use Rattle.dd_search.specs.Turns.{cards_before};
+ghost use Rattle.dd_order.specs.Turns.{cards_before};
 
 use dd_play::Position;
 
 /// The hand that is to play to a trick: it finds no card there, or one, two or three.
 #[derive(Clone, Copy, Debug, PartialEq, Eq)]
-pub(crate) enum Turn {
+pub enum Turn {
     First,
     Second,
     Third,
@@ -16,7 +16,7 @@ pub(crate) enum Turn {
 impl Turn {
     /// Whose turn it is in this position.
     #[inline]
-    pub(crate) fn of(position: &Position) -> Turn
+    pub fn of(position: &Position) -> Turn
         ensures { length position.now.trick ≡ cards_before result }
     {
         match position.trick() {
@@ -29,7 +29,7 @@ impl Turn {
 
     /// How many cards lie on the trick then: 0 to 3.
     #[inline(always)]
-    pub(crate) fn cards_before(self) -> u8
+    pub fn cards_before(self) -> u8
         ensures { result ≡ cards_before self }
     {
         match self {

@@ -1,7 +1,7 @@
 use Rattle.std.proofs.Common.{◌≡◌, true}
 use Rattle.dd_cards.specs.Ranks.{has_rank}
-use Rattle.dd_search.proofs.Orders.{if-some, rank-among, first-among}
-use Rattle.dd_search.proofs.follow.Following.best_rank.Goals as goal
+use Rattle.dd_order.proofs.Choices.{if-some, rank-among, first-among}
+use Rattle.dd_order.proofs.follow.Following.best_rank.Goals as goal
 
 pub returns-then-not-is_empty : goal.returns-then-not-is_empty
 returns-then-not-is_empty c =

@@ -2,13 +2,12 @@
 //! time alone.
 ghost use Rattle.std.specs.Prelude.{◌≡◌, [], MatchOption, true, length};
 ghost use Rattle.dd_cards.specs.Cards.{has_card};
-ghost use Rattle.dd_search.specs.Turns.{cards_before};
+ghost use Rattle.dd_order.specs.Turns.{cards_before};
 
 use crate::discard::Discarding;
 use crate::lead::Leading;
 use crate::placed_discard::discarding;
 use crate::placed_follow::PlacedFollowing;
-use crate::second_hands::SecondHands;
 use crate::suit_lanes::LOWEST_FOUR;
 use crate::turn::Turn;
 use dd_bounds::{Bounds, LeadHistory};
@@ -17,7 +16,7 @@ use dd_relative::PlacedTrick;
 
 /// What a hand does.
 #[derive(Clone, Copy, Debug)]
-pub(crate) enum Phase {
+pub enum Phase {
     Lead,
     Follow,
     Discard,
@@ -25,14 +24,14 @@ pub(crate) enum Phase {
 
 /// Does a hand after the first follow suit, which may play one of these cards?
 #[inline(always)]
-pub(crate) fn follows(trick: &PlacedTrick<'_>, choices: Hand) -> bool {
+pub fn follows(trick: &PlacedTrick<'_>, choices: Hand) -> bool {
     !choices.of_suit_at(trick.card_at(0)).is_empty()
 }
 
 /// What a hand sees by which it chooses. Where it leads the cards are weighed, and the best stand beside it.
 // The phase is handed in: where it is a constant, no code looks at it, and of the parts one alone is kept.
-#[derive(Clone, Copy, Debug)]
-pub(crate) struct PlacedPicker {
+#[derive(Clone, Copy)]
+pub struct PlacedPicker {
     following: PlacedFollowing,
     discarding: Discarding,
 }
@@ -41,7 +40,7 @@ impl PlacedPicker {
     /// The picker of the mover, which may play one of these cards. Where it leads, cards of suits more that settled other starts like
     /// this one weigh more.
     #[inline(always)]
-    pub(crate) fn of(
+    pub fn of(
         trick: &PlacedTrick<'_>,
         turn: Turn,
         phase: Phase,
@@ -73,7 +72,7 @@ impl PlacedPicker {
 
     /// The best of the choices that were not tried yet, and none where there is none.
     #[inline(always)]
-    pub(crate) fn best(
+    pub fn best(
         &self,
         trick: &PlacedTrick<'_>,
         turn: Turn,
@@ -106,7 +105,7 @@ impl PlacedPicker {
 /// Takes note that a card of this suit failed, and weighs those of the suit that are still to be tried. It does nothing where no card is
 /// led.
 #[inline]
-pub(crate) fn go_on(
+pub fn go_on(
     leading: &mut Leading,
     trick: &PlacedTrick<'_>,
     phase: Phase,
@@ -124,7 +123,7 @@ pub(crate) fn go_on(
 
 /// The suits of leads that settled starts of a trick like this one; of another hand's turn none are known.
 #[inline]
-pub(crate) fn lead_history<B: Bounds>(trick: &PlacedTrick<'_>, turn: Turn, table: &B) -> LeadHistory
+pub fn lead_history<B: Bounds>(trick: &PlacedTrick<'_>, turn: Turn, table: &B) -> LeadHistory
     requires { length trick.now.trick ≡ cards_before turn }
 {
     match turn {
@@ -139,7 +138,7 @@ pub(crate) fn lead_history<B: Bounds>(trick: &PlacedTrick<'_>, turn: Turn, table
 
 /// Hands over the card that settled a start of a trick.
 #[inline]
-pub(crate) fn note_lead<B: Bounds>(trick: &PlacedTrick<'_>, turn: Turn, card: Place, table: &mut B)
+pub fn note_lead<B: Bounds>(trick: &PlacedTrick<'_>, turn: Turn, card: Place, table: &mut B)
     requires { length trick.now.trick ≡ cards_before turn }
 {
     match turn {
@@ -154,15 +153,6 @@ pub(crate) fn note_lead<B: Bounds>(trick: &PlacedTrick<'_>, turn: Turn, card: Pl
             );
         }
         Turn::Second | Turn::Third | Turn::Fourth => {}
-    }
-}
-
-/// Whom to ask before one of these cards is led, and nobody where another hand plays.
-#[inline]
-pub(crate) fn seconds(trick: &PlacedTrick<'_>, turn: Turn, tops: Hand) -> SecondHands {
-    match turn {
-        Turn::First => SecondHands::of_headed(Some(trick.start().strings()), tops),
-        Turn::Second | Turn::Third | Turn::Fourth => SecondHands::of_headed(None, tops),
     }
 }
 
