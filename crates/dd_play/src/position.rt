@@ -17,7 +17,6 @@ ghost use Rattle.dd_play.specs.Same.{same-board, same-board-partial, same_board}
 use crate::play_fault::PlayFault;
 use crate::trick_winner::winner;
 use crate::turn::seat_after;
-use arrayvec::ArrayVec;
 use dd_cards::{Card, Hand, Hands, Seat, Strain, Suit};
 use std::marker::Model;
 
@@ -240,20 +239,6 @@ impl Position {
         let led = self.trick[0];
         let same = hand.of_suit(led.suit);
         if same.is_empty() { hand } else { same }
-    }
-
-    /// The cards that may be played: spades, hearts, diamonds, clubs, and in a suit from the highest down.
-    pub fn legal(&self) -> ArrayVec<Card, 13>
-        ensures cards { result.items ≡ legal self.now }
-        ensures bound { length result.items ≤ 13 }
-        ensures board { IsBoard self.now }
-    {
-        let mut cards = ArrayVec::new();
-        let mut rest = self.choices();
-        'cards: while let Some(card) = rest.pop_first() {
-            cards.push(card);
-        }
-        cards
     }
 
     /// May the seat to play choose this card?

@@ -1,6 +1,7 @@
 ghost use Rattle.std.specs.Prelude.{◌≤◌};
 
 use dd_cards::{Card, Hands, Rank, Seat, Strain, Suit};
+use dd_equal::legal;
 use dd_play::{Interval, PlayFault, Position, TrickStart, winner};
 use std::process::Abort;
 
@@ -110,7 +111,7 @@ fn a_low_trump_takes_an_ace(rt: HostRuntime) {
     assert!(rt; (none, seat) == (None, Some(Seat::East)));
     assert!(rt; led.trick() == [ace].as_slice());
     assert!(rt;
-        led.legal().as_slice() == [card(Suit::Hearts, 4), trump].as_slice(),
+        legal(&led).as_slice() == [card(Suit::Hearts, 4), trump].as_slice(),
         "no spade to follow with"
     );
     // West has a spade, and South's card is not West's.

@@ -1,12 +1,12 @@
 use Rattle.std.proofs.Common.{◌≡◌, ◌≤◌, ◌++◌, length}
 use Rattle.dd_play.specs.Play.{legal}
-use Rattle.dd_play.proofs.position.Position.legal.Given as goal
+use Rattle.dd_equal.proofs.legal_cards.legal.Given as goal
 
 -- the cards so far and those that are left are the legal ones
 abbrev pub invariant-cards : goal.invariant-cards
 invariant-cards l = record {
-  whole : l.cards.items ++ l.rest ≡ legal l.fn.self;
-  short : length (legal l.fn.self) ≤ 13;
+  whole : l.cards.items ++ l.rest ≡ legal l.fn.position;
+  short : length (legal l.fn.position) ≤ 13;
 }
 
 abbrev pub decreases-cards : goal.decreases-cards
