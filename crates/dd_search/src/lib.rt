@@ -29,4 +29,4 @@ pub use card_scores::{score, score_up_to};
 pub use known_tricks::value_at_least;
 pub use laws::value_is_the_greatest_score;
 pub use position_value::{value, value_from_guess};
-pub use start::{start_scores, start_value, start_value_for_first, start_value_from_guess};
+pub use start::{start_value, start_value_for_first, start_value_from_guess};

@@ -1,19 +1,14 @@
-//! The value and the scores at the start of a trick, with the depths that the value rests on.
-ghost use Rattle.std.specs.Prelude.{◌≡◌, ◌≤◌, map, IfOk, OnOk, IsOk};
+//! The value at the start of a trick, with the depths that it rests on.
+ghost use Rattle.std.specs.Prelude.{◌≡◌, ◌≤◌, IfOk, OnOk, IsOk};
 ghost use Rattle.dd_cards.specs.declared.suit.Suit.{Suit as SuitOf};
 ghost use Rattle.dd_play.specs.Board.{Board, IsBoard};
 ghost use Rattle.dd_play.specs.Covers.{count_of};
-ghost use Rattle.dd_play.specs.Value.{leaders_tricks, score};
-ghost use Rattle.dd_equal.specs.EqualCards.{classes_of, tops};
+ghost use Rattle.dd_play.specs.Value.{leaders_tricks};
 ghost use Rattle.dd_rank.specs.Depths.{all_cards, depth_in, Covers};
-ghost use Rattle.dd_bounds.specs.Budgets.{EndsAs, HasTicked, IsEndless};
+ghost use Rattle.dd_bounds.specs.Budgets.{EndsAs, IsEndless};
 
-use crate::card_scores::score_up_to;
 use crate::position_value::north_souths_tricks;
-use arrayvec::ArrayVec;
 use dd_bounds::{Bounds, Halt, Meter};
-use dd_cards::Card;
-use dd_equal::Class;
 use dd_order::{Order, guess};
 use dd_play::TrickStart;
 use dd_rank::Depths;
@@ -109,55 +104,4 @@ fn start_value_in_order<B: Bounds, M: Meter>(
     } else {
         Ok((position.tricks_left() - found.tricks, depths))
     }
-}
-
-/// The score, 0 to 13, of the highest card of each of these classes, which are those of the start, in their order; and depths
-/// such that each position that this one covers at them has the same value. Errors as at `score`.
-pub fn start_scores<B: Bounds, M: Meter>(
-    start: &TrickStart,
-    classes: &[Class],
-    table: &mut B,
-    meter: &mut M,
-) -> Result<(ArrayVec<(Card, u8), 13>, Depths), Halt>
-    requires { classes.now ≡ classes_of start.now }
-    ensures scores { IfOk result (λ found. found.0.items ≡ map
-        (λ c. (c, score start.now c)) (tops start.now)) }
-    ensures depths { IfOk result (λ found. (q : Board) → IsBoard q
-        → Covers start.now (depth_in found.1) q → leaders_tricks q ≡ leaders_tricks start.now) }
-    ensures within { IfOk result (λ found. (u : SuitOf)
-        → depth_in found.1 u ≤ count_of u (all_cards start.now)) }
-    ensures ticked { OnOk result (HasTicked M.limit M.ticked (M.limit meter.old)) }
-    ensures ends { EndsAs (M.says meter.new) result }
-    ensures limit { M.limit meter.new ≡ M.limit meter.old }
-    // It has an answer where the meter can say nothing else than to go on.
-    ensures answers { IsEndless M.says → IsOk result }
-{
-    let (best, depths) = start_value(start, table, meter)?;
-    let scores = scores_up_to(start, classes, best, table, meter)?;
-    Ok((scores, depths))
-}
-
-// The score of each class's highest card, where none is above this one.
-fn scores_up_to<B: Bounds, M: Meter>(
-    start: &TrickStart,
-    classes: &[Class],
-    best: u8,
-    table: &mut B,
-    meter: &mut M,
-) -> Result<ArrayVec<(Card, u8), 13>, Halt>
-    requires classes { classes.now ≡ classes_of start.now }
-    requires best { best ≡ leaders_tricks start.now }
-    ensures scores { IfOk result (λ found. found.items ≡ map
-        (λ c. (c, score start.now c)) (tops start.now)) }
-    ensures ends { EndsAs (M.says meter.new) result }
-    ensures limit { M.limit meter.new ≡ M.limit meter.old }
-{
-    let position = start.position();
-    let mut scores = ArrayVec::new();
-    for class in classes {
-        let card = class.top;
-        let score = score_up_to(position, card, best, table, meter)?;
-        scores.push((card, score));
-    }
-    Ok(scores)
 }

@@ -1,13 +1,13 @@
 //! A search by relative ranks beside one by the ranks of the deal: on drawn starts of a trick, with more than three tricks left
 //! and with fewer. And both beside what is on record: the tricks as they were found before there was the first, and the depths and
 //! positions of today's order of cards.
+use crate::scores::scores_of;
 use dd_bounds::{Bounds, Budget, LeadHistory, NoTable};
 use dd_cache::Cache;
 use dd_cards::{Card, Hands, Rank, Seat, Strain, Suit};
-use dd_equal::classes;
 use dd_play::{Interval, Position, TrickStart};
 use dd_rank::{Depths, OwnerStrings};
-use dd_search::{start_scores, start_value, start_value_for_first};
+use dd_search::{start_value, start_value_for_first};
 use std::alloc::AllocError;
 use std::process::Abort;
 
@@ -100,8 +100,7 @@ fn searched<T: Bounds>(kind: u64, start: &TrickStart, table: &mut T) -> Option<F
     let mut budget = Budget::new(ENOUGH);
     let (tricks, depths) = match kind % 3 {
         0 => {
-            let classes = classes(start.position());
-            let found = start_scores(start, classes.as_slice(), table, &mut budget).ok()?;
+            let found = scores_of(start, table, &mut budget)?;
             let mut number = 0u64;
             for (_, score) in found.0.as_slice() {
                 number = number.wrapping_mul(14).wrapping_add(*score as u64);

@@ -22,6 +22,8 @@ mod relative;
 #[cfg(test)]
 mod rows;
 #[cfg(test)]
+mod scores;
+#[cfg(test)]
 mod search;
 #[cfg(test)]
 mod shard;

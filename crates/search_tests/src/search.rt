@@ -5,13 +5,13 @@ ghost use Rattle.std.specs.Prelude.{◌≡◌, ◌≤◌, true, IsOk, None};
 ghost use Rattle.dd_cards.specs.Cards.{has_card};
 ghost use Rattle.dd_play.specs.Play.{legal};
 
+use crate::scores::scores_of;
 use arrayvec::ArrayVec;
 use dd_bounds::{Bounds, Budget, Endless, Halt, Meter, NoTable};
 use dd_cards::{Card, Hands, Rank, Seat, Strain, Suit};
-use dd_equal::classes;
 use dd_play::{Position, TrickStart};
 use dd_rank::Depths;
-use dd_search::{reaches, score, start_scores, start_value, start_value_for_first, value};
+use dd_search::{reaches, score, start_value, start_value_for_first, value};
 
 // Where nothing bounds the search it has a score.
 fn endless_score(position: &Position, card: Card) -> Result<u8, Halt>
@@ -295,8 +295,7 @@ fn each_class_has_its_score_in_the_order_of_the_suits(rt: HostRuntime) {
     ];
     for (hands, first, want, what) in table {
         let start = start_of(hands, first).expect(&rt, what);
-        let classes = classes(start.position());
-        let found = start_scores(&start, classes.as_slice(), &mut NoTable, &mut Endless);
+        let found = scores_of(&start, &mut NoTable, &mut Endless);
         let found = found.expect(&rt, what);
         let mut scores: ArrayVec<(u8, u8), 13> = ArrayVec::new();
         for (card, score) in found.0.as_slice() {
@@ -328,8 +327,7 @@ fn without_cards_there_is_no_score(rt: HostRuntime) {
     let start = start_of(&ONE_EACH, Seat::North).expect(&rt, "one card a hand");
     let end = after_a_trick(&start).expect(&rt, "four cards");
     let mut one = Budget::new(1);
-    let classes = classes(end.position());
-    let found = start_scores(&end, classes.as_slice(), &mut NoTable, &mut one);
+    let found = scores_of(&end, &mut NoTable, &mut one);
     let found = found.expect(&rt, "one tick");
     assert!(rt; found.0.is_empty());
     assert!(rt; four(found.1) == [0, 0, 0, 0]);

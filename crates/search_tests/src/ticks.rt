@@ -1,13 +1,13 @@
 //! How many positions a search visits. A budget counts them, so a search that visits others gives other answers within it.
 
 use crate::rows::{is_bar, is_line_feed, number, word};
+use crate::scores::scores_of;
 use dd_bounds::{Bounds, Budget, NoTable};
 use dd_cache::Cache;
 use dd_cards::{Seat, Strain};
-use dd_equal::classes;
 use dd_pbn::read_deal;
 use dd_play::{Position, TrickStart};
-use dd_search::{start_scores, start_value_for_first, value};
+use dd_search::{start_value_for_first, value};
 use std::alloc::AllocError;
 use std::process::Abort;
 
@@ -62,8 +62,7 @@ fn found<T: Bounds>(
         let found = start_value_for_first(&start, table, budget).ok()?;
         return Some(found.0);
     }
-    let classes = classes(position);
-    let found = start_scores(&start, classes.as_slice(), table, budget).ok()?;
+    let found = scores_of(&start, table, budget)?;
     let mut sum = 0u8;
     for (_, score) in found.0.as_slice() {
         sum = sum.saturating_add(*score);
